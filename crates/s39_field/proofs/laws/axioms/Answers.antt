@@ -1,0 +1,5 @@
+use Rattle.s39_field.specs.Theory.Powers.{byte_field_is_field, word_field_is_field}
+use Rattle.s39_field.proofs.laws.axioms.Goals as goal
+
+pub returns : goal.returns
+returns c = record { of_bytes = byte_field_is_field; of_words = word_field_is_field }

@@ -1,0 +1,6 @@
+pub mod BinaryPolynomial
+pub mod FieldProduct
+pub mod Field
+pub mod Polynomial
+pub mod Interpolation
+pub mod Theory

@@ -1,0 +1,53 @@
+ghost use Rattle.std.specs.Prelude.{◌≡◌, IfOk};
+
+use crate::{Field, Gf256, Gf1024, NotTenBits, eval};
+use std::test::Fail;
+
+fn word(number: u16) -> Result<Gf1024, NotTenBits>
+    ensures { IfOk result (λ element. element ≡ number) }
+{
+    Gf1024::try_from(number)
+}
+
+#[test]
+fn products_of_words(rt: HostRuntime) -> Result<(), Fail> {
+    for (a, b, product) in [(2, 512, 9), (56, 32, 777), (64, 32, 18), (2, 516, 1)] {
+        assert_eq!(rt; word(a)?.mul(word(b)?), word(product)?);
+    }
+    Ok(())
+}
+
+#[test]
+fn inverse_of_a_word(rt: HostRuntime) -> Result<(), Fail> {
+    assert_eq!(rt; u16::from(word(2)?.inv()), 516);
+    Ok(())
+}
+
+#[test]
+fn products_of_bytes(rt: HostRuntime) {
+    for (a, b, product) in [(0x53, 0xCA, 0x01), (0x57, 0x83, 0xC1)] {
+        assert_eq!(rt; Gf256::from(a).mul(Gf256::from(b)), Gf256::from(product));
+    }
+}
+
+#[test]
+fn inverses_of_bytes(rt: HostRuntime) {
+    assert_eq!(rt; u8::from(Gf256::from(0x02).inv()), 0x8D);
+    assert_eq!(rt; u8::from(Gf256::from(0x03).inv()), 0xF6);
+    assert_eq!(rt; u8::from(Gf256::from(0x53).inv()), 0xCA);
+}
+
+#[test]
+fn roots_of_the_checksum_generator(rt: HostRuntime) -> Result<(), Fail> {
+    let coefficients = [word(64)?, word(56)?, word(14)?, word(1)?];
+    for (x, value) in [(2, 0), (4, 0), (8, 0), (1, 119)] {
+        assert_eq!(rt; eval(&coefficients, word(x)?), word(value)?);
+    }
+    Ok(())
+}
+
+#[test]
+fn ten_bits(rt: HostRuntime) {
+    assert_eq!(rt; word(1024), Err(NotTenBits(1024)));
+    assert_eq!(rt; word(1023).map(u16::from), Ok(1023));
+}

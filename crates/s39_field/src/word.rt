@@ -1,0 +1,99 @@
+//! The field of 1,024 elements, in which checksums are taken.
+
+ghost use Rattle.std.specs.Prelude.{◌≡◌, ◌<◌, ◌≤◌, MatchResult, refl};
+ghost use Rattle.s39_field.specs.FieldProduct.{IsProduct, product_modulo, word_modulus, word_field};
+ghost use Rattle.s39_field.specs.Theory.Powers.{word_field_is_field};
+
+use crate::modulus::WORD;
+use crate::operations::Field;
+use std::error::Error;
+use std::fmt;
+use std::marker::Model;
+
+/// A ten-bit word as an element of the field of 1,024 elements: a polynomial over two elements of
+/// degree 9 or less, modulo `x^10 + x^3 + 1` (SLIP-0039, "Checksum").
+#[derive(Clone, Copy, Debug, PartialEq, Eq)]
+pub struct Gf1024(u16);
+
+/// A number that is not below 1,024.
+#[derive(Clone, Copy, Debug, PartialEq, Eq)]
+pub struct NotTenBits(pub u16);
+
+impl Model for Gf1024 {
+    ghost use Rattle.std.specs.Prelude.{ℕ, ◌<◌};
+
+    ghost Value = { ℕ };
+
+    ghost view = { λ a. a.0 };
+
+    ghost inverse = { λ n. record { 0 = n } };
+
+    ghost invariant = { λ a. a.0 < 1024 };
+}
+
+impl Field for Gf1024 {
+    ghost operations = { word_field };
+
+    ghost ZERO = { 0 };
+
+    ghost ONE = { 1 };
+
+    const ZERO: Gf1024 = Gf1024(0);
+
+    const ONE: Gf1024 = Gf1024(1);
+
+    ghost is_field = { word_field_is_field };
+
+    ghost zero_is = { refl };
+
+    ghost one_is = { refl };
+
+    fn add(self, other: Gf1024) -> Gf1024 {
+        Gf1024(self.0 ^ other.0)
+    }
+
+    fn mul(self, other: Gf1024) -> Gf1024
+        ensures product { result ≡ product_modulo word_modulus self other }
+        ensures is_product { IsProduct word_modulus self other result }
+        ensures self_element { self < 1024 }
+        ensures other_element { other < 1024 }
+    {
+        Gf1024(WORD.product(self.0, other.0))
+    }
+
+    fn inv(self) -> Gf1024 {
+        Gf1024(WORD.inverse(self.0))
+    }
+}
+
+impl TryFrom<u16> for Gf1024 {
+    type Error = NotTenBits;
+
+    ghost try_from_gives = { λ number result.
+        MatchResult result (λ element. (number < 1024) × (element ≡ number))
+        (λ error. (1024 ≤ number) × (error.0 ≡ number)) };
+
+    fn try_from(number: u16) -> Result<Gf1024, NotTenBits> {
+        if number < 1024 {
+            Ok(Gf1024(number))
+        } else {
+            Err(NotTenBits(number))
+        }
+    }
+}
+
+impl From<Gf1024> for u16 {
+    ghost from_gives = { λ element number. (number ≡ element) × (number < 1024) };
+
+    fn from(element: Gf1024) -> u16 {
+        element.0
+    }
+}
+
+impl fmt::Display for NotTenBits {
+    fn fmt<W: fmt::Write>(&self, f: &mut fmt::Formatter<W>) -> fmt::Result {
+        write!(f, "{} is not below 1024", self.0)
+    }
+}
+
+impl Error for NotTenBits {}
