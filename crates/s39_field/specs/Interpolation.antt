@@ -1,5 +1,6 @@
 -- Interpolation (SLIP-0039, "Shamir's secret sharing"): the one polynomial through given points.
-use Rattle.std.specs.Prelude.{◌≡◌, ℕ, ◌<◌, ◌≤◌, List, length, map, All, slice_index}
+use Rattle.std.specs.Prelude.{◌≡◌, ◌≢◌, ℕ, ◌<◌, ◌≤◌, List, [], ◌∷◌, length, map, remove, zip, All, AllPairs, slice_index, slice_index_or}
+use Rattle.std.specs.List.{range_with_len}
 use Rattle.s39_field.specs.Field.{Operations}
 use Rattle.s39_field.specs.FieldProduct.{byte_field}
 use Rattle.s39_field.specs.Polynomial.{value_at}
@@ -21,3 +22,71 @@ points_at strings position = map (λ string. (string.0, slice_index string.1 pos
 pub record InterpolatesBytes (strings : List (ℕ × List ℕ)) (x : ℕ) (y : List ℕ) : Type 0 where
   pub one_length : All (λ string. length string.1 ≡ length y) strings
   pub each : (position : ℕ) → position < length y → Interpolates byte_field (points_at strings position) x (slice_index y position)
+
+module _ {F : Type 0} (f : Operations F) where
+  -- the product of x - place over the places
+  abbrev pub differences : F → List F → F
+  differences x [] = f.one
+  differences x (place ∷ places) = f.mul (f.add x place) (differences x places)
+
+  -- the weight of place i at x: the product over the other places of (x - place) / (place i - place)
+  abbrev pub weight : List F → F → ℕ → F
+  weight places x i =
+      let others = remove places i in
+      f.mul (differences x others) (f.inv (differences (slice_index_or places i f.zero) others))
+
+  -- the weight of each place at x
+  abbrev pub weights_of : List F → F → List F
+  weights_of places x = map (weight places x) (range_with_len 0 (length places))
+
+  -- the sum of weight times value
+  abbrev pub weighted_sum : List F → List F → F
+  weighted_sum [] values = f.zero
+  weighted_sum (w ∷ ws) [] = f.zero
+  weighted_sum (w ∷ ws) (value ∷ values) = f.add (f.mul w value) (weighted_sum ws values)
+
+  -- two polynomials with no more coefficients than there are distinct places, equal at each place, are
+  -- equal everywhere
+  abbrev pub PlacesDetermineValues : Type 0
+  PlacesDetermineValues =
+      (places cs ds : List F)
+      → All f.IsElement places
+      → All f.IsElement cs
+      → All f.IsElement ds
+      → AllPairs (λ p q. p ≢ q) places
+      → length cs ≤ length places
+      → length ds ≤ length places
+      → All (λ p. value_at f cs p ≡ value_at f ds p) places
+      → (x : F)
+      → value_at f cs x ≡ value_at f ds x
+
+  -- points at distinct places have one value at x
+  abbrev pub PointsHaveOneValue : Type 0
+  PointsHaveOneValue =
+      (points : List (F × F)) (x y z : F)
+      → All (λ point. f.IsElement point.0) points
+      → AllPairs (λ p q. p.0 ≢ q.0) points
+      → Interpolates f points x y
+      → Interpolates f points x z
+      → y ≡ z
+
+  -- points at distinct places have a value at x, the sum of weight times value
+  abbrev pub WeightsInterpolate : Type 0
+  WeightsInterpolate =
+      (places values : List F) (x : F)
+      → All f.IsElement places
+      → All f.IsElement values
+      → AllPairs (λ p q. p ≢ q) places
+      → length values ≡ length places
+      → Interpolates f (zip places values) x (weighted_sum (weights_of places x) values)
+
+-- byte strings at distinct places, of which there is at least one, have one byte string at x
+abbrev pub StringsHaveOneValue : Type 0
+StringsHaveOneValue =
+    (strings : List (ℕ × List ℕ)) (x : ℕ) (y z : List ℕ)
+    → 0 < length strings
+    → All (λ string. string.0 < 256) strings
+    → AllPairs (λ p q. p.0 ≢ q.0) strings
+    → InterpolatesBytes strings x y
+    → InterpolatesBytes strings x z
+    → y ≡ z

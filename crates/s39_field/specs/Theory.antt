@@ -3,3 +3,6 @@ pub mod BinaryPolynomials
 pub mod Residues
 pub mod Powers
 pub mod Values
+pub mod Roots
+pub mod Weights
+pub mod Strings

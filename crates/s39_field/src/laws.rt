@@ -3,6 +3,7 @@
 ghost use Rattle.std.specs.Prelude.{◌≡◌, ◌≢◌, ℕ, ◌<◌};
 ghost use Rattle.s39_field.specs.Field.{IsField};
 ghost use Rattle.s39_field.specs.FieldProduct.{IsProduct, byte_modulus, word_modulus, product_modulo, byte_field, word_field};
+ghost use Rattle.s39_field.specs.Interpolation.{PlacesDetermineValues, PointsHaveOneValue, WeightsInterpolate, StringsHaveOneValue};
 
 use crate::operations::Field;
 
@@ -32,4 +33,22 @@ pub fn axioms_of<F: Field>()
 pub fn inverses()
     ensures of_bytes { (a : ℕ) → a < 256 → a ≢ 0 → byte_field.mul a (byte_field.inv a) ≡ 1 }
     ensures of_words { (a : ℕ) → a < 1024 → a ≢ 0 → word_field.mul a (word_field.inv a) ≡ 1 }
+{}
+
+/// Distinct places determine a polynomial's values everywhere, where it has no more coefficients than
+/// there are places. So points at distinct places have at most one value at each further place.
+pub fn one_polynomial<F: Field>()
+    ensures places { PlacesDetermineValues F.operations }
+    ensures points { PointsHaveOneValue F.operations }
+{}
+
+/// Points at distinct places have a value at each further place: the sum of weight times value.
+pub fn weighted_values<F: Field>()
+    ensures { WeightsInterpolate F.operations }
+{}
+
+/// Byte strings at distinct places, of which there is at least one, have at most one byte string at each
+/// further place.
+pub fn one_byte_string()
+    ensures { StringsHaveOneValue }
 {}

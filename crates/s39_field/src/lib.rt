@@ -2,6 +2,7 @@
 #![tactic(auto)]
 
 mod byte;
+mod interpolation;
 pub mod laws;
 mod modulus;
 mod operations;
@@ -9,6 +10,7 @@ mod polynomial;
 mod word;
 
 pub use byte::Gf256;
+pub use interpolation::{scaled_sum, weights};
 pub use operations::Field;
 pub use polynomial::eval;
 pub use word::{Gf1024, NotTenBits};

@@ -1,6 +1,6 @@
-ghost use Rattle.std.specs.Prelude.{◌≡◌, IfOk};
+ghost use Rattle.std.specs.Prelude.{◌≡◌, ◌≢◌, IfOk};
 
-use crate::{Field, Gf256, Gf1024, NotTenBits, eval};
+use crate::{Field, Gf256, Gf1024, NotTenBits, eval, scaled_sum, weights};
 use std::test::Fail;
 
 fn word(number: u16) -> Result<Gf1024, NotTenBits>
@@ -50,4 +50,28 @@ fn roots_of_the_checksum_generator(rt: HostRuntime) -> Result<(), Fail> {
 fn ten_bits(rt: HostRuntime) {
     assert_eq!(rt; word(1024), Err(NotTenBits(1024)));
     assert_eq!(rt; word(1023).map(u16::from), Ok(1023));
+}
+
+fn two_weights(first: u8, second: u8, at: u8) -> [u8; 2]
+    requires { first ≢ second }
+{
+    let places = [Gf256::from(first), Gf256::from(second)];
+    let mut out = [Gf256::ZERO; 2];
+    weights(&places, Gf256::from(at), &mut out);
+    [u8::from(out[0]), u8::from(out[1])]
+}
+
+#[test]
+fn weights_of_two_places(rt: HostRuntime) {
+    assert_eq!(rt; two_weights(0x00, 0x01, 0xFF), [0xFE, 0xFF]);
+    assert_eq!(rt; two_weights(0x00, 0x02, 0xFF), [0xF3, 0xF2]);
+    assert_eq!(rt; two_weights(0x00, 0x02, 0xFE), [0x7E, 0x7F]);
+    assert_eq!(rt; two_weights(0x00, 0x02, 0x02), [0x00, 0x01]);
+}
+
+#[test]
+fn sum_of_rows(rt: HostRuntime) {
+    let mut sums = [0x00, 0xFF, 0xC1];
+    scaled_sum(&mut sums, Gf256::from(0x57), &[0x83; 3]);
+    assert_eq!(rt; sums, [0xC1, 0x3E, 0x00]);
 }

@@ -1,8 +1,17 @@
-use Rattle.std.proofs.Common.{[], ◌∷◌, ◌++◌, sym, ap, ◌∙◌, append_assoc, append-nil}
+use Rattle.std.proofs.Common.{◌≡◌, List, [], ◌∷◌, ◌++◌, sym, ap, ◌∙◌, append_assoc, append-nil}
 use Rattle.std.proofs.lemmas.List.{nil_from_length}
+use Rattle.s39_field.specs.Field.{Operations, IsField}
 use Rattle.s39_field.specs.Polynomial.{value_at}
 use Rattle.s39_field.specs.Theory.Values.{value_at-cons}
 use Rattle.s39_field.proofs.polynomial.eval.Goals as goal
+
+-- the value with one coefficient more in front
+next_value : {F : Type 0} (f : Operations F) (is : IsField f) (c : F) (taken : List F) (x value product sum : F) → f.IsElement c → value ≡ value_at f taken x → product ≡ f.mul value x → sum ≡ f.add product c → sum ≡ value_at f (c ∷ taken) x
+next_value f is c taken x value product sum element so_far times plus =
+    plus
+    ∙ ap (λ p. f.add p c) (times ∙ ap (λ v. f.mul v x) so_far)
+    ∙ is.add_commutes (f.mul (value_at f taken x) x) c
+    ∙ sym (value_at-cons f is c taken x element)
 
 pub loop-c-init : goal.loop-c-init
 loop-c-init g c =
@@ -11,12 +20,12 @@ loop-c-init g c =
 
 pub loop-c-preserved : goal.loop-c-preserved
 loop-c-preserved g c =
-    let taken = c.loop-c.invariant.0 in (
-      c.in-Some.c.now ∷ taken,
-      c.loop-c.invariant.1 ∙ ap (λ l. l ++ taken) c.in-Some.ensures.steps ∙ append_assoc c.next.new.self.iter.rest.now (c.in-Some.c.now ∷ []) taken,
-      c.add-value.ensures.sum ∙ ap (λ v. g.F.Field.operations.add v c.in-Some.c.now) (c.mul.ensures.product ∙ ap (λ v. g.F.Field.operations.mul v c.args.x) c.loop-c.invariant.2)
-          ∙ g.met.F.Field.is_field.add_commutes _ _
-          ∙ sym (value_at-cons g.F.Field.operations g.met.F.Field.is_field c.in-Some.c.now taken c.args.x c.add-value.ensures.other_element),
+    let taken = c.loop-c.invariant.0 in
+    let first = c.in-Some.c.now in (
+      first ∷ taken,
+      c.loop-c.invariant.1 ∙ ap (λ l. l ++ taken) c.in-Some.ensures.steps ∙ append_assoc c.next.new.self.iter.rest.now (first ∷ []) taken,
+      next_value g.F.Field.operations g.met.F.Field.is_field first taken c.args.x c.loop-c.value c.mul.result c.add-value.result
+          c.add-value.ensures.other_element c.loop-c.invariant.2 c.mul.ensures.product c.add-value.ensures.sum,
     )
 
 pub returns : goal.returns

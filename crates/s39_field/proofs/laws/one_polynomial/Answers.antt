@@ -1,0 +1,8 @@
+use Rattle.s39_field.specs.Theory.Roots.{places_determine_values, points_have_one_value}
+use Rattle.s39_field.proofs.laws.one_polynomial.Goals as goal
+
+pub returns : goal.returns
+returns g c = record {
+  places = places_determine_values g.F.Field.operations g.met.F.Field.is_field;
+  points = points_have_one_value g.F.Field.operations g.met.F.Field.is_field;
+}

@@ -1,0 +1,17 @@
+pub mod WordTable
+pub mod WordSearch
+pub mod Rows
+pub mod Indices
+pub mod TextWords
+pub mod CubicDivision
+pub mod Remainders
+pub mod Digits
+pub mod Pieces
+pub mod DataWords
+pub mod TwoWords
+pub mod Written
+pub mod OneReading
+pub mod SharesRead
+pub mod Listed
+pub mod Joined
+pub mod Printed

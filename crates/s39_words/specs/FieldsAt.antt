@@ -1,0 +1,32 @@
+-- The fields that the words of a mnemonic hold, of a number of words that a mnemonic may have.
+use Rattle.std.specs.Prelude.{ℕ, zero, suc, ◌+◌, ◌-◌, ◌*◌, ◌/◌, List, [], ◌∷◌, length, take, drop, false}
+use Rattle.std.specs.Int.Digits.{number_from_digits}
+use Rattle.s39_words.specs.declared.share.ShareFields.{ShareFields}
+use Rattle.s39_words.specs.Reading.{padding_length, bits_of_words, number_at, stored_group_threshold, stored_group_count}
+
+-- the first k pieces of w binary digits, each as a number
+abbrev pub pieces : ℕ → ℕ → List ℕ → List ℕ
+pieces w zero digits = []
+pieces w (suc k) digits = number_from_digits 2 (take w digits) ∷ pieces w k (drop w digits)
+
+-- the number of bytes of the value in a mnemonic of n words
+abbrev pub byte_count : ℕ → ℕ
+byte_count n = (10 * (n - 7) - padding_length n) / 8
+
+-- the bytes of the value, which stand behind the padding
+abbrev pub value_at : List ℕ → List ℕ
+value_at indices = pieces 8 (byte_count (length indices)) (drop (40 + padding_length (length indices)) (bits_of_words indices))
+
+-- the fields in these words, whose flag is 0
+abbrev pub fields_at : List ℕ → ShareFields
+fields_at indices = record {
+  id = number_at indices 0 15;
+  extendable = false;
+  exponent = number_at indices 16 4;
+  group_index = number_at indices 20 4;
+  group_threshold = stored_group_threshold indices + 1;
+  group_count = stored_group_count indices + 1;
+  member_index = number_at indices 32 4;
+  member_threshold = number_at indices 36 4 + 1;
+  value = record { items = value_at indices };
+}

@@ -1,0 +1,9 @@
+pub mod Bits
+pub mod Share
+pub mod Checksum
+pub mod Division
+pub mod WordList
+pub mod Spelling
+pub mod Reading
+pub mod FieldsAt
+pub mod Printing

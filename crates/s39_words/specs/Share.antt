@@ -1,0 +1,49 @@
+-- A share, and its data words (SLIP-0039, "Format of the share mnemonic").
+use Rattle.std.specs.Prelude.{◌≡◌, ℕ, ◌-◌, ◌%◌, ◌^◌, ◌<◌, ◌≤◌, List, ◌++◌, All, Bool, true, false, length, replicate, if◌then◌else◌}
+use Rattle.std.specs.List.{flat_map}
+use Rattle.s39_words.specs.declared.share.ShareFields.{ShareFields}
+use Rattle.s39_words.specs.Bits.{bits, cut_in_tens}
+
+-- an even number of bytes, from 16 to 64
+pub record IsValue (value : List ℕ) : Type 0 where
+  pub bytes : All (λ b. b < 256) value
+  pub even : length value % 2 ≡ 0
+  pub at_least : 16 ≤ length value
+  pub at_most : length value ≤ 64
+
+-- the fields of a share that can be printed and read
+pub record IsShare (f : ShareFields) : Type 0 where
+  pub id : f.id < 2 ^ 15
+  pub extendable : f.extendable ≡ false
+  pub exponent : f.exponent < 16
+  pub group_index : f.group_index < 16
+  pub group_threshold : 1 ≤ f.group_threshold
+  pub threshold_in_count : f.group_threshold ≤ f.group_count
+  pub group_count : f.group_count ≤ 16
+  pub member_index : f.member_index < 16
+  pub member_threshold : 1 ≤ f.member_threshold
+  pub member_threshold_in_range : f.member_threshold ≤ 16
+  pub value : IsValue f.value.items
+
+-- 1 for a flag that is set
+abbrev pub flag_bit : Bool → ℕ
+flag_bit flag = if flag then 1 else 0
+
+-- the fields before the value, 40 digits; thresholds and the group count are stored less one
+abbrev pub header_bits : ShareFields → List ℕ
+header_bits f =
+    bits 15 f.id ++ bits 1 (flag_bit f.extendable) ++ bits 4 f.exponent
+    ++ bits 4 f.group_index ++ bits 4 (f.group_threshold - 1) ++ bits 4 (f.group_count - 1)
+    ++ bits 4 f.member_index ++ bits 4 (f.member_threshold - 1)
+
+-- the value's bytes, eight digits each
+abbrev pub value_bits : List ℕ → List ℕ
+value_bits value = flat_map (bits 8) value
+
+-- the fewest zeros that make n digits a multiple of ten
+abbrev pub padding_bits : ℕ → List ℕ
+padding_bits n = replicate ((10 - n % 10) % 10) 0
+
+-- all fields but the checksum, joined and cut in tens
+abbrev pub data_words : ShareFields → List ℕ
+data_words f = cut_in_tens (header_bits f ++ padding_bits (length (value_bits f.value.items)) ++ value_bits f.value.items)

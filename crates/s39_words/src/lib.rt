@@ -1,0 +1,21 @@
+//! Shares of SLIP-0039 as mnemonics: the word list, the packing of fields into words, the checksum, and the
+//! reading and printing of a text.
+#![tactic(auto)]
+
+mod checksum;
+pub mod laws;
+mod packing;
+mod printing;
+mod share;
+mod spelling;
+mod word_error;
+mod word_list;
+mod word_writer;
+
+pub use printing::print;
+pub use share::{Bytes, Share, ShareFields};
+pub use spelling::parse;
+pub use word_error::WordError;
+
+#[cfg(test)]
+mod tests;

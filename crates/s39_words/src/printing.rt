@@ -1,0 +1,49 @@
+//! The printed form of a share.
+ghost use Rattle.std.specs.Prelude.{◌≡◌, ◌<◌, ◌≤◌, All, length, map};
+ghost use Rattle.std.specs.List.{join_with_byte};
+ghost use Rattle.s39_words.specs.Printing.{listed_word, IsPrinted};
+
+use crate::checksum::checksum_of;
+use crate::packing::data_words_of;
+use crate::share::Share;
+use crate::word_list::rows;
+use arrayvec::ArrayVec;
+
+/// The word at an index of the list.
+fn word_at(index: u16) -> &'static [u8]
+    requires { index < 1024 }
+    ensures { result.now ≡ listed_word index }
+{
+    let row = &rows()[index as usize];
+    let len = row.iter().position(|byte| *byte == b' ').unwrap_or(8);
+    &row[..len]
+}
+
+/// The words at these indices of the list, with single spaces between.
+fn text_of(indices: &[u16]) -> ArrayVec<u8, 530>
+    requires in_list { All (λ index. index < 1024) indices.now }
+    requires short { length indices.now ≤ 59 }
+    ensures { result.items ≡ join_with_byte 32 (map listed_word indices.now) }
+{
+    let mut text = ArrayVec::new();
+    for (i, index) in indices.iter().enumerate() {
+        if i > 0 {
+            text.push(b' ');
+        }
+        text.try_extend_from_slice(word_at(*index)).unwrap();
+    }
+    text
+}
+
+/// The spelling of a share with small letters and single spaces: 20 to 59 words of the word list
+/// (SLIP-0039, "Format of the share mnemonic").
+pub fn print(share: &Share) -> ArrayVec<u8, 530>
+    ensures { IsPrinted result.items share.now }
+{
+    let data_words = data_words_of(share);
+    let checksum = checksum_of(share.extendable(), &data_words);
+    let mut indices: ArrayVec<u16, 59> = ArrayVec::new();
+    indices.try_extend_from_slice(&data_words).unwrap();
+    indices.try_extend_from_slice(&checksum).unwrap();
+    text_of(&indices)
+}

@@ -1,0 +1,75 @@
+//! The text of a mnemonic.
+ghost use Rattle.std.specs.Prelude.{◌≡◌, ◌<◌, ◌↔◌, All, IsTrue, IfOk, IfErr, Result};
+ghost use Rattle.s39_words.specs.declared.share.ShareFields.{ShareFields};
+ghost use Rattle.s39_words.specs.declared.word_error.WordError.{WordError as Cause};
+ghost use Rattle.s39_words.specs.Reading.{Reads, PassesCount, IsWordCount};
+ghost use Rattle.s39_words.specs.Spelling.{is_separator};
+
+use crate::checksum::is_valid_checksum;
+use crate::packing::{fields_of, has_flag};
+use crate::share::Share;
+use crate::word_error::WordError;
+use crate::word_list::index_of_word;
+use arrayvec::ArrayVec;
+
+/// Reads a text as the share that it spells, or as the first cause for which it spells none: an unknown word, a
+/// number of words that no mnemonic has, a set flag, a checksum that isn't valid, a padding bit that isn't 0, or a
+/// group threshold above the group count.
+pub fn parse(line: &[u8]) -> Result<Share, WordError>
+    ensures reading { Reads line.now result }
+    // Nothing else is what the text reads as.
+    ensures only { (reading : Result ShareFields Cause) → Reads line.now reading → result ≡ reading }
+{
+    let indices = indices_of(line)?;
+    let words = indices.as_slice();
+    if has_flag(words) {
+        return Err(WordError::Extendable);
+    }
+    if !is_valid_checksum(false, words) {
+        return Err(WordError::BadChecksum);
+    }
+    let Some(fields) = fields_of(words) else {
+        return Err(WordError::BadPadding);
+    };
+    Share::new(fields).ok_or(WordError::GroupThreshold)
+}
+
+/// The indices of a mnemonic's words in the word list.
+pub(crate) type Indices = ArrayVec<u16, 59>;
+
+/// The indices of a text's words, where all are in the word list and a mnemonic may have as many.
+pub(crate) fn indices_of(line: &[u8]) -> Result<Indices, WordError>
+    ensures found { IfOk result (λ indices. PassesCount line.now indices.items) }
+    ensures in_list { IfOk result (λ indices. All (λ i. i < 1024) indices.items) }
+    ensures refused { IfErr result (λ e. Reads line.now (Err e)) }
+{
+    let mut indices = ArrayVec::new();
+    let mut words = 0;
+    for word in line.split(separates).filter(|word| !word.is_empty()) {
+        words += 1;
+        let Some(index) = index_of_word(word) else {
+            return Err(WordError::UnknownWord { position: words });
+        };
+        // Words past those that a mnemonic may have are only counted.
+        let _ = indices.try_push(index);
+    }
+    if is_word_count(words) {
+        Ok(indices)
+    } else {
+        Err(WordError::WordCount { words })
+    }
+}
+
+/// Whether this byte stands between words.
+fn separates(byte: &u8) -> bool
+    ensures { result ≡ is_separator byte.now }
+{
+    *byte == b' ' || *byte == b'\t' || *byte == b'\r'
+}
+
+/// Whether a mnemonic may have this many words.
+fn is_word_count(words: usize) -> bool
+    ensures { IsTrue result ↔ IsWordCount words }
+{
+    (20..=59).contains(&words) && 10 * (words - 7) % 16 <= 8
+}
