@@ -1,6 +1,6 @@
 -- Long division by a polynomial of degree three whose first coefficient is 1, over any field.
-use Rattle.std.proofs.Common.{◌≡◌, ℕ, ◌<◌, List, [], ◌∷◌, length, refl, sym, ap, ◌∙◌}
-use Rattle.std.specs.Prelude.{All, ◌↔◌}
+use Rattle.std.proofs.Common.{◌≡◌, List, [], ◌∷◌, refl, sym, ap, ◌∙◌}
+use Rattle.std.specs.Prelude.{◌↔◌}
 use Rattle.std.proofs.lemmas.List.Elements.{All-nil, All-cons, All-head, All-tail}
 use Rattle.s39_field.specs.Field.{Operations, IsField}
 use Rattle.s39_field.specs.Polynomial.{sum_of, product_of, IsMultiple}

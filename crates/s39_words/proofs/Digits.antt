@@ -1,15 +1,13 @@
 -- Lists of binary digits: the number that they write, and their pieces of one width.
-use Rattle.std.proofs.Common.{◌≡◌, ℕ, zero, suc, ◌+◌, ◌-◌, ◌*◌, ◌/◌, ◌%◌, ◌^◌, ◌<◌, ◌≤◌, List, [], ◌∷◌, ◌++◌, length, take, drop, get_or, replicate, refl, sym, ap, ◌∙◌, arith, add-one, one-add, All, subst}
-use Rattle.std.proofs.Math.Nat.{mul_comm, pow-zero, pow-suc, mod-lt, mod-eq_of_lt, mul_assoc, add-mul}
-use Rattle.std.specs.List.{flat_map}
+use Rattle.std.proofs.Common.{◌≡◌, ℕ, zero, suc, ◌+◌, ◌*◌, ◌/◌, ◌%◌, ◌^◌, ◌<◌, List, [], ◌∷◌, ◌++◌, length, replicate, refl, sym, ap, ◌∙◌, arith, one-add, All, subst}
+use Rattle.std.proofs.Math.Nat.{pow-zero, pow-suc, mod-eq_of_lt}
 use Rattle.std.specs.Int.{bit_at}
 use Rattle.std.specs.Int.Digits.{number_from_digits, number_from_digits_after}
 use Rattle.std.proofs.lemmas.Int.Digits.{number_after_append, number_lt}
-use Rattle.std.proofs.lemmas.Nat.{mod-pow-add, shr-shr, shr_high, mod_low, pow_pos}
+use Rattle.std.proofs.lemmas.Nat.{mod-pow-add, shr-shr, shr_high}
 use Rattle.std.proofs.lemmas.Nat.Bits.{bit_at_cat_low, bit_at-lt, bit_at-zero}
-use Rattle.std.proofs.lemmas.List.{length-append, length-take, length-drop, take-append-drop, take_at, drop_at, take-append-le, append_assoc}
-use Rattle.std.proofs.lemmas.List.Elements.{All-cons, All-nil, All-append, All-head, All-tail, All-take, All-drop, recursion_from_All}
-use Rattle.s39_words.specs.Bits.{bits, cut_in_tens}
+use Rattle.std.proofs.lemmas.List.Elements.{All-cons, All-nil, All-head, All-tail, recursion_from_All}
+use Rattle.s39_words.specs.Bits.{bits}
 
 -- ---- the digits of one number
 

@@ -1,6 +1,6 @@
 -- The indices of a text's words: one list of them, or a first word that has none.
-use Rattle.std.proofs.Common.{◌≡◌, ℕ, suc, true, ◌+◌, ◌<◌, ◌≤◌, min, List, [], ◌∷◌, ◌++◌, length, get_or, take, drop, Option, Some, None, Result, Ok, Err, refl, sym, ap, subst, ◌∙◌, ⊎_elim, arith, add-one}
-use Rattle.std.specs.Prelude.{map, All, IsSome, is_some, IsOk, OnOk, OnErr, ◌↔◌, position, bytes_eq}
+use Rattle.std.proofs.Common.{◌≡◌, ℕ, suc, true, ◌+◌, ◌<◌, ◌≤◌, min, List, [], ◌∷◌, ◌++◌, length, get_or, take, drop, Some, None, Result, Ok, Err, refl, sym, ap, subst, ◌∙◌, ⊎_elim, arith, add-one}
+use Rattle.std.specs.Prelude.{map, All, IsSome, is_some, IsOk, OnOk, OnErr, ◌↔◌, bytes_eq}
 use denote.Ref.{Bor}
 use Rattle.arrayvec.specs.ArrayVec.{ArrayVec}
 use Rattle.std.specs.Str.{str_to_ascii_lowercase}

@@ -1,5 +1,5 @@
 -- Words joined by single spaces.
-use Rattle.std.proofs.Common.{◌≡◌, ℕ, zero, suc, ◌+◌, ◌<◌, ◌≤◌, Bool, true, false, List, [], ◌∷◌, ◌++◌, length, get_or, take, append_assoc, refl, sym, ap, ◌∙◌, arith}
+use Rattle.std.proofs.Common.{◌≡◌, ℕ, ◌+◌, ◌<◌, ◌≤◌, true, false, List, [], ◌∷◌, ◌++◌, length, get_or, take, append_assoc, refl, sym, ap, ◌∙◌, arith}
 use Rattle.std.specs.Prelude.{All, map, filter, nat_lt}
 use Rattle.std.specs.List.{join_with_byte, slice_split}
 use Rattle.std.specs.Char.{to_ascii_lowercase}

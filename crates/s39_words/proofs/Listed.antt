@@ -1,8 +1,8 @@
 -- The words of the list by their indices, and the letters of the table's rows.
-use Rattle.std.proofs.Common.{◌≡◌, ℕ, zero, suc, ◌+◌, ◌-◌, ◌<◌, ◌≤◌, Bool, true, false, cond, List, [], ◌∷◌, ◌++◌, length, get_or, take, replicate, eqb, eq-eqb, ltb, Option, Some, None, refl, sym, ap, subst, ⊎_elim, inl, inr, ◌∙◌, arith}
+use Rattle.std.proofs.Common.{◌≡◌, ℕ, zero, suc, ◌-◌, ◌<◌, ◌≤◌, false, List, [], ◌∷◌, ◌++◌, length, get_or, take, replicate, eqb, eq-eqb, Some, None, refl, sym, ap, ⊎_elim, ◌∙◌, arith}
 use Rattle.std.specs.Prelude.{All, map, position, bytes_eq, unwrap_or}
 use Rattle.std.specs.List.{position_or_len}
-use Rattle.std.proofs.lemmas.Bool.{lt-ltb, ltb-true, ltb-false, cond-true, cond-false, le-ltb, cases_lt}
+use Rattle.std.proofs.lemmas.Bool.{lt-ltb, cond-true, cond-false, le-ltb, cases_lt}
 use Rattle.std.proofs.lemmas.Bool.Decides.{nat_tests}
 use Rattle.std.proofs.lemmas.List.{take_at, length-map, get_or-map, length-append, length-replicate, get_or-append_right}
 use Rattle.std.proofs.Math.ListN.{get_or-append}

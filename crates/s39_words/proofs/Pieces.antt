@@ -1,13 +1,13 @@
 -- Lists of binary digits cut in pieces of one width, and numbers joined as such pieces.
-use Rattle.std.proofs.Common.{◌≡◌, ℕ, zero, suc, ◌+◌, ◌-◌, ◌*◌, ◌/◌, ◌%◌, ◌^◌, ◌<◌, ◌≤◌, List, [], ◌∷◌, ◌++◌, length, take, drop, get_or, replicate, refl, sym, ap, ◌∙◌, arith, All, subst}
+use Rattle.std.proofs.Common.{◌≡◌, ℕ, zero, suc, ◌+◌, ◌*◌, ◌^◌, ◌<◌, ◌≤◌, List, [], ◌∷◌, ◌++◌, length, take, drop, replicate, refl, sym, ap, ◌∙◌, arith, All, subst}
 use Rattle.std.specs.List.{flat_map}
 use Rattle.std.specs.Int.Digits.{number_from_digits}
-use Rattle.std.proofs.lemmas.List.{length-append, length-take, length-take-le, length-drop, take-append-drop, take_at, drop_at, take-append-le, append_assoc, get_or-replicate, length-replicate, same_lists, drop-drop, drop-take, nil_from_length, append-nil}
+use Rattle.std.proofs.lemmas.List.{length-append, length-take-le, length-drop, take-append-drop, take_at, drop_at, append_assoc, drop-drop, nil_from_length, append-nil}
 use Rattle.std.proofs.lemmas.List.Concat.{flat_map-append}
-use Rattle.std.proofs.lemmas.List.Elements.{All-cons, All-nil, All-append, All-head, All-tail, All-take, All-drop, All-get_or}
+use Rattle.std.proofs.lemmas.List.Elements.{All-cons, All-nil, All-append, All-head, All-tail, All-take, All-drop}
 use Rattle.s39_words.specs.Bits.{bits, cut_in_tens}
 use Rattle.s39_words.specs.FieldsAt.{pieces}
-use Rattle.s39_words.proofs.Digits.{length-bits, bits-below, number-bits-below, number-below, bits-number, same_from_bits}
+use Rattle.s39_words.proofs.Digits.{length-bits, bits-below, number-bits-below, number-below, bits-number}
 
 pub length-pieces : (w k : ℕ) (ds : List ℕ) → length (pieces w k ds) ≡ k
 length-pieces w zero ds = refl

@@ -1,5 +1,5 @@
 -- The printed form of a share: that a text is it, and that there is one alone.
-use Rattle.std.proofs.Common.{◌≡◌, ℕ, ◌+◌, ◌<◌, Bool, List, [], ◌∷◌, ◌++◌, length, drop, take, refl, sym, ap, subst, ◌∙◌, arith}
+use Rattle.std.proofs.Common.{◌≡◌, ℕ, ◌<◌, Bool, List, ◌++◌, length, refl, sym, ap, subst, ◌∙◌}
 use Rattle.std.specs.Prelude.{All, map}
 use Rattle.std.specs.List.{join_with_byte}
 use Rattle.std.proofs.lemmas.List.{take_at, drop_at}
@@ -7,7 +7,7 @@ use Rattle.std.proofs.lemmas.List.Elements.{All-append, All-take, All-drop}
 use Rattle.s39_words.specs.declared.share.ShareFields.{ShareFields}
 use Rattle.s39_words.specs.Share.{IsShare, data_words}
 use Rattle.s39_words.specs.Checksum.{IsValidChecksum}
-use Rattle.s39_words.specs.Spelling.{words_of, HaveIndices, Spells}
+use Rattle.s39_words.specs.Spelling.{words_of, HaveIndices}
 use Rattle.s39_words.specs.Printing.{listed_word, IsPrinted}
 use Rattle.s39_words.proofs.Indices.{indices_below}
 use Rattle.s39_words.proofs.Remainders.{one_checksum}

@@ -1,17 +1,17 @@
 -- What the last remainder says of a checksum.
-use Rattle.std.proofs.Common.{◌≡◌, ℕ, ◌<◌, Bool, true, false, List, [], ◌∷◌, ◌++◌, ltb, length, ◌≤◌, refl, sym, ap, ◌∙◌, arith, subst}
+use Rattle.std.proofs.Common.{◌≡◌, ℕ, ◌<◌, Bool, true, false, List, [], ◌∷◌, ◌++◌, ltb, length, ◌≤◌, refl, sym, ap, ◌∙◌, arith}
 use Rattle.std.specs.Prelude.{All, ◌↔◌, bit_xor, fold}
 use Rattle.std.specs.List.{list_all}
 use Rattle.std.proofs.lemmas.List.{length-append}
-use Rattle.std.proofs.lemmas.List.Elements.{All-nil, All-cons, All-head, All-tail, All-append, All-weaker}
+use Rattle.std.proofs.lemmas.List.Elements.{All-head, All-tail, All-append, All-weaker}
 use Rattle.std.proofs.lemmas.Bool.{ltb-true}
 use Rattle.std.proofs.lemmas.List.Sums.{AllPass-from_list_all, fold-append}
-use Rattle.s39_field.specs.Field.{Operations, IsField}
+use Rattle.s39_field.specs.Field.{IsField}
 use Rattle.s39_field.specs.FieldProduct.{word_field}
 use Rattle.s39_field.specs.Theory.Powers.{word_field_is_field}
 use Rattle.s39_field.specs.Polynomial.{IsMultiple}
 use Rattle.s39_words.specs.declared.checksum.Remainder.{Remainder}
-use Rattle.s39_words.specs.Checksum.{generator, one_added_to_last, customization_string, checked_polynomial, IsValidChecksum}
+use Rattle.s39_words.specs.Checksum.{generator, one_added_to_last, customization_string, IsValidChecksum}
 use Rattle.s39_words.specs.Division.{one_remainder, next_remainder}
 use Rattle.s39_words.proofs.CubicDivision.{multiple_step, multiple_of_three, multiple_after_zero}
 

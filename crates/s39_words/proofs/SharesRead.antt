@@ -1,5 +1,5 @@
 -- What a text is read as, whose words pass the tests up to the padding.
-use Rattle.std.proofs.Common.{◌≡◌, ◌↔◌, ℕ, ◌-◌, ◌<◌, ◌≤◌, false, List, ◌++◌, length, drop, Option, Some, None, Result, Ok, Err, refl, sym, subst, ◌∙◌, arith, All, ⊎_elim}
+use Rattle.std.proofs.Common.{◌≡◌, ◌↔◌, ℕ, ◌-◌, ◌<◌, ◌≤◌, false, List, length, drop, Option, Some, None, Result, refl, sym, subst, arith, All, ⊎_elim}
 use Rattle.std.specs.Prelude.{◌≢◌, true, IsTrue, IsSome, IfSome}
 use Rattle.std.specs.Option.{ok_or}
 use Rattle.std.proofs.lemmas.Bool.{cases_lt, cases_eq}
@@ -8,7 +8,7 @@ use Rattle.s39_words.specs.declared.share.ShareFields.{ShareFields}
 use Rattle.s39_words.specs.declared.word_error.WordError.{WordError}
 use Rattle.s39_words.specs.declared.word_error.WordError.TheVariants.{GroupThreshold}
 use Rattle.s39_words.specs.Checksum.{IsValidChecksum}
-use Rattle.s39_words.specs.Share.{IsShare, data_words}
+use Rattle.s39_words.specs.Share.{IsShare}
 use Rattle.s39_words.specs.Spelling.{words_of, HaveIndices, Spells}
 use Rattle.s39_words.specs.Reading.{PassesPadding, stored_group_threshold, stored_group_count, Reads}
 use Rattle.s39_words.specs.FieldsAt.{fields_at}

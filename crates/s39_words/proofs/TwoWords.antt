@@ -1,7 +1,6 @@
 -- Fields read from the words by shifts and masks.
-use Rattle.std.proofs.Common.{◌≡◌, ℕ, zero, suc, ◌+◌, ◌-◌, ◌*◌, ◌/◌, ◌%◌, ◌^◌, ◌<◌, ◌≤◌, List, [], ◌∷◌, ◌++◌, length, take, drop, get_or, refl, sym, ap, ◌∙◌, arith, All, subst, bit_and, bit_or}
+use Rattle.std.proofs.Common.{◌≡◌, ℕ, ◌+◌, ◌-◌, ◌*◌, ◌/◌, ◌%◌, ◌^◌, ◌<◌, ◌≤◌, List, [], ◌∷◌, ◌++◌, length, take, drop, get_or, sym, ap, ◌∙◌, arith, All, subst, bit_and, bit_or}
 use Rattle.std.proofs.Math.Nat.{mod-eq_of_lt}
-use Rattle.std.specs.List.{flat_map}
 use Rattle.std.specs.Int.Digits.{number_from_digits}
 use Rattle.std.proofs.lemmas.Nat.{and_mask, or_shifted, one_shl, pow_pos, mod_below}
 use Rattle.std.proofs.lemmas.List.{take_at, drop_at, append_assoc, drop-drop, drop_more}

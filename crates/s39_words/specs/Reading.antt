@@ -1,7 +1,8 @@
 -- What a text is read as: the share that it spells, or the first cause for which it spells none.
-use Rattle.std.specs.Prelude.{◌≡◌, ◌≢◌, ℕ, suc, ◌+◌, ◌-◌, ◌*◌, ◌%◌, ◌<◌, ◌≤◌, List, ◌∷◌, ◌++◌, All, length, take, drop, Option, None, IsSome, Result, Ok, Err, Bool, false}
+use Rattle.std.specs.Prelude.{◌≡◌, ◌≢◌, ℕ, suc, ◌+◌, ◌-◌, ◌*◌, ◌%◌, ◌<◌, ◌≤◌, List, ◌∷◌, ◌++◌, All, length, take, drop, None, IsSome, Result, Ok, Err, false}
 use Rattle.std.specs.List.{flat_map}
 use Rattle.std.specs.Int.Digits.{number_from_digits}
+use Rattle.s39_kdf.specs.declared.limits.TheConstants.{MIN_SECRET_BYTES, MAX_SECRET_BYTES}
 use Rattle.s39_words.specs.declared.share.ShareFields.{ShareFields}
 use Rattle.s39_words.specs.declared.word_error.WordError.{WordError}
 use Rattle.s39_words.specs.declared.word_error.WordError.TheVariants.{UnknownWord, WordCount, Extendable, BadChecksum, BadPadding, GroupThreshold}
@@ -24,11 +25,11 @@ pub record IsFirstUnknown (words : List (List ℕ)) (position : ℕ) : Type 0 wh
 abbrev pub padding_length : ℕ → ℕ
 padding_length n = 10 * (n - 7) % 16
 
--- a mnemonic may have n words: at most eight bits of padding, and a value of 16 to 64 bytes
+-- a mnemonic may have n words: at most eight bits of padding, and a value as long as a master secret may be
 pub record IsWordCount (n : ℕ) : Type 0 where
   pub padding : padding_length n ≤ 8
-  pub at_least : padding_length n + 8 * 16 ≤ 10 * (n - 7)
-  pub at_most : 10 * (n - 7) ≤ padding_length n + 8 * 64
+  pub at_least : padding_length n + 8 * MIN_SECRET_BYTES ≤ 10 * (n - 7)
+  pub at_most : 10 * (n - 7) ≤ padding_length n + 8 * MAX_SECRET_BYTES
 
 -- the bits of these words, ten each
 abbrev pub bits_of_words : List ℕ → List ℕ

@@ -1,15 +1,16 @@
 -- A share, and its data words (SLIP-0039, "Format of the share mnemonic").
-use Rattle.std.specs.Prelude.{◌≡◌, ℕ, ◌-◌, ◌%◌, ◌^◌, ◌<◌, ◌≤◌, List, ◌++◌, All, Bool, true, false, length, replicate, if◌then◌else◌}
+use Rattle.std.specs.Prelude.{◌≡◌, ℕ, ◌-◌, ◌%◌, ◌^◌, ◌<◌, ◌≤◌, List, ◌++◌, All, Bool, false, length, replicate, if◌then◌else◌}
 use Rattle.std.specs.List.{flat_map}
+use Rattle.s39_kdf.specs.declared.limits.TheConstants.{MIN_SECRET_BYTES, MAX_SECRET_BYTES}
 use Rattle.s39_words.specs.declared.share.ShareFields.{ShareFields}
 use Rattle.s39_words.specs.Bits.{bits, cut_in_tens}
 
--- an even number of bytes, from 16 to 64
+-- an even number of bytes, as many as a master secret may have
 pub record IsValue (value : List ℕ) : Type 0 where
   pub bytes : All (λ b. b < 256) value
   pub even : length value % 2 ≡ 0
-  pub at_least : 16 ≤ length value
-  pub at_most : length value ≤ 64
+  pub at_least : MIN_SECRET_BYTES ≤ length value
+  pub at_most : length value ≤ MAX_SECRET_BYTES
 
 -- the fields of a share that can be printed and read
 pub record IsShare (f : ShareFields) : Type 0 where

@@ -1,5 +1,5 @@
 -- The text of a mnemonic, and the share that it spells.
-use Rattle.std.specs.Prelude.{◌≡◌, ℕ, ◌<◌, List, [], ◌∷◌, ◌++◌, Bool, ◌||◌, ◌==◌, nat_lt, length, map, filter, Option, Some}
+use Rattle.std.specs.Prelude.{◌≡◌, ℕ, List, ◌++◌, Bool, ◌||◌, ◌==◌, nat_lt, length, map, filter, Some}
 use Rattle.std.specs.List.{slice_split}
 use Rattle.std.specs.Str.{str_to_ascii_lowercase}
 use Rattle.s39_words.specs.declared.share.ShareFields.{ShareFields}

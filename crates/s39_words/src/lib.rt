@@ -7,13 +7,15 @@ pub mod laws;
 mod packing;
 mod printing;
 mod share;
+mod size;
 mod spelling;
 mod word_error;
 mod word_list;
 mod word_writer;
 
 pub use printing::print;
-pub use share::{Bytes, Share, ShareFields};
+pub use share::{Share, ShareFields};
+pub use size::MAX_TEXT_BYTES;
 pub use spelling::parse;
 pub use word_error::WordError;
 

@@ -4,9 +4,11 @@ ghost use Rattle.s39_words.specs.Reading.{IsWordCount, number_at as number_in, f
 ghost use Rattle.s39_words.specs.FieldsAt.{value_at, fields_at};
 ghost use Rattle.s39_words.specs.Share.{IsShare, header_bits, data_words};
 
-use crate::share::{Bytes, Share, ShareFields};
+use crate::share::{Share, ShareFields};
+use crate::size::MAX_DATA_WORDS;
 use crate::word_writer::WordWriter;
 use arrayvec::ArrayVec;
+use s39_kdf::Bytes;
 
 /// The number in the binary digits of the words, ten each, from this place on.
 fn number_at(words: &[u16], place: usize, width: usize) -> u16
@@ -72,7 +74,7 @@ fn value_of(words: &[u16]) -> Option<Bytes>
 }
 
 /// All fields of a share but the checksum, as words.
-pub(crate) fn data_words_of(share: &Share) -> ArrayVec<u16, 56>
+pub(crate) fn data_words_of(share: &Share) -> ArrayVec<u16, MAX_DATA_WORDS>
     ensures same { result.items ≡ data_words share.now }
     ensures in_list { All (λ w. w < 1024) result.items }
     ensures in_range { IsShare share.now }

@@ -6,6 +6,7 @@ ghost use Rattle.s39_words.specs.Printing.{listed_word, IsPrinted};
 use crate::checksum::checksum_of;
 use crate::packing::data_words_of;
 use crate::share::Share;
+use crate::size::{MAX_TEXT_BYTES, MAX_WORDS};
 use crate::word_list::rows;
 use arrayvec::ArrayVec;
 
@@ -20,9 +21,9 @@ fn word_at(index: u16) -> &'static [u8]
 }
 
 /// The words at these indices of the list, with single spaces between.
-fn text_of(indices: &[u16]) -> ArrayVec<u8, 530>
+fn text_of(indices: &[u16]) -> ArrayVec<u8, MAX_TEXT_BYTES>
     requires in_list { All (λ index. index < 1024) indices.now }
-    requires short { length indices.now ≤ 59 }
+    requires short { length indices.now ≤ MAX_WORDS }
     ensures { result.items ≡ join_with_byte 32 (map listed_word indices.now) }
 {
     let mut text = ArrayVec::new();
@@ -37,12 +38,12 @@ fn text_of(indices: &[u16]) -> ArrayVec<u8, 530>
 
 /// The spelling of a share with small letters and single spaces: 20 to 59 words of the word list
 /// (SLIP-0039, "Format of the share mnemonic").
-pub fn print(share: &Share) -> ArrayVec<u8, 530>
+pub fn print(share: &Share) -> ArrayVec<u8, MAX_TEXT_BYTES>
     ensures { IsPrinted result.items share.now }
 {
     let data_words = data_words_of(share);
     let checksum = checksum_of(share.extendable(), &data_words);
-    let mut indices: ArrayVec<u16, 59> = ArrayVec::new();
+    let mut indices: ArrayVec<u16, MAX_WORDS> = ArrayVec::new();
     indices.try_extend_from_slice(&data_words).unwrap();
     indices.try_extend_from_slice(&checksum).unwrap();
     text_of(&indices)

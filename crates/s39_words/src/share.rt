@@ -2,11 +2,8 @@
 ghost use Rattle.std.specs.Prelude.{◌≡◌, ◌↔◌, IsTrue, IsSome, IfSome};
 ghost use Rattle.s39_words.specs.Share.{IsValue};
 
-use arrayvec::ArrayVec;
+use s39_kdf::{Bytes, MAX_SECRET_BYTES, MIN_SECRET_BYTES};
 use std::marker::Model;
-
-/// The bytes of a share value.
-pub type Bytes = ArrayVec<u8, 64>;
 
 /// The fields of a share, before their ranges are known to hold.
 #[derive(Debug, Drop)]
@@ -141,7 +138,7 @@ impl Share {
     }
 
     /// All fields, which are in their ranges.
-    pub(crate) fn fields(&self) -> &ShareFields
+    pub fn fields(&self) -> &ShareFields
         ensures fields { result.now ≡ self.now }
         ensures in_range { IsShare self.now }
     {
@@ -153,5 +150,5 @@ impl Share {
 fn is_value(value: &[u8]) -> bool
     ensures { IsTrue result ↔ IsValue value.now }
 {
-    value.len() % 2 == 0 && 16 <= value.len() && value.len() <= 64
+    value.len() % 2 == 0 && MIN_SECRET_BYTES <= value.len() && value.len() <= MAX_SECRET_BYTES
 }

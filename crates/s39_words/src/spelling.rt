@@ -8,6 +8,7 @@ ghost use Rattle.s39_words.specs.Spelling.{is_separator};
 use crate::checksum::is_valid_checksum;
 use crate::packing::{fields_of, has_flag};
 use crate::share::Share;
+use crate::size::{MAX_WORDS, MIN_WORDS};
 use crate::word_error::WordError;
 use crate::word_list::index_of_word;
 use arrayvec::ArrayVec;
@@ -35,7 +36,7 @@ pub fn parse(line: &[u8]) -> Result<Share, WordError>
 }
 
 /// The indices of a mnemonic's words in the word list.
-pub(crate) type Indices = ArrayVec<u16, 59>;
+pub(crate) type Indices = ArrayVec<u16, MAX_WORDS>;
 
 /// The indices of a text's words, where all are in the word list and a mnemonic may have as many.
 pub(crate) fn indices_of(line: &[u8]) -> Result<Indices, WordError>
@@ -71,5 +72,5 @@ fn separates(byte: &u8) -> bool
 fn is_word_count(words: usize) -> bool
     ensures { IsTrue result ↔ IsWordCount words }
 {
-    (20..=59).contains(&words) && 10 * (words - 7) % 16 <= 8
+    (MIN_WORDS..=MAX_WORDS).contains(&words) && 10 * (words - 7) % 16 <= 8
 }

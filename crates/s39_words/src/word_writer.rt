@@ -1,13 +1,14 @@
 //! Binary digits made into words of ten.
-ghost use Rattle.std.specs.Prelude.{◌≡◌, ◌+◌, ◌%◌, ◌^◌, ◌<◌, ◌≤◌, [], ◌++◌, length};
+ghost use Rattle.std.specs.Prelude.{◌≡◌, ◌+◌, ◌*◌, ◌%◌, ◌^◌, ◌<◌, ◌≤◌, [], ◌++◌, length};
 ghost use Rattle.s39_words.specs.Bits.{bits, cut_in_tens};
 
+use crate::size::MAX_DATA_WORDS;
 use arrayvec::ArrayVec;
 use std::marker::Model;
 
 /// The binary digits written so far, as words of ten and the digits behind them that make no word yet.
 pub(crate) struct WordWriter {
-    words: ArrayVec<u16, 56>,
+    words: ArrayVec<u16, MAX_DATA_WORDS>,
     /// The last digits, as a number.
     rest: u32,
     /// How many digits that number has, below ten.
@@ -41,7 +42,7 @@ impl WordWriter {
     pub(crate) fn write(&mut self, number: u16, width: usize)
         requires width { width ≤ 15 }
         requires digits { number < 2 ^ width }
-        requires room { length self.old + width ≤ 560 }
+        requires room { length self.old + width ≤ 10 * MAX_DATA_WORDS }
         ensures { self.new ≡ self.old ++ bits width number }
     {
         self.rest = self.rest << width | u32::from(number);
@@ -54,7 +55,7 @@ impl WordWriter {
     }
 
     /// The words, where the digits make whole words.
-    pub(crate) fn into_words(self) -> ArrayVec<u16, 56>
+    pub(crate) fn into_words(self) -> ArrayVec<u16, MAX_DATA_WORDS>
         requires { length self % 10 ≡ 0 }
         ensures { result.items ≡ cut_in_tens self }
     {

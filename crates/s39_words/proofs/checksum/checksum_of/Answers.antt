@@ -1,4 +1,4 @@
-use Rattle.std.proofs.Common.{sym, ap, ◌∙◌, rules}
+use Rattle.std.proofs.Common.{rules}
 use Rattle.s39_words.proofs.Remainders.{valid_checksum, only_checksum}
 use Rattle.s39_words.proofs.checksum.checksum_of.Goals as goal
 

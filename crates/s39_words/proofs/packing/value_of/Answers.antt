@@ -1,4 +1,4 @@
-use Rattle.std.proofs.Common.{◌≡◌, ◌+◌, ◌*◌, ◌^◌, ◌<◌, ◌++◌, sym, ap, ◌∙◌, arith, length, drop, [], ◌∷◌}
+use Rattle.std.proofs.Common.{◌+◌, ◌<◌, ◌++◌, sym, ap, ◌∙◌, arith, length, drop, [], ◌∷◌}
 use Rattle.s39_words.specs.Reading.{padding_length, bits_of_words}
 use Rattle.s39_words.proofs.DataWords.{padding_from_number, number_from_padding}
 use Rattle.s39_words.proofs.Pieces.{length-pieces}

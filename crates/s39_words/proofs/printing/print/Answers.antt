@@ -1,4 +1,4 @@
-use Rattle.std.proofs.Common.{◌≡◌, ◌++◌, refl, ap, ◌∙◌, rules}
+use Rattle.std.proofs.Common.{◌≡◌, ◌++◌, ap, ◌∙◌, rules}
 use Rattle.s39_words.specs.Checksum.{IsValidChecksum}
 use Rattle.s39_words.proofs.Printed.{IsPrinted-from}
 use Rattle.s39_words.proofs.printing.print.Goals as goal

@@ -1,8 +1,8 @@
 use Rattle.std.proofs.Common.{◌≡◌, [], eqb, length, get_or, ap, ◌∙◌, arith, rules, tests}
 use Rattle.std.proofs.lemmas.Iterator.{YieldsList-from_slice}
 use Rattle.std.proofs.lemmas.Iterator.Search.{position_from_yields_List}
-use Rattle.std.specs.Prelude.{map, unwrap_or}
-use Rattle.s39_words.specs.WordList.{word_list, row_of}
+use Rattle.std.specs.Prelude.{unwrap_or}
+use Rattle.s39_words.specs.WordList.{row_of}
 use Rattle.s39_words.specs.Printing.{listed_word}
 use Rattle.s39_words.proofs.Listed.{length_rows, row_at, row_front, FitsRow-listed_word}
 use Rattle.s39_words.proofs.printing.word_at.Goals as goal

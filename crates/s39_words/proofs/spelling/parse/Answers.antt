@@ -1,10 +1,8 @@
-use Rattle.std.proofs.Common.{rules, ◌≡◌, ◌↔◌, ◌<◌, All, Option, Result, Err, ℕ, length, false, true, List, ap, subst, sym, refl, ◌∙◌}
+use Rattle.std.proofs.Common.{rules, ◌≡◌, ◌↔◌, ◌<◌, All, Err, false, true, subst, sym, refl, ◌∙◌}
 use Rattle.std.specs.Prelude.{IsSome, IfSome}
-use Rattle.s39_words.specs.declared.share.ShareFields.{ShareFields}
-use Rattle.s39_words.specs.declared.word_error.WordError.{WordError as Cause}
 use Rattle.s39_words.specs.declared.word_error.WordError.TheVariants.{Extendable, BadChecksum, BadPadding}
 use Rattle.s39_words.specs.Share.{IsShare}
-use Rattle.s39_words.specs.Reading.{Reads, PassesCount, PassesFlag, PassesChecksum, PassesPadding}
+use Rattle.s39_words.specs.Reading.{Reads, PassesCount, PassesChecksum, PassesPadding}
 use Rattle.s39_words.specs.FieldsAt.{fields_at}
 use Rattle.s39_words.proofs.OneReading.{same_reading}
 use Rattle.s39_words.proofs.SharesRead.{flag_from_test, reads_tested, only_tested}

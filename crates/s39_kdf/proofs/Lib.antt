@@ -1,0 +1,4 @@
+pub mod Xor
+pub mod Lengths
+pub mod Parts
+pub mod Rounds

@@ -1,0 +1,39 @@
+-- The encryption of a master secret (SLIP-0039, "Encryption of the master secret"): a Feistel network
+-- of four rounds, whose round function is PBKDF2-HMAC-SHA256.
+use Rattle.std.specs.Prelude.{◌≡◌, ℕ, ◌*◌, ◌^◌, List, [], ◌∷◌, ◌++◌, length, codes, if◌then◌else◌}
+use Rattle.std.specs.Int.{w16, to_be_bytes}
+use Rattle.s39_kdf.specs.Bytes.{xored}
+use Rattle.s39_kdf.specs.Pbkdf2.{pbkdf2}
+use Rattle.s39_kdf.specs.declared.params.Params.{Params}
+
+-- what stands before the right half in a round's salt: `shamir` and the identifier as two big-endian
+-- bytes, or nothing where the extendable backup flag is set
+abbrev pub salt_prefix : Params → List ℕ
+salt_prefix params =
+    if params.extendable then [] else codes "shamir" ++ to_be_bytes w16 params.id
+
+-- the iterations of one round
+abbrev pub round_iterations : Params → ℕ
+round_iterations params = 2500 * 2 ^ params.exponent
+
+-- F (i, R): the round function at round i and the right half R
+unfoldable pub round_function : List ℕ → Params → ℕ → List ℕ → List ℕ
+round_function passphrase params i right =
+    pbkdf2 (i ∷ passphrase) (salt_prefix params ++ right) (round_iterations params) (length right)
+
+-- The secret's halves are h0 and h1. Round i makes h(i+2) of h(i) and h(i+1), and the result is h5
+-- followed by h4.
+pub record IsEncryption (secret passphrase : List ℕ) (params : Params) (result : List ℕ) : Type 0 where
+  pub h0 : List ℕ
+  pub h1 : List ℕ
+  pub h2 : List ℕ
+  pub h3 : List ℕ
+  pub h4 : List ℕ
+  pub h5 : List ℕ
+  pub halves : secret ≡ h0 ++ h1
+  pub same_length : length h0 ≡ length h1
+  pub round_0 : h2 ≡ xored h0 (round_function passphrase params 0 h1)
+  pub round_1 : h3 ≡ xored h1 (round_function passphrase params 1 h2)
+  pub round_2 : h4 ≡ xored h2 (round_function passphrase params 2 h3)
+  pub round_3 : h5 ≡ xored h3 (round_function passphrase params 3 h4)
+  pub exchanged : result ≡ h5 ++ h4

@@ -1,0 +1,6 @@
+pub mod Bytes
+pub mod Hmac
+pub mod PreparedKey
+pub mod Pbkdf2
+pub mod Cipher
+pub mod Limits

@@ -1,0 +1,18 @@
+-- Which passphrases and master secrets are accepted (SLIP-0039, "Passphrase" and "Generating the shares").
+use Rattle.std.specs.Prelude.{◌≡◌, ℕ, ◌-◌, ◌%◌, ◌≤◌, List, length, take, slice_index, All}
+use Rattle.s39_kdf.specs.declared.limits.TheConstants.{MIN_SECRET_BYTES, MAX_SECRET_BYTES}
+
+-- a printable character of ASCII
+abbrev pub IsPrintable : ℕ → Type 0
+IsPrintable byte = (32 ≤ byte) × (byte ≤ 126)
+
+-- the place of the first byte that isn't printable, counted from 1
+pub record IsFirstUnprintable (bytes : List ℕ) (position : ℕ) : Type 0 where
+  pub counted_from_1 : 1 ≤ position
+  pub within : position ≤ length bytes
+  pub unprintable : ¬ IsPrintable (slice_index bytes (position - 1))
+  pub printable_before : All IsPrintable (take (position - 1) bytes)
+
+-- a length in bytes that a master secret may have
+abbrev pub IsSecretLength : ℕ → Type 0
+IsSecretLength n = (n % 2 ≡ 0) × (MIN_SECRET_BYTES ≤ n) × (n ≤ MAX_SECRET_BYTES)

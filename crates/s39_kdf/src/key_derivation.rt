@@ -1,0 +1,68 @@
+//! PBKDF2-HMAC-SHA256 (RFC 8018, section 5.2).
+ghost use Rattle.std.specs.Prelude.{◌≡◌, ℕ, List, ◌≤◌, length};
+ghost use Rattle.s39_kdf.specs.Bytes.{joined, xored};
+ghost use Rattle.s39_kdf.specs.Hmac.{hmac};
+ghost use Rattle.s39_kdf.specs.PreparedKey.{HoldsKey};
+ghost use Rattle.s39_kdf.specs.Pbkdf2.{iterated, block, pbkdf2};
+
+use crate::keyed_hash::{PreparedKey, absorb};
+use sha2::Digest;
+
+/// Fills `out`, of at most 32 bytes, with the key that PBKDF2-HMAC-SHA256 derives from a password and
+/// a salt, each given as parts that are joined in order, in `iterations` iterations, at least one.
+#[tactic(auto, using(crate::proofs::Lengths::pbkdf2_short))]
+pub fn pbkdf2(password: &[&[u8]], salt: &[&[u8]], iterations: u32, out: &mut [u8])
+    requires iterations { 1 ≤ iterations }
+    requires one_block { length out.old ≤ 32 }
+    ensures { out.new ≡ pbkdf2 (joined password.now) (joined salt.now) iterations (length out.old) }
+{
+    let key = PreparedKey::new(password);
+    let block = block(&key, salt, 1, iterations);
+    let len = out.len();
+    out.copy_from_slice(&block[..len]);
+}
+
+// The block of this number: the xor of as many HMACs as there are iterations, each of the one before.
+#[tactic(auto, using(crate::proofs::Lengths::block_one), unfolding(crate::specs::Pbkdf2::block, crate::specs::Pbkdf2::iterated))]
+fn block(key: &PreparedKey, salt: &[&[u8]], number: u32, iterations: u32) -> [u8; 32]
+    requires { 1 ≤ iterations }
+    ensures { (password : List ℕ) → HoldsKey key.now password
+        → result ≡ block password (joined salt.now) number iterations }
+{
+    let mut iterated = first_iteration(key, salt, number);
+    let mut sum = iterated;
+    'iterations: for k in 1..iterations {
+        iterated = next_iteration(key, &iterated);
+        xor_into(&mut sum, &iterated);
+    }
+    sum
+}
+
+// The HMAC of the salt and a block's number.
+#[tactic(auto, unfolding(crate::specs::Pbkdf2::iterated))]
+fn first_iteration(key: &PreparedKey, salt: &[&[u8]], number: u32) -> [u8; 32]
+    ensures { (password : List ℕ) → HoldsKey key.now password
+        → result ≡ iterated password (joined salt.now) number 1 }
+{
+    let mut inner = key.begin();
+    absorb(&mut inner, salt);
+    inner.update(number.to_be_bytes());
+    key.finish(inner)
+}
+
+// The HMAC of the one before.
+fn next_iteration(key: &PreparedKey, before: &[u8; 32]) -> [u8; 32]
+    ensures { (password : List ℕ) → HoldsKey key.now password → result ≡ hmac password before.now }
+{
+    let mut inner = key.begin();
+    inner.update(before);
+    key.finish(inner)
+}
+
+fn xor_into(sum: &mut [u8; 32], bytes: &[u8; 32])
+    ensures { sum.new ≡ xored sum.old bytes.now }
+{
+    'bytes: for i in 0..32 {
+        sum[i] ^= bytes[i];
+    }
+}

@@ -1,0 +1,21 @@
+//! Key derivation and the encryption of master secrets for SLIP-0039: HMAC-SHA256 (RFC 2104),
+//! PBKDF2-HMAC-SHA256 (RFC 8018), the four-round cipher, and the limits of secrets and passphrases.
+#![tactic(auto)]
+
+mod cipher;
+mod key_derivation;
+mod keyed_hash;
+mod limits;
+mod params;
+
+pub use cipher::{decrypt, encrypt};
+pub use key_derivation::pbkdf2;
+pub use keyed_hash::hmac;
+pub use limits::{
+    BadPassphrase, BadSecretLength, Bytes, MAX_SECRET_BYTES, MIN_SECRET_BYTES, check_passphrase,
+    check_secret,
+};
+pub use params::Params;
+
+#[cfg(test)]
+mod tests;

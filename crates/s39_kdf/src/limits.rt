@@ -1,0 +1,81 @@
+//! The limits of master secrets and passphrases.
+ghost use Rattle.std.specs.Prelude.{◌≡◌, ◌↔◌, length, All, IsTrue, IsOk, IfOk, IfErr};
+ghost use Rattle.s39_kdf.specs.Limits.{IsPrintable, IsFirstUnprintable, IsSecretLength};
+
+use arrayvec::ArrayVec;
+
+/// The fewest bytes of a master secret: 128 bits.
+pub const MIN_SECRET_BYTES: usize = 16;
+
+/// The most bytes of a master secret.
+pub const MAX_SECRET_BYTES: usize = 64;
+
+/// The bytes of a master secret, an encrypted secret or a share value.
+pub type Bytes = ArrayVec<u8, MAX_SECRET_BYTES>;
+
+/// A passphrase has a byte outside 32 to 126, the printable characters of ASCII.
+#[derive(Clone, Copy, PartialEq, Eq, Debug)]
+pub struct BadPassphrase {
+    /// The place of the first such byte, counted from 1.
+    pub position: usize,
+}
+
+impl BadPassphrase {
+    /// The number of this refusal.
+    pub fn code(&self) -> u8
+        ensures { result ≡ 41 }
+    {
+        41
+    }
+}
+
+/// A master secret's length is odd, below `MIN_SECRET_BYTES` or above `MAX_SECRET_BYTES`.
+#[derive(Clone, Copy, PartialEq, Eq, Debug)]
+pub struct BadSecretLength {
+    /// The length in bytes.
+    pub bytes: usize,
+}
+
+impl BadSecretLength {
+    /// The number of this refusal.
+    pub fn code(&self) -> u8
+        ensures { result ≡ 42 }
+    {
+        42
+    }
+}
+
+/// Accepts a passphrase exactly where all its bytes are from 32 to 126, an empty one too.
+pub fn check_passphrase(passphrase: &[u8]) -> Result<(), BadPassphrase>
+    ensures accepted { IsOk result ↔ All IsPrintable passphrase.now }
+    ensures first { IfErr result (λ bad. IsFirstUnprintable passphrase.now bad.position) }
+{
+    for (i, byte) in passphrase.iter().enumerate() {
+        if !is_printable(*byte) {
+            return Err(BadPassphrase { position: i + 1 });
+        }
+    }
+    Ok(())
+}
+
+fn is_printable(byte: u8) -> bool
+    ensures { IsTrue result ↔ IsPrintable byte }
+{
+    matches!(byte, 32..=126)
+}
+
+/// Copies a master secret, exactly where its length is even, at least `MIN_SECRET_BYTES` and at most
+/// `MAX_SECRET_BYTES`.
+pub fn check_secret(secret: &[u8]) -> Result<Bytes, BadSecretLength>
+    ensures accepted { IsOk result ↔ IsSecretLength (length secret.now) }
+    ensures unchanged { IfOk result (λ bytes. bytes.items ≡ secret.now) }
+    ensures length { IfErr result (λ bad. bad.bytes ≡ length secret.now) }
+{
+    let refusal = BadSecretLength {
+        bytes: secret.len(),
+    };
+    if secret.len() % 2 != 0 || secret.len() < MIN_SECRET_BYTES {
+        return Err(refusal);
+    }
+    Bytes::try_from(secret).map_err(|_| refusal)
+}

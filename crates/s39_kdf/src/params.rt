@@ -1,0 +1,27 @@
+//! The parameters of the encryption.
+ghost use Rattle.std.specs.Prelude.{◌≡◌, ◌<◌, ◌^◌};
+
+/// The fields of a backup on which the encryption of its master secret depends (SLIP-0039, "Encryption
+/// of the master secret").
+#[derive(Clone, Copy, PartialEq, Eq, Debug)]
+pub struct Params {
+    /// The identifier, of 15 bits.
+    pub id: u16,
+    /// The extendable backup flag: whether the identifier is left out of the salt.
+    pub extendable: bool,
+    /// The iteration exponent, of 4 bits: each of the four rounds takes `2500 * 2^exponent` iterations.
+    pub exponent: u8,
+    ghost id_in_range: { id < 2 ^ 15 },
+    ghost exponent_in_range: { exponent < 16 },
+}
+
+impl Params {
+    ghost use Rattle.s39_kdf.specs.Cipher.{round_iterations};
+
+    /// The iterations of PBKDF2 in each of the four rounds.
+    pub fn round_iterations(self) -> u32
+        ensures { result ≡ round_iterations self }
+    {
+        2500 << self.exponent
+    }
+}
