@@ -1,0 +1,5 @@
+pub mod Parts
+pub mod Run
+pub mod Decimals
+pub mod Write
+pub mod Shown

@@ -1,0 +1,121 @@
+//! The program: a command line, a reader and two writers.
+
+use crate::command::{Job, NoJob, read_words};
+use crate::device::Counting;
+use crate::fault::{Fault, Refusal};
+use crate::show::run_show;
+use crate::text::FaultText;
+use std::alloc::Global;
+use std::io::{BufWriter, Read, Write};
+
+const DONE: u8 = 0;
+
+const REFUSED: u8 = 1;
+
+const NO_JOB: u8 = 2;
+
+const DEVICE_FAILED: u8 = 3;
+
+const NO_MEMORY: u8 = 4;
+
+/// Runs the command that the words give, of which the first is the program's name, and gives the exit status.
+///
+/// | Status | When |
+/// |---|---|
+/// | 0 | the command is done, or help was asked for and written |
+/// | 1 | a line was refused |
+/// | 2 | the command line is refused |
+/// | 3 | a read or a write failed |
+/// | 4 | there is no memory |
+///
+/// Results and help go to `output`. A fault is a line on `errors`, where the text of a refused command line goes too.
+/// All memory is taken before the first byte of `input` is asked for. A failing `errors` changes no status.
+pub fn program<R: Read + Drop, W: Write + Drop, E: Write + Drop>(
+    alloc: Global,
+    words: &[&str],
+    input: R,
+    output: W,
+    errors: E,
+) -> u8 {
+    let mut errors = errors;
+    match read_words(alloc, words) {
+        Ok(job) => run(alloc, job, input, output, &mut errors),
+        Err(NoJob::Help(text)) => show_help(text.as_str(), output, &mut errors),
+        Err(NoJob::Refused(text)) => {
+            let _ = errors.write_all(text.as_bytes());
+            NO_JOB
+        }
+        Err(NoJob::Memory) => no_memory(&mut errors),
+    }
+}
+
+fn run<R: Read + Drop, W: Write + Drop, E: Write>(
+    alloc: Global,
+    job: Job,
+    input: R,
+    output: W,
+    errors: &mut E,
+) -> u8 {
+    let Ok(output) = BufWriter::new(alloc, output) else {
+        return no_memory(errors);
+    };
+    let mut input = Counting::new(input);
+    let mut output = Counting::new(output);
+    let answer = match job {
+        Job::Show => run_show(&mut input, &mut output),
+    };
+    match flushed(answer, output.into_inner()) {
+        Ok(()) => DONE,
+        Err(fault) => report(fault, errors),
+    }
+}
+
+/// Writes what is left in the buffer, and gives the run's answer, or the failure to write after a run without a fault.
+fn flushed<W: Write + Drop>(answer: Result<(), Fault>, output: BufWriter<W>) -> Result<(), Fault> {
+    let mut output = output;
+    let has_failed = matches!(
+        answer,
+        Err(Fault {
+            refusal: Refusal::WriteFailed,
+            ..
+        })
+    );
+    let is_whole = !has_failed && output.flush().is_ok();
+    // A drop of the buffer would write again what a failed write left in it.
+    let _ = output.into_parts();
+    answer?;
+    if is_whole {
+        Ok(())
+    } else {
+        Err(write_failed())
+    }
+}
+
+fn write_failed() -> Fault {
+    Fault {
+        line: None,
+        refusal: Refusal::WriteFailed,
+    }
+}
+
+fn show_help<W: Write + Drop, E: Write>(text: &str, output: W, errors: &mut E) -> u8 {
+    let mut output = output;
+    if output.write_all(text.as_bytes()).is_err() || output.flush().is_err() {
+        return report(write_failed(), errors);
+    }
+    DONE
+}
+
+fn report<E: Write>(fault: Fault, errors: &mut E) -> u8 {
+    let _ = writeln!(errors, "{}", FaultText::from(fault));
+    match fault.refusal {
+        Refusal::ReadFailed | Refusal::WriteFailed => DEVICE_FAILED,
+        Refusal::Word(_) | Refusal::LineTooLong => REFUSED,
+    }
+}
+
+/// Says that there is no memory, without taking any.
+pub fn no_memory<E: Write>(errors: &mut E) -> u8 {
+    let _ = errors.write_all(b"shamir: out of memory\n");
+    NO_MEMORY
+}

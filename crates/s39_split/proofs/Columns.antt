@@ -1,0 +1,75 @@
+-- Byte strings position by position, and their weighted sums.
+use Rattle.std.proofs.Common.{◌≡◌, ℕ, zero, suc, ◌+◌, ◌<◌, ◌≤◌, List, [], ◌∷◌, ◌++◌, length, get_or, take, map, slice_index, refl, sym, ap, ap₂, ◌∙◌, subst, arith, bit_xor}
+use Rattle.std.specs.Borrow.{Bor}
+use Rattle.std.specs.List.{All, zip}
+use Rattle.std.specs.Int.Bits.{xor_assoc, xor_zero_r}
+use Rattle.std.proofs.lemmas.List.{map_more, take_more, length-map, length-take-le, get_or-map}
+use Rattle.std.proofs.lemmas.List.Elements.{All-map}
+use Rattle.arrayvec.specs.ArrayVec.{ArrayVec}
+use Rattle.s39_field.specs.FieldProduct.{byte_field, byte_modulus, product_modulo}
+use Rattle.s39_field.specs.Interpolation.{Interpolates, InterpolatesBytes, points_at, weighted_sum}
+use Rattle.s39_field.specs.Theory.Powers.{byte_field_is_field}
+use Rattle.s39_field.specs.Theory.Strings.{weighted_sum-more}
+use Rattle.s39_split.specs.Shares.{indexed_bytes}
+
+-- the bytes of the points' strings at one position
+abbrev pub column : ℕ → List (ℕ × Bor (ArrayVec ℕ)) → List ℕ
+column k points = map (λ point. slice_index point.1.now.items k) points
+
+-- one more row is added
+pub sum_more : (ws : List ℕ) (points : List (ℕ × Bor (ArrayVec ℕ))) (i : ℕ) (point : ℕ × Bor (ArrayVec ℕ)) (d k old new : ℕ)
+    → i < length ws → i < length points → point ≡ get_or points i point
+    → old ≡ weighted_sum byte_field (take i ws) (take i (column k points))
+    → new ≡ bit_xor old (product_modulo byte_modulus (get_or ws i d) (slice_index point.1.now.items k))
+    → new ≡ weighted_sum byte_field (take (i + 1) ws) (take (i + 1) (column k points))
+sum_more ws points i point d k old new in_ws in_points is before here =
+    let count : length (column k points) ≡ length points = length-map points (λ p. slice_index p.1.now.items k) in
+    let value : get_or (column k points) i 0 ≡ slice_index point.1.now.items k =
+    get_or-map (λ p. slice_index p.1.now.items k) points i point 0 in_points
+    ∙ ap (λ (p : ℕ × Bor (ArrayVec ℕ)). slice_index p.1.now.items k) (sym is) in
+    here ∙ ap₂ (λ x y. bit_xor x (product_modulo byte_modulus (get_or ws i d) y)) before (sym value)
+    ∙ sym (weighted_sum-more byte_field byte_field_is_field ws (column k points) i d 0 in_ws (omega arith))
+
+-- the points at one position
+zip_column : (points : List (ℕ × Bor (ArrayVec ℕ))) (k : ℕ) → zip (map (λ p. p.0) points) (column k points) ≡ points_at (indexed_bytes points) k
+zip_column [] k = refl
+zip_column (p ∷ ps) k = ap (λ rest. (p.0, slice_index p.1.now.items k) ∷ rest) (zip_column ps k)
+
+-- the weighted sums of rows are interpolated
+pub sums_interpolate : (points : List (ℕ × Bor (ArrayVec ℕ))) (place : ℕ) (ws value : List ℕ)
+    → ((values : List ℕ) → All (λ y. y < 256) values → length values ≡ length points
+    → Interpolates byte_field (zip (map (λ p. p.0) points) values) place (weighted_sum byte_field ws values))
+    → All (λ p. length p.1.now.items ≡ length value) points
+    → All (λ p. (k : ℕ) → slice_index p.1.now.items k < 256) points
+    → ((k : ℕ) → k < length value → slice_index value k ≡ weighted_sum byte_field ws (column k points))
+    → InterpolatesBytes (indexed_bytes points) place value
+sums_interpolate points place ws value weights one_length bytes sums = record {
+  one_length = All-map (λ s. length s.1 ≡ length value) (λ p. (p.0, p.1.now.items)) points one_length;
+  each = λ position below.
+      let h = weights (column position points)
+      (All-map (λ y. y < 256) (λ p. slice_index p.1.now.items position) points (λ k d within. bytes k d within position))
+      (length-map points (λ p. slice_index p.1.now.items position)) in
+      rw (sums position below, ← zip_column points position) h;
+}
+
+-- a row has the length that all have
+pub length-row : (points : List (ℕ × Bor (ArrayVec ℕ))) (n i : ℕ) (point : ℕ × Bor (ArrayVec ℕ)) → All (λ p. length p.1.now.items ≡ n) points
+    → i < length points → point ≡ get_or points i point → length point.1.now.items ≡ n
+length-row points n i point one_length within is =
+    ap (λ (p : ℕ × Bor (ArrayVec ℕ)). length p.1.now.items) is ∙ one_length i point within
+
+-- what all rows have at least, the length that they have in the end is at least
+pub length-rows : (points : List (ℕ × Bor (ArrayVec ℕ))) (n least : ℕ) → 0 < length points → All (λ p. least ≤ length p.1.now.items) points
+    → All (λ s. length s.1 ≡ n) (indexed_bytes points) → least ≤ n
+length-rows [] n least some long one_length = absurd (omega arith)
+length-rows (p ∷ ps) n least some long one_length =
+    let this : length p.1.now.items ≡ n = one_length 0 (p.0, p.1.now.items) (omega arith) in
+    omega (arith, long 0 p (omega arith))
+
+-- the length that all rows have, and the length that they have in the end, are one
+pub same-length-rows : (points : List (ℕ × Bor (ArrayVec ℕ))) (n m : ℕ) → 0 < length points → All (λ p. length p.1.now.items ≡ m) points
+    → All (λ s. length s.1 ≡ n) (indexed_bytes points) → n ≡ m
+same-length-rows [] n m some rows one_length = absurd (omega arith)
+same-length-rows (p ∷ ps) n m some rows one_length =
+    let this : length p.1.now.items ≡ n = one_length 0 (p.0, p.1.now.items) (omega arith) in
+    sym this ∙ rows 0 p (omega arith)

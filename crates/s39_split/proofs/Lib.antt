@@ -1,0 +1,10 @@
+pub mod Interpolations
+pub mod BasePoints
+pub mod Digests
+pub mod Choices
+pub mod Columns
+pub mod Lists
+pub mod Cuts
+pub mod Points
+pub mod Indices
+pub mod Splits

@@ -1,0 +1,3 @@
+pub mod Sharing
+pub mod Recovery
+pub mod Shares

@@ -1,0 +1,14 @@
+//! The numbers that splitting and combining go by (SLIP-0039, "Shamir's secret sharing").
+
+/// The most shares of a split.
+pub const MAX_SHARES: usize = 16;
+
+/// The place at which a split's polynomials take the bytes of the digest share, the digest of the secret
+/// followed by its key. No share has this index.
+pub const DIGEST_PLACE: u8 = 254;
+
+/// The place at which a split's polynomials take the bytes of the secret. No share has this index.
+pub const SECRET_PLACE: u8 = 255;
+
+/// The length of a secret's digest, in bytes.
+pub const DIGEST_BYTES: usize = 4;
