@@ -1,18 +1,29 @@
-//! Encrypts a secret of 16 bytes and prints it in hexadecimal, so that the time of PBKDF2 can be
-//! measured as the library runs it. The argument is the iteration exponent, 0 where there is none: the
-//! four rounds take `10000 * 2^exponent` iterations.
+//! Does some work of the libraries, so that its time can be measured from outside.
+//!
+//! `kdf E` encrypts a secret at the iteration exponent `E` and prints it in hexadecimal: four rounds of PBKDF2, which take
+//! `10000 * 2^E` iterations. `split N` splits a secret of 32 bytes N times at threshold 8 of 16, and `combine N` combines
+//! eight of its shares N times; both print how often it succeeded. With no argument it does `kdf 0`.
 #![tactic(auto)]
 
-use s39_kdf::{Params, check_secret, encrypt};
+ghost use Rattle.std.specs.Prelude.{◌≡◌, All};
+ghost use Rattle.arrayvec.specs.ArrayVec.{array_vec_len};
+
+use s39_kdf::{Bytes, Params, check_secret, encrypt};
+use s39_split::{combine, split};
 use std::{env, io};
 
 const SECRET: [u8; 16] = *b"a master secret!";
 
-fn main(rt: HostRuntime) -> io::Result<()> {
-    let exponent = match env::args(&rt)?.nth(1) {
-        Some(text) => text.parse().unwrap_or(u8::MAX),
-        None => 0,
-    };
+/// The threshold of the splits.
+const THRESHOLD: u8 = 8;
+
+/// The bytes of the secret that is split.
+const SECRET_BYTES: usize = 32;
+
+/// The random bytes of one split: 28, and those of six shares.
+const RANDOM_BYTES: usize = 220;
+
+fn derive_keys(rt: &impl Print, exponent: u8) -> io::Result<()> {
     if exponent > 15 {
         return Err(io::Error::from(io::ErrorKind::InvalidInput));
     }
@@ -26,7 +37,79 @@ fn main(rt: HostRuntime) -> io::Result<()> {
         for byte in encrypted.as_slice() {
             print!(rt; "{byte:02x}")?;
         }
-        println!(rt)?;
     }
-    Ok(())
+    println!(rt)
+}
+
+fn secret_to_split() -> Bytes
+    ensures { array_vec_len result ≡ SECRET_BYTES }
+{
+    Bytes::try_from([7; SECRET_BYTES].as_slice()).unwrap()
+}
+
+/// The shares of one split.
+fn shares_of(secret: &Bytes) -> [Bytes; 16]
+    requires { array_vec_len secret.now ≡ SECRET_BYTES }
+    ensures { All (λ share. array_vec_len share ≡ SECRET_BYTES) result }
+{
+    let random = [39; RANDOM_BYTES];
+    let mut shares: [Bytes; 16] = Default::default();
+    split(THRESHOLD, secret, &random, &mut shares);
+    shares
+}
+
+/// Splits as often as asked for, and counts the splits that gave a share of the secret's length.
+fn split_often(times: u32) -> u32 {
+    let secret = secret_to_split();
+    let mut whole = 0u32;
+    for _ in 0..times {
+        let shares = shares_of(&secret);
+        if shares[15].len() == SECRET_BYTES {
+            whole = whole.saturating_add(1);
+        }
+    }
+    whole
+}
+
+/// Combines the last eight shares as often as asked for, and counts how often the digest agreed.
+fn combine_often(times: u32) -> u32 {
+    let shares = shares_of(&secret_to_split());
+    let mut agreed = 0u32;
+    for _ in 0..times {
+        let chosen = [
+            (8, &shares[8]),
+            (9, &shares[9]),
+            (10, &shares[10]),
+            (11, &shares[11]),
+            (12, &shares[12]),
+            (13, &shares[13]),
+            (14, &shares[14]),
+            (15, &shares[15]),
+        ];
+        if combine(THRESHOLD, &chosen).is_ok() {
+            agreed = agreed.saturating_add(1);
+        }
+    }
+    agreed
+}
+
+fn main(rt: HostRuntime) -> io::Result<()> {
+    let mut words = env::args(&rt)?;
+    let work = words.nth(1);
+    let number = words.next();
+    let number = match &number {
+        Some(text) => text.parse::<u32>().unwrap_or(u32::MAX),
+        None => 0,
+    };
+    match &work {
+        Some(work) if work.as_str() == "split" => {
+            let whole = split_often(number);
+            println!(rt; "{whole}")
+        }
+        Some(work) if work.as_str() == "combine" => {
+            let agreed = combine_often(number);
+            println!(rt; "{agreed}")
+        }
+        _ => derive_keys(&rt, u8::try_from(number).unwrap_or(u8::MAX)),
+    }
 }

@@ -3,3 +3,4 @@ pub mod Run
 pub mod Decimals
 pub mod Write
 pub mod Shown
+pub mod OneOutput

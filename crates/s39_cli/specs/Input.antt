@@ -16,7 +16,7 @@ longest = 1024
 abbrev pub is_line_feed : ℕ → Bool
 is_line_feed b = b == 10
 
--- the bytes up to each line feed, and those after the last
+-- the bytes up to each line feed, and those after the last one, which may be none
 abbrev pub parts_of : List ℕ → List (List ℕ)
 parts_of bytes = slice_split is_line_feed bytes
 

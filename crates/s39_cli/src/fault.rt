@@ -47,6 +47,6 @@ impl Refusal {
 pub struct Fault {
     /// The line, counted from 1, where the refusal is of a line. It stays at 2^64 - 1 once there.
     pub line: Option<u64>,
-    /// What was refused.
+    /// The cause.
     pub refusal: Refusal,
 }

@@ -4,6 +4,7 @@
 mod command;
 mod device;
 mod fault;
+mod laws;
 mod lines;
 mod program;
 mod show;

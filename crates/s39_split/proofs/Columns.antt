@@ -1,9 +1,8 @@
 -- Byte strings position by position, and their weighted sums.
-use Rattle.std.proofs.Common.{◌≡◌, ℕ, zero, suc, ◌+◌, ◌<◌, ◌≤◌, List, [], ◌∷◌, ◌++◌, length, get_or, take, map, slice_index, refl, sym, ap, ap₂, ◌∙◌, subst, arith, bit_xor}
+use Rattle.std.proofs.Common.{◌≡◌, ℕ, ◌+◌, ◌<◌, ◌≤◌, List, [], ◌∷◌, length, get_or, take, map, slice_index, refl, sym, ap, ap₂, ◌∙◌, arith, bit_xor}
 use Rattle.std.specs.Borrow.{Bor}
 use Rattle.std.specs.List.{All, zip}
-use Rattle.std.specs.Int.Bits.{xor_assoc, xor_zero_r}
-use Rattle.std.proofs.lemmas.List.{map_more, take_more, length-map, length-take-le, get_or-map}
+use Rattle.std.proofs.lemmas.List.{length-map, get_or-map}
 use Rattle.std.proofs.lemmas.List.Elements.{All-map}
 use Rattle.arrayvec.specs.ArrayVec.{ArrayVec}
 use Rattle.s39_field.specs.FieldProduct.{byte_field, byte_modulus, product_modulo}

@@ -1,13 +1,13 @@
 -- What byte strings that are interpolated have to do with one another.
-use Rattle.std.proofs.Common.{◌≡◌, ◌≢◌, ℕ, ◌<◌, ◌≤◌, List, [], ◌∷◌, length, get_or, slice_index, map, refl, sym, ap, ◌∙◌, subst, arith}
+use Rattle.std.proofs.Common.{◌≡◌, ◌≢◌, ℕ, ◌<◌, List, [], length, get_or, slice_index, refl, sym, ◌∙◌, arith}
 use Rattle.std.specs.List.{All, AllPairs}
-use Rattle.std.proofs.lemmas.List.{get_or-map, length-map, ext_get_or}
+use Rattle.std.proofs.lemmas.List.{get_or-map, length-map}
 use Rattle.std.proofs.lemmas.List.Elements.{All-map}
 use Rattle.s39_field.specs.FieldProduct.{byte_field}
 use Rattle.s39_field.specs.Theory.Powers.{byte_field_is_field}
 use Rattle.s39_field.specs.Theory.Roots.{points_have_one_value, AllPairs-map}
 use Rattle.s39_field.specs.Polynomial.{value_at}
-use Rattle.s39_field.specs.Interpolation.{Interpolates, InterpolatesBytes, points_at}
+use Rattle.s39_field.specs.Interpolation.{InterpolatesBytes, points_at}
 use Rattle.s39_split.specs.Recovery.{AreDistinct}
 
 -- a string that does not matter, as a default

@@ -1,9 +1,7 @@
 -- The recovery of a secret from shares of one level (SLIP-0039, "Shamir's secret sharing" and
 -- "Recovery of the secret"), and its laws.
-use Rattle.std.specs.Prelude.{◌≡◌, ◌≢◌, ℕ, ◌≤◌, List, [], ◌∷◌, Option, Some, None, length, take, drop, map, All, AllPairs}
+use Rattle.std.specs.Prelude.{◌≡◌, ◌≢◌, ℕ, ◌≤◌, List, [], ◌∷◌, Option, Some, None, length, take, drop, All, AllPairs}
 use Rattle.std.specs.List.{slice_get}
-use Rattle.std.specs.Borrow.{Bor}
-use Rattle.arrayvec.specs.ArrayVec.{ArrayVec}
 use Rattle.s39_field.specs.Interpolation.{InterpolatesBytes}
 use Rattle.s39_split.specs.Sharing.{digest_of, IsSplit}
 use Rattle.s39_split.specs.declared.places.TheConstants.{DIGEST_BYTES, DIGEST_PLACE, SECRET_PLACE}

@@ -1,4 +1,4 @@
-//! Facts about the definitions, each the contract of a function that does nothing.
+//! Facts about the definitions, each the contract of a function that does nothing, but for `read_back`.
 ghost use Rattle.std.specs.Prelude.{◌≡◌, ℕ, ◌<◌, ◌≤◌, Bool, List, ◌++◌, All, AllPairs, Result, length};
 ghost use Rattle.s39_words.specs.declared.share.ShareFields.{ShareFields};
 ghost use Rattle.s39_words.specs.declared.word_error.WordError.{WordError as Cause};

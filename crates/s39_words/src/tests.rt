@@ -4,15 +4,29 @@ use crate::word_list::{index_of_word, rows};
 use crate::{WordError, parse, print};
 use std::test::Fail;
 
-const ONE_OF_ONE: &str = "duckling enlarge academic academic agency result length solution fridge kidney coal piece deal husband erode duke ajar critical decision keyboard";
-const ONE_OF_ONE_BAD_CHECKSUM: &str = "duckling enlarge academic academic agency result length solution fridge kidney coal piece deal husband erode duke ajar critical decision kidney";
-const ONE_OF_ONE_BAD_PADDING: &str = "duckling enlarge academic academic email result length solution fridge kidney coal piece deal husband erode duke ajar music cargo fitness";
-const TWO_NEEDED_MEMBER_2: &str = "shadow pistol academic always adequate wildlife fancy gross oasis cylinder mustang wrist rescue view short owner flip making coding armed";
-const TWO_NEEDED_MEMBER_0: &str = "shadow pistol academic acid actress prayer class unknown daughter sweater depict flip twice unkind craft early superior advocate guest smoking";
-const ONE_OF_ONE_256_BITS: &str = "theory painting academic academic armed sweater year military elder discuss acne wildlife boring employer fused large satoshi bundle carbon diagnose anatomy hamster leaves tracks paces beyond phantom capital marvel lips brave detect luck";
-const EXTENDABLE_ONE_OF_ONE: &str = "testify swimming academic academic column loyalty smear include exotic bedroom exotic wrist lobe cover grief golden smart junior estimate learn";
+const ONE_OF_ONE: &str =
+    "duckling enlarge academic academic agency result length solution fridge kidney coal piece deal husband erode duke ajar critical decision keyboard";
 
-const GROUP_THRESHOLD_ABOVE_COUNT: &str = "music husband acrobat acid artist finance center either graduate swimming object bike medical clothes station aspect spider maiden bulb welcome";
+const ONE_OF_ONE_BAD_CHECKSUM: &str =
+    "duckling enlarge academic academic agency result length solution fridge kidney coal piece deal husband erode duke ajar critical decision kidney";
+
+const ONE_OF_ONE_BAD_PADDING: &str =
+    "duckling enlarge academic academic email result length solution fridge kidney coal piece deal husband erode duke ajar music cargo fitness";
+
+const TWO_NEEDED_MEMBER_2: &str =
+    "shadow pistol academic always adequate wildlife fancy gross oasis cylinder mustang wrist rescue view short owner flip making coding armed";
+
+const TWO_NEEDED_MEMBER_0: &str =
+    "shadow pistol academic acid actress prayer class unknown daughter sweater depict flip twice unkind craft early superior advocate guest smoking";
+
+const ONE_OF_ONE_256_BITS: &str =
+    "theory painting academic academic armed sweater year military elder discuss acne wildlife boring employer fused large satoshi bundle carbon diagnose anatomy hamster leaves tracks paces beyond phantom capital marvel lips brave detect luck";
+
+const EXTENDABLE_ONE_OF_ONE: &str =
+    "testify swimming academic academic column loyalty smear include exotic bedroom exotic wrist lobe cover grief golden smart junior estimate learn";
+
+const GROUP_THRESHOLD_ABOVE_COUNT: &str =
+    "music husband acrobat acid artist finance center either graduate swimming object bike medical clothes station aspect spider maiden bulb welcome";
 
 #[test]
 fn prints_the_text_that_it_read(rt: HostRuntime) -> Result<(), Fail> {
@@ -26,7 +40,8 @@ fn prints_the_text_that_it_read(rt: HostRuntime) -> Result<(), Fail> {
         assert_eq!(rt; print(&share).as_slice(), text.as_bytes());
         assert_eq!(rt; print(&read_back(&share)?).as_slice(), text.as_bytes());
     }
-    let spaced = b"\t DUCKLING enlarge  academic\tacademic AGENCY result length solution fridge kidney coal piece deal husband erode duke ajar critical  decision keyboard\r";
+    let spaced =
+        b"\t DUCKLING enlarge  academic\tacademic AGENCY result length solution fridge kidney coal piece deal husband erode duke ajar critical  decision keyboard\r";
     assert_eq!(rt; print(&parse(spaced)?).as_slice(), ONE_OF_ONE.as_bytes());
     Ok(())
 }
@@ -51,9 +66,12 @@ fn fields_of_a_vector(rt: HostRuntime) -> Result<(), Fail> {
 
 #[test]
 fn refused_texts(rt: HostRuntime) {
-    let longer: &str = "duckling enlarge academic academic agency result length solution fridge kidney coal piece deal husband erode duke ajar critical decision keyboard academic";
-    let shorter: &str = "duckling enlarge academic academic agency result length solution fridge kidney coal piece deal husband erode duke ajar critical decision";
-    let misspelt: &str = "ducklin enlarge academic academic agency result length solution fridge kidney coal piece deal husband erode duke ajar critical decision keyboard";
+    let longer: &str =
+        "duckling enlarge academic academic agency result length solution fridge kidney coal piece deal husband erode duke ajar critical decision keyboard academic";
+    let shorter: &str =
+        "duckling enlarge academic academic agency result length solution fridge kidney coal piece deal husband erode duke ajar critical decision";
+    let misspelt: &str =
+        "ducklin enlarge academic academic agency result length solution fridge kidney coal piece deal husband erode duke ajar critical decision keyboard";
     for (text, error) in [
         (ONE_OF_ONE_BAD_CHECKSUM, WordError::BadChecksum),
         (ONE_OF_ONE_BAD_PADDING, WordError::BadPadding),
@@ -86,13 +104,18 @@ fn refused_texts(rt: HostRuntime) {
 #[test]
 fn word_counts(rt: HostRuntime) {
     let accepted = [
-        20, 22, 23, 25, 27, 28, 30, 31, 33, 35, 36, 38, 39, 41, 43, 44, 46, 47, 49, 51, 52, 54, 55, 57, 59,
+        20, 22, 23, 25, 27, 28, 30, 31, 33, 35, 36, 38, 39, 41, 43, 44, 46, 47, 49, 51, 52, 54, 55,
+        57, 59,
     ];
     let line = [*b"academic "; 111];
     for words in 0..111 {
         let text = line[..words].as_flattened();
         let count = WordError::WordCount { words };
-        assert_eq!(rt; parse(text).err() == Some(count), !accepted.contains(&words), "{words} words");
+        assert_eq!(rt;
+            parse(text).err() == Some(count),
+            !accepted.contains(&words),
+            "{words} words"
+        );
     }
 }
 

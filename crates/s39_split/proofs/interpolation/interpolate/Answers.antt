@@ -1,9 +1,8 @@
-use Rattle.std.proofs.Common.{◌≡◌, ◌≢◌, ℕ, ◌<◌, List, length, get_or, take, slice_index, map, replicate, arith, sym, ap, ◌∙◌, subst}
-use Rattle.std.specs.List.{All}
+use Rattle.std.proofs.Common.{◌≡◌, ℕ, ◌<◌, length, take, slice_index, arith, sym, ap, ◌∙◌, subst}
 use Rattle.std.specs.Borrow.{Bor}
 use Rattle.arrayvec.specs.ArrayVec.{ArrayVec}
-use Rattle.std.proofs.lemmas.List.{take_all, length-map, length-replicate, length-take}
-use Rattle.std.proofs.lemmas.List.Elements.{All-more, All-weaker}
+use Rattle.std.proofs.lemmas.List.{take_all, length-map, length-replicate}
+use Rattle.std.proofs.lemmas.List.Elements.{All-more}
 use Rattle.s39_split.proofs.Columns.{column, sum_more, sums_interpolate, length-row}
 use Rattle.s39_split.proofs.interpolation.interpolate.Goals as goal
 

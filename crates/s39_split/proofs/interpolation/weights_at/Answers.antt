@@ -1,5 +1,4 @@
-use Rattle.std.proofs.Common.{◌≡◌, ◌≢◌, ℕ, List, ◌++◌, ◌∙◌, length, take, map, arith}
-use Rattle.std.specs.List.{AllPairs}
+use Rattle.std.proofs.Common.{◌≡◌, ◌≢◌, ℕ, List, ◌++◌, length, take, map, arith}
 use Rattle.std.proofs.lemmas.List.{take_all, take_at, length-map}
 use Rattle.s39_field.specs.Theory.Roots.{AllPairs-map}
 use Rattle.s39_split.proofs.interpolation.weights_at.Goals as goal

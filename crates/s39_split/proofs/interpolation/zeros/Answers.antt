@@ -1,4 +1,4 @@
-use Rattle.std.proofs.Common.{◌≡◌, ℕ, take, replicate, arith, ap, ◌∙◌}
+use Rattle.std.proofs.Common.{ℕ, take, arith, ap, ◌∙◌}
 use Rattle.std.proofs.lemmas.List.{take-replicate}
 use Rattle.s39_kdf.specs.declared.limits.TheConstants.{MAX_SECRET_BYTES}
 use Rattle.s39_split.proofs.interpolation.zeros.Goals as goal

@@ -1,12 +1,11 @@
 use Rattle.std.proofs.Common.{◌≡◌, ◌≢◌, ℕ, true, ◌<◌, ◌≤◌, List, [], length, get_or, take, drop, arith, sym, ap, ◌∙◌}
-use Rattle.std.specs.List.{All}
 use Rattle.std.proofs.lemmas.List.{length-map, get_or-map}
 use Rattle.std.proofs.lemmas.List.Elements.{All-map}
 use Rattle.s39_split.specs.Shares.{indexed_bytes}
 use Rattle.s39_split.specs.Sharing.{digest_of}
 use Rattle.s39_split.proofs.Indices.{few_shares}
 use Rattle.s39_field.specs.Theory.Roots.{AllPairs-map}
-use Rattle.s39_split.proofs.Lists.{All-from_map, All-from_same}
+use Rattle.s39_split.proofs.Lists.{All-from_same}
 use Rattle.s39_split.proofs.Columns.{length-rows, same-length-rows}
 use Rattle.std.proofs.lemmas.Slice.Eq.{slice_eq-Decides}
 use Rattle.std.proofs.lemmas.Bool.Decides.{Decides-eqb}

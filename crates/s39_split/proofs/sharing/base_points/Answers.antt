@@ -1,4 +1,4 @@
-use Rattle.std.proofs.Common.{◌<◌, length, arith, ◌∙◌, length-set}
+use Rattle.std.proofs.Common.{arith, ◌∙◌, length-set}
 use Rattle.s39_split.proofs.Points.{indexed_more}
 use Rattle.s39_split.proofs.sharing.base_points.Goals as goal
 

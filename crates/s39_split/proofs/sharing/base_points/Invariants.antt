@@ -1,4 +1,4 @@
-use Rattle.std.proofs.Common.{◌≡◌, ℕ, length, take, map}
+use Rattle.std.proofs.Common.{◌≡◌, length, take}
 use Rattle.std.specs.List.{enumerate_from}
 use Rattle.s39_split.specs.Shares.{bytes_of, indexed_bytes}
 use Rattle.s39_split.proofs.sharing.base_points.Given as goal

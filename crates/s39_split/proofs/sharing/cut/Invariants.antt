@@ -1,4 +1,4 @@
-use Rattle.std.proofs.Common.{◌≡◌, ℕ, ◌*◌, length, take, map}
+use Rattle.std.proofs.Common.{◌≡◌, ◌*◌, length, take}
 use Rattle.std.specs.List.{AllWithin, concat}
 use Rattle.s39_split.specs.Shares.{bytes_of}
 use Rattle.s39_split.proofs.sharing.cut.Given as goal

@@ -1,4 +1,4 @@
-use Rattle.std.proofs.Common.{◌+◌, ◌<◌, length, arith}
+use Rattle.std.proofs.Common.{◌+◌, arith}
 use Rattle.s39_field.specs.Interpolation.{InterpolatesBytes}
 use Rattle.s39_split.specs.Shares.{indexed_bytes}
 use Rattle.s39_split.proofs.Splits.{each_more}

@@ -1,4 +1,4 @@
-use Rattle.std.proofs.Common.{◌≡◌, length, arith}
+use Rattle.std.proofs.Common.{◌≡◌, length}
 use Rattle.std.proofs.lemmas.List.{nil_from_length}
 use Rattle.s39_split.specs.Sharing.{random_needed}
 use Rattle.s39_split.specs.Shares.{bytes_of}

@@ -1,7 +1,7 @@
-use Rattle.std.proofs.Common.{◌≡◌, ◌≢◌, ℕ, List, ◌+◌, ◌-◌, ◌<◌, ◌≤◌, ◌++◌, length, take, map, refl, arith, sym, ap, ◌∙◌, length-append}
+use Rattle.std.proofs.Common.{◌≡◌, ◌≢◌, ℕ, List, ◌+◌, ◌-◌, ◌++◌, length, take, refl, arith, sym, ap, ◌∙◌, length-append}
 use Rattle.std.proofs.lemmas.List.{length-map, take-append-drop}
 use Rattle.std.proofs.lemmas.List.Elements.{All-map}
-use Rattle.s39_split.specs.Sharing.{base_points, digest_share, digest_of}
+use Rattle.s39_split.specs.Sharing.{base_points, digest_share}
 use Rattle.s39_split.specs.Shares.{bytes_of, indexed_bytes}
 use Rattle.s39_split.proofs.BasePoints.{base_points-distinct, base_points-one_length}
 use Rattle.s39_split.proofs.Lists.{All-from_map, AllPairs-from_map}

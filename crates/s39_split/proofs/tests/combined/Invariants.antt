@@ -1,5 +1,4 @@
 use Rattle.std.proofs.Common.{◌≡◌, ℕ, ◌+◌, ◌*◌, ◌%◌, length}
-use Rattle.std.specs.List.{AllWithin, EachIndex}
 use Rattle.std.proofs.Common.{◌<◌, get_or}
 use Rattle.std.specs.Borrow.{Bor}
 use Rattle.arrayvec.specs.ArrayVec.{ArrayVec}
