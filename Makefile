@@ -15,6 +15,7 @@ test:
 	@$(RT) ci
 
 bench: shamir
+	cd crates/s39_bench && $(RT) run > /dev/null
 	@python3 tools/bench
 
 install: shamir
