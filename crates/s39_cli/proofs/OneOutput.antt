@@ -1,5 +1,5 @@
 -- An input has one show output, as a line has one reading.
-use Rattle.std.proofs.Common.{◌≡◌, ℕ, ◌<◌, ◌≤◌, true, false, List, [], ◌∷◌, ◌++◌, length, refl, sym, ap, ◌∙◌, subst, inl, inr, arith, Option, Some, None, Result, Ok, Err}
+use Rattle.std.proofs.Common.{◌≡◌, ℕ, List, [], ◌∷◌, ◌++◌, length, refl, sym, ap, ◌∙◌, subst, inl, inr, arith, Option, Some, None, Result, Ok, Err}
 use Rattle.std.specs.List.{AllZip}
 use Rattle.s39_words.specs.declared.ShareFields.{ShareFields}
 use Rattle.s39_words.specs.declared.WordError.{WordError}
@@ -7,7 +7,7 @@ use Rattle.s39_words.specs.Reading.{Reads}
 use Rattle.s39_cli.specs.declared.fault.Refusal.{Refusal}
 use Rattle.s39_cli.specs.declared.fault.Refusal.TheVariants.{Word, LineTooLong, ReadFailed, WriteFailed}
 use Rattle.s39_cli.specs.declared.fault.Fault.{Fault}
-use Rattle.s39_cli.specs.Input.{Input, longest, lines_of}
+use Rattle.s39_cli.specs.Input.{Input, lines_of}
 use Rattle.s39_cli.specs.Fault.{fault_after}
 use Rattle.s39_cli.specs.Lines.{Holds, IsRefusedBy}
 use Rattle.s39_cli.specs.Show.{show_text, IsRefusedAfter, IsShowAnswer, IsShowOutput}

@@ -1,5 +1,5 @@
 -- A run over lines.
-use Rattle.std.proofs.Common.{◌≡◌, ℕ, ◌+◌, ◌-◌, ◌^◌, min, ◌<◌, ◌≤◌, Bool, true, false, cond, List, [], ◌∷◌, ◌++◌, length, take, drop, get_or, suc, subst, refl, sym, ap, ◌∙◌, ◌⊎◌, inl, inr, append_assoc, arith, Option, Some, None, Result, Ok, Err, OnOk, IfErr, IfSome}
+use Rattle.std.proofs.Common.{◌≡◌, ℕ, ◌+◌, ◌-◌, ◌^◌, min, ◌<◌, Bool, true, false, List, [], ◌∷◌, ◌++◌, length, take, drop, get_or, suc, subst, refl, sym, ap, ◌∙◌, ◌⊎◌, inl, inr, append_assoc, arith, Option, Some, None, Result, Ok, Err, OnOk, IfErr, IfSome}
 use Rattle.std.specs.List.{AllZip}
 use Rattle.std.proofs.lemmas.List.{append-nil, length-append, take-append-drop}
 use Rattle.std.proofs.Math.Seq.{drop-cons}
@@ -10,8 +10,8 @@ use Rattle.s39_cli.specs.declared.fault.Refusal.{Refusal}
 use Rattle.s39_cli.specs.declared.fault.Refusal.TheVariants.{Word, LineTooLong, ReadFailed, WriteFailed}
 use Rattle.s39_cli.specs.declared.fault.Fault.{Fault}
 use Rattle.s39_cli.specs.Device.{Counted}
-use Rattle.s39_cli.specs.Input.{Input, longest, parts_of, finished_parts, lines_of}
-use Rattle.s39_cli.specs.Fault.{fault_after, line_number, is_read_failure, read_failures}
+use Rattle.s39_cli.specs.Input.{longest, parts_of}
+use Rattle.s39_cli.specs.Fault.{line_number, is_read_failure, read_failures}
 use Rattle.s39_cli.specs.Unfinished.{fault_at, TakesLine}
 use Rattle.s39_cli.specs.Lines.{Holds, TakesAll, TakesLines, RefusesLine, StopsAtLine, IsMidway, StopsWithin, ReachesOrStops, RunsOver}
 use Rattle.s39_cli.proofs.Parts.{parts_of-more, parts_of-other, first_part, finished_parts-keeps, finished_parts-drops}

@@ -1,5 +1,5 @@
 -- A run that shows the shares of its lines.
-use Rattle.std.proofs.Common.{◌≡◌, ℕ, ◌+◌, Bool, true, false, List, [], ◌∷◌, ◌++◌, length, refl, sym, ap, ◌∙◌, subst, ◌⊎◌, inl, inr, arith, Option, Some, None, Result, Ok, Err}
+use Rattle.std.proofs.Common.{◌≡◌, ℕ, ◌+◌, List, [], ◌∷◌, refl, ap, ◌∙◌, subst, inl, inr, arith, Option, Some, None, Result, Ok, Err}
 use Rattle.std.specs.Io.KnownBytes.{Appends}
 use Rattle.std.proofs.KnownBytes.{Appends-nil, Appends-trans}
 use Rattle.s39_words.specs.declared.ShareFields.{ShareFields}
@@ -9,8 +9,8 @@ use Rattle.s39_cli.specs.declared.fault.Fault.{Fault}
 use Rattle.s39_cli.specs.Device.{Counted}
 use Rattle.s39_cli.specs.Input.{Input}
 use Rattle.s39_cli.specs.Fault.{is_read_failure, is_write_failure, read_failures, write_failures}
-use Rattle.s39_cli.specs.Lines.{IsRefusedBy, TakesAll, TakesLines, StopsAtLine, StopsAtFailure, RunsOver}
-use Rattle.s39_cli.specs.Show.{show_line, show_text, IsShowOutput, Shows, WritesWhole, ShowsShare}
+use Rattle.s39_cli.specs.Lines.{IsRefusedBy, TakesAll, RunsOver}
+use Rattle.s39_cli.specs.Show.{show_line, show_text, Shows, WritesWhole, ShowsShare}
 
 -- a line is never refused by a failed write
 is_write_failure-of_line : (line : List ℕ) (refusal : Refusal) → IsRefusedBy line refusal → is_write_failure refusal ≡ 0

@@ -1,10 +1,10 @@
 -- A write of a line, a part at a time.
-use Rattle.std.proofs.Common.{◌≡◌, ℕ, ◌+◌, ◌<◌, List, [], ◌∷◌, ◌++◌, length, take, drop, refl, sym, ap, ◌∙◌, append_assoc, arith, Option, Result, Ok, Err}
+use Rattle.std.proofs.Common.{◌≡◌, ℕ, List, [], ◌++◌, take, drop, refl, sym, ap, ◌∙◌, append_assoc, Option}
 use Rattle.std.specs.Io.KnownBytes.{Appends}
-use Rattle.std.proofs.KnownBytes.{Appends-nil, Appends-trans, Appends-kept}
+use Rattle.std.proofs.KnownBytes.{Appends-nil, Appends-trans}
 use Rattle.std.proofs.lemmas.List.{append-nil, take-append-drop}
 use Rattle.s39_cli.specs.Device.{Counted}
-use Rattle.s39_cli.specs.Show.{WritesWhole, WritesPart}
+use Rattle.s39_cli.specs.Show.{WritesWhole}
 
 module _ {W : Type 0} (contents : W → Option (List ℕ)) where
   -- a part of the line is written, and this is the rest of it

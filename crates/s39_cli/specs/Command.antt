@@ -1,5 +1,5 @@
 -- The command line.
-use Rattle.std.specs.Prelude.{ℕ, true, List, [], codes, Option, option_map}
+use Rattle.std.specs.Prelude.{true, List, [], codes, Option, option_map}
 use Rattle.clap.specs.Words.{App, Shape, Text, new_app, with_subcommand, subcommand_of}
 use Rattle.s39_cli.specs.declared.command.Job.{Job}
 use Rattle.s39_cli.specs.declared.command.Job.TheVariants.{Show}

@@ -1,5 +1,5 @@
 -- Why a run over lines stopped.
-use Rattle.std.specs.Prelude.{ℕ, suc, ◌-◌, ◌^◌, min, Option, Some, None, Bool, true, false, if◌then◌else◌, Result, Ok, Err}
+use Rattle.std.specs.Prelude.{ℕ, suc, ◌-◌, ◌^◌, min, Some, None, Bool, true, false, if◌then◌else◌, Result, Ok, Err}
 use Rattle.s39_cli.specs.declared.fault.Refusal.{Refusal}
 use Rattle.s39_cli.specs.declared.fault.Refusal.TheVariants.{Word, LineTooLong, ReadFailed, WriteFailed}
 use Rattle.s39_cli.specs.declared.fault.Fault.{Fault}

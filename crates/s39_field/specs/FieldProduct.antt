@@ -31,13 +31,13 @@ pub record IsProduct (m : Modulus) (a b r : ℕ) : Type 0 where
   pub quotient : (q : ℕ) × (product_of a b ≡ sum_of (product_of q m.polynomial) r)
 
 -- n less the multiples of m that clear its coefficients at the places from degree + k - 1 down to degree
-abbrev pub cleared : Modulus → ℕ → ℕ → ℕ
-cleared m zero n = n
-cleared m (suc k) n = cleared m k (sum_of n (bit_at n (m.degree + k) * (2 ^ k * m.polynomial)))
+abbrev pub reduction : Modulus → ℕ → ℕ → ℕ
+reduction m zero n = n
+reduction m (suc k) n = reduction m k (sum_of n (bit_at n (m.degree + k) * (2 ^ k * m.polynomial)))
 
 -- the one r that IsProduct allows, by long division of the polynomial product, whose degree is below a + b
 unfoldable pub product_modulo : Modulus → ℕ → ℕ → ℕ
-product_modulo m a b = cleared m (a + b) (product_of a b)
+product_modulo m a b = reduction m (a + b) (product_of a b)
 
 -- a to the n-th power
 unfoldable pub power_modulo : Modulus → ℕ → ℕ → ℕ

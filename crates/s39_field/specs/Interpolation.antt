@@ -3,7 +3,7 @@ use Rattle.std.specs.Prelude.{◌≡◌, ◌≢◌, ℕ, ◌<◌, ◌≤◌, Lis
 use Rattle.std.specs.List.{range_with_len}
 use Rattle.s39_field.specs.Field.{Operations}
 use Rattle.s39_field.specs.FieldProduct.{byte_field}
-use Rattle.s39_field.specs.Polynomial.{value_at}
+use Rattle.s39_field.specs.Polynomial.{value_at, sum_of}
 
 -- Some polynomial with no more coefficients than there are points takes each point's value at its place,
 -- and takes y at x. A point is a place and a value.
@@ -45,8 +45,21 @@ module _ {F : Type 0} (f : Operations F) where
   weighted_sum (w ∷ ws) [] = f.zero
   weighted_sum (w ∷ ws) (value ∷ values) = f.add (f.mul w value) (weighted_sum ws values)
 
-  -- two polynomials with no more coefficients than there are distinct places, equal at each place, are
-  -- equal everywhere
+  -- two polynomials with no more coefficients than there are distinct places, equal at each place, differ at
+  -- most in zeros at the ends of their lists: each coefficient of their difference is zero
+  abbrev pub PlacesDetermineCoefficients : Type 0
+  PlacesDetermineCoefficients =
+      (places cs ds : List F)
+      → All f.IsElement places
+      → All f.IsElement cs
+      → All f.IsElement ds
+      → AllPairs (λ p q. p ≢ q) places
+      → length cs ≤ length places
+      → length ds ≤ length places
+      → All (λ p. value_at f cs p ≡ value_at f ds p) places
+      → All (λ c. c ≡ f.zero) (sum_of f cs ds)
+
+  -- so they are equal everywhere
   abbrev pub PlacesDetermineValues : Type 0
   PlacesDetermineValues =
       (places cs ds : List F)

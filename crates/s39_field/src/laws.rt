@@ -3,7 +3,7 @@
 ghost use Rattle.std.specs.Prelude.{◌≡◌, ◌≢◌, ℕ, ◌<◌};
 ghost use Rattle.s39_field.specs.Field.{IsField};
 ghost use Rattle.s39_field.specs.FieldProduct.{IsProduct, byte_modulus, word_modulus, product_modulo, byte_field, word_field};
-ghost use Rattle.s39_field.specs.Interpolation.{PlacesDetermineValues, PointsHaveOneValue, WeightsInterpolate, StringsHaveOneValue};
+ghost use Rattle.s39_field.specs.Interpolation.{PlacesDetermineCoefficients, PlacesDetermineValues, PointsHaveOneValue, WeightsInterpolate, StringsHaveOneValue};
 
 use crate::operations::Field;
 
@@ -35,9 +35,11 @@ pub fn inverses()
     ensures of_words { (a : ℕ) → a < 1024 → a ≢ 0 → word_field.mul a (word_field.inv a) ≡ 1 }
 {}
 
-/// Distinct places determine a polynomial's values everywhere, where it has no more coefficients than
-/// there are places. So points at distinct places have at most one value at each further place.
+/// Distinct places determine a polynomial that has no more coefficients than there are places, up to zeros at
+/// the end of its list, and so its values everywhere. Points at distinct places have at most one value at each
+/// further place.
 pub fn one_polynomial<F: Field>()
+    ensures coefficients { PlacesDetermineCoefficients F.operations }
     ensures places { PlacesDetermineValues F.operations }
     ensures points { PointsHaveOneValue F.operations }
 {}

@@ -1,6 +1,7 @@
 //! The field of 1,024 elements, in which checksums are taken.
 
-ghost use Rattle.std.specs.Prelude.{◌≡◌, ◌<◌, ◌≤◌, MatchResult, refl};
+ghost use Rattle.std.specs.Prelude.{◌≡◌, ◌<◌, ◌≤◌, ◌++◌, Some, MatchResult, codes, refl};
+ghost use Rattle.std.specs.Fmt.{decimal};
 ghost use Rattle.s39_field.specs.FieldProduct.{IsProduct, product_modulo, word_modulus, word_field};
 ghost use Rattle.s39_field.specs.Theory.Powers.{word_field_is_field};
 
@@ -91,6 +92,8 @@ impl From<Gf1024> for u16 {
 }
 
 impl fmt::Display for NotTenBits {
+    ghost output = { λ number. Some (decimal number.0 ++ codes " is not below 1024") };
+
     fn fmt<W: fmt::Write>(&self, f: &mut fmt::Formatter<W>) -> fmt::Result {
         write!(f, "{} is not below 1024", self.0)
     }

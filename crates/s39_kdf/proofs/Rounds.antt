@@ -1,10 +1,10 @@
 -- The rounds of the cipher, run back.
 use Rattle.std.proofs.Common.{◌≡◌, ℕ, List, ◌++◌, length, take, drop, refl, ap, sym, ◌∙◌, arith}
 use Rattle.std.proofs.lemmas.List.{take_at, drop_at, length-append}
-use Rattle.s39_kdf.specs.Bytes.{xored}
+use Rattle.s39_kdf.specs.Bytes.{xor_of}
 use Rattle.s39_kdf.specs.Cipher.{round_function, IsEncryption}
 use Rattle.s39_kdf.specs.declared.params.Params.{Params}
-use Rattle.s39_kdf.proofs.Xor.{length-xored, xored-xored}
+use Rattle.s39_kdf.proofs.Xor.{length-xor_of, xor_of-xor_of}
 use Rattle.s39_kdf.proofs.Lengths.{length-round_function}
 
 -- a list has one pair of halves
@@ -18,17 +18,17 @@ same_halves a b c d e f g =
 module _ (passphrase : List ℕ) (params : Params) where
   -- the half that a round makes of the half before it and the other half
   abbrev next : ℕ → List ℕ → List ℕ → List ℕ
-  next i half other = xored half (round_function passphrase params i other)
+  next i half other = xor_of half (round_function passphrase params i other)
 
   -- a round keeps the length
   length-next : (i : ℕ) (half other : List ℕ) → length half ≡ length other → length (next i half other) ≡ length half
   length-next i half other same =
-      length-xored half (round_function passphrase params i other) (same ∙ sym (length-round_function passphrase params i other))
+      length-xor_of half (round_function passphrase params i other) (same ∙ sym (length-round_function passphrase params i other))
 
   -- a round is undone by the same step
   next-next : (i : ℕ) (half other : List ℕ) → length half ≡ length other → next i (next i half other) other ≡ half
   next-next i half other same =
-      xored-xored half (round_function passphrase params i other) (same ∙ sym (length-round_function passphrase params i other))
+      xor_of-xor_of half (round_function passphrase params i other) (same ∙ sym (length-round_function passphrase params i other))
 
   -- rounds 3 to 0 on the halves of a text give the secret that it encrypts
   pub IsEncryption-back : (h0 h1 h2 h3 h4 h5 : List ℕ) → length h5 ≡ length h4

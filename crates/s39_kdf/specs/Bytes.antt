@@ -4,11 +4,11 @@ use Rattle.std.specs.List.{flat_map}
 use Rattle.std.specs.Borrow.{Bor}
 
 -- the bytes that a list of parts stands for: the parts, joined in order
-abbrev pub joined : List (Bor (List ℕ)) → List ℕ
-joined parts = flat_map (λ part. part.now) parts
+abbrev pub bytes_of : List (Bor (List ℕ)) → List ℕ
+bytes_of parts = flat_map (λ part. part.now) parts
 
 -- two lists of bytes, xored place by place as far as both go
-unfoldable pub xored : List ℕ → List ℕ → List ℕ
-xored [] ys = []
-xored (x ∷ xs) [] = []
-xored (x ∷ xs) (y ∷ ys) = bit_xor x y ∷ xored xs ys
+unfoldable pub xor_of : List ℕ → List ℕ → List ℕ
+xor_of [] ys = []
+xor_of (x ∷ xs) [] = []
+xor_of (x ∷ xs) (y ∷ ys) = bit_xor x y ∷ xor_of xs ys

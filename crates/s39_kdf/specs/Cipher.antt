@@ -2,7 +2,7 @@
 -- of four rounds, whose round function is PBKDF2-HMAC-SHA256.
 use Rattle.std.specs.Prelude.{◌≡◌, ℕ, ◌*◌, ◌^◌, List, [], ◌∷◌, ◌++◌, length, codes, if◌then◌else◌}
 use Rattle.std.specs.Int.{w16, to_be_bytes}
-use Rattle.s39_kdf.specs.Bytes.{xored}
+use Rattle.s39_kdf.specs.Bytes.{xor_of}
 use Rattle.s39_kdf.specs.Pbkdf2.{pbkdf2}
 use Rattle.s39_kdf.specs.declared.params.Params.{Params}
 
@@ -32,8 +32,8 @@ pub record IsEncryption (secret passphrase : List ℕ) (params : Params) (result
   pub h5 : List ℕ
   pub halves : secret ≡ h0 ++ h1
   pub same_length : length h0 ≡ length h1
-  pub round_0 : h2 ≡ xored h0 (round_function passphrase params 0 h1)
-  pub round_1 : h3 ≡ xored h1 (round_function passphrase params 1 h2)
-  pub round_2 : h4 ≡ xored h2 (round_function passphrase params 2 h3)
-  pub round_3 : h5 ≡ xored h3 (round_function passphrase params 3 h4)
+  pub round_0 : h2 ≡ xor_of h0 (round_function passphrase params 0 h1)
+  pub round_1 : h3 ≡ xor_of h1 (round_function passphrase params 1 h2)
+  pub round_2 : h4 ≡ xor_of h2 (round_function passphrase params 2 h3)
+  pub round_3 : h5 ≡ xor_of h3 (round_function passphrase params 3 h4)
   pub exchanged : result ≡ h5 ++ h4

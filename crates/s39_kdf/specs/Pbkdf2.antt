@@ -2,19 +2,19 @@
 -- HMAC-SHA256, whose values have hLen = 32 bytes.
 use Rattle.std.specs.Prelude.{ℕ, zero, suc, ◌+◌, ◌/◌, List, [], ◌++◌, take, replicate}
 use Rattle.std.specs.Int.{w32, to_be_bytes}
-use Rattle.s39_kdf.specs.Bytes.{xored}
+use Rattle.s39_kdf.specs.Bytes.{xor_of}
 use Rattle.s39_kdf.specs.Hmac.{hmac}
 
 -- U_k of block i, where U_1 is the HMAC of the salt and INT (i), and each further U_k that of the U
 -- before it; so U_0 is the salt followed by INT (i), the block's number as four big-endian bytes
-unfoldable pub iterated : List ℕ → List ℕ → ℕ → ℕ → List ℕ
-iterated password salt i zero = salt ++ to_be_bytes w32 i
-iterated password salt i (suc k) = hmac password (iterated password salt i k)
+unfoldable pub iterate : List ℕ → List ℕ → ℕ → ℕ → List ℕ
+iterate password salt i zero = salt ++ to_be_bytes w32 i
+iterate password salt i (suc k) = hmac password (iterate password salt i k)
 
 -- T_i, block i: U_1 xor U_2 xor .. xor U_c
 unfoldable pub block : List ℕ → List ℕ → ℕ → ℕ → List ℕ
 block password salt i zero = replicate 32 0
-block password salt i (suc c) = xored (block password salt i c) (iterated password salt i (suc c))
+block password salt i (suc c) = xor_of (block password salt i c) (iterate password salt i (suc c))
 
 -- T_1 || T_2 || .. || T_l
 unfoldable pub blocks : List ℕ → List ℕ → ℕ → ℕ → List ℕ

@@ -1,7 +1,7 @@
 //! The encryption of a master secret (SLIP-0039, "Encryption of the master secret").
 ghost use Rattle.std.specs.Prelude.{◌≡◌, ℕ, ◌+◌, ◌%◌, ◌^◌, ◌≤◌, ◌<◌, List, ◌++◌, length};
 ghost use Rattle.arrayvec.specs.ArrayVec.{array_vec_len};
-ghost use Rattle.s39_kdf.specs.Bytes.{xored};
+ghost use Rattle.s39_kdf.specs.Bytes.{xor_of};
 ghost use Rattle.s39_kdf.specs.Cipher.{round_function, IsEncryption};
 
 use crate::key_derivation::pbkdf2;
@@ -27,7 +27,7 @@ pub fn encrypt(secret: &Bytes, passphrase: &[u8], params: Params) -> Bytes
     let h3 = round(1, h1, &h2, passphrase, params);
     let h4 = round(2, &h2, &h3, passphrase, params);
     let h5 = round(3, &h3, &h4, passphrase, params);
-    joined(&h5, &h4)
+    join(&h5, &h4)
 }
 
 /// Decrypts what `encrypt` gives under the same passphrase and parameters: an even number of
@@ -45,7 +45,7 @@ pub fn decrypt(encrypted: &Bytes, passphrase: &[u8], params: Params) -> Bytes
     let h2 = round(2, h4, &h3, passphrase, params);
     let h1 = round(1, &h3, &h2, passphrase, params);
     let h0 = round(0, &h2, &h1, passphrase, params);
-    joined(&h0, &h1)
+    join(&h0, &h1)
 }
 
 fn halves(bytes: &Bytes) -> (&[u8], &[u8])
@@ -61,7 +61,7 @@ fn halves(bytes: &Bytes) -> (&[u8], &[u8])
 fn round(i: u8, half: &[u8], other: &[u8], passphrase: &[u8], params: Params) -> Half
     requires same_length { length half.now ≡ length other.now }
     requires fits { length other.now ≤ MAX_HALF_BYTES }
-    ensures value { result.items ≡ xored half.now (round_function passphrase.now params i other.now) }
+    ensures value { result.items ≡ xor_of half.now (round_function passphrase.now params i other.now) }
     ensures len { array_vec_len result ≡ length half.now }
 {
     let mut key = [0; MAX_HALF_BYTES];
@@ -91,7 +91,7 @@ fn round_function(i: u8, half: &[u8], passphrase: &[u8], params: Params, out: &m
     }
 }
 
-fn joined(front: &[u8], back: &[u8]) -> Bytes
+fn join(front: &[u8], back: &[u8]) -> Bytes
     requires { length front.now + length back.now ≤ MAX_SECRET_BYTES }
     ensures { result.items ≡ front.now ++ back.now }
 {

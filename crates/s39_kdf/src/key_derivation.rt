@@ -1,9 +1,9 @@
 //! PBKDF2-HMAC-SHA256 (RFC 8018, section 5.2).
 ghost use Rattle.std.specs.Prelude.{◌≡◌, ℕ, List, ◌≤◌, length};
-ghost use Rattle.s39_kdf.specs.Bytes.{joined, xored};
+ghost use Rattle.s39_kdf.specs.Bytes.{bytes_of, xor_of};
 ghost use Rattle.s39_kdf.specs.Hmac.{hmac};
 ghost use Rattle.s39_kdf.specs.PreparedKey.{HoldsKey};
-ghost use Rattle.s39_kdf.specs.Pbkdf2.{iterated, block, pbkdf2};
+ghost use Rattle.s39_kdf.specs.Pbkdf2.{iterate, block, pbkdf2};
 
 use crate::keyed_hash::{PreparedKey, absorb};
 use sha2::Digest;
@@ -14,7 +14,7 @@ use sha2::Digest;
 pub fn pbkdf2(password: &[&[u8]], salt: &[&[u8]], iterations: u32, out: &mut [u8])
     requires iterations { 1 ≤ iterations }
     requires one_block { length out.old ≤ 32 }
-    ensures { out.new ≡ pbkdf2 (joined password.now) (joined salt.now) iterations (length out.old) }
+    ensures { out.new ≡ pbkdf2 (bytes_of password.now) (bytes_of salt.now) iterations (length out.old) }
 {
     let key = PreparedKey::new(password);
     let block = block(&key, salt, 1, iterations);
@@ -23,26 +23,26 @@ pub fn pbkdf2(password: &[&[u8]], salt: &[&[u8]], iterations: u32, out: &mut [u8
 }
 
 // The block of this number: the xor of as many HMACs as there are iterations, each of the one before.
-#[tactic(auto, using(crate::proofs::Lengths::block_one), unfolding(crate::specs::Pbkdf2::block, crate::specs::Pbkdf2::iterated))]
+#[tactic(auto, using(crate::proofs::Lengths::block_one), unfolding(crate::specs::Pbkdf2::block, crate::specs::Pbkdf2::iterate))]
 fn block(key: &PreparedKey, salt: &[&[u8]], number: u32, iterations: u32) -> [u8; 32]
     requires { 1 ≤ iterations }
     ensures { (password : List ℕ) → HoldsKey key.now password
-        → result ≡ block password (joined salt.now) number iterations }
+        → result ≡ block password (bytes_of salt.now) number iterations }
 {
-    let mut iterated = first_iteration(key, salt, number);
-    let mut sum = iterated;
+    let mut iterate = first_iteration(key, salt, number);
+    let mut sum = iterate;
     'iterations: for k in 1..iterations {
-        iterated = next_iteration(key, &iterated);
-        xor_into(&mut sum, &iterated);
+        iterate = next_iteration(key, &iterate);
+        xor_into(&mut sum, &iterate);
     }
     sum
 }
 
 // The HMAC of the salt and a block's number.
-#[tactic(auto, unfolding(crate::specs::Pbkdf2::iterated))]
+#[tactic(auto, unfolding(crate::specs::Pbkdf2::iterate))]
 fn first_iteration(key: &PreparedKey, salt: &[&[u8]], number: u32) -> [u8; 32]
     ensures { (password : List ℕ) → HoldsKey key.now password
-        → result ≡ iterated password (joined salt.now) number 1 }
+        → result ≡ iterate password (bytes_of salt.now) number 1 }
 {
     let mut inner = key.begin();
     absorb(&mut inner, salt);
@@ -60,7 +60,7 @@ fn next_iteration(key: &PreparedKey, before: &[u8; 32]) -> [u8; 32]
 }
 
 fn xor_into(sum: &mut [u8; 32], bytes: &[u8; 32])
-    ensures { sum.new ≡ xored sum.old bytes.now }
+    ensures { sum.new ≡ xor_of sum.old bytes.now }
 {
     'bytes: for i in 0..32 {
         sum[i] ^= bytes[i];

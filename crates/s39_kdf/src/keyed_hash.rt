@@ -2,7 +2,7 @@
 ghost use Rattle.std.specs.Prelude.{◌≡◌, ℕ, List, ◌++◌, map, bit_xor};
 ghost use Rattle.sha2.specs.Sha256.{sha256};
 ghost use Rattle.sha2.specs.Hashers.{Holds256};
-ghost use Rattle.s39_kdf.specs.Bytes.{joined};
+ghost use Rattle.s39_kdf.specs.Bytes.{bytes_of};
 ghost use Rattle.s39_kdf.specs.Hmac.{short_key, block_key, padded_with, inner_pad, hmac};
 ghost use Rattle.s39_kdf.specs.PreparedKey.{HoldsKey};
 
@@ -13,7 +13,7 @@ const BLOCK_BYTES: usize = 64;
 
 /// The HMAC-SHA256 of a message under a key, each given as parts that are joined in order.
 pub fn hmac(key: &[&[u8]], message: &[&[u8]]) -> [u8; 32]
-    ensures { result ≡ hmac (joined key.now) (joined message.now) }
+    ensures { result ≡ hmac (bytes_of key.now) (bytes_of message.now) }
 {
     let key = PreparedKey::new(key);
     let mut inner = key.begin();
@@ -31,7 +31,7 @@ pub(crate) struct PreparedKey {
 
 impl PreparedKey {
     pub(crate) fn new(key: &[&[u8]]) -> PreparedKey
-        ensures { HoldsKey result (joined key.now) }
+        ensures { HoldsKey result (bytes_of key.now) }
     {
         let block = block_key(key);
         PreparedKey {
@@ -61,7 +61,7 @@ impl PreparedKey {
 
 // Adds the parts to the hasher's message.
 pub(crate) fn absorb(hasher: &mut Sha256, parts: &[&[u8]])
-    ensures { (m : List ℕ) → Holds256 hasher.old m → Holds256 hasher.new (m ++ joined parts.now) }
+    ensures { (m : List ℕ) → Holds256 hasher.old m → Holds256 hasher.new (m ++ bytes_of parts.now) }
 {
     for part in parts {
         hasher.update(*part);
@@ -70,7 +70,7 @@ pub(crate) fn absorb(hasher: &mut Sha256, parts: &[&[u8]])
 
 #[tactic(auto, using(crate::proofs::Parts::joined_front_le))]
 fn short_key(key: &[&[u8]]) -> ArrayVec<u8, BLOCK_BYTES>
-    ensures { result.items ≡ short_key (joined key.now) }
+    ensures { result.items ≡ short_key (bytes_of key.now) }
 {
     let mut short = ArrayVec::new();
     for part in key {
@@ -82,7 +82,7 @@ fn short_key(key: &[&[u8]]) -> ArrayVec<u8, BLOCK_BYTES>
 }
 
 fn digest_of(parts: &[&[u8]]) -> ArrayVec<u8, BLOCK_BYTES>
-    ensures { result.items ≡ sha256 (joined parts.now) }
+    ensures { result.items ≡ sha256 (bytes_of parts.now) }
 {
     let mut hasher = Sha256::new();
     absorb(&mut hasher, parts);
@@ -93,7 +93,7 @@ fn digest_of(parts: &[&[u8]]) -> ArrayVec<u8, BLOCK_BYTES>
 }
 
 fn block_key(key: &[&[u8]]) -> [u8; BLOCK_BYTES]
-    ensures { result ≡ block_key (joined key.now) }
+    ensures { result ≡ block_key (bytes_of key.now) }
 {
     let mut block = short_key(key);
     let room = block.remaining_capacity();

@@ -5,9 +5,9 @@ use Rattle.std.proofs.lemmas.Nat.{xor_lt}
 use Rattle.std.proofs.lemmas.Nat.Bits.{bit_at_or, bit_at-pow_other, bit_at-zero, bit_at_mask_inside}
 use Rattle.s39_field.specs.BinaryPolynomial.{product_of}
 use Rattle.s39_field.specs.Field.{IsField}
-use Rattle.s39_field.specs.FieldProduct.{Modulus, HasDegree, byte_modulus, word_modulus, cleared, product_modulo, power_modulo, field_modulo, byte_field, word_field}
+use Rattle.s39_field.specs.FieldProduct.{Modulus, HasDegree, byte_modulus, word_modulus, reduction, product_modulo, power_modulo, field_modulo, byte_field, word_field}
 use Rattle.s39_field.specs.Theory.BinaryPolynomials.{sum_commutes, sum_associates, sum-zero_right, sum-self, product_commutes, product-below, below-lt}
-use Rattle.s39_field.specs.Theory.Residues.{IsCongruent, cleared-lt, cleared_congruent, product_modulo-lt, same_as_product_modulo, product_modulo_commutes, product_modulo_associates, product_modulo_distributes, product_modulo-one}
+use Rattle.s39_field.specs.Theory.Residues.{IsCongruent, reduction-lt, reduction_congruent, product_modulo-lt, same_as_product_modulo, product_modulo_commutes, product_modulo_associates, product_modulo_distributes, product_modulo-one}
 
 module _ (m : Modulus) (is : HasDegree m) where
   pub one-lt : 1 < 2 ^ m.degree
@@ -75,7 +75,7 @@ same_or_not x y = grind arith
 
 -- the next power of g, by one step of division: it computes
 abbrev next : Modulus → ℕ → ℕ → ℕ
-next m g a = cleared m 1 (product_of g a)
+next m g a = reduction m 1 (product_of g a)
 
 -- the power that is n places after a
 abbrev power_after : Modulus → ℕ → ℕ → ℕ → ℕ
@@ -95,8 +95,8 @@ module _ (m : Modulus) (is : HasDegree m) (g : ℕ) (small : g < 2 ^ 2) where
       let low : product_of g a < 2 ^ (m.degree + 1) =
       subst (λ x. x < 2 ^ (m.degree + 1)) (sym (product-below m.degree a g (power-lt m is g j)) ∙ product_commutes a g)
       (below-lt m.degree a g 1 small) in
-      same_as_product_modulo m is a g (next m g a) (cleared-lt m is 1 (product_of g a) low)
-      (subst (λ x. IsCongruent m x (next m g a)) (product_commutes g a) (cleared_congruent m 1 (product_of g a)))
+      same_as_product_modulo m is a g (next m g a) (reduction-lt m is 1 (product_of g a) low)
+      (subst (λ x. IsCongruent m x (next m g a)) (product_commutes g a) (reduction_congruent m 1 (product_of g a)))
 
   power_after-is : (n j : ℕ) → power_after m g n (power_modulo m g j) ≡ power_modulo m g (n + j)
   power_after-is zero j = ap (power_modulo m g) (omega arith)

@@ -5,7 +5,7 @@ use Rattle.std.specs.Int.Bits.{xor_shifted}
 use Rattle.std.proofs.lemmas.Nat.{xor_lt, div_below, mod_below, div-add-mod'}
 use Rattle.std.proofs.lemmas.Nat.Bits.{bit_at-lt, bit_at-zero, bit_at_xor, bit_at_above}
 use Rattle.s39_field.specs.BinaryPolynomial.{sum_of, product_of}
-use Rattle.s39_field.specs.FieldProduct.{Modulus, HasDegree, IsProduct, cleared, product_modulo}
+use Rattle.s39_field.specs.FieldProduct.{Modulus, HasDegree, IsProduct, reduction, product_modulo}
 use Rattle.s39_field.specs.Theory.BinaryPolynomials.{sum_commutes, sum_associates, sum_of_sums, sum_cancels, sum-zero_right, bit_cases, product-term, product_commutes, product_associates, product-sum_left, product-sum_right, product-one_right, product-lt, below-small, leading_bit, leading_bit-shifted, scaled-lt, lt-pow}
 
 -- a is b, but for a multiple of the modulus
@@ -96,15 +96,15 @@ step_congruent m k n =
           ∙ ap (λ x. sum_of x (sum_of n multiple)) (sym (product-term n (bit_at n top) m.polynomial (bit_cases n top) k)),
     )
 
-pub cleared-lt : (m : Modulus) → HasDegree m → (k n : ℕ) → n < 2 ^ (m.degree + k) → cleared m k n < 2 ^ m.degree
-cleared-lt m is zero n h = subst (λ i. n < 2 ^ i) (omega arith) h
-cleared-lt m is (suc k) n h = cleared-lt m is k (sum_of n (bit_at n (m.degree + k) * (2 ^ k * m.polynomial))) (step_lt m is k n h)
+pub reduction-lt : (m : Modulus) → HasDegree m → (k n : ℕ) → n < 2 ^ (m.degree + k) → reduction m k n < 2 ^ m.degree
+reduction-lt m is zero n h = subst (λ i. n < 2 ^ i) (omega arith) h
+reduction-lt m is (suc k) n h = reduction-lt m is k (sum_of n (bit_at n (m.degree + k) * (2 ^ k * m.polynomial))) (step_lt m is k n h)
 
-pub cleared_congruent : (m : Modulus) (k n : ℕ) → IsCongruent m n (cleared m k n)
-cleared_congruent m zero n = congruent_refl m n
-cleared_congruent m (suc k) n =
+pub reduction_congruent : (m : Modulus) (k n : ℕ) → IsCongruent m n (reduction m k n)
+reduction_congruent m zero n = congruent_refl m n
+reduction_congruent m (suc k) n =
     let next : ℕ = sum_of n (bit_at n (m.degree + k) * (2 ^ k * m.polynomial)) in
-    congruent_trans m n next (cleared m k next) (step_congruent m k n) (cleared_congruent m k next)
+    congruent_trans m n next (reduction m k next) (step_congruent m k n) (reduction_congruent m k next)
 
 -- ---- the product modulo m
 
@@ -113,11 +113,11 @@ unfolding product_modulo
 product_modulo-lt m is a b =
     let low : product_of a b < 2 ^ (a + b) = product-lt a b a b (lt-pow a) (lt-pow b) in
     let wider : 2 ^ (a + b) ≤ 2 ^ (m.degree + (a + b)) = pow_mono (omega arith) in
-    cleared-lt m is (a + b) (product_of a b) (omega arith)
+    reduction-lt m is (a + b) (product_of a b) (omega arith)
 
 pub product_modulo_congruent : (m : Modulus) (a b : ℕ) → IsCongruent m (product_of a b) (product_modulo m a b)
 unfolding product_modulo
-product_modulo_congruent m a b = cleared_congruent m (a + b) (product_of a b)
+product_modulo_congruent m a b = reduction_congruent m (a + b) (product_of a b)
 
 pub is_product_modulo : (m : Modulus) → HasDegree m → (a b : ℕ) → IsProduct m a b (product_modulo m a b)
 is_product_modulo m is a b = record { lower_degree = product_modulo-lt m is a b; quotient = product_modulo_congruent m a b }
@@ -135,7 +135,7 @@ pub product_modulo_commutes : (m : Modulus) → (a b : ℕ) → product_modulo m
 unfolding product_modulo
 product_modulo_commutes m a b =
     let order : a + b ≡ b + a = omega arith in
-    ap₂ (cleared m) order (product_commutes a b)
+    ap₂ (reduction m) order (product_commutes a b)
 
 pub product_modulo_associates : (m : Modulus) → HasDegree m → (a b c : ℕ) → product_modulo m (product_modulo m a b) c ≡ product_modulo m a (product_modulo m b c)
 product_modulo_associates m is a b c =
@@ -174,26 +174,26 @@ product_modulo-product m is a b c =
     (congruent_product_left m (product_of a b) ab c (product_modulo_congruent m a b))
     (product_modulo_congruent m ab c))))
 
-cleared-zero : (m : Modulus) (k : ℕ) → cleared m k 0 ≡ 0
-cleared-zero m zero = refl
-cleared-zero m (suc k) =
-    ap (cleared m k) (ap (λ x. x * (2 ^ k * m.polynomial)) (bit_at-zero (m.degree + k)) ∙ zero-mul (2 ^ k * m.polynomial))
-    ∙ cleared-zero m k
+reduction-zero : (m : Modulus) (k : ℕ) → reduction m k 0 ≡ 0
+reduction-zero m zero = refl
+reduction-zero m (suc k) =
+    ap (reduction m k) (ap (λ x. x * (2 ^ k * m.polynomial)) (bit_at-zero (m.degree + k)) ∙ zero-mul (2 ^ k * m.polynomial))
+    ∙ reduction-zero m k
 
 pub product_modulo-zero : (m : Modulus) (a : ℕ) → product_modulo m a 0 ≡ 0
 unfolding product_modulo
-product_modulo-zero m a = ap (cleared m (a + 0)) (product_commutes a 0) ∙ cleared-zero m (a + 0)
+product_modulo-zero m a = ap (reduction m (a + 0)) (product_commutes a 0) ∙ reduction-zero m (a + 0)
 
 product-two : (c : ℕ) → product_of 2 c ≡ 2 * c
 product-two c = product-term 0 1 c (inr refl) 1 ∙ omega arith
 
 -- x times a, where the double has the modulus's degree, and where it has a lower one
-doubled : (m : Modulus) → HasDegree m → (a : ℕ) → a < 2 ^ m.degree → cleared m 1 (2 * a) ≡ product_modulo m a 2
+doubled : (m : Modulus) → HasDegree m → (a : ℕ) → a < 2 ^ m.degree → reduction m 1 (2 * a) ≡ product_modulo m a 2
 doubled m is a low =
     let wide : 2 * a < 2 ^ (m.degree + 1) = omega (arith, pow-add 2 m.degree 1) in
     let twice : product_of a 2 ≡ 2 * a = product_commutes a 2 ∙ product-two a in
-    same_as_product_modulo m is a 2 (cleared m 1 (2 * a)) (cleared-lt m is 1 (2 * a) wide)
-    (subst (λ x. IsCongruent m x (cleared m 1 (2 * a))) (sym twice) (cleared_congruent m 1 (2 * a)))
+    same_as_product_modulo m is a 2 (reduction m 1 (2 * a)) (reduction-lt m is 1 (2 * a) wide)
+    (subst (λ x. IsCongruent m x (reduction m 1 (2 * a))) (sym twice) (reduction_congruent m 1 (2 * a)))
 
 pub doubled_over : (m : Modulus) → HasDegree m → (a : ℕ) → a < 2 ^ m.degree → 2 ^ m.degree ≤ 2 * a → sum_of (2 * a) m.polynomial ≡ product_modulo m a 2
 doubled_over m is a low over =

@@ -3,9 +3,9 @@ use Rattle.std.proofs.Common.{◌≡◌, ◌≢◌, suc, ◌<◌, ◌≤◌, Lis
 use Rattle.std.proofs.lemmas.List.Elements.{All-nil, All-cons, All-head, All-tail, All-map}
 use Rattle.std.proofs.lemmas.List.{length-map, get_or-map}
 use Rattle.s39_field.specs.Field.{Operations, IsField}
-use Rattle.s39_field.specs.Interpolation.{PlacesDetermineValues, PointsHaveOneValue}
+use Rattle.s39_field.specs.Interpolation.{PlacesDetermineCoefficients, PlacesDetermineValues, PointsHaveOneValue}
 use Rattle.s39_field.specs.Polynomial.{value_at, sum_of}
-use Rattle.s39_field.specs.Theory.Values.{zero_add, add_exchanges, add_cancels, same_from_sum, mul-zero_right, distributes_left, zero_from_product, value_at-cons, value_at-element, value_at-sum, elements-sum, length-sum}
+use Rattle.s39_field.specs.Theory.Values.{zero_add, add_exchanges, add_cancels, same_from_sum, mul-zero_right, mul-zero_left, distributes_left, zero_from_product, value_at-cons, value_at-element, value_at-sum, elements-sum, length-sum}
 
 -- the first of a list's elements, and the others among themselves
 pub AllPairs-head : {X : Type 0} (R : X → X → Type 0) (x : X) (xs : List X) → AllPairs R (x ∷ xs) → All (R x) xs
@@ -76,12 +76,38 @@ module _ {F : Type 0} (f : Operations F) (is : IsField f) where
       ∙ sorted (f.mul r x) (f.mul r a) t c
       ∙ ap₂ f.add (sym product) (sym (value_at-cons f is c (d ∷ ds) a first))
 
-  -- a polynomial with no more coefficients than it has roots is zero everywhere
-  pub zero_from_roots : (places cs : List F) → All f.IsElement places → All f.IsElement cs → AllPairs (λ p q. p ≢ q) places → length cs ≤ length places → All (λ p. value_at f cs p ≡ f.zero) places → (x : F) → value_at f cs x ≡ f.zero
-  zero_from_roots [] [] ep ec distinct short roots x = refl
-  zero_from_roots [] (c ∷ cs) ep ec distinct short roots x = absurd (omega arith)
-  zero_from_roots (p ∷ ps) [] ep ec distinct short roots x = refl
-  zero_from_roots (p ∷ ps) (c ∷ cs) ep ec distinct short roots x =
+  value_at-zeros : (cs : List F) (x : F) → All f.IsElement cs → All (λ c. c ≡ f.zero) cs → value_at f cs x ≡ f.zero
+  value_at-zeros [] x elements zeros = refl
+  value_at-zeros (c ∷ cs) x elements zeros =
+      let rest = value_at-zeros cs x (All-tail f.IsElement c cs elements) (All-tail (λ k. k ≡ f.zero) c cs zeros) in
+      value_at-cons f is c cs x (All-head f.IsElement c cs elements)
+      ∙ ap₂ f.add (All-head (λ k. k ≡ f.zero) c cs zeros) (ap (λ v. f.mul v x) rest ∙ mul-zero_left f is x)
+      ∙ is.add_zero f.zero
+
+  -- where the other coefficients are zero, and a value is, so is the first one
+  first-zero : (c : F) (cs : List F) (x : F) → All f.IsElement (c ∷ cs) → All (λ k. k ≡ f.zero) cs → value_at f (c ∷ cs) x ≡ f.zero → c ≡ f.zero
+  first-zero c cs x elements zeros at_x =
+      let rest = value_at-zeros cs x (All-tail f.IsElement c cs elements) zeros in
+      sym (is.add_zero c)
+      ∙ ap (f.add c) (sym (ap (λ v. f.mul v x) rest ∙ mul-zero_left f is x))
+      ∙ sym (value_at-cons f is c cs x (All-head f.IsElement c cs elements))
+      ∙ at_x
+
+  zeros_from_ends : (cs : List F) (a : F) → All f.IsElement cs → All (λ v. v ≡ f.zero) (tail_values f cs a) → All (λ c. c ≡ f.zero) cs
+  zeros_from_ends [] a elements ends = All-nil (λ c. c ≡ f.zero)
+  zeros_from_ends (c ∷ cs) a elements ends =
+      let end = value_at f (c ∷ cs) a in
+      let rest = zeros_from_ends cs a (All-tail f.IsElement c cs elements) (All-tail (λ v. v ≡ f.zero) end (tail_values f cs a) ends) in
+      All-cons (λ k. k ≡ f.zero) c cs
+      (first-zero c cs a elements rest (All-head (λ v. v ≡ f.zero) end (tail_values f cs a) ends))
+      rest
+
+  -- a polynomial with no more coefficients than it has roots has zeros alone
+  zeros_from_roots : (places cs : List F) → All f.IsElement places → All f.IsElement cs → AllPairs (λ p q. p ≢ q) places → length cs ≤ length places → All (λ p. value_at f cs p ≡ f.zero) places → All (λ c. c ≡ f.zero) cs
+  zeros_from_roots [] [] ep ec distinct short roots = All-nil (λ c. c ≡ f.zero)
+  zeros_from_roots [] (c ∷ cs) ep ec distinct short roots = absurd (omega arith)
+  zeros_from_roots (p ∷ ps) [] ep ec distinct short roots = All-nil (λ c. c ≡ f.zero)
+  zeros_from_roots (p ∷ ps) (c ∷ cs) ep ec distinct short roots =
       let first = All-head f.IsElement c cs ec in
       let rest = All-tail f.IsElement c cs ec in
       let place = All-head f.IsElement p ps ep in
@@ -101,19 +127,26 @@ module _ {F : Type 0} (f : Operations F) (is : IsField f) where
       (λ e. apart k d below (sym (same_from_sum f is r p e)))
       (value_at-element f is quotient r elements (places k d below))
       (sym (is_product r) ∙ others k d below) in
-      let none = zero_from_roots ps quotient places elements (AllPairs-tail (λ r s. r ≢ s) p ps distinct) (omega (arith, length-tail_values f cs p)) roots_of_quotient x in
-      is_product x ∙ ap (f.mul (f.add x p)) none ∙ mul-zero_right f is (f.add x p)
+      let none = zeros_from_roots ps quotient places elements (AllPairs-tail (λ r s. r ≢ s) p ps distinct) (omega (arith, length-tail_values f cs p)) roots_of_quotient in
+      let zeros = zeros_from_ends cs p rest none in
+      All-cons (λ k. k ≡ f.zero) c cs (first-zero c cs p ec zeros at_p) zeros
 
-  -- two polynomials with no more coefficients than places, equal at each place, are equal everywhere
-  pub places_determine_values : PlacesDetermineValues f
-  places_determine_values places cs ds ep ec ed distinct short also_short same x =
+  -- two polynomials with no more coefficients than places, equal at each place, have the same coefficients
+  pub places_determine_coefficients : PlacesDetermineCoefficients f
+  places_determine_coefficients places cs ds ep ec ed distinct short also_short same =
       let roots : All (λ p. value_at f (sum_of f cs ds) p ≡ f.zero) places =
       λ k d below.
       let p = get_or places k d in
       value_at-sum f is cs ds p ∙ ap (λ v. f.add v (value_at f ds p)) (same k d below) ∙ is.add_self (value_at f ds p) in
+      zeros_from_roots places (sum_of f cs ds) ep (elements-sum f is cs ds ec ed) distinct (length-sum f (length places) cs ds short also_short) roots
+
+  -- so they are equal everywhere
+  pub places_determine_values : PlacesDetermineValues f
+  places_determine_values places cs ds ep ec ed distinct short also_short same x =
       same_from_sum f is (value_at f cs x) (value_at f ds x)
       (sym (value_at-sum f is cs ds x)
-      ∙ zero_from_roots places (sum_of f cs ds) ep (elements-sum f is cs ds ec ed) distinct (length-sum f (length places) cs ds short also_short) roots x)
+      ∙ value_at-zeros (sum_of f cs ds) x (elements-sum f is cs ds ec ed)
+      (places_determine_coefficients places cs ds ep ec ed distinct short also_short same))
 
   -- points at distinct places have one value at x
   pub points_have_one_value : PointsHaveOneValue f

@@ -1,8 +1,6 @@
 use Rattle.std.proofs.Common.{◌≡◌, ◌<◌, ◌++◌, [], true, false, length, take, refl, arith}
-use Rattle.std.specs.Io.KnownBytes.{Consumes}
-use Rattle.std.proofs.KnownBytes.{Consumes-nil, Consumes-trans, Consumes-kept, Consumes-whole}
+use Rattle.std.proofs.KnownBytes.{Consumes-nil, Consumes-trans, Consumes-kept}
 use Rattle.std.proofs.lemmas.Result.{err_from_is_err_and}
-use Rattle.s39_cli.specs.Lines.{IsMidway}
 use Rattle.s39_cli.proofs.Run.{midway_at_start, runs_to_end_of_reader, runs_to_failure, runs_to_refusal, runs_to_end, runs_at_refusal, consumed_nothing}
 use Rattle.s39_cli.proofs.lines.take_shares.Goals as goal
 

@@ -1,8 +1,6 @@
-use Rattle.std.proofs.Common.{◌≡◌, ◌+◌, List, ℕ, true, false, IfSome, arith, ap, ◌∙◌}
+use Rattle.std.proofs.Common.{◌≡◌, true, false, arith}
 use Rattle.std.proofs.lemmas.Option.{IfSome_then}
-use Rattle.s39_cli.specs.Fault.{read_failures, write_failures}
-use Rattle.s39_cli.specs.Lines.{RunsOver}
-use Rattle.s39_cli.specs.Show.{Shows, ShowsShare}
+use Rattle.s39_cli.specs.Fault.{write_failures}
 use Rattle.s39_cli.proofs.Shown.{one_failure, runs_shown, runs_write_failures}
 use Rattle.s39_cli.proofs.show.run_show.Goals as goal
 

@@ -1,4 +1,4 @@
-use Rattle.std.proofs.Common.{◌≡◌, drop, arith, subst, sym}
+use Rattle.std.proofs.Common.{◌≡◌, arith, subst, sym}
 use Rattle.std.proofs.lemmas.List.{take_rest}
 use Rattle.s39_cli.proofs.Write.{IsWriting, writing_goes_on}
 use Rattle.s39_cli.proofs.show.write_line.Goals as goal

@@ -1,4 +1,4 @@
-use Rattle.std.proofs.Common.{◌≡◌, ◌++◌, List, ℕ, length}
+use Rattle.std.proofs.Common.{length}
 use Rattle.s39_cli.proofs.Write.{IsWriting}
 use Rattle.s39_cli.proofs.show.write_line.Given as goal
 

@@ -20,4 +20,4 @@ returns-clause-value c = record {
 
 pub returns-clause-only : goal.returns-clause-only
 returns-clause-only c = λ encrypted e.
-    result_only c.args.passphrase.now c.args.params c.args.secret.now.items encrypted c.joined.result.items e (returns-clause-value c)
+    result_only c.args.passphrase.now c.args.params c.args.secret.now.items encrypted c.join.result.items e (returns-clause-value c)

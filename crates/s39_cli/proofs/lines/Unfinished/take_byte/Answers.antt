@@ -1,6 +1,5 @@
-use Rattle.std.proofs.Common.{◌≡◌, ◌<◌, ◌++◌, ◌∷◌, [], length, refl, arith}
+use Rattle.std.proofs.Common.{arith}
 use Rattle.std.proofs.lemmas.Bool.Decides.{nat_tests}
-use Rattle.s39_cli.specs.Lines.{IsMidway}
 use Rattle.s39_cli.proofs.Run.{reaches_after_line, stops_too_long, midway_after_byte}
 use Rattle.s39_cli.proofs.lines.Unfinished.take_byte.Goals as goal
 
