@@ -2,12 +2,7 @@
 #![tactic(auto)]
 
 mod command;
-mod device;
-mod fault;
-mod laws;
-mod lines;
 mod program;
-mod show;
 mod text;
 
 use program::{no_memory, program};

@@ -1,10 +1,8 @@
 //! The program: a command line, a reader and two writers.
 
 use crate::command::{Job, NoJob, read_words};
-use crate::device::Counting;
-use crate::fault::{Fault, Refusal};
-use crate::show::run_show;
 use crate::text::FaultText;
+use s39_tool::{Counting, Fault, Refusal, run_show};
 use std::alloc::Global;
 use std::io::{BufWriter, Read, Write};
 

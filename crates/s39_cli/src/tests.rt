@@ -1,10 +1,8 @@
 //! The worked examples of `show`, from the command line to the texts and the status, and devices that fail.
 
 use crate::command::{Job, NoJob, read_words};
-use crate::device::Counting;
-use crate::fault::{Fault, Refusal};
 use crate::program::program;
-use crate::show::run_show;
+use s39_tool::{Counting, Fault, Refusal, run_show};
 use s39_words::WordError;
 use std::alloc::Global;
 use std::io;

@@ -1,6 +1,6 @@
 //! The texts of faults.
 
-use crate::fault::{Fault, Refusal};
+use s39_tool::{Fault, Refusal};
 use s39_words::WordError;
 use thiserror::Error;
 

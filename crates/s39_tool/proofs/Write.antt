@@ -1,0 +1,35 @@
+-- A write of a line, a part at a time.
+use Rattle.std.proofs.Common.{◌≡◌, ℕ, List, [], ◌++◌, take, drop, refl, sym, ap, ◌∙◌, append_assoc, Option}
+use Rattle.std.specs.Io.KnownBytes.{Appends}
+use Rattle.std.proofs.KnownBytes.{Appends-nil, Appends-trans}
+use Rattle.std.proofs.lemmas.List.{append-nil, take-append-drop}
+use Rattle.s39_tool.specs.Device.{Counted}
+use Rattle.s39_tool.specs.Show.{WritesWhole}
+
+module _ {W : Type 0} (contents : W → Option (List ℕ)) where
+  -- a part of the line is written, and this is the rest of it
+  pub record IsWriting (old new : Counted W) (line rest : List ℕ) : Type 0 where
+    pub written : List ℕ
+    pub parts : line ≡ written ++ rest
+    pub appends : Appends (contents old.device) (contents new.device) written
+    pub no_failure : new.failures ≡ old.failures
+
+  pub writing_begins : (output : Counted W) (line : List ℕ) → IsWriting output output line line
+  writing_begins output line = record { written = []; parts = refl; appends = Appends-nil (contents output.device); no_failure = refl }
+
+  -- a write takes a part of the rest
+  pub writing_goes_on : (old mid new : Counted W) (line rest : List ℕ) (count : ℕ) → IsWriting old mid line rest → Appends (contents mid.device) (contents new.device) (take count rest) → new.failures ≡ mid.failures
+      → IsWriting old new line (drop count rest)
+  writing_goes_on old mid new line rest count w a f = record {
+    written = w.written ++ take count rest;
+    parts = w.parts ∙ ap (λ l. w.written ++ l) (sym (take-append-drop count rest)) ∙ sym (append_assoc w.written (take count rest) (drop count rest));
+    appends = Appends-trans (contents old.device) (contents mid.device) (contents new.device) w.written (take count rest) w.appends a;
+    no_failure = f ∙ w.no_failure;
+  }
+
+  pub writing_ends : (old new : Counted W) (line rest : List ℕ) → IsWriting old new line rest → rest ≡ [] → WritesWhole contents old line new
+  writing_ends old new line rest w e =
+      let all : line ≡ w.written = w.parts ∙ ap (λ l. w.written ++ l) e ∙ append-nil w.written in record {
+        appends = rw all w.appends;
+        no_failure = w.no_failure;
+      }

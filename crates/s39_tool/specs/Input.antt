@@ -1,0 +1,33 @@
+-- The lines of an input.
+use Rattle.std.specs.Prelude.{ℕ, List, [], ◌∷◌, Bool, true, not, ◌==◌, nat_lt, if◌then◌else◌, length, find}
+use Rattle.std.specs.List.{slice_split}
+use Rattle.std.specs.Option.{option_map_or}
+use Rattle.s39_words.specs.Spelling.{is_separator}
+use Rattle.s39_tool.specs.declared.lines.TheConstants.{MAX_LINE_BYTES}
+
+-- the bytes that came, and whether the input ended after them or failed
+pub record Input : Type 0 where
+  pub bytes : List ℕ
+  pub ended : Bool
+
+abbrev pub is_line_feed : ℕ → Bool
+is_line_feed b = b == 10
+
+-- the bytes up to each line feed, and those after the last one, which may be none
+abbrev pub parts_of : List ℕ → List (List ℕ)
+parts_of bytes = slice_split is_line_feed bytes
+
+-- the parts but the last, which no line feed ended; it is kept where it is too long already
+abbrev pub finished_parts : List (List ℕ) → List (List ℕ)
+finished_parts [] = []
+finished_parts (last ∷ []) = if nat_lt MAX_LINE_BYTES (length last) then last ∷ [] else []
+finished_parts (part ∷ next ∷ parts) = part ∷ finished_parts (next ∷ parts)
+
+-- The lines. The last one may lack its line feed where the input ended. Where it failed, a line that lacks it
+-- is dropped, unless so many bytes of it have come that it is refused whatever follows.
+abbrev pub lines_of : Input → List (List ℕ)
+lines_of input = if input.ended then parts_of input.bytes else finished_parts (parts_of input.bytes)
+
+-- a blank line, or a comment: no byte but separators, or a number sign as the first other byte
+abbrev pub is_skipped : List ℕ → Bool
+is_skipped line = option_map_or (λ b. b == 35) (find (λ b. not (is_separator b)) line) true
