@@ -1,0 +1,96 @@
+-- The groups of which enough members are there.
+use Rattle.std.proofs.Common.{◌≡◌, ℕ, ◌<◌, ◌≤◌, ◌==◌, true, false, List, length, get_or, Option, Some, None, refl, ap, ◌∙◌, arith}
+use Rattle.std.specs.Prelude.{nat_le}
+use Rattle.std.specs.List.{All, AllPairs, Contains, range_with_len}
+use Rattle.std.specs.Option.{option_map_or}
+use Rattle.std.proofs.lemmas.Bool.{leb-true, le-leb, false≢true}
+use Rattle.std.proofs.lemmas.List.Elements.{All-contains, All-filter, filter_passes}
+use Rattle.std.proofs.lemmas.List.FromFn.{get_or-range_with_len, length-range_with_len}
+use Rattle.std.proofs.lemmas.List.Kept.{AllPairs-filter}
+use Rattle.s39_set.specs.Names.{names_in_group}
+use Rattle.s39_set.specs.Groups.{is_complete, complete_groups}
+use Rattle.s39_set.proofs.Sublists.{IsSublist, length-sublist, filter_weaker, filter-sublist, Contains-filter, same_from_part, same_from_elements}
+
+groups_one_way : (a b : ℕ) → a < b → b < a → ⊥
+groups_one_way a b before after = omega arith
+
+-- ascending groups are known by which groups they are
+pub same_groups : (xs ys : List ℕ) → AllPairs (λ a b. a < b) xs → AllPairs (λ a b. a < b) ys → All (Contains xs) ys → All (Contains ys) xs → xs ≡ ys
+same_groups = same_from_elements (λ a b. a < b) groups_one_way
+
+-- no fewer of them than there are, are all of them
+pub same_groups_from_length : (xs ys : List ℕ) → AllPairs (λ a b. a < b) xs → AllPairs (λ a b. a < b) ys → All (Contains xs) ys → length xs ≤ length ys → xs ≡ ys
+same_groups_from_length = same_from_part (λ a b. a < b) groups_one_way
+
+-- the numbers of a range ascend
+pub range-ascending : (n : ℕ) → AllPairs (λ a b. a < b) (range_with_len 0 n)
+range-ascending n i j d before below =
+    let within : j < n = omega (arith, length-range_with_len 0 n) in
+    omega (arith, get_or-range_with_len 0 n i d (omega arith), get_or-range_with_len 0 n j d within)
+
+-- each is below the end
+pub range-below : (n : ℕ) → All (λ g. g < n) (range_with_len 0 n)
+range-below n k d below =
+    let within : k < n = omega (arith, length-range_with_len 0 n) in
+    omega (arith, get_or-range_with_len 0 n k d within)
+
+-- each number below the end is one of them
+pub Contains-range : (n g : ℕ) → g < n → Contains (range_with_len 0 n) g
+Contains-range n g below =
+    let at : get_or (range_with_len 0 n) g g ≡ g = omega (arith, get_or-range_with_len 0 n g g below) in
+    (g, (omega (arith, length-range_with_len 0 n)), at)
+
+-- a group's threshold, and that so many of its members are there
+pub record HasThreshold (T : ℕ → Option ℕ) (names : List (ℕ × ℕ)) (g : ℕ) : Type 0 where
+  pub threshold : ℕ
+  pub is : T g ≡ Some threshold
+  pub enough : threshold ≤ length (names_in_group g names)
+
+module _ (T : ℕ → Option ℕ) (names : List (ℕ × ℕ)) where
+  -- a group with its threshold's members is complete
+  pub is_complete_from : (g t : ℕ) → T g ≡ Some t → t ≤ length (names_in_group g names) → is_complete T names g ≡ true
+  is_complete_from g t e enough =
+      ap (λ o. option_map_or (λ threshold. nat_le threshold (length (names_in_group g names))) o false) e
+      ∙ le-leb t (length (names_in_group g names)) enough
+
+  -- a complete group has its threshold's members
+  pub threshold_from_complete : (g : ℕ) → is_complete T names g ≡ true → HasThreshold T names g
+  threshold_from_complete g complete = go (T g) refl complete
+    where
+      go : (o : Option ℕ) → T g ≡ o → option_map_or (λ threshold. nat_le threshold (length (names_in_group g names))) o false ≡ true → HasThreshold T names g
+      go None e c = absurd (false≢true c)
+      go (Some t) e c = record { threshold = t; is = e; enough = leb-true t (length (names_in_group g names)) c }
+
+  -- the complete groups ascend
+  pub complete_groups-ascending : AllPairs (λ a b. a < b) (complete_groups T names)
+  complete_groups-ascending = AllPairs-filter (λ a b. a < b) (is_complete T names) (range_with_len 0 16) (range-ascending 16)
+
+  -- they are below 16
+  pub complete_groups-below : (g : ℕ) → Contains (complete_groups T names) g → g < 16
+  complete_groups-below g among =
+      All-contains (λ h. h < 16) (complete_groups T names) g (All-filter (is_complete T names) (λ h. h < 16) (range_with_len 0 16) (range-below 16)) among
+
+  -- they are complete
+  pub complete_groups-threshold : (g : ℕ) → Contains (complete_groups T names) g → HasThreshold T names g
+  complete_groups-threshold g among =
+      threshold_from_complete g
+      (All-contains (λ h. is_complete T names h ≡ true) (complete_groups T names) g (filter_passes (is_complete T names) (range_with_len 0 16)) among)
+
+  -- each complete group is among them
+  pub Contains-complete_groups : (g t : ℕ) → g < 16 → T g ≡ Some t → t ≤ length (names_in_group g names) → Contains (complete_groups T names) g
+  Contains-complete_groups g t below e enough =
+      Contains-filter (is_complete T names) (range_with_len 0 16) g (Contains-range 16 g below) (is_complete_from g t e enough)
+
+-- some of the names have some of the members of a group
+pub names_in_group-sublist : (g : ℕ) {fewer names : List (ℕ × ℕ)} → IsSublist fewer names → IsSublist (names_in_group g fewer) (names_in_group g names)
+names_in_group-sublist g part = filter-sublist (λ name. name.0 == g) part
+
+-- and complete some of the groups
+pub complete_groups-sublist : (T : ℕ → Option ℕ) {fewer names : List (ℕ × ℕ)} → IsSublist fewer names → IsSublist (complete_groups T fewer) (complete_groups T names)
+complete_groups-sublist T {fewer} {names} part =
+    filter_weaker (is_complete T fewer) (is_complete T names)
+    (λ g complete.
+    let has = threshold_from_complete T fewer g complete in
+    let more = length-sublist (names_in_group-sublist g part) in
+    is_complete_from T names g has.threshold has.is (omega arith))
+    (range_with_len 0 16)

@@ -1,0 +1,264 @@
+-- What a set keeps, and one share more.
+use Rattle.std.proofs.Common.{◌≡◌, ◌≢◌, ◌⊎◌, ℕ, suc, ◌+◌, ◌<◌, ◌≤◌, Bool, true, false, List, [], ◌∷◌, ◌++◌, length, get_or, set, take, drop, find, map, All, Contains, Option, Some, None, inl, inr, ⊎_elim, refl, sym, ap, ap₂, ◌∙◌, subst, arith, add-one}
+use Rattle.std.specs.Prelude.{IfSome, ◌==◌, ◌&&◌}
+use Rattle.std.specs.Option.{option_map, is_some}
+use Rattle.std.specs.declared.cmp.Ordering.TheVariants.{Less}
+use Rattle.std.proofs.lemmas.Bool.{cases_eq, false≢true, ne_eqb, and_right}
+use Rattle.std.proofs.lemmas.Bool.Decides.{nat_tests}
+use Rattle.std.proofs.lemmas.List.{set_split, take-append-drop, drop_more, get_or-set_same, get_or-set_other, get_or_default}
+use Rattle.std.proofs.lemmas.List.Elements.{All-nil, All-head, All-tail, All-map, All-weaker, All-contains, Contains-get_or, Contains-append_left, Contains-append_right, Contains-append_cases, filter_map-append}
+use Rattle.std.proofs.lemmas.List.Kept.{AllPairs-cons}
+use Rattle.s39_words.specs.declared.share.ShareFields.{ShareFields}
+use Rattle.s39_words.specs.Share.{IsShare}
+use Rattle.s39_set.specs.declared.common.Common.{Common}
+use Rattle.s39_set.specs.Names.{name_cmp, IsAscending}
+use Rattle.s39_set.specs.ShareSet.{Agrees, IsShareSet, HasOneMore, name_of, is_in_group, has_name, refusal_of}
+use Rattle.s39_set.specs.Quorums.{member_threshold_of}
+use Rattle.s39_set.specs.Places.{shares_at, place_of, common_of, common_of_all, IsKept}
+use Rattle.s39_set.proofs.Finds.{IfSome-map, find-none, find-passes, Contains-find, none-passes, find-insert_other}
+use Rattle.s39_set.proofs.Places.{OwnPlaces, places-at_least, own_places-tail, find-place}
+use Rattle.s39_set.proofs.Sublists.{Contains-head, Contains-cases, Contains-nil, AllPairs-nil}
+use Rattle.s39_set.proofs.Sets.{agree, threshold_is}
+use Rattle.s39_set.proofs.Joins.{Joins, joins_from_none, agrees-itself, agrees-back, same_share}
+use Rattle.s39_set.proofs.Refusals.{has_name-is, has_name-own}
+
+-- ---- names in the order of their places
+
+name_cmp-from_places : (a b : ℕ × ℕ) → a.1 < 16 → b.1 < 16 → place_of a < place_of b → name_cmp a b ≡ Less
+name_cmp-from_places (g, m) (h, n) low also_low before = grind (arith, nat_tests)
+
+pub ascending-places : (b : ℕ) (places : List (Option ShareFields)) → OwnPlaces b places → All (λ share. share.member_index < 16) (shares_at places) → IsAscending (map name_of (shares_at places))
+ascending-places b [] own low = AllPairs-nil (λ x y. name_cmp x y ≡ Less)
+ascending-places b (None ∷ places) own low = ascending-places (suc b) places (own_places-tail b None places own) low
+ascending-places b (Some share ∷ places) own low =
+    let rest = own_places-tail b (Some share) places own in
+    let here : place_of (name_of share) ≡ b + 0 = own 0 in
+    let lower = All-head (λ s. s.member_index < 16) share (shares_at places) low in
+    let others = All-tail (λ s. s.member_index < 16) share (shares_at places) low in
+    AllPairs-cons (λ x y. name_cmp x y ≡ Less) (name_of share) (map name_of (shares_at places))
+    (All-map (λ y. name_cmp (name_of share) y ≡ Less) name_of (shares_at places)
+    (λ k d below.
+    let s = get_or (shares_at places) k d in
+    let later = places-at_least (suc b) places rest k d below in
+    name_cmp-from_places (name_of share) (name_of s) lower (others k d below) (omega arith)))
+    (ascending-places (suc b) places rest others)
+
+-- ---- one share more
+
+shares_at-set : (places : List (Option ShareFields)) (k : ℕ) (share : ShareFields) → k < length places → shares_at (set places k (Some share)) ≡ shares_at (take k places) ++ share ∷ shares_at (drop (suc k) places)
+shares_at-set places k share below =
+    ap shares_at (set_split places k (Some share) below)
+    ∙ filter_map-append (λ (place : Option ShareFields). place) (take k places) (Some share ∷ drop (suc k) places)
+
+shares_at-split : (places : List (Option ShareFields)) (k : ℕ) → k < length places → get_or places k None ≡ None → shares_at places ≡ shares_at (take k places) ++ shares_at (drop (suc k) places)
+shares_at-split places k below empty =
+    let rest : drop k places ≡ None ∷ drop (suc k) places =
+    drop_more places k None below ∙ ap₂ (λ (p : Option ShareFields) (n : ℕ). p ∷ drop n places) empty (add-one k) in
+    ap shares_at (sym (take-append-drop k places) ∙ ap (λ l. take k places ++ l) rest)
+    ∙ filter_map-append (λ (place : Option ShareFields). place) (take k places) (None ∷ drop (suc k) places)
+
+-- the share is put among the others
+pub has_one_more : (places : List (Option ShareFields)) (k : ℕ) (share : ShareFields) → k < length places → get_or places k None ≡ None → HasOneMore (shares_at places) share (shares_at (set places k (Some share)))
+has_one_more places k share below empty = record {
+  before = shares_at (take k places);
+  after = shares_at (drop (suc k) places);
+  old_is = shares_at-split places k below empty;
+  new_is = shares_at-set places k share below;
+}
+
+module _ (old : List ShareFields) (share : ShareFields) (new : List ShareFields) (more : HasOneMore old share new) where
+  Contains-more_cases : (s : ShareFields) → Contains new s → Contains old s ⊎ (share ≡ s)
+  Contains-more_cases s has_s =
+      ⊎_elim
+      (λ (front : Contains more.before s). inl (subst (λ l. Contains l s) (sym more.old_is) (Contains-append_left more.before more.after s front)))
+      (λ (back : Contains (share ∷ more.after) s).
+      ⊎_elim
+      (λ (same : share ≡ s). inr same)
+      (λ (later : Contains more.after s). inl (subst (λ l. Contains l s) (sym more.old_is) (Contains-append_right more.before more.after s later)))
+      (Contains-cases share more.after s back))
+      (Contains-append_cases more.before (share ∷ more.after) s (subst (λ l. Contains l s) more.new_is has_s))
+
+  Contains-more : Contains new share
+  Contains-more = subst (λ l. Contains l share) (sym more.new_is) (Contains-append_right more.before (share ∷ more.after) share (Contains-head share more.after))
+
+  All-more : (P : ShareFields → Type 0) → All P old → P share → All P new
+  All-more P each here k d below =
+      let s = get_or new k d in
+      ⊎_elim
+      (λ (before : Contains old s). All-contains P old s each before)
+      (λ (same : share ≡ s). subst P same here)
+      (Contains-more_cases s (Contains-get_or new k d below))
+
+  agree-more : IsShareSet old → Joins old share → All (λ s. All (Agrees s) new) new
+  agree-more is joins k d below i e within =
+      let s = get_or new k d in
+      let t = get_or new i e in
+      ⊎_elim
+      (λ (has_s : Contains old s).
+      ⊎_elim
+      (λ (has_t : Contains old t). agree old is s t has_s has_t)
+      (λ (same : share ≡ t). subst (Agrees s) same (joins.agrees s has_s))
+      (Contains-more_cases t (Contains-get_or new i e within)))
+      (λ (same : share ≡ s).
+      subst (λ x. Agrees x t) same
+      (⊎_elim
+      (λ (has_t : Contains old t). agrees-back t share (joins.agrees t has_t))
+      (λ (also : share ≡ t). subst (Agrees share) also (agrees-itself share))
+      (Contains-more_cases t (Contains-get_or new i e within))))
+      (Contains-more_cases s (Contains-get_or new k d below))
+
+  -- a group that isn't the share's keeps its threshold
+  threshold-other : (group : ℕ) → share.group_index ≢ group → member_threshold_of new group ≡ member_threshold_of old group
+  threshold-other group apart =
+      ap (λ l. member_threshold_of l group) more.new_is
+      ∙ ap (option_map (λ (s : ShareFields). s.member_threshold)) (find-insert_other (is_in_group group) more.before more.after share (ne_eqb share.group_index group apart))
+      ∙ ap (λ l. member_threshold_of l group) (sym more.old_is)
+
+unfoldable common_fields : ℕ → Bool → ℕ → ℕ → ℕ → ℕ → Common
+common_fields id extendable exponent group_threshold group_count value_bytes = record {
+  id = id;
+  extendable = extendable;
+  exponent = exponent;
+  group_threshold = group_threshold;
+  group_count = group_count;
+  value_bytes = value_bytes;
+}
+
+common-fields_of : (s : ShareFields) → common_fields s.id s.extendable s.exponent s.group_threshold s.group_count (length s.value.items) ≡ common_of s
+unfolding common_fields
+common-fields_of s = refl
+
+common_of-agrees : (s t : ShareFields) → Agrees s t → common_of s ≡ common_of t
+common_of-agrees s t h =
+    let same : common_fields s.id s.extendable s.exponent s.group_threshold s.group_count (length s.value.items) ≡ common_fields t.id t.extendable t.exponent t.group_threshold t.group_count (length t.value.items) = cc in
+    sym (common-fields_of s) ∙ same ∙ common-fields_of t
+
+common_of_all-is : (shares : List ShareFields) (share : ShareFields) → IsShareSet shares → Contains shares share → Some (common_of share) ≡ common_of_all shares
+common_of_all-is [] share is has_share = absurd (Contains-nil share has_share)
+common_of_all-is (first ∷ others) share is has_share =
+    ap Some (common_of-agrees share first (agree (first ∷ others) is share first has_share (Contains-head first others)))
+
+-- ---- what is kept
+
+module _ (common : Option Common) (thresholds : List (Option ℕ)) (places : List (Option ShareFields)) (kept : IsKept common thresholds places) where
+  pub own_places : OwnPlaces 0 places
+  own_places k =
+      IfSome-map (λ share. place_of (name_of share) ≡ k) (λ share. place_of (name_of share) ≡ 0 + k) (get_or places k None)
+      (λ share at. omega arith) (kept.own_place k)
+
+  low_members : All (λ share. share.member_index < 16) (shares_at places)
+  low_members = All-weaker IsShare (λ share. share.member_index < 16) (λ s h. h.member_index) (shares_at places) kept.is_set.each
+
+  -- a name's share stands at its place
+  pub share_in_place : (group member : ℕ) → member < 16 → find (has_name group member) (shares_at places) ≡ get_or places (place_of (group, member)) None
+  share_in_place group member low = find-place 0 places group member own_places low_members low (place_of (group, member)) (let e : place_of (group, member) ≡ 0 + place_of (group, member) = omega arith in e)
+
+  -- no share has an index of 16 or more
+  pub no_share_past : (group member : ℕ) → (16 ≤ group) ⊎ (16 ≤ member) → find (has_name group member) (shares_at places) ≡ None
+  no_share_past group member past =
+      find-none (has_name group member) (shares_at places)
+      (λ k d below.
+      let s = get_or (shares_at places) k d in
+      let is = kept.is_set.each k d below in
+      let low_group = is.group_index in
+      let low_member = is.member_index in
+      ⊎_elim
+      (λ (high : 16 ≤ group). rw (ne_eqb s.group_index group (λ e. absurd (omega arith))) refl)
+      (λ (high : 16 ≤ member). by (s.group_index) s.member_index (ne_eqb s.member_index member (λ e. absurd (omega arith))))
+      past)
+    where
+      by : (g m : ℕ) → (m == member) ≡ false → ((g == group) && (m == member)) ≡ false
+      by g m h = and_right (g == group) (m == member) h
+
+  module _ (share : ShareFields) (is : IsShare share) (allowed : refusal_of (shares_at places) share ≡ None) (k : ℕ) (at : k ≡ place_of (name_of share)) (below : k < length places) (empty : get_or places k None ≡ None) (groups : length thresholds ≡ 16) where
+    new : List (Option ShareFields)
+    new = set places k (Some share)
+
+    own_more : (j : ℕ) → IfSome (get_or (set places k (Some share)) j None) (λ s. place_of (name_of s) ≡ j)
+    own_more j =
+        ⊎_elim
+        (λ (same : j ≡ k). subst (λ (o : Option ShareFields). IfSome o (λ s. place_of (name_of s) ≡ j)) (sym (ap (λ n. get_or (set places k (Some share)) n None) same ∙ get_or-set_same places k (Some share) None below)) (sym at ∙ sym same))
+        (λ (apart : j ≡ k → ⊥). subst (λ (o : Option ShareFields). IfSome o (λ s. place_of (name_of s) ≡ j)) (sym (get_or-set_other places k j (Some share) None apart)) (kept.own_place j))
+        (cases_eq j k)
+
+    -- the fields after the share is put in its place
+    pub kept_more : IsKept (Some (common_of share)) (set thresholds share.group_index (Some share.member_threshold)) (set places k (Some share))
+    kept_more =
+        let old = shares_at places in
+        let shares = shares_at (set places k (Some share)) in
+        let more = has_one_more places k share below empty in
+        let joins = joins_from_none old kept.is_set share allowed in
+        let each : All IsShare shares = All-more old share shares more IsShare kept.is_set.each is in
+        let own : OwnPlaces 0 (set places k (Some share)) =
+        λ j. IfSome-map (λ s. place_of (name_of s) ≡ j) (λ s. place_of (name_of s) ≡ 0 + j) (get_or (set places k (Some share)) j None) (λ s here. omega arith) (own_more j) in
+        let is_set : IsShareSet shares = record {
+          each = each;
+          ascending = ascending-places 0 (set places k (Some share)) own (All-weaker IsShare (λ s. s.member_index < 16) (λ s h. h.member_index) shares each);
+          agree = agree-more old share shares more kept.is_set joins;
+        } in
+        record {
+          is_set = is_set;
+          own_place = own_more;
+          common_is = common_of_all-is shares share is_set (Contains-more old share shares more);
+          thresholds_are = λ group low.
+              ⊎_elim
+              (λ (same : group ≡ share.group_index).
+              ap (λ g. get_or (set thresholds share.group_index (Some share.member_threshold)) g None) same
+              ∙ get_or-set_same thresholds share.group_index (Some share.member_threshold) None (omega arith)
+              ∙ sym (ap (member_threshold_of shares) same ∙ threshold_is shares is_set share (Contains-more old share shares more)))
+              (λ (apart : group ≡ share.group_index → ⊥).
+              get_or-set_other thresholds share.group_index group (Some share.member_threshold) None apart
+              ∙ kept.thresholds_are group low
+              ∙ sym (threshold-other old share shares more group (λ e. apart (sym e))))
+              (cases_eq group share.group_index);
+        }
+
+  module _ (share : ShareFields) (is : IsShare share) where
+    -- where a share stands at its place, and the share isn't refused, it is that share
+    pub repeat_from_place : refusal_of (shares_at places) share ≡ None → is_some (get_or places (place_of (name_of share)) None) ≡ true → Contains (shares_at places) share
+    repeat_from_place allowed some = by (get_or places (place_of (name_of share)) None) refl some
+      where
+        by : (o : Option ShareFields) → get_or places (place_of (name_of share)) None ≡ o → is_some o ≡ true → Contains (shares_at places) share
+        by None e h = absurd (false≢true h)
+        by (Some held) e h =
+            let found : find (has_name share.group_index share.member_index) (shares_at places) ≡ Some held = share_in_place share.group_index share.member_index is.member_index ∙ e in
+            let has_held = Contains-find (has_name share.group_index share.member_index) (shares_at places) held found in
+            let joins = joins_from_none (shares_at places) kept.is_set share allowed in
+            let names = has_name-is share.group_index share.member_index held (find-passes (has_name share.group_index share.member_index) (shares_at places) held found) in
+            subst (Contains (shares_at places)) (same_share held share (joins.agrees held has_held) names (joins.same_value held has_held names)) has_held
+
+    -- where none stands there, the set doesn't have it
+    pub new_from_place : get_or places (place_of (name_of share)) None ≡ None → Contains (shares_at places) share → ⊥
+    new_from_place none has_share =
+        let found : find (has_name share.group_index share.member_index) (shares_at places) ≡ None = share_in_place share.group_index share.member_index is.member_index ∙ none in
+        false≢true (sym (All-contains (λ s. has_name share.group_index share.member_index s ≡ false) (shares_at places) share (none-passes (has_name share.group_index share.member_index) (shares_at places) found) has_share) ∙ has_name-own share)
+
+-- a place that fails the test is empty
+pub empty_from_test : (o : Option ShareFields) → is_some o ≡ false → o ≡ None
+empty_from_test None h = refl
+empty_from_test (Some s) h = absurd (false≢true (sym h))
+
+-- ---- no share
+
+pub shares_at-none : (places : List (Option ShareFields)) → All (λ place. place ≡ None) places → shares_at places ≡ []
+shares_at-none [] none = refl
+shares_at-none (None ∷ places) none = shares_at-none places (All-tail (λ place. place ≡ None) None places none)
+shares_at-none (Some share ∷ places) none = absurd (let bad : Some share ≡ None = All-head (λ place. place ≡ None) (Some share) places none in cc)
+
+is_set-none : IsShareSet []
+is_set-none = record {
+  each = All-nil IsShare;
+  ascending = AllPairs-nil (λ x y. name_cmp x y ≡ Less);
+  agree = All-nil (λ s. All (Agrees s) []);
+}
+
+-- the fields of a set with no share
+pub kept-none : (thresholds : List (Option ℕ)) (places : List (Option ShareFields)) → ((k : ℕ) → get_or places k None ≡ None) → ((group : ℕ) → group < 16 → get_or thresholds group None ≡ None) → IsKept None thresholds places
+kept-none thresholds places none no_threshold =
+    let empty : shares_at places ≡ [] = shares_at-none places (λ k d below. get_or_default places k d None below ∙ none k) in
+    record {
+      is_set = subst IsShareSet (sym empty) is_set-none;
+      own_place = λ k. subst (λ (o : Option ShareFields). IfSome o (λ share. place_of (name_of share) ≡ k)) (sym (none k)) tt;
+      common_is = ap common_of_all (sym empty);
+      thresholds_are = λ group low. no_threshold group low ∙ ap (λ l. member_threshold_of l group) (sym empty);
+    }

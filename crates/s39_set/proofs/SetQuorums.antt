@@ -1,0 +1,134 @@
+-- The quorums of a share set.
+use Rattle.std.proofs.Common.{◌≡◌, ℕ, ◌<◌, ◌≤◌, List, length, find, map, take, All, Option, Some, None, refl, sym, ap, subst, ◌∙◌, arith}
+use Rattle.std.specs.Prelude.{IsSomeAnd}
+use Rattle.std.specs.Option.{option_map}
+use Rattle.std.proofs.lemmas.List.Elements.{All-map, All-weaker, All-contains}
+use Rattle.s39_words.specs.declared.share.ShareFields.{ShareFields}
+use Rattle.s39_words.specs.Share.{IsShare}
+use Rattle.s39_set.specs.Groups.{complete_groups, members_of}
+use Rattle.s39_set.specs.ShareSet.{IsShareSet, name_of, is_in_group}
+use Rattle.s39_set.specs.Quorums.{group_threshold_of, member_threshold_of, MeetsThresholds, IsQuorum, IsLeastQuorum, HasJustTheGroups}
+use Rattle.s39_set.specs.Lack.{IsLack, IsIncomplete}
+use Rattle.s39_set.specs.declared.set_lack.SetLack.{SetLack}
+use Rattle.s39_set.specs.declared.set_lack.SetLack.TheVariants.{NoShares, Incomplete}
+use Rattle.s39_set.proofs.Finds.{Contains-find}
+use Rattle.s39_set.proofs.Thresholds.{Meets, HasJust}
+use Rattle.s39_set.proofs.Minimal.{just_from_minimal, minimal_from_just, meets_from_just, groups_at_hand, first_members_have_just}
+use Rattle.s39_set.proofs.FirstMembers.{first_members_are_least}
+
+-- what meets the set's thresholds meets them as plain numbers
+pub meets_from_set : (set : List ShareFields) (names : List (ℕ × ℕ)) (required : ℕ) → group_threshold_of set ≡ Some required → MeetsThresholds set names → Meets (member_threshold_of set) (map name_of set) required names
+meets_from_set set names required e meets = record {
+  ascending = meets.at_hand.ascending;
+  at_hand = meets.at_hand.at_hand;
+  groups = subst (λ o. IsSomeAnd o (λ threshold. threshold ≤ length (complete_groups (member_threshold_of set) names))) e meets.groups;
+}
+
+-- and the other way round
+pub set_from_meets : (set : List ShareFields) (names : List (ℕ × ℕ)) (required : ℕ) → group_threshold_of set ≡ Some required → Meets (member_threshold_of set) (map name_of set) required names → MeetsThresholds set names
+set_from_meets set names required e meets = record {
+  at_hand = record { ascending = meets.ascending; at_hand = meets.at_hand };
+  groups = subst (λ o. IsSomeAnd o (λ threshold. threshold ≤ length (complete_groups (member_threshold_of set) names))) (sym e) meets.groups;
+}
+
+-- what just meets the set's thresholds just meets them as plain numbers
+pub just_from_set : (set : List ShareFields) (names : List (ℕ × ℕ)) (required : ℕ) → group_threshold_of set ≡ Some required → HasJustTheGroups set names → HasJust (member_threshold_of set) (map name_of set) required names
+just_from_set set names required e has = record {
+  ascending = has.at_hand.ascending;
+  at_hand = has.at_hand.at_hand;
+  groups = let same : Some required ≡ Some (length (complete_groups (member_threshold_of set) names)) = sym e ∙ has.just.groups in cc;
+  members = has.just.members;
+}
+
+-- and the other way round
+pub set_from_just : (set : List ShareFields) (names : List (ℕ × ℕ)) (required : ℕ) → group_threshold_of set ≡ Some required → HasJust (member_threshold_of set) (map name_of set) required names → HasJustTheGroups set names
+set_from_just set names required e just = record {
+  at_hand = record { ascending = just.ascending; at_hand = just.at_hand };
+  just = record { groups = e ∙ ap Some just.groups; members = just.members };
+}
+
+-- where names meet thresholds there is a group threshold
+pub group_threshold-from_meets : (set : List ShareFields) (names : List (ℕ × ℕ)) → MeetsThresholds set names → (required : ℕ) × (group_threshold_of set ≡ Some required)
+group_threshold-from_meets set names meets = by (group_threshold_of set) refl meets.groups
+  where
+    by : (o : Option ℕ) → group_threshold_of set ≡ o → IsSomeAnd o (λ threshold. threshold ≤ length (complete_groups (member_threshold_of set) names)) → (required : ℕ) × (group_threshold_of set ≡ Some required)
+    by None e h = absurd h
+    by (Some required) e h = (required, e)
+
+-- a set with names that meet its thresholds has no lack
+pub no_lack-from_meets : (set : List ShareFields) (names : List (ℕ × ℕ)) → MeetsThresholds set names → (lack : SetLack) → ¬ IsLack set lack
+no_lack-from_meets set names meets NoShares none =
+    let (required, e) = group_threshold-from_meets set names meets in
+    let missing : None ≡ Some required = sym (ap group_threshold_of none) ∙ e in
+    cc
+no_lack-from_meets set names meets (Incomplete complete required) lack = lack.none_meet names meets
+
+module _ (set : List ShareFields) (is : IsShareSet set) where
+  -- a set's member thresholds are positive
+  pub member_threshold-positive : (g t : ℕ) → member_threshold_of set g ≡ Some t → 1 ≤ t
+  member_threshold-positive g t e = by (find (is_in_group g) set) refl e
+    where
+      by : (found : Option ShareFields) → find (is_in_group g) set ≡ found → option_map (λ share. share.member_threshold) found ≡ Some t → 1 ≤ t
+      by None here h = absurd (let none : None ≡ Some t = h in cc)
+      by (Some share) here h =
+          let valid : IsShare share = All-contains IsShare set share is.each (Contains-find (is_in_group g) set share here) in
+          let same : Some share.member_threshold ≡ Some t = h in
+          let threshold : share.member_threshold ≡ t = cc in
+          let some : 1 ≤ share.member_threshold = valid.member_threshold in
+          omega arith
+
+  -- its groups are below 16
+  pub groups-below : All (λ name. name.0 < 16) (map name_of set)
+  groups-below =
+      All-map (λ name. name.0 < 16) name_of set
+      (All-weaker IsShare (λ share. share.group_index < 16) (λ share valid. valid.group_index) set is.each)
+
+  -- and its members
+  pub members-below : All (λ name. name.1 < 16) (map name_of set)
+  members-below =
+      All-map (λ name. name.1 < 16) name_of set
+      (All-weaker IsShare (λ share. share.member_index < 16) (λ share valid. valid.member_index) set is.each)
+
+  -- a quorum has just the groups and members that the thresholds ask
+  pub just_from_quorum : (names : List (ℕ × ℕ)) → IsQuorum set names → HasJustTheGroups set names
+  just_from_quorum names quorum =
+      let (required, e) = group_threshold-from_meets set names quorum.meets in
+      set_from_just set names required e
+      (just_from_minimal (member_threshold_of set) member_threshold-positive (map name_of set) required names
+      (meets_from_set set names required e quorum.meets)
+      (λ fewer inside other meets. quorum.minimal fewer (inside, other) (set_from_meets set fewer required e meets)))
+
+  -- names at hand with just the groups and members that the thresholds ask are a quorum
+  pub quorum_from_just : (names : List (ℕ × ℕ)) → HasJustTheGroups set names → IsQuorum set names
+  quorum_from_just names has =
+      let required = length (complete_groups (member_threshold_of set) names) in
+      let e : group_threshold_of set ≡ Some required = has.just.groups in
+      let just : HasJust (member_threshold_of set) (map name_of set) required names = just_from_set set names required e has in
+      record {
+        meets = set_from_meets set names required e (meets_from_just (member_threshold_of set) (map name_of set) required names just);
+        minimal = λ fewer proper meets.
+            minimal_from_just (member_threshold_of set) (map name_of set) groups-below required names just fewer proper.0 proper.1
+            (meets_from_set set fewer required e meets);
+      }
+
+  -- where enough groups are complete, the first members of the first of them are the least quorum
+  pub first_members-least_quorum : (required : ℕ) → group_threshold_of set ≡ Some required → required ≤ length (complete_groups (member_threshold_of set) (map name_of set)) → IsLeastQuorum set (members_of (member_threshold_of set) (map name_of set) (take required (complete_groups (member_threshold_of set) (map name_of set))))
+  first_members-least_quorum required e enough =
+      let names = members_of (member_threshold_of set) (map name_of set) (take required (complete_groups (member_threshold_of set) (map name_of set))) in
+      let just = first_members_have_just (member_threshold_of set) member_threshold-positive (map name_of set) required is.ascending enough in
+      record {
+        quorum = quorum_from_just names (set_from_just set names required e just);
+        least = λ other quorum.
+            first_members_are_least (member_threshold_of set) (map name_of set) required member_threshold-positive groups-below is.ascending other
+            (just_from_set set other required e (just_from_quorum other quorum));
+      }
+
+  -- where too few groups are complete, that is what the set lacks
+  pub incomplete_from_fewer : (required : ℕ) → group_threshold_of set ≡ Some required → length (complete_groups (member_threshold_of set) (map name_of set)) < required → IsIncomplete set (length (complete_groups (member_threshold_of set) (map name_of set))) required
+  incomplete_from_fewer required e few = record {
+    complete_is = refl;
+    required_is = e;
+    none_meet = λ names meets.
+        let enough = groups_at_hand (member_threshold_of set) (map name_of set) required names is.ascending (meets_from_set set names required e meets) in
+        absurd (omega arith);
+  }

@@ -1,0 +1,65 @@
+use Rattle.std.proofs.Common.{◌≡◌, ◌<◌, ◌≤◌, length, get_or, filter, Some, sym, ap, ◌∙◌, arith, below_more}
+use Rattle.std.specs.List.{range_with_len}
+use Rattle.std.proofs.lemmas.Bool.{false≢true, lt-ltb, le-ltb}
+use Rattle.s39_set.specs.Names.{names_in_group}
+use Rattle.s39_set.specs.Quorums.{group_threshold_of, member_threshold_of}
+use Rattle.s39_set.proofs.JustMembers.{has_members, AreExactBelow, exact_from_just, just_from_exact, groups_from_just}
+use Rattle.s39_set.proofs.Ranges.{length-filter-range_more_yes, length-filter-range_more_no, length-filter-range-le}
+use Rattle.s39_set.proofs.OptionTests.{same_from_option_eq, option_eq-same}
+use Rattle.s39_set.proofs.quorum.has_just_the_members.Goals as goal
+use Rattle.s39_set.proofs.quorum.has_just_the_members.Goals.{then-members-gt0+else-not-asks_for, else-members-gt0}
+
+pub returns-then-not-asks_for-clause-just : goal.returns-then-not-asks_for-clause-just
+returns-then-not-asks_for-clause-just c = (
+  λ h. absurd (false≢true h),
+  λ has.
+      let names = c.args.names.now in
+      let group = c.loop-group.group in
+      let count : get_or c.members_of_groups-counts.result c.from.result 0 ≡ length (names_in_group group names) =
+      ap (λ g. get_or c.members_of_groups-counts.result g 0) c.from.ensures ∙ c.members_of_groups-counts.ensures group c.loop-group-test.true in
+      let exact : member_threshold_of c.args.set.now group ≡ Some (length (names_in_group group names)) =
+      exact_from_just c.args.set.now names has group c.loop-group-test.true (omega arith) in
+      absurd (false≢true (sym c.if-not-asks_for.true ∙ c.asks_for.ensures.1 (exact ∙ ap Some (sym count)))),
+)
+
+pub overflow_add-groups : goal.overflow_add-groups
+overflow_add-groups c = omega (arith, length-filter-range-le (has_members c.args.names.now) c.loop-group.group, c.loop-group.invariant.groups_are)
+
+pub loop-group-preserved : goal.loop-group-preserved
+loop-group-preserved c =
+    let names = c.args.names.now in
+    let group = c.loop-group.group in
+    let count : get_or c.members_of_groups-counts.result c.from.result 0 ≡ length (names_in_group group names) =
+    ap (λ g. get_or c.members_of_groups-counts.result g 0) c.from.ensures ∙ c.members_of_groups-counts.ensures group c.loop-group-test.true in
+    elim c.if-members-gt0.branch [
+      | then-members-gt0+else-not-asks_for w ↦ (
+          let some : 0 < length (names_in_group group names) = omega arith in
+          record {
+            exact = below_more _ _ c.loop-group.invariant.exact (λ _. w.asks_for.ensures.0 w.if-not-asks_for.false ∙ ap Some count);
+            groups_are = omega (arith, length-filter-range_more_yes (has_members names) group (lt-ltb 0 (length (names_in_group group names)) some));
+          })
+      | else-members-gt0 w ↦ (
+          let none : length (names_in_group group names) ≤ 0 = omega arith in
+          record {
+            exact = below_more _ _ c.loop-group.invariant.exact (λ some. absurd (omega arith));
+            groups_are = omega (arith, length-filter-range_more_no (has_members names) group (le-ltb 0 (length (names_in_group group names)) none));
+          })
+    ]
+
+pub returns-clause-just : goal.returns-clause-just
+returns-clause-just c =
+    let names = c.args.names.now in
+    let set = c.args.set.now in
+    let all : c.loop-group.group ≡ 16 = omega arith in
+    let groups : c.loop-group.groups ≡ length (filter (has_members names) (range_with_len 0 16)) =
+    c.loop-group.invariant.groups_are ∙ ap (λ n. length (filter (has_members names) (range_with_len 0 n))) all in
+    let exact : AreExactBelow (member_threshold_of set) names 16 = λ g below some. c.loop-group.invariant.exact g (omega arith) some in (
+      λ h.
+          let threshold : group_threshold_of set ≡ Some c.loop-group.groups =
+          sym c.group_threshold-required.ensures.threshold ∙ same_from_option_eq c.group_threshold-required.result c.loop-group.groups (sym c.eq.ensures ∙ h) in
+          just_from_exact set names c.group_threshold-required.ensures.is_set c.requires.groups exact (threshold ∙ ap Some groups),
+      λ has.
+          let threshold : c.group_threshold-required.result ≡ Some c.loop-group.groups =
+          c.group_threshold-required.ensures.threshold ∙ groups_from_just set names c.group_threshold-required.ensures.is_set has ∙ ap Some (sym groups) in
+          c.eq.ensures ∙ option_eq-same c.group_threshold-required.result c.loop-group.groups threshold,
+    )

@@ -1,0 +1,32 @@
+use Rattle.std.proofs.Common.{map, Contains, sym, subst, ◌∙◌}
+use Rattle.std.proofs.lemmas.Bool.{false≢true}
+use Rattle.std.proofs.lemmas.List.Elements.{All-same}
+use Rattle.s39_set.specs.ShareSet.{name_of}
+use Rattle.s39_set.specs.Quorums.{HasJustTheMembers, HasJustTheGroups}
+use Rattle.s39_set.proofs.SetQuorums.{just_from_quorum, quorum_from_just}
+use Rattle.s39_set.proofs.quorum.is_quorum.Goals as goal
+
+pub returns-then-are_at_hand-clause-quorum : goal.returns-then-are_at_hand-clause-quorum
+returns-then-are_at_hand-clause-quorum c =
+    let set = c.args.set.now in
+    let names = c.args.quorum.now in (
+      λ h. quorum_from_just set c.has_just_the_members.ensures.is_set names (record {
+        at_hand = record {
+          ascending = c.pairs.ensures.names.ascending;
+          at_hand = All-same (Contains (map name_of set)) names c.pairs.result.now (sym c.pairs.ensures.same) (c.are_at_hand.ensures.at_hand.0 c.if-are_at_hand.true);
+        };
+        just = subst (HasJustTheMembers set) c.pairs-then-are_at_hand.ensures.same (c.has_just_the_members.ensures.just.0 h);
+      }),
+      λ quorum.
+          let has : HasJustTheGroups set names = just_from_quorum set c.has_just_the_members.ensures.is_set names quorum in
+          c.has_just_the_members.ensures.just.1 (subst (HasJustTheMembers set) (sym c.pairs-then-are_at_hand.ensures.same) has.just),
+    )
+
+pub returns-else-are_at_hand-clause-quorum : goal.returns-else-are_at_hand-clause-quorum
+returns-else-are_at_hand-clause-quorum c =
+    let set = c.args.set.now in (
+      λ h. absurd (false≢true (sym c.if-are_at_hand.false ∙ h)),
+      λ quorum.
+          c.are_at_hand.ensures.at_hand.1
+          (All-same (Contains (map name_of set)) c.pairs.result.now c.args.quorum.now c.pairs.ensures.same quorum.meets.at_hand.at_hand),
+    )

@@ -1,0 +1,28 @@
+-- The names of shares, each a group index and a member index.
+use Rattle.std.specs.Prelude.{◌≡◌, ℕ, ◌<◌, List, ◌==◌, All, AllPairs, filter}
+use Rattle.std.specs.Ordering.{nat_cmp, ordering_then}
+use Rattle.std.specs.declared.cmp.Ordering.{Ordering}
+use Rattle.std.specs.declared.cmp.Ordering.TheVariants.{Less}
+use Rattle.std.specs.Cmp.Lexicographic.{slice_cmp}
+
+-- names are compared by group, then by member
+abbrev pub name_cmp : ℕ × ℕ → ℕ × ℕ → Ordering
+name_cmp a b = ordering_then (nat_cmp a.0 b.0) (nat_cmp a.1 b.1)
+
+-- lists of names are compared name by name
+abbrev pub names_cmp : List (ℕ × ℕ) → List (ℕ × ℕ) → Ordering
+names_cmp some others = slice_cmp name_cmp some others
+
+-- each name comes before all later ones
+abbrev pub IsAscending : List (ℕ × ℕ) → Type 0
+IsAscending names = AllPairs (λ a b. name_cmp a b ≡ Less) names
+
+-- the names of a group
+abbrev pub names_in_group : ℕ → List (ℕ × ℕ) → List (ℕ × ℕ)
+names_in_group group names = filter (λ name. name.0 == group) names
+
+-- names in order, of groups and members below 16
+pub record AreNames (names : List (ℕ × ℕ)) : Type 0 where
+  pub ascending : IsAscending names
+  pub groups : All (λ name. name.0 < 16) names
+  pub members : All (λ name. name.1 < 16) names

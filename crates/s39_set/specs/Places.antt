@@ -1,0 +1,61 @@
+-- How a set keeps its shares. No public contract cites this.
+use Rattle.std.specs.Prelude.{◌≡◌, ℕ, ◌+◌, ◌*◌, ◌<◌, List, [], ◌∷◌, length, filter, filter_map, Option, Some, None, not, ◌==◌, bytes_eq, IfSome, slice_index_or, if◌then◌else◌}
+use Rattle.std.specs.List.{list_any}
+use Rattle.s39_words.specs.declared.share.ShareFields.{ShareFields}
+use Rattle.s39_words.specs.Share.{flag_bit}
+use Rattle.s39_set.specs.declared.common.Common.{Common}
+use Rattle.s39_set.specs.declared.set_error.SetError.{SetError}
+use Rattle.s39_set.specs.declared.set_error.SetError.TheVariants.{OtherIdentifier, OtherExtendable, OtherExponent, OtherGroupThreshold, OtherGroupCount, OtherLength, OtherMemberThreshold, ConflictingShare}
+use Rattle.s39_set.specs.ShareSet.{IsShareSet, name_of, is_in_group, has_name, some_differs}
+use Rattle.s39_set.specs.Quorums.{member_threshold_of}
+
+-- the shares that stand at places, in order
+abbrev pub shares_at : List (Option ShareFields) → List ShareFields
+shares_at places = filter_map (λ place. place) places
+
+-- the place of a name: 16 for each group
+abbrev pub place_of : ℕ × ℕ → ℕ
+place_of name = 16 * name.0 + name.1
+
+-- what a share has in common with all of its backup
+abbrev pub common_of : ShareFields → Common
+common_of share = record {
+  id = share.id;
+  extendable = share.extendable;
+  exponent = share.exponent;
+  group_threshold = share.group_threshold;
+  group_count = share.group_count;
+  value_bytes = length share.value.items;
+}
+
+-- what the shares have in common, where there is a share
+abbrev pub common_of_all : List ShareFields → Option Common
+common_of_all [] = None
+common_of_all (share ∷ shares) = Some (common_of share)
+
+-- the first of these fields that a share has otherwise
+abbrev pub common_refusal_of : Common → ShareFields → Option SetError
+common_refusal_of common share =
+    if not (common.id == share.id) then Some OtherIdentifier
+    else if not (flag_bit common.extendable == flag_bit share.extendable) then Some OtherExtendable
+    else if not (common.exponent == share.exponent) then Some OtherExponent
+    else if not (common.group_threshold == share.group_threshold) then Some OtherGroupThreshold
+    else if not (common.group_count == share.group_count) then Some OtherGroupCount
+    else if not (common.value_bytes == length share.value.items) then Some OtherLength
+    else None
+
+-- the causes in the member threshold of the share's group, and in the value of the share of its name
+abbrev pub last_refusal_of : List ShareFields → ShareFields → Option SetError
+last_refusal_of shares share =
+    if some_differs (λ s. s.member_threshold) (filter (is_in_group share.group_index) shares) share then Some (OtherMemberThreshold share.group_index)
+    else if list_any (λ s. not (bytes_eq s.value.items share.value.items)) (filter (has_name share.group_index share.member_index) shares)
+    then Some (ConflictingShare share.group_index share.member_index)
+    else None
+
+-- the fields of a share set
+pub record IsKept (common : Option Common) (member_thresholds : List (Option ℕ)) (places : List (Option ShareFields)) : Type 0 where
+  pub is_set : IsShareSet (shares_at places)
+  pub own_place : (k : ℕ) → IfSome (slice_index_or places k None) (λ share. place_of (name_of share) ≡ k)
+  pub common_is : common ≡ common_of_all (shares_at places)
+  pub thresholds_are : (group : ℕ) → group < 16
+      → slice_index_or member_thresholds group None ≡ member_threshold_of (shares_at places) group

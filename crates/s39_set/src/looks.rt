@@ -1,0 +1,55 @@
+//! Counted looks: a look is one question whether a set has a share.
+ghost use Rattle.std.specs.Prelude.{◌≡◌, ◌+◌, ◌<◌, ◌↔◌, map, Contains, IsTrue};
+ghost use Rattle.s39_set.specs.ShareSet.{name_of};
+
+use crate::share_set::{ShareSet, share_at};
+use std::marker::Model;
+
+/// A count of looks. A look is one question whether a set has a share.
+#[derive(Debug, Drop)]
+pub struct Looks {
+    count: u64,
+}
+
+impl Model for Looks {
+    ghost use Rattle.std.specs.Prelude.{ℕ};
+
+    ghost Value = { ℕ };
+
+    ghost view = { λ looks. looks.count };
+}
+
+impl Looks {
+    /// No look so far.
+    pub fn new() -> Looks
+        ensures { result ≡ 0 }
+    {
+        Looks { count: 0 }
+    }
+
+    /// How many looks were taken.
+    pub fn count(&self) -> u64
+        ensures { result ≡ self.now }
+    {
+        self.count
+    }
+
+    /// Adds one to the count, which the caller keeps below `u64::MAX`.
+    pub fn turn(&mut self)
+        requires { self.old < u64.MAX }
+        ensures { self.new ≡ self.old + 1 }
+    {
+        self.count += 1;
+    }
+}
+
+/// Whether a set has the share of this group and member index, `false` for an index over 15. It adds one to the
+/// looks, whose count the caller keeps below `u64::MAX`.
+pub fn has(set: &ShareSet, group: u8, member: u8, looks: &mut Looks) -> bool
+    requires { looks.old < u64.MAX }
+    ensures has { IsTrue result ↔ Contains (map name_of set.now) (group, member) }
+    ensures look { looks.new ≡ looks.old + 1 }
+{
+    looks.turn();
+    share_at(set, group, member).is_some()
+}

@@ -1,0 +1,148 @@
+//! Share sets.
+ghost use Rattle.std.specs.Prelude.{◌≡◌, ◌<◌, ◌↔◌, [], find, Contains, Some, None, Ok, OnOk, OnErr, IfErr};
+ghost use Rattle.std.specs.Option.{option_copied};
+ghost use Rattle.s39_set.specs.Places.{place_of, last_refusal_of};
+ghost use Rattle.s39_set.specs.Quorums.{group_threshold_of, member_threshold_of};
+ghost use Rattle.s39_set.specs.ShareSet.{IsShareSet, HasOneMore, refusal_of, has_name};
+
+use crate::common::Common;
+use crate::set_error::{Added, SetError};
+use s39_words::Share;
+use std::array;
+use std::marker::Model;
+
+/// The shares of one backup that are at hand, each once, in the order of their group and member indices: 256 at
+/// most. A set keeps a place for each of them and takes no memory.
+#[derive(Drop)]
+pub struct ShareSet {
+    common: Option<Common>,
+    member_thresholds: [Option<u8>; 16],
+    places: [Option<Share>; 256],
+}
+
+impl Model for ShareSet {
+    ghost use Rattle.std.specs.Prelude.{List};
+    ghost use Rattle.s39_words.specs.declared.share.ShareFields.{ShareFields};
+
+    ghost Value = { List ShareFields };
+
+    ghost use Rattle.s39_set.specs.Places.{shares_at, IsKept};
+
+    ghost view = { λ set. shares_at set.places };
+
+    ghost invariant = { λ set. IsKept set.common set.member_thresholds set.places };
+}
+
+impl ShareSet {
+    /// No shares.
+    pub fn new() -> ShareSet
+        ensures { result ≡ [] }
+    {
+        ShareSet {
+            common: None,
+            member_thresholds: [None; 16],
+            places: array::from_fn(|_| None),
+        }
+    }
+
+    /// Takes a share: `Added::New` where the set had none of its name, `Added::Repeat` where it had this very
+    /// share. Otherwise the error is the first that applies, in the order of the variants of `SetError`. An empty
+    /// set takes every share.
+    ///
+    /// Unless the answer is `Added::New`, the set is unchanged.
+    pub fn add(&mut self, share: Share) -> Result<Added, SetError>
+        ensures refused { IfErr result (λ error. refusal_of self.old share ≡ Some error) }
+        ensures accepted { OnOk result (refusal_of self.old share ≡ None) }
+        ensures repeat { (result ≡ Ok Added.Repeat) ↔ Contains self.old share }
+        ensures new { result ≡ Ok Added.New → HasOneMore self.old share self.new }
+        ensures err { OnErr result (self.new ≡ self.old) }
+        ensures repeat_unchanged { result ≡ Ok Added.Repeat → self.new ≡ self.old }
+        ensures is_set { IsShareSet self.new }
+    {
+        if let Some(error) = self.refusal(&share) {
+            return Err(error);
+        }
+        // `fields` tells a proof the ranges of the indices.
+        let group = share.fields().group_index;
+        let place = place_of(group, share.member_index());
+        if self.places[place].is_some() {
+            return Ok(Added::Repeat);
+        }
+        self.common = Some(Common::of(&share));
+        self.member_thresholds[usize::from(group)] = Some(share.member_threshold());
+        self.places[place] = Some(share);
+        Ok(Added::New)
+    }
+
+    /// The first cause for which a share can't join.
+    fn refusal(&self, share: &Share) -> Option<SetError>
+        ensures refusal { result ≡ refusal_of self.now share.now }
+        ensures is_set { IsShareSet self.now }
+    {
+        // An empty set takes every share.
+        let Some(common) = self.common else {
+            return None;
+        };
+        if let Some(error) = common.refusal(share) {
+            return Some(error);
+        }
+        self.last_refusal(share)
+    }
+
+    /// Another member threshold than the share's group has, or another value than the share of its name.
+    fn last_refusal(&self, share: &Share) -> Option<SetError>
+        ensures { result ≡ last_refusal_of self.now share.now }
+    {
+        let group = share.fields().group_index;
+        let member = share.member_index();
+        let held = share_at(self, group, member);
+        if let Some(threshold) = self.member_threshold(group) {
+            if threshold != share.member_threshold() {
+                return Some(SetError::OtherMemberThreshold { group });
+            }
+        }
+        if let Some(held) = held {
+            if held.value().as_slice() != share.value().as_slice() {
+                return Some(SetError::ConflictingShare { group, member });
+            }
+        }
+        None
+    }
+
+    /// The member threshold of the shares of a group, where the set has one.
+    pub(crate) fn member_threshold(&self, group: u8) -> Option<u8>
+        requires { group < 16 }
+        ensures { result ≡ member_threshold_of self.now group }
+    {
+        self.member_thresholds[usize::from(group)]
+    }
+
+    /// The group threshold of the shares, where there is one.
+    pub(crate) fn group_threshold(&self) -> Option<u8>
+        ensures threshold { result ≡ group_threshold_of self.now }
+        ensures is_set { IsShareSet self.now }
+    {
+        Some(self.common?.group_threshold)
+    }
+}
+
+/// The place of a name: 16 for each group.
+fn place_of(group: u8, member: u8) -> usize
+    requires group { group < 16 }
+    requires member { member < 16 }
+    ensures { result ≡ place_of (group, member) }
+{
+    usize::from(group) * 16 + usize::from(member)
+}
+
+/// The share of this group and member index: `None` exactly where the set has none, as for an index over 15.
+pub fn share_at(set: &ShareSet, group: u8, member: u8) -> Option<&Share>
+    ensures share { option_copied result ≡ find (has_name group member) set.now }
+    ensures is_set { IsShareSet set.now }
+{
+    if group < 16 && member < 16 {
+        set.places[place_of(group, member)].as_ref()
+    } else {
+        None
+    }
+}

@@ -1,0 +1,252 @@
+use crate::{Added, Looks, SetError, SetLack, ShareSet, first, has, is_quorum, share_at};
+use s39_kdf::check_secret;
+use s39_words::{Share, ShareFields, parse};
+use std::test::Fail;
+
+const TWO_NEEDED_MEMBER_2: &str =
+    "shadow pistol academic always adequate wildlife fancy gross oasis cylinder mustang wrist rescue view short owner flip making coding armed";
+
+const TWO_NEEDED_MEMBER_0: &str =
+    "shadow pistol academic acid actress prayer class unknown daughter sweater depict flip twice unkind craft early superior advocate guest smoking";
+
+fn share(fields: ShareFields) -> Result<Share, Fail> {
+    match Share::new(fields) {
+        Some(share) => Ok(share),
+        None => Err(Fail::new("no share has these fields")),
+    }
+}
+
+/// The fields of a vector, with another value in the place of its own.
+fn fields_with(text: &str, value: &[u8]) -> Result<ShareFields, Fail> {
+    let share = parse(text.as_bytes())?;
+    Ok(ShareFields {
+        id: share.id(),
+        extendable: share.extendable(),
+        exponent: share.exponent(),
+        group_index: share.group_index(),
+        group_threshold: share.group_threshold(),
+        group_count: share.group_count(),
+        member_index: share.member_index(),
+        member_threshold: share.member_threshold(),
+        value: check_secret(value)?,
+    })
+}
+
+/// A share of 16 zero bytes, of a backup of sixteen groups.
+fn zeros(group_threshold: u8, group: u8, member_threshold: u8, member: u8) -> Result<Share, Fail> {
+    share(ShareFields {
+        id: 0,
+        extendable: false,
+        exponent: 0,
+        group_index: group,
+        group_threshold,
+        group_count: 16,
+        member_index: member,
+        member_threshold,
+        value: check_secret(&[0; 16])?,
+    })
+}
+
+/// Groups 0 and 3 of member threshold 2 with members 0, 5, 15 and 1, and group 15 of member threshold 1 with
+/// members 3 and 4.
+fn three_groups(group_threshold: u8) -> Result<ShareSet, Fail> {
+    let mut set = ShareSet::new();
+    for (group, member_threshold, member) in [
+        (15, 1, 4),
+        (0, 2, 15),
+        (3, 2, 1),
+        (0, 2, 0),
+        (15, 1, 3),
+        (0, 2, 5),
+    ] {
+        set.add(zeros(group_threshold, group, member_threshold, member)?)?;
+    }
+    Ok(set)
+}
+
+#[test]
+fn a_share_again_is_a_repeat(rt: HostRuntime) -> Result<(), Fail> {
+    let mut set = ShareSet::new();
+    assert_eq!(rt;
+        set.add(parse(TWO_NEEDED_MEMBER_2.as_bytes())?),
+        Ok(Added::New)
+    );
+    assert_eq!(rt;
+        first(&set).err(),
+        Some(SetLack::Incomplete {
+            complete: 0,
+            required: 1
+        })
+    );
+    assert_eq!(rt;
+        set.add(parse(TWO_NEEDED_MEMBER_2.as_bytes())?),
+        Ok(Added::Repeat)
+    );
+    assert_eq!(rt;
+        first(&set).err(),
+        Some(SetLack::Incomplete {
+            complete: 0,
+            required: 1
+        })
+    );
+    assert_eq!(rt;
+        set.add(parse(TWO_NEEDED_MEMBER_0.as_bytes())?),
+        Ok(Added::New)
+    );
+    assert_eq!(rt; first(&set)?.pairs(), [(0, 0), (0, 2)].as_slice());
+    Ok(())
+}
+
+#[test]
+fn refused_shares(rt: HostRuntime) -> Result<(), Fail> {
+    let mut set = ShareSet::new();
+    set.add(parse(TWO_NEEDED_MEMBER_2.as_bytes())?)?;
+    let mut flipped = check_secret(parse(TWO_NEEDED_MEMBER_2.as_bytes())?.value())?;
+    if let Some(last) = flipped.last_mut() {
+        *last ^= 1;
+    }
+    let fields = || fields_with(TWO_NEEDED_MEMBER_2, &[0; 16]);
+    for (fields, error) in [
+        (
+            ShareFields {
+                id: 0,
+                ..fields_with(TWO_NEEDED_MEMBER_2, &[0; 18])?
+            },
+            SetError::OtherIdentifier,
+        ),
+        (
+            ShareFields {
+                exponent: 3,
+                ..fields()?
+            },
+            SetError::OtherExponent,
+        ),
+        (
+            ShareFields {
+                group_threshold: 2,
+                group_count: 2,
+                ..fields()?
+            },
+            SetError::OtherGroupThreshold,
+        ),
+        (
+            ShareFields {
+                group_count: 2,
+                ..fields()?
+            },
+            SetError::OtherGroupCount,
+        ),
+        (
+            fields_with(TWO_NEEDED_MEMBER_2, &[0; 18])?,
+            SetError::OtherLength,
+        ),
+        (
+            ShareFields {
+                member_index: 1,
+                member_threshold: 3,
+                ..fields()?
+            },
+            SetError::OtherMemberThreshold { group: 0 },
+        ),
+        (
+            fields_with(TWO_NEEDED_MEMBER_2, &flipped)?,
+            SetError::ConflictingShare {
+                group: 0,
+                member: 2,
+            },
+        ),
+    ] {
+        assert_eq!(rt; set.add(share(fields)?), Err(error));
+    }
+    assert_eq!(rt;
+        set.add(parse(TWO_NEEDED_MEMBER_2.as_bytes())?),
+        Ok(Added::Repeat)
+    );
+    Ok(())
+}
+
+#[test]
+fn first_quorums(rt: HostRuntime) -> Result<(), Fail> {
+    assert_eq!(rt; first(&ShareSet::new()).err(), Some(SetLack::NoShares));
+    assert_eq!(rt;
+        first(&three_groups(1)?)?.pairs(),
+        [(0, 0), (0, 5)].as_slice()
+    );
+    assert_eq!(rt;
+        first(&three_groups(2)?)?.pairs(),
+        [(0, 0), (0, 5), (15, 3)].as_slice()
+    );
+    assert_eq!(rt;
+        first(&three_groups(3)?).err(),
+        Some(SetLack::Incomplete {
+            complete: 2,
+            required: 3
+        })
+    );
+    Ok(())
+}
+
+#[test]
+fn quorums_of_another_set(rt: HostRuntime) -> Result<(), Fail> {
+    let quorum = first(&three_groups(2)?)?;
+    let mut looks = Looks::new();
+    assert!(rt; is_quorum(&three_groups(2)?, &quorum, &mut looks));
+    assert!(rt; looks.count() <= 1024);
+    assert!(rt; !is_quorum(&three_groups(1)?, &quorum, &mut looks));
+    assert!(rt; !is_quorum(&ShareSet::new(), &quorum, &mut looks));
+    Ok(())
+}
+
+#[test]
+fn shares_by_name(rt: HostRuntime) -> Result<(), Fail> {
+    let set = three_groups(1)?;
+    for (group, member, there) in [
+        (0, 5, true),
+        (5, 0, false),
+        (15, 4, true),
+        (0, 16, false),
+        (16, 0, false),
+    ] {
+        let mut looks = Looks::new();
+        assert_eq!(rt; share_at(&set, group, member).is_some(), there);
+        assert_eq!(rt; has(&set, group, member, &mut looks), there);
+        assert_eq!(rt; looks.count(), 1);
+        looks.turn();
+        assert_eq!(rt; looks.count(), 2);
+    }
+    assert_eq!(rt;
+        share_at(&set, 15, 4).map(|share| share.member_index()),
+        Some(4)
+    );
+    Ok(())
+}
+
+#[test]
+fn codes_of_causes(rt: HostRuntime) {
+    let causes = [
+        SetError::OtherIdentifier,
+        SetError::OtherExtendable,
+        SetError::OtherExponent,
+        SetError::OtherGroupThreshold,
+        SetError::OtherGroupCount,
+        SetError::OtherLength,
+        SetError::OtherMemberThreshold { group: 3 },
+        SetError::ConflictingShare {
+            group: 3,
+            member: 1,
+        },
+    ];
+    assert_eq!(rt;
+        causes.map(|cause| cause.code()),
+        [21, 22, 23, 24, 25, 26, 27, 28]
+    );
+    assert_eq!(rt; SetLack::NoShares.code(), 29);
+    assert_eq!(rt;
+        SetLack::Incomplete {
+            complete: 0,
+            required: 1
+        }
+        .code(),
+        30
+    );
+}
