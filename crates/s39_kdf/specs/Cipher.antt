@@ -37,3 +37,8 @@ pub record IsEncryption (secret passphrase : List ℕ) (params : Params) (result
   pub round_2 : h4 ≡ xor_of h2 (round_function passphrase params 2 h3)
   pub round_3 : h5 ≡ xor_of h3 (round_function passphrase params 3 h4)
   pub exchanged : result ≡ h5 ++ h4
+
+-- a text is the encryption of at most one secret
+abbrev pub EncryptsOneSecret : Type 0
+EncryptsOneSecret = (passphrase : List ℕ) (params : Params) (secret other result : List ℕ)
+    → IsEncryption secret passphrase params result → IsEncryption other passphrase params result → secret ≡ other

@@ -5,6 +5,7 @@
 mod cipher;
 mod key_derivation;
 mod keyed_hash;
+pub mod laws;
 mod limits;
 mod params;
 

@@ -8,3 +8,4 @@ pub mod Cuts
 pub mod Points
 pub mod Indices
 pub mod Splits
+pub mod OneOutcome

@@ -1,6 +1,6 @@
 -- The recovery of a secret from shares of one level (SLIP-0039, "Shamir's secret sharing" and
 -- "Recovery of the secret"), and its laws.
-use Rattle.std.specs.Prelude.{◌≡◌, ◌≢◌, ℕ, ◌≤◌, List, [], ◌∷◌, Option, Some, None, length, take, drop, All, AllPairs}
+use Rattle.std.specs.Prelude.{◌≡◌, ◌≢◌, ℕ, ◌<◌, ◌≤◌, List, [], ◌∷◌, Option, Some, None, length, take, drop, All, AllPairs}
 use Rattle.std.specs.List.{slice_get}
 use Rattle.s39_field.specs.Interpolation.{InterpolatesBytes}
 use Rattle.s39_split.specs.Sharing.{digest_of, IsSplit}
@@ -40,3 +40,9 @@ AnySharesCombine = (threshold count : ℕ) (secret random : List ℕ) (shares : 
     → AreSharesOf shares chosen → length chosen ≡ threshold
     → Combines threshold chosen (Some secret)
     × ((outcome : Option (List ℕ)) → Combines threshold chosen outcome → outcome ≡ Some secret)
+
+-- shares with different indices combine to at most one outcome
+abbrev pub SharesCombineOnce : Type 0
+SharesCombineOnce = (threshold : ℕ) (shares : List (ℕ × List ℕ)) (outcome other : Option (List ℕ))
+    → 0 < length shares → All (λ share. share.0 < 256) shares → AreDistinct shares
+    → Combines threshold shares outcome → Combines threshold shares other → outcome ≡ other
