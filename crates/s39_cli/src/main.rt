@@ -43,4 +43,6 @@ fn main(rt: HostRuntime) -> ExitCode {
 }
 
 #[cfg(test)]
+mod recover_tests;
+#[cfg(test)]
 mod tests;

@@ -2,7 +2,7 @@
 
 use crate::command::{Job, NoJob, read_words};
 use crate::text::FaultText;
-use s39_tool::{Counting, Fault, Refusal, run_show};
+use s39_tool::{Counting, Fault, Refusal, run_recover, run_show};
 use std::alloc::Global;
 use std::io::{BufWriter, Read, Write};
 
@@ -21,7 +21,7 @@ const NO_MEMORY: u8 = 4;
 /// | Status | When |
 /// |---|---|
 /// | 0 | the command is done, or help was asked for and written |
-/// | 1 | a line was refused |
+/// | 1 | the run stopped at a refusal that isn't a device's |
 /// | 2 | the command line is refused |
 /// | 3 | a read or a write failed |
 /// | 4 | there is no memory |
@@ -61,6 +61,9 @@ fn run<R: Read + Drop, W: Write + Drop, E: Write>(
     let mut output = Counting::new(output);
     let answer = match job {
         Job::Show => run_show(&mut input, &mut output),
+        Job::Recover { passphrase } => {
+            run_recover(passphrase.as_bytes(), &mut input, &mut output)
+        }
     };
     match flushed(answer, output.into_inner()) {
         Ok(()) => DONE,
@@ -108,7 +111,12 @@ fn report<E: Write>(fault: Fault, errors: &mut E) -> u8 {
     let _ = writeln!(errors, "{}", FaultText::from(fault));
     match fault.refusal {
         Refusal::ReadFailed | Refusal::WriteFailed => DEVICE_FAILED,
-        Refusal::Word(_) | Refusal::LineTooLong => REFUSED,
+        Refusal::Word(_)
+        | Refusal::Set(_)
+        | Refusal::Lack(_)
+        | Refusal::Passphrase(_)
+        | Refusal::DigestMismatch { .. }
+        | Refusal::LineTooLong => REFUSED,
     }
 }
 

@@ -1,8 +1,11 @@
-//! The worked examples of `show`, from the command line to the texts and the status, and devices that fail.
+//! The worked examples of `show`, the command line, the texts of faults, and devices that fail.
 
 use crate::command::{Job, NoJob, read_words};
 use crate::program::program;
-use s39_tool::{Counting, Fault, Refusal, run_show};
+use crate::text::FaultText;
+use s39_kdf::BadPassphrase;
+use s39_set::{SetError, SetLack};
+use s39_tool::{Counting, Fault, Refusal, run_recover, run_show};
 use s39_words::WordError;
 use std::alloc::Global;
 use std::io;
@@ -129,6 +132,74 @@ fn refuses_long_lines(rt: HostRuntime) -> Result<(), Fail> {
     let comment = format!(in alloc; "{ONE_OF_ONE}\n#{line}\n")?;
     let too_long = "shamir: line 2: 71 line too long\n";
     expect_show(&rt, alloc, comment.as_str(), (SHOWN, too_long, 1));
+    Ok(())
+}
+
+#[test]
+fn names_refusals_of_shares(rt: HostRuntime) -> Result<(), Fail> {
+    let alloc = rt.alloc();
+    let conflicting = SetError::ConflictingShare {
+        group: 3,
+        member: 12,
+    };
+    let incomplete = SetLack::Incomplete {
+        complete: 1,
+        required: 2,
+    };
+    let cases = [
+        (
+            Refusal::Set(SetError::OtherIdentifier),
+            "line 7: 21 other identifier",
+        ),
+        (
+            Refusal::Set(SetError::OtherExtendable),
+            "line 7: 22 other extendable flag",
+        ),
+        (
+            Refusal::Set(SetError::OtherExponent),
+            "line 7: 23 other exponent",
+        ),
+        (
+            Refusal::Set(SetError::OtherGroupThreshold),
+            "line 7: 24 other group threshold",
+        ),
+        (
+            Refusal::Set(SetError::OtherGroupCount),
+            "line 7: 25 other group count",
+        ),
+        (
+            Refusal::Set(SetError::OtherLength),
+            "line 7: 26 other length",
+        ),
+        (
+            Refusal::Set(SetError::OtherMemberThreshold { group: 15 }),
+            "line 7: 27 other member threshold in group 15",
+        ),
+        (
+            Refusal::Set(conflicting),
+            "line 7: 28 conflicting share 3.12",
+        ),
+        (Refusal::Lack(SetLack::NoShares), "29 no shares"),
+        (Refusal::Lack(incomplete), "30 incomplete: 1 of 2 groups"),
+        (
+            Refusal::Passphrase(BadPassphrase { position: 5 }),
+            "41 passphrase byte 5 not printable",
+        ),
+        (
+            Refusal::DigestMismatch { group: Some(2) },
+            "51 digest mismatch in group 2",
+        ),
+        (
+            Refusal::DigestMismatch { group: None },
+            "51 digest mismatch of groups",
+        ),
+    ];
+    for (refusal, text) in cases {
+        let line = if refusal.has_line() { Some(7) } else { None };
+        let told = format!(in alloc; "{}", FaultText::from(Fault { line, refusal }))?;
+        let wanted = format!(in alloc; "shamir: {text}")?;
+        assert_eq!(rt; told.as_str(), wanted.as_str());
+    }
     Ok(())
 }
 
@@ -296,6 +367,36 @@ fn stops_at_a_failed_write(rt: HostRuntime) {
 }
 
 #[test]
+fn recovers_nothing_over_failed_devices(rt: HostRuntime) -> Result<(), Fail> {
+    let alloc = rt.alloc();
+    let secret = b"bb54aac4b89dc868ba37d9cc21b2cece\n".as_slice();
+    let line = format!(in alloc; "{ONE_OF_ONE}\n")?;
+    let mut input = Counting::new(Cut {
+        bytes: line.as_bytes(),
+    });
+    let mut output = Counting::new(Vec::new(alloc));
+    assert_eq!(rt;
+        run_recover(b"TREZOR", &mut input, &mut output),
+        Err(READ_FAILED)
+    );
+    assert_eq!(rt; (input.failures(), output.failures()), (1, 0));
+    assert!(rt; output.into_inner().is_empty());
+    for room in [0, 1, 32] {
+        let mut input = Counting::new(ONE_OF_ONE.as_bytes());
+        let mut output = Counting::new(Narrow::new(alloc, room));
+        assert_eq!(rt;
+            run_recover(b"TREZOR", &mut input, &mut output),
+            Err(WRITE_FAILED)
+        );
+        assert_eq!(rt; (input.failures(), output.failures()), (0, 1));
+        let device = output.into_inner();
+        assert_eq!(rt; device.calls_after_failure, 0);
+        assert!(rt; device.bytes.len() == room && secret.starts_with(&device.bytes));
+    }
+    Ok(())
+}
+
+#[test]
 fn counts_a_write_of_nothing_as_a_failure(rt: HostRuntime) -> Result<(), Fail> {
     let mut output = Counting::new(Full);
     assert!(rt; output.write(b"a").is_err());
@@ -318,12 +419,40 @@ fn counts_a_write_of_nothing_as_a_failure(rt: HostRuntime) -> Result<(), Fail> {
 #[test]
 fn reads_the_command_line(rt: HostRuntime) -> Result<(), Fail> {
     let alloc = rt.alloc();
-    assert!(rt; matches!(read_words(alloc, &SHOW), Ok(Job::Show)));
-    let refused: [&[&str]; 4] = [
+    let empty = Job::Recover { passphrase: "" };
+    let trezor = Job::Recover {
+        passphrase: "TREZOR",
+    };
+    let dashed = Job::Recover { passphrase: "-x" };
+    let jobs: [(&[&str], Job); 7] = [
+        (&["shamir", "show"], Job::Show),
+        (&["shamir", "recover"], empty),
+        (&["shamir", "recover", "--passphrase", "TREZOR"], trezor),
+        (&["shamir", "recover", "--passphrase=TREZOR"], trezor),
+        (&["shamir", "recover", "--passphrase="], empty),
+        (&["shamir", "recover", "--passphrase", ""], empty),
+        (&["shamir", "recover", "--passphrase=-x"], dashed),
+    ];
+    for (words, job) in jobs {
+        assert_eq!(rt; read_words(alloc, words).ok(), Some(job));
+    }
+    let refused: [&[&str]; 9] = [
         &["shamir"],
         &["shamir", "reveal"],
         &["shamir", "show", "--verbose"],
         &["shamir", "show", "file"],
+        &["shamir", "show", "--passphrase", "TREZOR"],
+        &["shamir", "--passphrase", "TREZOR", "recover"],
+        &["shamir", "recover", "file"],
+        &["shamir", "recover", "--passphrase"],
+        &[
+            "shamir",
+            "recover",
+            "--passphrase",
+            "TREZOR",
+            "--passphrase",
+            "TREZOR",
+        ],
     ];
     for words in refused {
         assert!(rt; matches!(read_words(alloc, words), Err(NoJob::Refused(_))));

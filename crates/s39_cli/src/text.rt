@@ -1,5 +1,7 @@
 //! The texts of faults.
 
+use s39_kdf::BadPassphrase;
+use s39_set::{SetError, SetLack};
 use s39_tool::{Fault, Refusal};
 use s39_words::WordError;
 use thiserror::Error;
@@ -19,6 +21,32 @@ pub enum RefusalText {
     GroupThreshold,
     #[error("extendable share")]
     Extendable,
+    #[error("other identifier")]
+    OtherIdentifier,
+    #[error("other extendable flag")]
+    OtherExtendable,
+    #[error("other exponent")]
+    OtherExponent,
+    #[error("other group threshold")]
+    OtherGroupThreshold,
+    #[error("other group count")]
+    OtherGroupCount,
+    #[error("other length")]
+    OtherLength,
+    #[error("other member threshold in group {0}")]
+    OtherMemberThreshold(u8),
+    #[error("conflicting share {group}.{member}")]
+    ConflictingShare { group: u8, member: u8 },
+    #[error("no shares")]
+    NoShares,
+    #[error("incomplete: {complete} of {required} groups")]
+    Incomplete { complete: u8, required: u8 },
+    #[error("passphrase byte {0} not printable")]
+    Passphrase(usize),
+    #[error("digest mismatch in group {0}")]
+    DigestMismatchInGroup(u8),
+    #[error("digest mismatch of groups")]
+    DigestMismatchOfGroups,
     #[error("line too long")]
     LineTooLong,
     #[error("read failed")]
@@ -40,10 +68,51 @@ impl From<WordError> for RefusalText {
     }
 }
 
+impl From<SetError> for RefusalText {
+    fn from(error: SetError) -> RefusalText {
+        match error {
+            SetError::OtherIdentifier => RefusalText::OtherIdentifier,
+            SetError::OtherExtendable => RefusalText::OtherExtendable,
+            SetError::OtherExponent => RefusalText::OtherExponent,
+            SetError::OtherGroupThreshold => RefusalText::OtherGroupThreshold,
+            SetError::OtherGroupCount => RefusalText::OtherGroupCount,
+            SetError::OtherLength => RefusalText::OtherLength,
+            SetError::OtherMemberThreshold { group } => RefusalText::OtherMemberThreshold(group),
+            SetError::ConflictingShare { group, member } => {
+                RefusalText::ConflictingShare { group, member }
+            }
+        }
+    }
+}
+
+impl From<SetLack> for RefusalText {
+    fn from(lack: SetLack) -> RefusalText {
+        match lack {
+            SetLack::NoShares => RefusalText::NoShares,
+            SetLack::Incomplete { complete, required } => {
+                RefusalText::Incomplete { complete, required }
+            }
+        }
+    }
+}
+
+impl From<BadPassphrase> for RefusalText {
+    fn from(bad: BadPassphrase) -> RefusalText {
+        RefusalText::Passphrase(bad.position)
+    }
+}
+
 impl From<Refusal> for RefusalText {
     fn from(refusal: Refusal) -> RefusalText {
         match refusal {
             Refusal::Word(error) => RefusalText::from(error),
+            Refusal::Set(error) => RefusalText::from(error),
+            Refusal::Lack(lack) => RefusalText::from(lack),
+            Refusal::Passphrase(bad) => RefusalText::from(bad),
+            Refusal::DigestMismatch { group: Some(group) } => {
+                RefusalText::DigestMismatchInGroup(group)
+            }
+            Refusal::DigestMismatch { group: None } => RefusalText::DigestMismatchOfGroups,
             Refusal::LineTooLong => RefusalText::LineTooLong,
             Refusal::ReadFailed => RefusalText::ReadFailed,
             Refusal::WriteFailed => RefusalText::WriteFailed,

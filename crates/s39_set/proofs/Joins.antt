@@ -28,13 +28,15 @@ agrees-back s t h = record {
   member_threshold = λ e. sym (h.member_threshold (sym e));
 }
 
-flag-from_bit : (a b : Bool) → flag_bit a ≡ flag_bit b → a ≡ b
+-- a flag is known by its bit
+pub flag-from_bit : (a b : Bool) → flag_bit a ≡ flag_bit b → a ≡ b
 flag-from_bit true true h = refl
 flag-from_bit true false h = absurd (let bad : 1 ≡ 0 = h in omega arith)
 flag-from_bit false true h = absurd (let bad : 0 ≡ 1 = h in omega arith)
 flag-from_bit false false h = refl
 
-same_from_test : (m n : ℕ) → not (m == n) ≡ false → m ≡ n
+-- numbers of which the test for a difference fails are the same
+pub same_from_test : (m n : ℕ) → not (m == n) ≡ false → m ≡ n
 same_from_test m n h = eqb-true m n (not-false (m == n) h)
 
 test_from_same : (m n : ℕ) → m ≡ n → not (m == n) ≡ false

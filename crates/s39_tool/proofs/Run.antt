@@ -7,7 +7,7 @@ use Rattle.std.specs.Io.KnownBytes.{Consumes, IsAtEnd}
 use Rattle.std.proofs.KnownBytes.{Consumes-trans, Consumes-whole}
 use Rattle.s39_words.specs.declared.ShareFields.{ShareFields}
 use Rattle.s39_tool.specs.declared.fault.Refusal.{Refusal}
-use Rattle.s39_tool.specs.declared.fault.Refusal.TheVariants.{Word, LineTooLong, ReadFailed, WriteFailed}
+use Rattle.s39_tool.specs.declared.fault.Refusal.TheVariants.{Word, Set, Lack, Passphrase, DigestMismatch, LineTooLong, ReadFailed, WriteFailed}
 use Rattle.s39_tool.specs.declared.fault.Fault.{Fault}
 use Rattle.s39_tool.specs.Device.{Counted}
 use Rattle.s39_tool.specs.declared.lines.TheConstants.{MAX_LINE_BYTES}
@@ -202,6 +202,10 @@ module _ {S D : Type 0} (takes : S → ShareFields → Result (Unit {0}) Refusal
 -- another refusal is no failed read
 pub read_failures_in-other : (refusal : Refusal) → (refusal ≡ ReadFailed → ⊥) → read_failures_in refusal ≡ 0
 read_failures_in-other (Word error) h = refl
+read_failures_in-other (Set error) h = refl
+read_failures_in-other (Lack lack) h = refl
+read_failures_in-other (Passphrase bad) h = refl
+read_failures_in-other (DigestMismatch group) h = refl
 read_failures_in-other LineTooLong h = refl
 read_failures_in-other ReadFailed h = absurd (h refl)
 read_failures_in-other WriteFailed h = refl

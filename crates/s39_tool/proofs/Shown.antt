@@ -4,18 +4,23 @@ use Rattle.std.specs.Io.KnownBytes.{Appends}
 use Rattle.std.proofs.KnownBytes.{Appends-nil, Appends-trans}
 use Rattle.s39_words.specs.declared.ShareFields.{ShareFields}
 use Rattle.s39_tool.specs.declared.fault.Refusal.{Refusal}
-use Rattle.s39_tool.specs.declared.fault.Refusal.TheVariants.{Word, LineTooLong, ReadFailed, WriteFailed}
+use Rattle.s39_tool.specs.declared.fault.Refusal.TheVariants.{Word, Set, Lack, Passphrase, DigestMismatch, LineTooLong, ReadFailed, WriteFailed}
 use Rattle.s39_tool.specs.declared.fault.Fault.{Fault}
 use Rattle.s39_tool.specs.Device.{Counted}
 use Rattle.s39_tool.specs.Input.{Input}
 use Rattle.s39_tool.specs.Fault.{read_failures_in, write_failures_in, read_failures, write_failures}
 use Rattle.s39_tool.specs.Lines.{IsRefusedBy, TakesAll, RunsOver}
-use Rattle.s39_tool.specs.Show.{show_line, show_text, Shows, WritesWhole, ShowsShare}
+use Rattle.s39_tool.specs.Output.{WritesWhole}
+use Rattle.s39_tool.specs.Show.{show_line, show_text, Shows, ShowsShare}
 
 -- a line is never refused by a failed write
 write_failures_in-of_line : (line : List ℕ) (refusal : Refusal) → IsRefusedBy line refusal → write_failures_in refusal ≡ 0
 write_failures_in-of_line line (Word error) h = refl
 write_failures_in-of_line line LineTooLong h = refl
+write_failures_in-of_line line (Set error) h = absurd h
+write_failures_in-of_line line (Lack lack) h = absurd h
+write_failures_in-of_line line (Passphrase bad) h = absurd h
+write_failures_in-of_line line (DigestMismatch group) h = absurd h
 write_failures_in-of_line line ReadFailed h = absurd h
 write_failures_in-of_line line WriteFailed h = absurd h
 
@@ -25,6 +30,10 @@ one_failure (Ok _) h = refl
 one_failure (Err fault) h = by fault.refusal h where
   by : (refusal : Refusal) → (read_failures_in refusal ≡ 0 → ⊥) → write_failures_in refusal ≡ 0
   by (Word error) h = refl
+  by (Set error) h = refl
+  by (Lack lack) h = refl
+  by (Passphrase bad) h = refl
+  by (DigestMismatch group) h = refl
   by LineTooLong h = refl
   by ReadFailed h = refl
   by WriteFailed h = absurd (h refl)

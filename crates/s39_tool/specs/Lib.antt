@@ -3,4 +3,11 @@ pub mod Input
 pub mod Fault
 pub mod Lines
 pub mod Midway
+pub mod Output
 pub mod Show
+pub mod Accepted
+pub mod Collecting
+pub mod Outcome
+pub mod GroupShares
+pub mod RecoverError
+pub mod Recover

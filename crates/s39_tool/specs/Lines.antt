@@ -3,7 +3,7 @@ use Rattle.std.specs.Prelude.{◌≡◌, ◌⊎◌, ℕ, ◌<◌, ◌≤◌, Lis
 use Rattle.std.specs.List.{AllZip}
 use Rattle.s39_words.specs.declared.ShareFields.{ShareFields}
 use Rattle.s39_tool.specs.declared.fault.Refusal.{Refusal}
-use Rattle.s39_tool.specs.declared.fault.Refusal.TheVariants.{Word, LineTooLong, ReadFailed, WriteFailed}
+use Rattle.s39_tool.specs.declared.fault.Refusal.TheVariants.{Word, Set, Lack, Passphrase, DigestMismatch, LineTooLong, ReadFailed, WriteFailed}
 use Rattle.s39_tool.specs.declared.fault.Fault.{Fault}
 use Rattle.s39_words.specs.Reading.{Reads}
 use Rattle.s39_tool.specs.declared.lines.TheConstants.{MAX_LINE_BYTES}
@@ -19,10 +19,14 @@ Holds line (Some share) = (length line ≤ MAX_LINE_BYTES) × (is_skipped line �
 abbrev pub IsRefusedBy : List ℕ → Refusal → Type 0
 IsRefusedBy line LineTooLong = MAX_LINE_BYTES < length line
 IsRefusedBy line (Word error) = (length line ≤ MAX_LINE_BYTES) × (is_skipped line ≡ false) × Reads line (Err error)
+IsRefusedBy line (Set _) = ⊥
+IsRefusedBy line (Lack _) = ⊥
+IsRefusedBy line (Passphrase _) = ⊥
+IsRefusedBy line (DigestMismatch _) = ⊥
 IsRefusedBy line ReadFailed = ⊥
 IsRefusedBy line WriteFailed = ⊥
 
--- A run has a state, and takes shares: `takes old share answer new` where it answers so of a share.
+-- Within a run; no public contract cites this. A run has a state, and takes shares: `takes old share answer new` where it answers so of a share.
 module _ {S : Type 0} (takes : S → ShareFields → Result (Unit {0}) Refusal → S → Type 0) where
   -- the shares among these are taken, one after the other
   abbrev pub TakesAll : List (Option ShareFields) → S → S → Type 0

@@ -1,15 +1,16 @@
 -- The output of `show`.
-use Rattle.std.specs.Prelude.{◌≡◌, ◌⊎◌, ℕ, ◌+◌, List, [], ◌∷◌, ◌++◌, codes, length, Option, Some, None, true, false, Result, Ok, Err}
+use Rattle.std.specs.Prelude.{◌≡◌, ◌⊎◌, ℕ, List, [], ◌∷◌, ◌++◌, codes, length, Option, Some, None, true, false, Result, Ok, Err}
 use Rattle.std.specs.Fmt.{decimal}
 use Rattle.std.specs.List.{AllZip, flat_map}
 use Rattle.std.specs.Io.KnownBytes.{Appends}
 use Rattle.hex.specs.Hex.{encode_lower}
 use Rattle.s39_words.specs.declared.ShareFields.{ShareFields}
 use Rattle.s39_tool.specs.declared.fault.Refusal.{Refusal}
-use Rattle.s39_tool.specs.declared.fault.Refusal.TheVariants.{ReadFailed, WriteFailed}
+use Rattle.s39_tool.specs.declared.fault.Refusal.TheVariants.{ReadFailed}
 use Rattle.s39_tool.specs.declared.fault.Fault.{Fault}
 use Rattle.s39_words.specs.Share.{flag_bit}
 use Rattle.s39_tool.specs.Device.{Counted}
+use Rattle.s39_tool.specs.Output.{WritesLine}
 use Rattle.s39_tool.specs.Input.{Input, lines_of}
 use Rattle.s39_tool.specs.Fault.{fault_after}
 use Rattle.s39_tool.specs.Lines.{Holds, IsRefusedBy}
@@ -74,23 +75,6 @@ module _ {W : Type 0} (contents : W → Option (List ℕ)) where
     pub appends : Appends (contents old) (contents new) text
     pub output : IsShowOutput input text answer
 
-  -- all of it is written
-  pub record WritesWhole (old : Counted W) (line : List ℕ) (new : Counted W) : Type 0 where
-    pub appends : Appends (contents old.device) (contents new.device) line
-    pub no_failure : new.failures ≡ old.failures
-
-  -- a beginning of it is written, and then a write failed
-  pub record WritesPart (old : Counted W) (line : List ℕ) (new : Counted W) : Type 0 where
-    pub written : List ℕ
-    pub unwritten : List ℕ
-    pub parts : line ≡ written ++ unwritten
-    pub appends : Appends (contents old.device) (contents new.device) written
-    pub failure : new.failures ≡ old.failures + 1
-
-  abbrev pub WritesLine : Counted W → List ℕ → Result (Unit {0}) Refusal → Counted W → Type 0
-  WritesLine old line (Ok _) new = WritesWhole old line new
-  WritesLine old line (Err refusal) new = (refusal ≡ WriteFailed) × WritesPart old line new
-
-  -- a share is taken by writing its line
+  -- a share is taken by writing its line; no public contract cites this
   abbrev pub ShowsShare : Counted W → ShareFields → Result (Unit {0}) Refusal → Counted W → Type 0
-  ShowsShare old share answer new = WritesLine old (show_line share) answer new
+  ShowsShare old share answer new = WritesLine contents old (show_line share) answer new

@@ -1,7 +1,7 @@
 use Rattle.std.proofs.Common.{◌≡◌, arith, subst, sym}
 use Rattle.std.proofs.lemmas.List.{take_rest}
 use Rattle.s39_tool.proofs.Write.{IsWriting, writing_goes_on}
-use Rattle.s39_tool.proofs.show.write_line.Goals as goal
+use Rattle.s39_tool.proofs.output.write_line.Goals as goal
 
 pub loop-rest-preserved : goal.loop-rest-preserved
 loop-rest-preserved g c =

@@ -2,8 +2,8 @@ use Rattle.std.proofs.Common.{◌≡◌, ◌+◌, ◌/◌, ◌%◌, ◌<◌, ◌
 use Rattle.std.specs.Fmt.{decimal}
 use Rattle.std.proofs.lemmas.List.{length-append, append_assoc}
 use Rattle.s39_tool.proofs.Decimals.{decimal-digit, decimal-digits}
-use Rattle.s39_tool.proofs.show.+push_number.Goals as goal
-use Rattle.s39_tool.proofs.show.+push_number.Goals.{then-number-ge10, else-number-ge10}
+use Rattle.s39_tool.proofs.output.+push_number.Goals as goal
+use Rattle.s39_tool.proofs.output.+push_number.Goals.{then-number-ge10, else-number-ge10}
 
 pub push_number-requires : goal.push_number-requires
 push_number-requires t c =

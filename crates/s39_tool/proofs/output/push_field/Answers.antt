@@ -1,7 +1,7 @@
 use Rattle.std.proofs.Common.{arith}
 use Rattle.std.proofs.lemmas.List.{length-append}
 use Rattle.s39_tool.proofs.Decimals.{length-decimal-u16}
-use Rattle.s39_tool.proofs.show.push_field.Goals as goal
+use Rattle.s39_tool.proofs.output.push_field.Goals as goal
 
 pub push_number-requires : goal.push_number-requires
 push_number-requires c = let digits = length-decimal-u16 c.args.number (omega arith) in rw (c.push_text.ensures, length-append) (omega (arith, c.requires))

@@ -1,0 +1,108 @@
+-- An input holds one set or has one fault, as a line has one reading.
+use Rattle.std.proofs.Common.{◌≡◌, ℕ, List, ◌∷◌, ◌++◌, length, get_or, map, take, AllPairs, Contains, refl, sym, ap, ◌∙◌, subst, subst₂, inl, inr, arith, Option, Some, None, Result, Ok, Err}
+use Rattle.std.specs.List.{slice_get}
+use Rattle.std.specs.declared.cmp.Ordering.TheVariants.{Less}
+use Rattle.std.proofs.lemmas.List.{length-append, length-map, get_or_at, get_or-map, take_at}
+use Rattle.std.proofs.lemmas.List.Elements.{All-contains, filter_map-append}
+use Rattle.std.proofs.lemmas.Option.{slice_get-get_or}
+use Rattle.s39_words.specs.declared.ShareFields.{ShareFields}
+use Rattle.s39_words.specs.declared.WordError.{WordError}
+use Rattle.s39_words.specs.Reading.{Reads}
+use Rattle.s39_set.specs.Names.{name_cmp, IsAscending}
+use Rattle.s39_set.specs.ShareSet.{name_of, refusal_of}
+use Rattle.s39_set.proofs.Ascending.{name_cmp_one_way}
+use Rattle.s39_set.proofs.Sublists.{same_from_elements}
+use Rattle.s39_tool.specs.declared.fault.Refusal.{Refusal}
+use Rattle.s39_tool.specs.declared.fault.Fault.{Fault}
+use Rattle.s39_tool.specs.Input.{Input, lines_of}
+use Rattle.s39_tool.specs.Fault.{fault_after}
+use Rattle.s39_tool.specs.Lines.{Holds}
+use Rattle.s39_tool.specs.Accepted.{shares_in, IsSetOf, IsRefusedAmong, HoldTogether, IsRefusedAtLine, IsReadAs}
+use Rattle.s39_tool.proofs.HeldOnce.{two_places, AllZip-parts, holds_once, held_not_refused, refused_once, all_hold_once}
+
+-- ---- shares have one set
+
+shares_ascend : (set : List ShareFields) → IsAscending (map name_of set) → AllPairs (λ s t. name_cmp (name_of s) (name_of t) ≡ Less) set
+shares_ascend set names i j d before below =
+    let names_before : name_cmp (get_or (map name_of set) i (name_of d)) (get_or (map name_of set) j (name_of d)) ≡ Less = names i j (name_of d) before (omega (arith, length-map set name_of)) in
+    let first : get_or (map name_of set) i (name_of d) ≡ name_of (get_or set i d) = get_or-map name_of set i d (name_of d) (omega arith) in
+    let second : get_or (map name_of set) j (name_of d) ≡ name_of (get_or set j d) = get_or-map name_of set j d (name_of d) below in
+    subst₂ (λ (a b : ℕ × ℕ). name_cmp a b ≡ Less) first second names_before
+
+set_once : (shares set other : List ShareFields) → IsSetOf shares set → IsSetOf shares other → set ≡ other
+set_once shares set other p q =
+    same_from_elements (λ s t. name_cmp (name_of s) (name_of t) ≡ Less) (λ s t. name_cmp_one_way (name_of s) (name_of t)) set other
+    (shares_ascend set p.ascending) (shares_ascend other q.ascending)
+    (λ k d below. All-contains (Contains set) shares (get_or other k d) p.all (q.only k d below))
+    (λ k d below. All-contains (Contains other) shares (get_or set k d) q.all (p.only k d below))
+
+-- ---- an input is read once
+
+slice_get_at : (xs : List ShareFields) (x : ShareFields) (after : List ShareFields) → slice_get (xs ++ x ∷ after) (length xs) ≡ Some x
+slice_get_at xs x after =
+    let longer = length-append xs (x ∷ after) in
+    slice_get-get_or (xs ++ x ∷ after) (length xs) x (omega arith) ∙ ap Some (get_or_at xs x after x (length xs) refl)
+
+-- no text is read as two things
+module _ (one_reading : (text : List ℕ) (r s : Result ShareFields WordError) → Reads text r → Reads text s → r ≡ s) where
+  shares_once : (lines : List (List ℕ)) (shares others : List ShareFields) → HoldTogether lines shares → HoldTogether lines others → shares ≡ others
+  shares_once lines shares others p q = p.shares_are ∙ ap shares_in (all_hold_once one_reading lines p.held q.held p.holds q.holds) ∙ sym q.shares_are
+
+  -- of lines whose shares can stand in one set, none is refused
+  none_refused : (before after : List (List ℕ)) (line : List ℕ) (shares all : List ShareFields) (refusal : Refusal) → HoldTogether before shares → HoldTogether (before ++ line ∷ after) all
+      → IsRefusedAmong shares line refusal → ⊥
+  none_refused before after line shares all refusal p q (inl refused) =
+      let parts = AllZip-parts Holds before line after q.held q.holds in
+      held_not_refused one_reading line parts.1 refusal parts.5 refused
+  none_refused before after line shares all refusal p q (inr (share, error, holds, cause, is)) =
+      let parts = AllZip-parts Holds before line after q.held q.holds in
+      let rest = shares_in parts.2 in
+      let here : parts.1 ≡ Some share = holds_once one_reading line parts.1 (Some share) parts.5 holds in
+      let earlier : shares_in parts.0 ≡ shares = ap shares_in (all_hold_once one_reading before parts.0 p.held parts.4 p.holds) ∙ sym p.shares_are in
+      let all_is : all ≡ shares ++ share ∷ rest =
+      q.shares_are ∙ ap shares_in parts.3 ∙ filter_map-append (λ (o : Option ShareFields). o) parts.0 (parts.1 ∷ parts.2)
+      ∙ ap (λ (o : Option ShareFields). shares_in parts.0 ++ shares_in (o ∷ parts.2)) here ∙ ap (λ l. l ++ share ∷ rest) earlier in
+      let joins : refusal_of (take (length shares) all) share ≡ None = q.join (length shares) share (ap (λ l. slice_get l (length shares)) all_is ∙ slice_get_at shares share rest) in
+      let others : take (length shares) all ≡ shares = ap (take (length shares)) all_is ∙ take_at shares (share ∷ rest) (length shares) refl in
+      let bad : None ≡ Some error = sym joins ∙ ap (λ l. refusal_of l share) others ∙ cause in
+      absurd (cc)
+
+  refused_among_once : (shares : List ShareFields) (line : List ℕ) (r s : Refusal) → IsRefusedAmong shares line r → IsRefusedAmong shares line s → r ≡ s
+  refused_among_once shares line r s (inl p) (inl q) = refused_once one_reading line r s p q
+  refused_among_once shares line r s (inl p) (inr (share, error, holds, cause, is)) = absurd (held_not_refused one_reading line (Some share) r holds p)
+  refused_among_once shares line r s (inr (share, error, holds, cause, is)) (inl q) = absurd (held_not_refused one_reading line (Some share) s holds q)
+  refused_among_once shares line r s (inr (share, error, holds, cause, is)) (inr (share', error', holds', cause', is')) =
+      let held : Some share ≡ Some share' = holds_once one_reading line (Some share) (Some share') holds holds' in
+      let same : share ≡ share' = cc in
+      let errors : Some error ≡ Some error' = sym cause ∙ ap (refusal_of shares) same ∙ cause' in
+      cc
+
+  -- an input has one first line that is refused, for one cause
+  refused_at_once : (input : Input) (f g : Fault) → IsRefusedAtLine input f → IsRefusedAtLine input g → f ≡ g
+  refused_at_once input f g p q =
+      elim (two_places p.before p.after q.before q.after p.line q.line (sym p.parts ∙ q.parts)) [
+        | inl (before, line) ↦
+            let shares = shares_once q.before p.shares q.shares (subst (λ lines. HoldTogether lines p.shares) before p.together) q.together in
+            let refused : IsRefusedAmong q.shares q.line f.refusal = subst₂ (λ (l : List ShareFields) (x : List ℕ). IsRefusedAmong l x f.refusal) shares line p.refused in
+            let refusal = refused_among_once q.shares q.line f.refusal g.refusal refused q.refused in
+            p.fault_is ∙ ap (λ (lines : List (List ℕ)). fault_after (length lines) f.refusal) before ∙ ap (fault_after (length q.before)) refusal ∙ sym q.fault_is
+        | inr (inl (more, later)) ↦ absurd (none_refused p.before more p.line p.shares q.shares f.refusal p.together (subst (λ lines. HoldTogether lines q.shares) later q.together) p.refused)
+        | inr (inr (more, earlier)) ↦ absurd (none_refused q.before more q.line q.shares p.shares g.refusal q.together (subst (λ lines. HoldTogether lines p.shares) earlier p.together) q.refused)
+      ]
+
+  not_refused : (input : Input) (shares : List ShareFields) (fault : Fault) → HoldTogether (lines_of input) shares → IsRefusedAtLine input fault → ⊥
+  not_refused input shares fault all p = none_refused p.before p.after p.line p.shares shares fault.refusal p.together (subst (λ lines. HoldTogether lines shares) p.parts all) p.refused
+
+  -- an input is read as one set, or as one fault
+  pub read_once : (input : Input) (r s : Result (List ShareFields) Fault) → IsReadAs input r → IsReadAs input s → r ≡ s
+  read_once input (Ok set) (Ok other) p q =
+      let shares = shares_once (lines_of input) q.shares p.shares q.together p.together in
+      ap Ok (set_once p.shares set other p.set_is (subst (λ l. IsSetOf l other) shares q.set_is))
+  read_once input (Ok set) (Err g) p (inl q) = absurd (not_refused input p.shares g p.together q)
+  read_once input (Ok set) (Err g) p (inr q) = let yes = p.ended in let no = q.failed in absurd (cc)
+  read_once input (Err f) (Ok other) (inl p) q = absurd (not_refused input q.shares f q.together p)
+  read_once input (Err f) (Ok other) (inr p) q = let yes = q.ended in let no = p.failed in absurd (cc)
+  read_once input (Err f) (Err g) (inl p) (inl q) = ap Err (refused_at_once input f g p q)
+  read_once input (Err f) (Err g) (inl p) (inr q) = absurd (not_refused input q.shares f q.together p)
+  read_once input (Err f) (Err g) (inr p) (inl q) = absurd (not_refused input p.shares g p.together q)
+  read_once input (Err f) (Err g) (inr p) (inr q) = ap Err (p.fault_is ∙ sym q.fault_is)

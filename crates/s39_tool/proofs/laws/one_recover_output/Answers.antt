@@ -1,0 +1,5 @@
+use Rattle.s39_tool.proofs.OneRecover.{recover_once}
+use Rattle.s39_tool.proofs.laws.one_recover_output.Goals as goal
+
+pub returns : goal.returns
+returns c = recover_once c.one_set.ensures c.one_outcome.ensures

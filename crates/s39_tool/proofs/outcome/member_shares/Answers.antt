@@ -1,0 +1,18 @@
+use Rattle.std.proofs.Common.{◌≡◌, length, get_or, map, Contains, arith, subst, ap}
+use Rattle.std.proofs.lemmas.List.{length-map}
+use Rattle.s39_set.specs.ShareSet.{name_of}
+use Rattle.s39_tool.specs.GroupShares.{indexed_bytes}
+use Rattle.s39_tool.proofs.Levels.{room_for_member}
+use Rattle.s39_tool.proofs.outcome.member_shares.Goals as goal
+
+pub value_at-requires : goal.value_at-requires
+value_at-requires c =
+    let name = get_or c.args.names.now c.loop-of.of-index (0, 0) in
+    subst (λ group. Contains (map name_of c.args.set.now) (group, name.1)) c.if-of-group.true
+    (c.requires.exact.at_hand.at_hand c.loop-of.of-index (0, 0) c.loop-of-test.true)
+
+pub push-requires : goal.push-requires
+push-requires c =
+    let count : length (indexed_bytes c.loop-of.shares.items) ≡ length c.loop-of.shares.items = length-map c.loop-of.shares.items (λ share. (share.0, share.1.items)) in
+    let room = room_for_member c.args.set.now c.args.names.now c.requires c.args.group c.loop-of.of-index c.loop-of-test.true c.if-of-group.true in
+    (omega arith, omega (arith, ap length c.loop-of.invariant))
