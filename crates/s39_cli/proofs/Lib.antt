@@ -1,1 +1,4 @@
+pub mod FaultKinds
+pub mod FaultTakes
+pub mod Refusals
 pub mod Subcommands

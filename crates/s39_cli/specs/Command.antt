@@ -1,8 +1,12 @@
 -- The command line.
-use Rattle.std.specs.Prelude.{◌≡◌, true, List, [], codes, Option, Some, option_and_then, option_map, unwrap_or}
-use Rattle.clap.specs.Words.{App, Rule, Shape, Text, first_of, new_app, new_rule, subcommand_of, with_rule, with_subcommand}
+use Rattle.std.specs.Prelude.{◌≡◌, ◌≢◌, ◌⊎◌, true, false, List, [], ◌∷◌, codes, Option, Some, option_and_then, option_map, unwrap_or}
+use Rattle.clap.specs.Words.{App, Rule, Shape, Text, fault_of, first_of, new_app, new_rule, subcommand_of, takes, with_rule, with_subcommand}
+use Rattle.clap.specs.declared.error.kind.ErrorKind.{ErrorKind}
+use Rattle.clap.specs.declared.error.kind.ErrorKind.TheVariants.{DisplayHelp, DisplayVersion, OutOfMemory}
 use Rattle.s39_cli.specs.declared.command.Job.{Job}
 use Rattle.s39_cli.specs.declared.command.Job.TheVariants.{Show, Recover}
+use Rattle.s39_cli.specs.declared.command.NoJob.{NoJob}
+use Rattle.s39_cli.specs.declared.command.NoJob.TheVariants.{Help, Refused, Memory}
 
 -- the command `show`
 abbrev pub show_app : App
@@ -47,3 +51,21 @@ name_of (Recover passphrase) = codes "recover"
 abbrev pub TakesPassphrase : Job → Text → Type 0
 TakesPassphrase Show text = Unit {0}
 TakesPassphrase (Recover passphrase) text = passphrase.now ≡ text
+
+-- the words ask for help, and nothing before that is wrong with them
+abbrev pub AsksForHelp : List Text → Type 0
+AsksForHelp words = fault_of shamir_app words ≡ DisplayHelp ∷ []
+
+-- help goes to words that ask for it, and a refusal to words that don't and that the definition
+-- doesn't take
+abbrev pub AnswersWords : NoJob → List Text → Type 0
+AnswersWords (Help text) words = AsksForHelp words
+AnswersWords (Refused text) words = (takes shamir_app words ≡ false) × (AsksForHelp words → ⊥)
+AnswersWords Memory words = Unit {0}
+
+-- help goes to an error that shows help or the version, and a refusal neither to one that shows help
+-- nor to want of memory
+abbrev pub AnswersKind : NoJob → ErrorKind → Type 0
+AnswersKind (Help text) kind = (kind ≡ DisplayHelp) ⊎ (kind ≡ DisplayVersion)
+AnswersKind (Refused text) kind = (kind ≢ DisplayHelp) × (kind ≢ OutOfMemory)
+AnswersKind Memory kind = Unit {0}

@@ -1,8 +1,8 @@
 //! The command line.
-ghost use Rattle.std.specs.Prelude.{◌≡◌, Some, true, false, map, IfOk, IfErr};
+ghost use Rattle.std.specs.Prelude.{◌≡◌, Some, true, false, map, IfOk, IfErr, OnOk};
 ghost use Rattle.clap.specs.Words.{app_of, kind_of, takes};
 ghost use Rattle.clap.specs.declared.builder.Command.TheViews.{out-Command};
-ghost use Rattle.s39_cli.specs.Command.{recover_app, shamir_app, command_named, name_of, passphrase_given, TakesPassphrase};
+ghost use Rattle.s39_cli.specs.Command.{recover_app, shamir_app, command_named, name_of, passphrase_given, TakesPassphrase, AnswersKind, AnswersWords};
 
 use clap::error::ErrorKind;
 use clap::{Arg, Command, Error};
@@ -60,7 +60,8 @@ fn shamir<'a>(alloc: Global) -> Result<Command<'a>, AllocError>
 }
 
 fn no_job(alloc: Global, error: &Error) -> NoJob
-    ensures { kind_of error.now ≡ ErrorKind.OutOfMemory → result ≡ NoJob.Memory }
+    ensures memory { kind_of error.now ≡ ErrorKind.OutOfMemory → result ≡ NoJob.Memory }
+    ensures answer { AnswersKind result (kind_of error.now) }
 {
     if error.kind() == ErrorKind::OutOfMemory {
         return NoJob::Memory;
@@ -85,6 +86,10 @@ pub fn read_words<'a>(alloc: Global, words: &'a [&'a str]) -> Result<Job<'a>, No
     // Where that definition takes the words, only memory can be wanting.
     ensures memory { takes shamir_app (map (λ word. word.now) words.now) ≡ true
         → IfErr result (λ error. error ≡ NoJob.Memory) }
+    // Words that it doesn't take are no job.
+    ensures taken { OnOk result (takes shamir_app (map (λ word. word.now) words.now) ≡ true) }
+    // Help goes only to words that ask for it, and a refusal only to words that don't and that it doesn't take.
+    ensures answer { IfErr result (λ error. AnswersWords error (map (λ word. word.now) words.now)) }
 {
     let Ok(command) = shamir(alloc) else {
         return Err(NoJob::Memory);
