@@ -15,17 +15,21 @@ use s39_set::{ShareSet, first};
 use std::io::{Read, Write};
 
 /// Writes the secret that the least quorum of the input's shares recovers with the passphrase, in lower-case
-/// hexadecimal, one line. Shares beyond that quorum are accepted, and repeats change nothing. A line with no byte but separators, or whose
-/// first other byte is `#`, is skipped.
+/// hexadecimal, one line. Shares beyond that quorum are accepted, and repeats change nothing. A line with no byte but
+/// separators, or whose first other byte is `#`, is skipped.
 ///
-/// The first that applies is answered, and then nothing is written: `Passphrase` where a byte of it isn't printable,
-/// before anything is read; the first refused line with its number (a word error, `LineTooLong` for more than 1,024
-/// bytes, or `Set` where its share can't join those before it); `ReadFailed` where a read fails, and an unfinished line
-/// is then dropped, unless it is too long already; `Lack` where the shares have no quorum;
-/// `DigestMismatch` where the least quorum's digests don't match. Where a write fails or takes no byte, the answer is
-/// `WriteFailed`, and a beginning of the line may have been written. A wrong passphrase isn't noticed: as a rule it gives
-/// another secret. The caller keeps both `failures()` below
-/// `u64::MAX`.
+/// The first that applies is answered, and then nothing is written:
+///
+/// - `Passphrase` where a byte of it isn't printable, before anything is read;
+/// - the first refused line with its number: a word error, `LineTooLong` for more than 1,024 bytes, or `Set` where its
+///   share can't join those before it;
+/// - `ReadFailed` where a read fails; an unfinished line is then dropped, unless it is too long already;
+/// - `Lack` where the shares have no quorum;
+/// - `DigestMismatch` where the least quorum's digests don't match.
+///
+/// Where a write fails or takes no byte, the answer is `WriteFailed`, and a beginning of the line may have been
+/// written. A wrong passphrase isn't noticed: as a rule it gives another secret. The caller keeps both `failures()`
+/// below `u64::MAX`.
 pub fn run_recover<R: Read, W: Write>(
     passphrase: &[u8],
     input: &mut Counting<R>,
