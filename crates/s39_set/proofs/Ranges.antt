@@ -26,15 +26,15 @@ range_more n =
     ∙ ap (λ xs. xs ++ n ∷ []) (map-id (range_with_len 0 n))
 
 module _ (p : ℕ → Bool) (n : ℕ) where
-  filter-range_more : filter p (range_with_len 0 (n + 1)) ≡ filter p (range_with_len 0 n) ++ cond (p n) (n ∷ []) []
+  pub filter-range_more : filter p (range_with_len 0 (n + 1)) ≡ filter p (range_with_len 0 n) ++ cond (p n) (n ∷ []) []
   filter-range_more = ap (filter p) (range_more n) ∙ filter-append p (range_with_len 0 n) (n ∷ [])
 
   -- a number that passes is behind those before it that do
-  filter-range_more_yes : p n ≡ true → filter p (range_with_len 0 (n + 1)) ≡ filter p (range_with_len 0 n) ++ n ∷ []
+  pub filter-range_more_yes : p n ≡ true → filter p (range_with_len 0 (n + 1)) ≡ filter p (range_with_len 0 n) ++ n ∷ []
   filter-range_more_yes passes = filter-range_more ∙ ap (λ xs. filter p (range_with_len 0 n) ++ xs) (cond-true (p n) (n ∷ []) [] passes)
 
   -- one that doesn't changes nothing
-  filter-range_more_no : p n ≡ false → filter p (range_with_len 0 (n + 1)) ≡ filter p (range_with_len 0 n)
+  pub filter-range_more_no : p n ≡ false → filter p (range_with_len 0 (n + 1)) ≡ filter p (range_with_len 0 n)
   filter-range_more_no fails =
       filter-range_more ∙ ap (λ xs. filter p (range_with_len 0 n) ++ xs) (cond-false (p n) (n ∷ []) [] fails) ∙ append-nil (filter p (range_with_len 0 n))
 

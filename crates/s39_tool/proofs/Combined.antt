@@ -13,7 +13,7 @@ use Rattle.s39_set.specs.ShareSet.{has_name}
 use Rattle.s39_split.specs.Recovery.{Combines}
 use Rattle.s39_tool.specs.Outcome.{member_shares, GroupCombines}
 use Rattle.s39_tool.specs.GroupShares.{indexed_bytes, value_bytes_of, groups_below, IsExactQuorum, AreOfOneLevel, AreGroupShares}
-use Rattle.s39_tool.proofs.Images.{All-from_map}
+use Rattle.s39_split.proofs.Lists.{All-from_map}
 use Rattle.s39_tool.proofs.Values.{Contains-find, has_share}
 use Rattle.s39_tool.proofs.Levels.{length-member_shares, members_of_one_level, group_combines, some_group, few_group_shares, group_shares_more}
 

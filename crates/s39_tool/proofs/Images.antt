@@ -4,18 +4,7 @@ use Rattle.std.specs.List.{zip, AllZip}
 use Rattle.std.proofs.lemmas.List.{length-map, get_or-map}
 use Rattle.std.proofs.lemmas.List.Elements.{All-head, All-tail}
 
--- what is true of the images is true of the elements
-pub All-from_map : {X Y : Type 0} (P : Y → Type 0) (f : X → Y) (xs : List X) → All P (map f xs) → All (λ x. P (f x)) xs
-All-from_map P f xs h k d within =
-    let count : length (map f xs) ≡ length xs = length-map xs f in
-    rw (get_or-map f xs k d (f d) within) at (h k (f d) (omega arith))
-
-pub AllPairs-from_map : {X Y : Type 0} (R : Y → Y → Type 0) (f : X → Y) (xs : List X) → AllPairs R (map f xs) → AllPairs (λ a b. R (f a) (f b)) xs
-AllPairs-from_map R f xs h i j d before within =
-    let count : length (map f xs) ≡ length xs = length-map xs f in
-    rw (get_or-map f xs i d (f d) (omega arith), get_or-map f xs j d (f d) within) at (h i j (f d) before (omega arith))
-
--- and the other way round
+-- what is true of the images of the elements is true of the list of the images
 pub AllPairs-map : {X Y : Type 0} (R : Y → Y → Type 0) (f : X → Y) (xs : List X) → ((i j : ℕ) (d : X) → i < j → j < length xs → R (f (get_or xs i d)) (f (get_or xs j d)))
     → (d : X) → AllPairs R (map f xs)
 AllPairs-map R f xs h d i j e before within =

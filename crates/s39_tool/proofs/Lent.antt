@@ -5,7 +5,7 @@ use Rattle.arrayvec.specs.ArrayVec.{ArrayVec, array_vec_len}
 use Rattle.std.proofs.lemmas.List.Elements.{All-map, All-same}
 use Rattle.s39_split.specs.Shares.{indexed_bytes as lent_bytes}
 use Rattle.s39_tool.specs.GroupShares.{AreOfOneLevel, indexed_bytes}
-use Rattle.s39_tool.proofs.Images.{All-from_map, AllPairs-from_map}
+use Rattle.s39_split.proofs.Lists.{All-from_map, AllPairs-from_map}
 
 -- lent shares that can be combined
 module _ (lent : List (ℕ × Bor (ArrayVec ℕ))) (bytes : ℕ) (can : AreOfOneLevel bytes (lent_bytes lent)) where

@@ -18,8 +18,11 @@ use Rattle.s39_set.specs.Quorums.{group_threshold_of, member_threshold_of}
 use Rattle.s39_split.specs.Recovery.{Combines}
 use Rattle.s39_tool.specs.Outcome.{value_of, member_shares, groups_of, GroupCombines, AllCombine, GroupsCombine, MismatchesInGroup}
 use Rattle.s39_tool.specs.GroupShares.{value_bytes_of, groups_below, IsExactQuorum, AreOfOneLevel, AreGroupShares}
-use Rattle.s39_tool.proofs.Images.{All-from_map, AllPairs-from_map, AllPairs-map, filter_same, zip-parts, AllZip-parts}
-use Rattle.s39_tool.proofs.Ranges.{range-below, range-distinct, filter-range_more_yes, filter-range_more_no, filter-range_parts}
+use Rattle.s39_split.proofs.Lists.{All-from_map, AllPairs-from_map}
+use Rattle.s39_tool.proofs.Images.{AllPairs-map, filter_same, zip-parts, AllZip-parts}
+use Rattle.s39_set.proofs.CompleteGroups.{range-below}
+use Rattle.s39_set.proofs.Ranges.{filter-range_more_yes, filter-range_more_no}
+use Rattle.s39_tool.proofs.Ranges.{range-distinct, filter-range_parts}
 use Rattle.s39_tool.proofs.Values.{has_share, value_bytes-long, length-value_of, member_threshold-positive, group_threshold-positive}
 
 -- a set with a group threshold has a share

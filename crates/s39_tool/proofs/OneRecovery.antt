@@ -15,8 +15,9 @@ use Rattle.s39_set.specs.Names.{names_in_group}
 use Rattle.s39_split.specs.Recovery.{Combines, SharesCombineOnce}
 use Rattle.s39_tool.specs.Outcome.{member_shares, groups_of, GroupCombines, AllCombine, GroupsCombine, AreParams, Recovers, MismatchesInGroup, IsOutcome}
 use Rattle.s39_tool.specs.GroupShares.{IsExactQuorum}
-use Rattle.s39_tool.proofs.Images.{All-from_map, AllPairs-from_map}
-use Rattle.s39_tool.proofs.Ranges.{range-below, range-distinct}
+use Rattle.s39_split.proofs.Lists.{All-from_map, AllPairs-from_map}
+use Rattle.s39_set.proofs.CompleteGroups.{range-below}
+use Rattle.s39_tool.proofs.Ranges.{range-distinct}
 use Rattle.s39_tool.proofs.Levels.{member_threshold_is, members_of_one_level, group_threshold_is, some_group}
 
 -- ---- parameters

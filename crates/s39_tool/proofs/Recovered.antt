@@ -10,7 +10,7 @@ use Rattle.s39_set.specs.ShareSet.{Agrees, IsShareSet}
 use Rattle.s39_split.specs.Recovery.{Combines}
 use Rattle.s39_tool.specs.Outcome.{groups_of, AreParams, Recovers, MismatchesOfGroups}
 use Rattle.s39_tool.specs.GroupShares.{indexed_bytes, value_bytes_of, IsExactQuorum, AreOfOneLevel, AreGroupShares}
-use Rattle.s39_tool.proofs.Images.{All-from_map}
+use Rattle.s39_split.proofs.Lists.{All-from_map}
 use Rattle.s39_tool.proofs.Values.{values_agree}
 use Rattle.s39_tool.proofs.Levels.{groups_of_one_level, all_combine, groups_combine}
 use Rattle.s39_tool.proofs.Combined.{combines_same}
