@@ -28,7 +28,10 @@ module _ {F : Type 0} (f : Operations F) (is : IsField f) where
       ap (f.mul (f.add x q)) (differences-push x ps p) ∙ sym (is.mul_associates (f.add x q) (differences f x ps) (f.add x p))
 
   -- one place more, that isn't the one left out
-  pub differences-more : (x : F) (ps : List F) (i except : ℕ) (d : F) → i < length ps → i ≢ except → differences f x (remove (take (i + 1) ps) except) ≡ f.mul (differences f x (remove (take i ps) except)) (f.add x (get_or ps i d))
+  pub differences-more : (x : F) (ps : List F) (i except : ℕ) (d : F)
+      → i < length ps
+      → i ≢ except
+      → differences f x (remove (take (i + 1) ps) except) ≡ f.mul (differences f x (remove (take i ps) except)) (f.add x (get_or ps i d))
   differences-more x ps i except d below other =
       let size : length (take i ps) ≡ i = omega (arith, length-take i ps) in
       ap (λ l. differences f x (remove l except)) (take_more ps i d below)
@@ -36,7 +39,10 @@ module _ {F : Type 0} (f : Operations F) (is : IsField f) where
       ∙ differences-push x (remove (take i ps) except) (get_or ps i d)
 
   -- and where it is that one
-  pub differences-own : (x : F) (ps : List F) (i except : ℕ) (d : F) → i < length ps → i ≡ except → differences f x (remove (take (i + 1) ps) except) ≡ differences f x (remove (take i ps) except)
+  pub differences-own : (x : F) (ps : List F) (i except : ℕ) (d : F)
+      → i < length ps
+      → i ≡ except
+      → differences f x (remove (take (i + 1) ps) except) ≡ differences f x (remove (take i ps) except)
   differences-own x ps i except d below same =
       let size : length (take i ps) ≡ i = omega (arith, length-take i ps) in
       ap (λ l. differences f x (remove l except)) (take_more ps i d below)

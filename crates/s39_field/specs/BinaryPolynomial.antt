@@ -4,14 +4,14 @@ use Rattle.std.specs.Prelude.{ℕ, zero, suc, ◌*◌, ◌^◌, bit_xor}
 use Rattle.std.specs.Int.{bit_at}
 
 -- the sum, coefficient by coefficient
-abbrev pub sum_of : ℕ → ℕ → ℕ
-sum_of a b = bit_xor a b
+abbrev pub binary_sum : ℕ → ℕ → ℕ
+binary_sum a b = bit_xor a b
 
 -- the sum, over the places i below n, of the terms (coefficient of x ^ i in a) * x ^ i * b
 abbrev pub product_below : ℕ → ℕ → ℕ → ℕ
 product_below zero a b = 0
-product_below (suc i) a b = sum_of (product_below i a b) (bit_at a i * (2 ^ i * b))
+product_below (suc i) a b = binary_sum (product_below i a b) (bit_at a i * (2 ^ i * b))
 
 -- the product: each place of a is below a, since a < 2 ^ a
-abbrev pub product_of : ℕ → ℕ → ℕ
-product_of a b = product_below a a b
+abbrev pub binary_product : ℕ → ℕ → ℕ
+binary_product a b = product_below a a b

@@ -1,8 +1,8 @@
--- Multiplication modulo a polynomial: the byte field and the word field of SLIP-0039 ("Shamir's secret
--- sharing" and "Checksum"). Both moduli go by one definition.
+-- Multiplication modulo a polynomial: the byte field and the word field of SLIP-0039 ("Shamir's
+-- secret sharing" and "Checksum"). Both moduli go by one definition.
 use Rattle.std.specs.Prelude.{◌≡◌, ℕ, zero, suc, ◌+◌, ◌-◌, ◌*◌, ◌^◌, ◌<◌, ◌≤◌}
 use Rattle.std.specs.Int.{bit_at}
-use Rattle.s39_field.specs.BinaryPolynomial.{sum_of, product_of}
+use Rattle.s39_field.specs.BinaryPolynomial.{binary_sum, binary_product}
 use Rattle.s39_field.specs.Field.{Operations}
 
 -- a modulus, and its degree
@@ -24,20 +24,23 @@ byte_modulus = record { degree = 8; polynomial = 0x11B }
 abbrev pub word_modulus : Modulus
 word_modulus = record { degree = 10; polynomial = 0x409 }
 
--- r is the product of a and b modulo m: it has a lower degree than m, and some multiple of m plus r is
--- the product of the polynomials a and b
+-- r is the product of a and b modulo m: it has a lower degree than m, and some multiple of m plus r
+-- is the product of the polynomials a and b
 pub record IsProduct (m : Modulus) (a b r : ℕ) : Type 0 where
   pub lower_degree : r < 2 ^ m.degree
-  pub quotient : (q : ℕ) × (product_of a b ≡ sum_of (product_of q m.polynomial) r)
+  pub quotient : (q : ℕ) × (binary_product a b ≡ binary_sum (binary_product q m.polynomial) r)
 
--- n less the multiples of m that clear its coefficients at the places from degree + k - 1 down to degree
+-- n less the multiples of m that clear its coefficients at the places from degree + k - 1 down to
+-- degree
 abbrev pub reduction : Modulus → ℕ → ℕ → ℕ
 reduction m zero n = n
-reduction m (suc k) n = reduction m k (sum_of n (bit_at n (m.degree + k) * (2 ^ k * m.polynomial)))
+reduction m (suc k) n =
+    reduction m k (binary_sum n (bit_at n (m.degree + k) * (2 ^ k * m.polynomial)))
 
--- the one r that IsProduct allows, by long division of the polynomial product, whose degree is below a + b
+-- the one r that IsProduct allows, by long division of the polynomial product, whose degree is below
+-- a + b
 unfoldable pub product_modulo : Modulus → ℕ → ℕ → ℕ
-product_modulo m a b = reduction m (a + b) (product_of a b)
+product_modulo m a b = reduction m (a + b) (binary_product a b)
 
 -- a to the n-th power
 unfoldable pub power_modulo : Modulus → ℕ → ℕ → ℕ
@@ -50,7 +53,7 @@ field_modulo m = record {
   IsElement = λ a. a < 2 ^ m.degree;
   zero = 0;
   one = 1;
-  add = sum_of;
+  add = binary_sum;
   mul = product_modulo m;
   inv = λ a. power_modulo m a (2 ^ m.degree - 2);
 }
@@ -62,3 +65,15 @@ byte_field = field_modulo byte_modulus
 -- the word field
 abbrev pub word_field : Operations ℕ
 word_field = field_modulo word_modulus
+
+-- how many bytes there are but zero: as many as powers of a generator
+abbrev pub nonzero_bytes : ℕ
+nonzero_bytes = 255
+
+-- how many words there are but zero
+abbrev pub nonzero_words : ℕ
+nonzero_words = 1023
+
+-- the order of the word field: how many elements it has
+abbrev pub word_field_order : ℕ
+word_field_order = 1024

@@ -1,13 +1,15 @@
 -- Interpolation (SLIP-0039, "Shamir's secret sharing"): the one polynomial through given points.
-use Rattle.std.specs.Prelude.{◌≡◌, ◌≢◌, ℕ, ◌<◌, ◌≤◌, List, [], ◌∷◌, length, map, remove, zip, All, AllPairs, slice_index, slice_index_or}
+use Rattle.std.specs.Prelude.{◌≡◌, ◌≢◌, ℕ, ◌<◌, ◌≤◌, List, [], ◌∷◌, length, map, remove, zip}
+use Rattle.std.specs.Prelude.{All, AllPairs, slice_index, slice_index_or}
 use Rattle.std.specs.List.{range_with_len}
 use Rattle.s39_field.specs.Field.{Operations}
 use Rattle.s39_field.specs.FieldProduct.{byte_field}
 use Rattle.s39_field.specs.Polynomial.{value_at, sum_of}
 
--- Some polynomial with no more coefficients than there are points takes each point's value at its place,
--- and takes y at x. A point is a place and a value.
-pub record Interpolates {F : Type 0} (f : Operations F) (points : List (F × F)) (x y : F) : Type 0 where
+-- Some polynomial with no more coefficients than there are points takes each point's value at its
+-- place, and takes y at x. A point is a place and a value.
+pub record Interpolates {F : Type 0} (f : Operations F) (points : List (F × F)) (x y : F)
+    : Type 0 where
   pub coefficients : List F
   pub elements : All f.IsElement coefficients
   pub no_longer : length coefficients ≤ length points
@@ -21,7 +23,9 @@ points_at strings position = map (λ string. (string.0, slice_index string.1 pos
 -- the same for byte strings of one length, at each position
 pub record InterpolatesBytes (strings : List (ℕ × List ℕ)) (x : ℕ) (y : List ℕ) : Type 0 where
   pub one_length : All (λ string. length string.1 ≡ length y) strings
-  pub each : (position : ℕ) → position < length y → Interpolates byte_field (points_at strings position) x (slice_index y position)
+  pub each : (position : ℕ)
+      → position < length y
+      → Interpolates byte_field (points_at strings position) x (slice_index y position)
 
 module _ {F : Type 0} (f : Operations F) where
   -- the product of x - place over the places
@@ -29,13 +33,14 @@ module _ {F : Type 0} (f : Operations F) where
   differences x [] = f.one
   differences x (place ∷ places) = f.mul (f.add x place) (differences x places)
 
-  -- the weight of place i at x: the product over the other places of (x - place) / (place i - place)
+  -- the Lagrange weight of place i at x: the product over the other places of
+  -- (x - place) / (place i - place)
   abbrev pub weight : List F → F → ℕ → F
   weight places x i =
       let others = remove places i in
       f.mul (differences x others) (f.inv (differences (slice_index_or places i f.zero) others))
 
-  -- the weight of each place at x
+  -- the Lagrange weight of each place at x
   abbrev pub weights_of : List F → F → List F
   weights_of places x = map (weight places x) (range_with_len 0 (length places))
 
@@ -45,8 +50,8 @@ module _ {F : Type 0} (f : Operations F) where
   weighted_sum (w ∷ ws) [] = f.zero
   weighted_sum (w ∷ ws) (value ∷ values) = f.add (f.mul w value) (weighted_sum ws values)
 
-  -- two polynomials with no more coefficients than there are distinct places, equal at each place, differ at
-  -- most in zeros at the ends of their lists: each coefficient of their difference is zero
+  -- two polynomials with no more coefficients than there are distinct places, equal at each place,
+  -- differ at most in zeros at the ends of their lists: each coefficient of their difference is zero
   abbrev pub PlacesDetermineCoefficients : Type 0
   PlacesDetermineCoefficients =
       (places cs ds : List F)
@@ -83,7 +88,7 @@ module _ {F : Type 0} (f : Operations F) where
       → Interpolates f points x z
       → y ≡ z
 
-  -- points at distinct places have a value at x, the sum of weight times value
+  -- points at distinct places have a value at x, the sum of Lagrange weight times value
   abbrev pub WeightsInterpolate : Type 0
   WeightsInterpolate =
       (places values : List F) (x : F)
@@ -93,12 +98,22 @@ module _ {F : Type 0} (f : Operations F) where
       → length values ≡ length places
       → Interpolates f (zip places values) x (weighted_sum (weights_of places x) values)
 
--- byte strings at distinct places, of which there is at least one, have one byte string at x
+-- byte strings of one length at distinct places have a byte string at x
+abbrev pub StringsHaveAValue : Type 0
+StringsHaveAValue =
+    (strings : List (ℕ × List ℕ)) (x count : ℕ)
+    → All (λ string. byte_field.IsElement string.0) strings
+    → All (λ string. All byte_field.IsElement string.1) strings
+    → All (λ string. length string.1 ≡ count) strings
+    → AllPairs (λ p q. p.0 ≢ q.0) strings
+    → (y : List ℕ) × (length y ≡ count) × All byte_field.IsElement y × InterpolatesBytes strings x y
+
+-- and, where there is at least one of them, no other
 abbrev pub StringsHaveOneValue : Type 0
 StringsHaveOneValue =
     (strings : List (ℕ × List ℕ)) (x : ℕ) (y z : List ℕ)
     → 0 < length strings
-    → All (λ string. string.0 < 256) strings
+    → All (λ string. byte_field.IsElement string.0) strings
     → AllPairs (λ p q. p.0 ≢ q.0) strings
     → InterpolatesBytes strings x y
     → InterpolatesBytes strings x z

@@ -3,4 +3,5 @@ pub mod FieldProduct
 pub mod Field
 pub mod Polynomial
 pub mod Interpolation
+pub mod PowerSums
 pub mod Theory

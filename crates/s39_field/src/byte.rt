@@ -1,10 +1,10 @@
 //! The field of 256 elements, in which secrets are shared.
 
-ghost use Rattle.std.specs.Prelude.{◌≡◌, ◌<◌, refl};
+ghost use Rattle.std.specs.Prelude.{◌≡◌, refl};
 ghost use Rattle.s39_field.specs.FieldProduct.{IsProduct, product_modulo, byte_modulus, byte_field};
 ghost use Rattle.s39_field.specs.Theory.Powers.{byte_field_is_field};
 
-use crate::modulus::BYTE;
+use crate::logarithms;
 use crate::operations::Field;
 use std::marker::Model;
 
@@ -47,14 +47,14 @@ impl Field for Gf256 {
     fn mul(self, other: Gf256) -> Gf256
         ensures product { result ≡ product_modulo byte_modulus self other }
         ensures is_product { IsProduct byte_modulus self other result }
-        ensures self_element { self < 256 }
-        ensures other_element { other < 256 }
+        ensures self_element { byte_field.IsElement self }
+        ensures other_element { byte_field.IsElement other }
     {
-        Gf256(BYTE.product(u16::from(self.0), u16::from(other.0)) as u8)
+        Gf256(logarithms::product(self.0, other.0))
     }
 
     fn inv(self) -> Gf256 {
-        Gf256(BYTE.inverse(u16::from(self.0)) as u8)
+        Gf256(logarithms::inverse(self.0))
     }
 }
 

@@ -1,8 +1,10 @@
-//! Interpolation over bytes: the weights of places, and weighted sums of rows.
+//! Interpolation over bytes: the weights of places.
 
-ghost use Rattle.std.specs.Prelude.{◌≡◌, ◌≢◌, ◌<◌, ℕ, List, length, remove, zip, All, AllPairs, EachIndex, slice_index};
+ghost use Rattle.std.specs.Prelude.{◌≡◌, ◌≢◌, ◌<◌, ℕ, List, length, remove, zip};
+ghost use Rattle.std.specs.Prelude.{All, AllPairs};
 ghost use Rattle.s39_field.specs.FieldProduct.{byte_field};
-ghost use Rattle.s39_field.specs.Interpolation.{Interpolates, differences, weights_of, weighted_sum};
+ghost use Rattle.s39_field.specs.Interpolation.{Interpolates};
+ghost use Rattle.s39_field.specs.Interpolation.{differences, weights_of, weighted_sum};
 
 use crate::byte::Gf256;
 use crate::operations::Field;
@@ -11,8 +13,8 @@ use crate::operations::Field;
 fn product_of_differences(x: Gf256, places: &[Gf256], except: usize) -> Gf256
     requires { except < length places.now }
     ensures product { result ≡ differences byte_field x (remove places.now except) }
-    ensures element { x < 256 }
-    ensures elements { All (λ place. place < 256) places.now }
+    ensures element { byte_field.IsElement x }
+    ensures elements { All byte_field.IsElement places.now }
 {
     let mut product = Gf256::ONE;
     for (i, place) in places.iter().enumerate() {
@@ -24,35 +26,25 @@ fn product_of_differences(x: Gf256, places: &[Gf256], except: usize) -> Gf256
     product
 }
 
-/// The weights of distinct places at `at`: `out[i]` becomes the product over the other places `j` of
-/// `(at - xs[j]) / (xs[i] - xs[j])`.
+/// The Lagrange weights of distinct places at `at`: `out[i]` becomes the product over the other
+/// places `j` of `(at - xs[j]) / (xs[i] - xs[j])`.
 ///
-/// Whatever bytes stand at the places, the sum of weight times byte is the byte at `at` of a polynomial
-/// through them that has no more coefficients than there are places (SLIP-0039, "Shamir's secret
-/// sharing").
+/// Whatever bytes stand at the places, the sum of weight times byte is the byte at `at` of a
+/// polynomial through them that has no more coefficients than there are places (SLIP-0039,
+/// "Shamir's secret sharing").
 pub fn weights(xs: &[Gf256], at: Gf256, out: &mut [Gf256])
     requires distinct { AllPairs (λ p q. p ≢ q) xs.now }
     requires same_length { length xs.now ≡ length out.old }
     ensures weights { out.new ≡ weights_of byte_field xs.now at }
     ensures interpolates { (values : List ℕ)
-        → All (λ value. value < 256) values
+        → All byte_field.IsElement values
         → length values ≡ length xs.now
-        → Interpolates byte_field (zip xs.now values) at (weighted_sum byte_field out.new values) }
+        → Interpolates byte_field (zip xs.now values) at
+        (weighted_sum byte_field out.new values) }
 {
     for (i, weight) in out.iter_mut().enumerate() {
         let numerator = product_of_differences(at, xs, i);
         let denominator = product_of_differences(xs[i], xs, i);
         *weight = numerator.mul(denominator.inv());
-    }
-}
-
-/// Adds `w` times a row of bytes to another: each `acc[k]` becomes `acc[k] + w * row[k]`.
-pub fn scaled_sum(acc: &mut [u8], w: Gf256, row: &[u8])
-    requires { length acc.old ≡ length row.now }
-    ensures { EachIndex acc.old (λ k. slice_index acc.new k
-        ≡ byte_field.add (slice_index acc.old k) (byte_field.mul w (slice_index row.now k))) }
-{
-    for (k, sum) in acc.iter_mut().enumerate() {
-        *sum = u8::from(Gf256::from(*sum).add(w.mul(Gf256::from(row[k]))));
     }
 }

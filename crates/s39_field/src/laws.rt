@@ -1,10 +1,19 @@
 //! Laws of the two fields, each the contract of a function that does nothing.
 
-ghost use Rattle.std.specs.Prelude.{◌≡◌, ◌≢◌, ℕ, ◌<◌};
+ghost use Rattle.std.specs.Prelude.{◌≡◌, ◌≢◌, ◌-◌, ◌<◌, ℕ, length, slice_index};
 ghost use Rattle.s39_field.specs.Field.{IsField};
-ghost use Rattle.s39_field.specs.FieldProduct.{IsProduct, byte_modulus, word_modulus, product_modulo, byte_field, word_field};
-ghost use Rattle.s39_field.specs.Interpolation.{PlacesDetermineCoefficients, PlacesDetermineValues, PointsHaveOneValue, WeightsInterpolate, StringsHaveOneValue};
+ghost use Rattle.s39_field.specs.FieldProduct.{IsProduct, byte_modulus, word_modulus};
+ghost use Rattle.s39_field.specs.FieldProduct.{product_modulo, byte_field, word_field};
+ghost use Rattle.s39_field.specs.FieldProduct.{nonzero_bytes};
+ghost use Rattle.s39_field.specs.Polynomial.{power};
+ghost use Rattle.s39_field.specs.Interpolation.{PlacesDetermineCoefficients, PlacesDetermineValues};
+ghost use Rattle.s39_field.specs.Interpolation.{PointsHaveOneValue, WeightsInterpolate};
+ghost use Rattle.s39_field.specs.Interpolation.{StringsHaveAValue, StringsHaveOneValue};
+ghost use Rattle.s39_field.specs.PowerSums.{PowerSumsDetermineValues, PowersOfTwoAreDistinct};
+ghost use Rattle.s39_field.specs.PowerSums.{ValuesMultiply, ReversedValuesMultiply};
+ghost use Rattle.s39_field.specs.PowerSums.{MultiplesKeepRoots, ReversedMultiplesKeepRoots};
 
+use crate::logarithms::{LOGARITHMS, POWERS};
 use crate::operations::Field;
 
 /// The definition of a product modulo either polynomial allows exactly one, for any two numbers.
@@ -31,26 +40,62 @@ pub fn axioms_of<F: Field>()
 
 /// The inverse of each element but zero is its inverse.
 pub fn inverses()
-    ensures of_bytes { (a : ℕ) → a < 256 → a ≢ 0 → byte_field.mul a (byte_field.inv a) ≡ 1 }
-    ensures of_words { (a : ℕ) → a < 1024 → a ≢ 0 → word_field.mul a (word_field.inv a) ≡ 1 }
+    ensures of_bytes { (a : ℕ) → byte_field.IsElement a → a ≢ 0
+        → byte_field.mul a (byte_field.inv a) ≡ 1 }
+    ensures of_words { (a : ℕ) → word_field.IsElement a → a ≢ 0
+        → word_field.mul a (word_field.inv a) ≡ 1 }
 {}
 
-/// Distinct places determine a polynomial that has no more coefficients than there are places, up to zeros at
-/// the end of its list, and so its values everywhere. Points at distinct places have at most one value at each
-/// further place.
+/// The tables by which bytes are multiplied: entry `i` of the powers is `3^i`, and the logarithm of
+/// that, at entry `3^i - 1` of the other table, is `i`.
+pub fn tables()
+    ensures powers { (i : ℕ) → i < nonzero_bytes → slice_index POWERS i ≡ power byte_field 3 i }
+    ensures logarithms { (i : ℕ) → i < nonzero_bytes
+        → slice_index LOGARITHMS (slice_index POWERS i - 1) ≡ i }
+    ensures lengths { (length POWERS ≡ nonzero_bytes) × (length LOGARITHMS ≡ nonzero_bytes) }
+{}
+
+/// Distinct places determine a polynomial that has no more coefficients than there are places, up
+/// to zeros at the end of its list, and so its values everywhere. Points at distinct places have at
+/// most one value at each further place.
 pub fn one_polynomial<F: Field>()
     ensures coefficients { PlacesDetermineCoefficients F.operations }
     ensures places { PlacesDetermineValues F.operations }
     ensures points { PointsHaveOneValue F.operations }
 {}
 
-/// Points at distinct places have a value at each further place: the sum of weight times value.
+/// Points at distinct places have a value at each further place: the sum of Lagrange weight times
+/// value.
 pub fn weighted_values<F: Field>()
     ensures { WeightsInterpolate F.operations }
 {}
 
-/// Byte strings at distinct places, of which there is at least one, have at most one byte string at each
-/// further place.
+/// Byte strings of one length at distinct places have a byte string at each further place, and,
+/// where there is at least one of them, no other.
 pub fn one_byte_string()
-    ensures { StringsHaveOneValue }
+    ensures some { StringsHaveAValue }
+    ensures one { StringsHaveOneValue }
+{}
+
+/// The value of a product of polynomials is the product of their values, so a multiple of a
+/// polynomial is zero where that is: also where coefficients are read from the highest power down.
+pub fn values_multiply<F: Field>()
+    ensures values { ValuesMultiply F.operations }
+    ensures reversed_values { ReversedValuesMultiply F.operations }
+    ensures roots { MultiplesKeepRoots F.operations }
+    ensures reversed_roots { ReversedMultiplesKeepRoots F.operations }
+{}
+
+/// Values at distinct places but zero are zero where their sums with the powers of the places are, for
+/// as many powers as there are places: of three values, for the first, the second and the third.
+pub fn power_sums<F: Field>()
+    ensures { PowerSumsDetermineValues F.operations }
+{}
+
+/// The powers of 2 in the field of 1,024 elements are distinct up to the exponent 1,022, and none is
+/// zero.
+pub fn powers_of_two()
+    ensures distinct { PowersOfTwoAreDistinct }
+    ensures elements { (n : ℕ) → word_field.IsElement (power word_field 2 n) }
+    ensures nonzero { (n : ℕ) → power word_field 2 n ≢ 0 }
 {}

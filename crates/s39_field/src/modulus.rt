@@ -26,12 +26,6 @@ impl Model for Modulus {
         × (m.degree < 16) };
 }
 
-/// The modulus `x^8 + x^4 + x^3 + x + 1` of the byte field.
-pub(crate) const BYTE: Modulus = Modulus {
-    degree: 8,
-    polynomial: 0x11B,
-};
-
 /// The modulus `x^10 + x^3 + 1` of the word field.
 pub(crate) const WORD: Modulus = Modulus {
     degree: 10,

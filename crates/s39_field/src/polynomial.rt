@@ -5,8 +5,8 @@ ghost use Rattle.s39_field.specs.Polynomial.{value_at};
 
 use crate::operations::Field;
 
-/// The value at `x` of the polynomial with these coefficients, of which `coeffs[i]` belongs to `x^i`:
-/// the sum of `coeffs[i] * x^i`. With no coefficient it is zero.
+/// The value at `x` of the polynomial with these coefficients, of which `coeffs[i]` belongs to
+/// `x^i`: the sum of `coeffs[i] * x^i`. With no coefficient it is zero.
 pub fn eval<F: Field>(coeffs: &[F], x: F) -> F
     ensures { result ≡ value_at F.operations coeffs.now x }
 {

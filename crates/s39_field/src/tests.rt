@@ -1,6 +1,7 @@
 ghost use Rattle.std.specs.Prelude.{◌≡◌, ◌≢◌, IfOk};
 
-use crate::{Field, Gf256, Gf1024, NotTenBits, eval, scaled_sum, weights};
+use crate::{Field, Gf256, Gf1024, NotTenBits, eval, lanes, scaled_sum, weights};
+use std::simd::prelude::*;
 use std::test::Fail;
 
 fn word(number: u16) -> Result<Gf1024, NotTenBits>
@@ -70,8 +71,54 @@ fn weights_of_two_places(rt: HostRuntime) {
 }
 
 #[test]
+fn product_of_lanes(rt: HostRuntime) {
+    assert_eq!(rt;
+        lanes(Gf256::from(0x57), u8x16::splat(0x83)).to_array(),
+        [0xC1; 16]
+    );
+    assert_eq!(rt;
+        lanes(Gf256::from(0x00), u8x16::splat(0x83)).to_array(),
+        [0x00; 16]
+    );
+    let row = [
+        0x00, 0x01, 0x02, 0x03, 0x53, 0x80, 0x83, 0xFF, 0x10, 0x57, 0xCA, 0x8D, 0xF6, 0x7F, 0xC1,
+        0xFE,
+    ];
+    let products = [
+        0x00, 0xCA, 0x8F, 0x45, 0x01, 0xA0, 0xE5, 0x86, 0x14, 0x04, 0x75, 0x65, 0x46, 0x26, 0x3A,
+        0x4C,
+    ];
+    assert_eq!(rt;
+        lanes(Gf256::from(0xCA), u8x16::from_array(row)).to_array(),
+        products
+    );
+}
+
+#[test]
 fn sum_of_rows(rt: HostRuntime) {
     let mut sums = [0x00, 0xFF, 0xC1];
     scaled_sum(&mut sums, Gf256::from(0x57), &[0x83; 3]);
     assert_eq!(rt; sums, [0xC1, 0x3E, 0x00]);
+}
+
+#[test]
+fn sums_of_all_lengths(rt: HostRuntime) {
+    let row = [0x83; 128];
+    for length in [0, 1, 15, 16, 17, 31, 32, 33, 64, 127, 128] {
+        let mut sums = [0x00; 129];
+        scaled_sum(&mut sums[..length], Gf256::from(0x57), &row[..length]);
+        for (place, sum) in sums.iter().enumerate() {
+            let expected = if place < length { 0xC1 } else { 0x00 };
+            assert_eq!(rt; *sum, expected);
+        }
+    }
+}
+
+#[test]
+fn sums_by_zero_and_by_one(rt: HostRuntime) {
+    let mut sums = [0x3C; 33];
+    scaled_sum(&mut sums, Gf256::ZERO, &[0x83; 33]);
+    assert_eq!(rt; sums, [0x3C; 33]);
+    scaled_sum(&mut sums, Gf256::ONE, &[0x83; 33]);
+    assert_eq!(rt; sums, [0xBF; 33]);
 }

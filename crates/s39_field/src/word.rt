@@ -2,7 +2,8 @@
 
 ghost use Rattle.std.specs.Prelude.{◌≡◌, ◌<◌, ◌≤◌, ◌++◌, Some, MatchResult, codes, refl};
 ghost use Rattle.std.specs.Fmt.{decimal};
-ghost use Rattle.s39_field.specs.FieldProduct.{IsProduct, product_modulo, word_modulus, word_field};
+ghost use Rattle.s39_field.specs.FieldProduct.{IsProduct, product_modulo, word_modulus};
+ghost use Rattle.s39_field.specs.FieldProduct.{word_field, word_field_order};
 ghost use Rattle.s39_field.specs.Theory.Powers.{word_field_is_field};
 
 use crate::modulus::WORD;
@@ -16,12 +17,16 @@ use std::marker::Model;
 #[derive(Clone, Copy, Debug, PartialEq, Eq)]
 pub struct Gf1024(u16);
 
+/// The number of elements of the field.
+const ORDER: u16 = 1024;
+
 /// A number that is not below 1,024.
 #[derive(Clone, Copy, Debug, PartialEq, Eq)]
 pub struct NotTenBits(pub u16);
 
 impl Model for Gf1024 {
-    ghost use Rattle.std.specs.Prelude.{ℕ, ◌<◌};
+    ghost use Rattle.std.specs.Prelude.{ℕ};
+    ghost use Rattle.s39_field.specs.FieldProduct.{word_field};
 
     ghost Value = { ℕ };
 
@@ -29,7 +34,7 @@ impl Model for Gf1024 {
 
     ghost inverse = { λ n. record { 0 = n } };
 
-    ghost invariant = { λ a. a.0 < 1024 };
+    ghost invariant = { λ a. word_field.IsElement a.0 };
 }
 
 impl Field for Gf1024 {
@@ -56,8 +61,8 @@ impl Field for Gf1024 {
     fn mul(self, other: Gf1024) -> Gf1024
         ensures product { result ≡ product_modulo word_modulus self other }
         ensures is_product { IsProduct word_modulus self other result }
-        ensures self_element { self < 1024 }
-        ensures other_element { other < 1024 }
+        ensures self_element { word_field.IsElement self }
+        ensures other_element { word_field.IsElement other }
     {
         Gf1024(WORD.product(self.0, other.0))
     }
@@ -71,11 +76,11 @@ impl TryFrom<u16> for Gf1024 {
     type Error = NotTenBits;
 
     ghost try_from_gives = { λ number result.
-        MatchResult result (λ element. (number < 1024) × (element ≡ number))
-        (λ error. (1024 ≤ number) × (error.0 ≡ number)) };
+        MatchResult result (λ element. (number < word_field_order) × (element ≡ number))
+        (λ error. (word_field_order ≤ number) × (error.0 ≡ number)) };
 
     fn try_from(number: u16) -> Result<Gf1024, NotTenBits> {
-        if number < 1024 {
+        if number < ORDER {
             Ok(Gf1024(number))
         } else {
             Err(NotTenBits(number))
@@ -84,7 +89,7 @@ impl TryFrom<u16> for Gf1024 {
 }
 
 impl From<Gf1024> for u16 {
-    ghost from_gives = { λ element number. (number ≡ element) × (number < 1024) };
+    ghost from_gives = { λ element number. (number ≡ element) × word_field.IsElement number };
 
     fn from(element: Gf1024) -> u16 {
         element.0

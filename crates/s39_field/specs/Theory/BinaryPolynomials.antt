@@ -1,39 +1,41 @@
 -- The ring laws of the polynomials over two elements, and the degree of a product.
-use Rattle.std.proofs.Common.{◌≡◌, ℕ, zero, suc, ◌+◌, ◌-◌, ◌*◌, ◌/◌, ◌%◌, ◌^◌, ◌<◌, ◌≤◌, ◌⊎◌, inl, inr, refl, sym, ap, ap₂, ◌∙◌, subst, arith, pow_pos, pow_mono, pow-suc, pow-add, lt_of_lt_of_le, zero-mul, one-mul, mul-zero, bit_xor, eq-or-lt_of_le, le_of_suc-le-suc, mul-le-mul}
+use Rattle.std.proofs.Common.{◌≡◌, ℕ, zero, suc, ◌+◌, ◌-◌, ◌*◌, ◌/◌, ◌%◌, ◌^◌, ◌<◌, ◌≤◌, ◌⊎◌, inl, inr, refl, sym, ap}
+use Rattle.std.proofs.Common.{ap₂, ◌∙◌, subst, arith, pow_pos, pow_mono, pow-suc, pow-add, lt_of_lt_of_le, zero-mul}
+use Rattle.std.proofs.Common.{one-mul, mul-zero, bit_xor, eq-or-lt_of_le, le_of_suc-le-suc, mul-le-mul}
 use Rattle.std.specs.Int.{bit_at}
 use Rattle.std.specs.Int.Bits.{xor_self, xor_zero_r, xor_assoc}
 use Rattle.std.proofs.lemmas.Nat.{xor_comm, xor_lt, xor_block, mod-pow-add, div_below, le-div, mod_below, mul-le}
 use Rattle.std.proofs.lemmas.Nat.Bits.{bit_at-lt, bit_at-zero, bit_at_xor, bit_at_above, bit_at_cat_high}
-use Rattle.s39_field.specs.BinaryPolynomial.{sum_of, product_below, product_of}
+use Rattle.s39_field.specs.BinaryPolynomial.{binary_sum, product_below, binary_product}
 
 -- ---- sums
 
-pub sum-zero_left : (a : ℕ) → sum_of 0 a ≡ a
+pub sum-zero_left : (a : ℕ) → binary_sum 0 a ≡ a
 sum-zero_left a = refl
 
-pub sum-zero_right : (a : ℕ) → sum_of a 0 ≡ a
+pub sum-zero_right : (a : ℕ) → binary_sum a 0 ≡ a
 sum-zero_right a = xor_zero_r a
 
-pub sum-self : (a : ℕ) → sum_of a a ≡ 0
+pub sum-self : (a : ℕ) → binary_sum a a ≡ 0
 sum-self a = xor_self a
 
-pub sum_commutes : (a b : ℕ) → sum_of a b ≡ sum_of b a
+pub sum_commutes : (a b : ℕ) → binary_sum a b ≡ binary_sum b a
 sum_commutes a b = xor_comm a b
 
-pub sum_associates : (a b c : ℕ) → sum_of (sum_of a b) c ≡ sum_of a (sum_of b c)
+pub sum_associates : (a b c : ℕ) → binary_sum (binary_sum a b) c ≡ binary_sum a (binary_sum b c)
 sum_associates a b c = xor_assoc a b c
 
-pub sum_exchanges : (a b c : ℕ) → sum_of a (sum_of b c) ≡ sum_of b (sum_of a c)
+pub sum_exchanges : (a b c : ℕ) → binary_sum a (binary_sum b c) ≡ binary_sum b (binary_sum a c)
 sum_exchanges a b c = sym (xor_assoc a b c) ∙ ap (λ x. bit_xor x c) (xor_comm a b) ∙ xor_assoc b a c
 
-pub sum_of_sums : (a b c d : ℕ) → sum_of (sum_of a b) (sum_of c d) ≡ sum_of (sum_of a c) (sum_of b d)
+pub sum_of_sums : (a b c d : ℕ) → binary_sum (binary_sum a b) (binary_sum c d) ≡ binary_sum (binary_sum a c) (binary_sum b d)
 sum_of_sums a b c d = xor_assoc a b (bit_xor c d) ∙ ap (bit_xor a) (sum_exchanges b c d) ∙ sym (xor_assoc a c (bit_xor b d))
 
 -- to add twice is to add nothing
-pub sum_cancels : (a b : ℕ) → sum_of a (sum_of a b) ≡ b
+pub sum_cancels : (a b : ℕ) → binary_sum a (binary_sum a b) ≡ b
 sum_cancels a b = sym (xor_assoc a a b) ∙ ap (λ x. bit_xor x b) (xor_self a)
 
-pub same_from_sum : (a b : ℕ) → sum_of a b ≡ 0 → a ≡ b
+pub same_from_sum : (a b : ℕ) → binary_sum a b ≡ 0 → a ≡ b
 same_from_sum a b e = sym (xor_zero_r a) ∙ ap (bit_xor a) (sym e) ∙ sum_cancels a b
 
 -- ---- a polynomial times x ^ k, and times a coefficient
@@ -63,7 +65,7 @@ term-sum a i b c = ap (λ x. bit_at a i * x) (sum-shifted i b c) ∙ sum-scaled 
 
 -- ---- products
 
-below-sum : (n a b c : ℕ) → product_below n a (sum_of b c) ≡ sum_of (product_below n a b) (product_below n a c)
+below-sum : (n a b c : ℕ) → product_below n a (binary_sum b c) ≡ binary_sum (product_below n a b) (product_below n a c)
 below-sum zero a b c = refl
 below-sum (suc n) a b c =
     ap₂ bit_xor (below-sum n a b c) (term-sum a n b c)
@@ -121,7 +123,7 @@ below-more n (suc m) a b h s =
     ]
 
 -- the product by the places below any bound on a's degree
-pub product-below : (n a b : ℕ) → a < 2 ^ n → product_of a b ≡ product_below n a b
+pub product-below : (n a b : ℕ) → a < 2 ^ n → binary_product a b ≡ product_below n a b
 product-below n a b h =
     elim (order n a) [
       | inl le ↦ below-more n a a b le h
@@ -131,40 +133,40 @@ product-below n a b h =
     order : (x y : ℕ) → (x ≤ y) ⊎ (y ≤ x)
     order x y = grind arith
 
-pub product-one_right : (a : ℕ) → product_of a 1 ≡ a
+pub product-one_right : (a : ℕ) → binary_product a 1 ≡ a
 product-one_right a = below-one a a ∙ mod-small a (2 ^ a) (lt-pow a)
   where
     mod-small : (x y : ℕ) → x < y → x % y ≡ x
     mod-small x y h = Rattle.std.proofs.Common.mod-eq_of_lt h
 
-pub product_commutes : (a b : ℕ) → product_of a b ≡ product_of b a
+pub product_commutes : (a b : ℕ) → binary_product a b ≡ binary_product b a
 product_commutes a b =
-    ap (product_of a) (sym (product-one_right b)) ∙ below_exchanges a b a b 1 ∙ ap (product_of b) (product-one_right a)
+    ap (binary_product a) (sym (product-one_right b)) ∙ below_exchanges a b a b 1 ∙ ap (binary_product b) (product-one_right a)
 
-pub product_exchanges : (a b c : ℕ) → product_of a (product_of b c) ≡ product_of b (product_of a c)
+pub product_exchanges : (a b c : ℕ) → binary_product a (binary_product b c) ≡ binary_product b (binary_product a c)
 product_exchanges a b c = below_exchanges a b a b c
 
-pub product_associates : (a b c : ℕ) → product_of (product_of a b) c ≡ product_of a (product_of b c)
+pub product_associates : (a b c : ℕ) → binary_product (binary_product a b) c ≡ binary_product a (binary_product b c)
 product_associates a b c =
-    product_commutes (product_of a b) c ∙ product_exchanges c a b ∙ ap (product_of a) (product_commutes c b)
+    product_commutes (binary_product a b) c ∙ product_exchanges c a b ∙ ap (binary_product a) (product_commutes c b)
 
-pub product-sum_right : (a b c : ℕ) → product_of a (sum_of b c) ≡ sum_of (product_of a b) (product_of a c)
+pub product-sum_right : (a b c : ℕ) → binary_product a (binary_sum b c) ≡ binary_sum (binary_product a b) (binary_product a c)
 product-sum_right a b c = below-sum a a b c
 
-pub product-sum_left : (a b c : ℕ) → product_of (sum_of a b) c ≡ sum_of (product_of a c) (product_of b c)
+pub product-sum_left : (a b c : ℕ) → binary_product (binary_sum a b) c ≡ binary_sum (binary_product a c) (binary_product b c)
 product-sum_left a b c =
-    product_commutes (sum_of a b) c ∙ product-sum_right c a b ∙ ap₂ bit_xor (product_commutes c a) (product_commutes c b)
+    product_commutes (binary_sum a b) c ∙ product-sum_right c a b ∙ ap₂ bit_xor (product_commutes c a) (product_commutes c b)
 
-pub product-zero_left : (a : ℕ) → product_of 0 a ≡ 0
+pub product-zero_left : (a : ℕ) → binary_product 0 a ≡ 0
 product-zero_left a = refl
 
 -- the product with a term of one place
-pub product-term : (a k b : ℕ) → (k ≡ 0) ⊎ (k ≡ 1) → (i : ℕ) → product_of (k * 2 ^ i) b ≡ k * (2 ^ i * b)
+pub product-term : (a k b : ℕ) → (k ≡ 0) ⊎ (k ≡ 1) → (i : ℕ) → binary_product (k * 2 ^ i) b ≡ k * (2 ^ i * b)
 product-term a k b cases i =
     let one : 2 ^ i * 1 ≡ 2 ^ i = omega arith in
     product_commutes (k * 2 ^ i) b
     ∙ below-scaled b b k (2 ^ i) cases
-    ∙ ap (λ x. k * product_of b x) (sym one)
+    ∙ ap (λ x. k * binary_product b x) (sym one)
     ∙ ap (λ x. k * x) (below-shifted b b i 1)
     ∙ ap (λ x. k * (2 ^ i * x)) (product-one_right b)
 
@@ -190,7 +192,7 @@ below-lt (suc n) a b m h =
     let last = scaled-lt (bit_at a n) n b (suc m) (bit_cases a n) h in
     xor_lt (suc n + m) (product_below n a b) (term a n b) (omega arith) (omega arith)
 
-pub product-lt : (n m a b : ℕ) → a < 2 ^ n → b < 2 ^ m → product_of a b < 2 ^ (n + m)
+pub product-lt : (n m a b : ℕ) → a < 2 ^ n → b < 2 ^ m → binary_product a b < 2 ^ (n + m)
 product-lt n m a b p q = subst (λ x. x < 2 ^ (n + m)) (sym (product-below n a b p)) (below-lt n a b m (omega (arith, pow-suc 2 m)))
 
 -- the coefficient at the degree of a polynomial is 1

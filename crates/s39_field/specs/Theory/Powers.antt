@@ -1,13 +1,19 @@
 -- Both fields have inverses: the powers of a generator run through all nonzero elements.
-use Rattle.std.proofs.Common.{◌≡◌, ◌≢◌, ℕ, zero, suc, ◌+◌, ◌-◌, ◌*◌, ◌^◌, ◌<◌, ◌≤◌, ◌⊎◌, inl, inr, refl, sym, ap, ◌∙◌, subst, arith, lit<, lit≤, pow_pos, pow_mono, pow-suc, pow-add, bit_or, add-zero, add-suc, mul-zero, mul-suc}
+use Rattle.std.proofs.Common.{List, [], ◌∷◌, get_or, ◌≡◌, ◌≢◌, ℕ, zero, suc, ◌+◌, ◌-◌, ◌*◌, ◌^◌, ◌<◌, ◌≤◌, ◌⊎◌, inl, inr, refl, sym, ap, ◌∙◌}
+use Rattle.std.proofs.Common.{subst, arith, lit<, lit≤, pow_pos, pow_mono, pow-suc, pow-add, bit_or, add-zero, add-suc}
+use Rattle.std.proofs.Common.{mul-zero, mul-suc}
 use Rattle.std.specs.Int.{bit_at}
 use Rattle.std.proofs.lemmas.Nat.{xor_lt}
 use Rattle.std.proofs.lemmas.Nat.Bits.{bit_at_or, bit_at-pow_other, bit_at-zero, bit_at_mask_inside}
-use Rattle.s39_field.specs.BinaryPolynomial.{product_of}
+use Rattle.s39_field.specs.BinaryPolynomial.{binary_product}
 use Rattle.s39_field.specs.Field.{IsField}
-use Rattle.s39_field.specs.FieldProduct.{Modulus, HasDegree, byte_modulus, word_modulus, reduction, product_modulo, power_modulo, field_modulo, byte_field, word_field}
+use Rattle.s39_field.specs.Polynomial.{power}
+use Rattle.s39_field.specs.FieldProduct.{Modulus, HasDegree, byte_modulus, word_modulus, reduction, product_modulo}
+use Rattle.s39_field.specs.FieldProduct.{power_modulo, field_modulo, byte_field, word_field}
 use Rattle.s39_field.specs.Theory.BinaryPolynomials.{sum_commutes, sum_associates, sum-zero_right, sum-self, product_commutes, product-below, below-lt}
-use Rattle.s39_field.specs.Theory.Residues.{IsCongruent, reduction-lt, reduction_congruent, product_modulo-lt, same_as_product_modulo, product_modulo_commutes, product_modulo_associates, product_modulo_distributes, product_modulo-one}
+use Rattle.s39_field.specs.Theory.Residues.{IsCongruent, reduction-lt, reduction_congruent, product_modulo-lt}
+use Rattle.s39_field.specs.Theory.Residues.{same_as_product_modulo, product_modulo_commutes, product_modulo_associates}
+use Rattle.s39_field.specs.Theory.Residues.{product_modulo_distributes, product_modulo-one}
 
 module _ (m : Modulus) (is : HasDegree m) where
   pub one-lt : 1 < 2 ^ m.degree
@@ -18,7 +24,7 @@ module _ (m : Modulus) (is : HasDegree m) where
   power-lt x zero = one-lt
   power-lt x (suc n) = product_modulo-lt m is (power_modulo m x n) x
 
-  power-add : (x i j : ℕ) → power_modulo m x (i + j) ≡ product_modulo m (power_modulo m x i) (power_modulo m x j)
+  pub power-add : (x i j : ℕ) → power_modulo m x (i + j) ≡ product_modulo m (power_modulo m x i) (power_modulo m x j)
   unfolding power_modulo
   power-add x i zero = ap (power_modulo m x) (add-zero i) ∙ sym (product_modulo-one m is (power_modulo m x i) (power-lt x i))
   power-add x i (suc j) =
@@ -70,12 +76,23 @@ pub power-none : (m : Modulus) (a : ℕ) → power_modulo m a 0 ≡ 1
 unfolding power_modulo
 power-none m a = refl
 
+-- the power in the field that the modulus makes
+pub field_power : (m : Modulus) (x n : ℕ) → power (field_modulo m) x n ≡ power_modulo m x n
+unfolding power_modulo
+field_power m x zero = refl
+field_power m x (suc n) = ap (λ y. product_modulo m y x) (field_power m x n)
+
 same_or_not : (x y : ℕ) → (x ≡ y) ⊎ (x ≢ y)
 same_or_not x y = grind arith
 
 -- the next power of g, by one step of division: it computes
-abbrev next : Modulus → ℕ → ℕ → ℕ
-next m g a = reduction m 1 (product_of g a)
+abbrev pub next : Modulus → ℕ → ℕ → ℕ
+next m g a = reduction m 1 (binary_product g a)
+
+-- the n powers of g from a on
+abbrev pub powers_from : Modulus → ℕ → ℕ → ℕ → List ℕ
+powers_from m g zero a = []
+powers_from m g (suc n) a = a ∷ powers_from m g n (next m g a)
 
 -- the power that is n places after a
 abbrev power_after : Modulus → ℕ → ℕ → ℕ → ℕ
@@ -92,16 +109,24 @@ module _ (m : Modulus) (is : HasDegree m) (g : ℕ) (small : g < 2 ^ 2) where
   unfolding power_modulo
   next-is j =
       let a : ℕ = power_modulo m g j in
-      let low : product_of g a < 2 ^ (m.degree + 1) =
+      let low : binary_product g a < 2 ^ (m.degree + 1) =
       subst (λ x. x < 2 ^ (m.degree + 1)) (sym (product-below m.degree a g (power-lt m is g j)) ∙ product_commutes a g)
       (below-lt m.degree a g 1 small) in
-      same_as_product_modulo m is a g (next m g a) (reduction-lt m is 1 (product_of g a) low)
-      (subst (λ x. IsCongruent m x (next m g a)) (product_commutes g a) (reduction_congruent m 1 (product_of g a)))
+      same_as_product_modulo m is a g (next m g a) (reduction-lt m is 1 (binary_product g a) low)
+      (subst (λ x. IsCongruent m x (next m g a)) (product_commutes g a) (reduction_congruent m 1 (binary_product g a)))
 
   power_after-is : (n j : ℕ) → power_after m g n (power_modulo m g j) ≡ power_modulo m g (n + j)
   power_after-is zero j = ap (power_modulo m g) (omega arith)
   power_after-is (suc n) j =
       ap (power_after m g n) (next-is j) ∙ power_after-is n (suc j) ∙ ap (power_modulo m g) (omega arith)
+
+  pub power_listed : (n j i d : ℕ) → i < n → get_or (powers_from m g n (power_modulo m g j)) i d ≡ power_modulo m g (j + i)
+  power_listed zero j i d below = absurd (omega arith)
+  power_listed (suc n) j zero d below = ap (power_modulo m g) (omega arith)
+  power_listed (suc n) j (suc i) d below =
+      ap (λ a. get_or (powers_from m g n a) i d) (next-is j)
+      ∙ power_listed n (suc j) i d (omega arith)
+      ∙ ap (power_modulo m g) (omega arith)
 
   power_from_seen : (n j seen x : ℕ) → bit_at (powers_seen m g n (power_modulo m g j) seen) x ≡ 1 → (bit_at seen x ≡ 1) ⊎ ((i : ℕ) × (power_modulo m g i ≡ x))
   power_from_seen zero j seen x h = inl h
@@ -137,7 +162,8 @@ module _ (m : Modulus) (is : HasDegree m) (g : ℕ) (generates : IsGenerator m g
         | inr found ↦ found
       ]
 
-  order : power_modulo m g (2 ^ m.degree - 1) ≡ 1
+  -- after them the powers come back to 1
+  pub order : power_modulo m g (2 ^ m.degree - 1) ≡ 1
   unfolding power_modulo
   order =
       ap (power_modulo m g) (sym (add-zero (2 ^ m.degree - 1)))
@@ -187,11 +213,11 @@ pub word_degree : HasDegree word_modulus
 word_degree = record { at_least = lit≤ tt; below = lit< tt; positive = lit< tt }
 
 -- the powers of 3 are the nonzero bytes
-byte_generator : IsGenerator byte_modulus 3
+pub byte_generator : IsGenerator byte_modulus 3
 byte_generator = record { small = lit< tt; all = refl; back = refl }
 
 -- the powers of 2 are the nonzero words
-word_generator : IsGenerator word_modulus 2
+pub word_generator : IsGenerator word_modulus 2
 word_generator = record { small = lit< tt; all = refl; back = refl }
 
 pub byte_field_is_field : IsField byte_field

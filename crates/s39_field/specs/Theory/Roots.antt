@@ -1,28 +1,14 @@
 -- Points determine the value of a polynomial that has no more coefficients than there are points.
-use Rattle.std.proofs.Common.{◌≡◌, ◌≢◌, suc, ◌<◌, ◌≤◌, List, [], ◌∷◌, length, get_or, map, All, AllPairs, refl, sym, ap, ap₂, ◌∙◌, subst, subst₂, arith}
+use Rattle.std.proofs.Common.{◌≡◌, ◌≢◌, suc, ◌≤◌, List, [], ◌∷◌, length, get_or, map, All, AllPairs, refl, sym, ap, ap₂, ◌∙◌, subst, arith}
 use Rattle.std.proofs.lemmas.List.Elements.{All-nil, All-cons, All-head, All-tail, All-map}
-use Rattle.std.proofs.lemmas.List.{length-map, get_or-map}
+use Rattle.std.proofs.lemmas.List.{length-map}
 use Rattle.s39_field.specs.Field.{Operations, IsField}
 use Rattle.s39_field.specs.Interpolation.{PlacesDetermineCoefficients, PlacesDetermineValues, PointsHaveOneValue}
 use Rattle.s39_field.specs.Polynomial.{value_at, sum_of}
-use Rattle.s39_field.specs.Theory.Values.{zero_add, add_exchanges, add_cancels, same_from_sum, mul-zero_right, mul-zero_left, distributes_left, zero_from_product, value_at-cons, value_at-element, value_at-sum, elements-sum, length-sum}
-
--- the first of a list's elements, and the others among themselves
-pub AllPairs-head : {X : Type 0} (R : X → X → Type 0) (x : X) (xs : List X) → AllPairs R (x ∷ xs) → All (R x) xs
-AllPairs-head R x xs h k d below = h 0 (suc k) d (omega arith) (omega arith)
-
-pub AllPairs-tail : {X : Type 0} (R : X → X → Type 0) (x : X) (xs : List X) → AllPairs R (x ∷ xs) → AllPairs R xs
-AllPairs-tail R x xs h i j d before below = h (suc i) (suc j) d (omega arith) (omega arith)
-
--- what holds of the images of each two elements holds of each two of the images
-pub AllPairs-map : {X Y : Type 0} (R : X → X → Type 0) (g : Y → X) (ys : List Y) → AllPairs (λ p q. R (g p) (g q)) ys → AllPairs R (map g ys)
-AllPairs-map R g [] h i j d before below = absurd (omega arith)
-AllPairs-map R g (y ∷ ys) h i j d before below =
-    let within : j < length (y ∷ ys) = omega (arith, length-map ys g) in
-    subst₂ R
-    (sym (get_or-map g (y ∷ ys) i y d (omega arith)))
-    (sym (get_or-map g (y ∷ ys) j y d within))
-    (h i j y before within)
+use Rattle.s39_field.specs.Theory.Lists.{AllPairs-head, AllPairs-tail, AllPairs-map}
+use Rattle.s39_field.specs.Theory.Values.{zero_add, add_exchanges, add_cancels, same_from_sum, mul-zero_right}
+use Rattle.s39_field.specs.Theory.Values.{mul-zero_left, distributes_left, zero_from_product, value_at-cons}
+use Rattle.s39_field.specs.Theory.Values.{value_at-element, value_at-sum, elements-sum, length-sum}
 
 -- the values at a of a polynomial's ends
 abbrev tail_values : {F : Type 0} (f : Operations F) → List F → F → List F
@@ -53,7 +39,11 @@ module _ {F : Type 0} (f : Operations F) (is : IsField f) where
       ap (f.add c) (sym gathered) ∙ add_exchanges f is c s b
 
   -- division by x - a: the quotient's coefficients are the values of the ends, the remainder is the value at a
-  division : (c : F) (cs : List F) (x a : F) → f.IsElement c → All f.IsElement cs → f.IsElement a → value_at f (c ∷ cs) x ≡ f.add (f.mul (f.add x a) (value_at f (tail_values f cs a) x)) (value_at f (c ∷ cs) a)
+  division : (c : F) (cs : List F) (x a : F)
+      → f.IsElement c
+      → All f.IsElement cs
+      → f.IsElement a
+      → value_at f (c ∷ cs) x ≡ f.add (f.mul (f.add x a) (value_at f (tail_values f cs a) x)) (value_at f (c ∷ cs) a)
   division c [] x a first elements element =
       sym (ap (λ s. f.add s (value_at f (c ∷ []) a)) (mul-zero_right f is (f.add x a)) ∙ zero_add f is (value_at f (c ∷ []) a))
   division c (d ∷ ds) x a first elements element =
@@ -103,7 +93,13 @@ module _ {F : Type 0} (f : Operations F) (is : IsField f) where
       rest
 
   -- a polynomial with no more coefficients than it has roots has zeros alone
-  zeros_from_roots : (places cs : List F) → All f.IsElement places → All f.IsElement cs → AllPairs (λ p q. p ≢ q) places → length cs ≤ length places → All (λ p. value_at f cs p ≡ f.zero) places → All (λ c. c ≡ f.zero) cs
+  zeros_from_roots : (places cs : List F)
+      → All f.IsElement places
+      → All f.IsElement cs
+      → AllPairs (λ p q. p ≢ q) places
+      → length cs ≤ length places
+      → All (λ p. value_at f cs p ≡ f.zero) places
+      → All (λ c. c ≡ f.zero) cs
   zeros_from_roots [] [] ep ec distinct short roots = All-nil (λ c. c ≡ f.zero)
   zeros_from_roots [] (c ∷ cs) ep ec distinct short roots = absurd (omega arith)
   zeros_from_roots (p ∷ ps) [] ep ec distinct short roots = All-nil (λ c. c ≡ f.zero)
@@ -118,7 +114,9 @@ module _ {F : Type 0} (f : Operations F) (is : IsField f) where
       let others = All-tail (λ r. value_at f (c ∷ cs) r ≡ f.zero) p ps roots in
       let apart = AllPairs-head (λ r s. r ≢ s) p ps distinct in
       let is_product : (y : F) → value_at f (c ∷ cs) y ≡ f.mul (f.add y p) (value_at f quotient y) =
-      λ y. division c cs y p first rest place ∙ ap (f.add (f.mul (f.add y p) (value_at f quotient y))) at_p ∙ is.add_zero (f.mul (f.add y p) (value_at f quotient y)) in
+      λ y. division c cs y p first rest place
+      ∙ ap (f.add (f.mul (f.add y p) (value_at f quotient y))) at_p
+      ∙ is.add_zero (f.mul (f.add y p) (value_at f quotient y)) in
       let roots_of_quotient : All (λ r. value_at f quotient r ≡ f.zero) ps =
       λ k d below.
       let r = get_or ps k d in
@@ -127,7 +125,9 @@ module _ {F : Type 0} (f : Operations F) (is : IsField f) where
       (λ e. apart k d below (sym (same_from_sum f is r p e)))
       (value_at-element f is quotient r elements (places k d below))
       (sym (is_product r) ∙ others k d below) in
-      let none = zeros_from_roots ps quotient places elements (AllPairs-tail (λ r s. r ≢ s) p ps distinct) (omega (arith, length-tail_values f cs p)) roots_of_quotient in
+      let none =
+      zeros_from_roots ps quotient places elements (AllPairs-tail (λ r s. r ≢ s) p ps distinct)
+      (omega (arith, length-tail_values f cs p)) roots_of_quotient in
       let zeros = zeros_from_ends cs p rest none in
       All-cons (λ k. k ≡ f.zero) c cs (first-zero c cs p ec zeros at_p) zeros
 

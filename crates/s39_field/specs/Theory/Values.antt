@@ -50,7 +50,7 @@ module _ {F : Type 0} (f : Operations F) (is : IsField f) where
 
   -- ---- values
 
-  value_from-suc : (cs : List F) (n : ℕ) (x : F) → value_from f cs (suc n) x ≡ f.mul (value_from f cs n x) x
+  pub value_from-suc : (cs : List F) (n : ℕ) (x : F) → value_from f cs (suc n) x ≡ f.mul (value_from f cs n x) x
   value_from-suc [] n x = sym (mul-zero_left x)
   value_from-suc (c ∷ cs) n x =
       ap₂ f.add (sym (is.mul_associates c (power f x n) x)) (value_from-suc cs (suc n) x)

@@ -1,20 +1,25 @@
 -- With the weights of distinct places, the sum of weight times value is the value of a polynomial through the points.
-use Rattle.std.proofs.Common.{◌≡◌, ◌≢◌, ℕ, zero, suc, ◌+◌, ◌-◌, ◌<◌, ◌≤◌, ◌⊎◌, inl, inr, List, [], ◌∷◌, length, get_or, take, drop, map, zip, remove, All, AllPairs, Contains, refl, sym, ap, ap₂, ◌∙◌, subst, arith, length-take, length-drop}
+use Rattle.std.proofs.Common.{◌≡◌, ◌≢◌, ℕ, zero, suc, ◌+◌, ◌-◌, ◌<◌, ◌≤◌, ◌⊎◌, inl, inr, List, [], ◌∷◌, length, get_or}
+use Rattle.std.proofs.Common.{take, drop, map, zip, remove, All, AllPairs, Contains, refl, sym, ap, ap₂, ◌∙◌, subst}
+use Rattle.std.proofs.Common.{arith, length-take, length-drop}
 use Rattle.std.proofs.lemmas.List.{length-map, get_or_default, get_or-take, get_or-drop}
 use Rattle.std.proofs.lemmas.List.Edits.{length-remove}
-use Rattle.std.proofs.lemmas.List.Elements.{All-nil, All-cons, All-head, All-tail, All-append, All-take, All-drop, Contains-get_or, Contains-append_left, Contains-append_right}
+use Rattle.std.proofs.lemmas.List.Elements.{All-nil, All-cons, All-head, All-tail, All-append, All-take, All-drop}
+use Rattle.std.proofs.lemmas.List.Elements.{Contains-get_or, Contains-append_left, Contains-append_right}
 use Rattle.std.specs.List.{range_with_len}
 use Rattle.s39_field.specs.Field.{Operations, IsField}
 use Rattle.s39_field.specs.Interpolation.{differences, weight, weighted_sum, WeightsInterpolate}
 use Rattle.s39_field.specs.Polynomial.{value_at, sum_of}
-use Rattle.s39_field.specs.Theory.Values.{zero_add, mul-zero_left, mul-zero_right, one_mul, distributes_left, zero_from_product, same_from_sum, value_at-cons, value_at-sum, value_at-scaled, elements-sum, elements-scaled, length-sum}
+use Rattle.s39_field.specs.Theory.Values.{zero_add, mul-zero_left, mul-zero_right, one_mul, distributes_left}
+use Rattle.s39_field.specs.Theory.Values.{zero_from_product, same_from_sum, value_at-cons, value_at-sum}
+use Rattle.s39_field.specs.Theory.Values.{value_at-scaled, elements-sum, elements-scaled, length-sum}
 
 -- ---- the places other than one
 
-elements-remove : {X : Type 0} (P : X → Type 0) (xs : List X) (i : ℕ) → All P xs → All P (remove xs i)
+pub elements-remove : {X : Type 0} (P : X → Type 0) (xs : List X) (i : ℕ) → All P xs → All P (remove xs i)
 elements-remove P xs i h = All-append P (take i xs) (drop (suc i) xs) (All-take P i xs h) (All-drop P (suc i) xs h)
 
-contains-other : {X : Type 0} (xs : List X) (i k : ℕ) (d : X) → k < length xs → (k < i) ⊎ (i < k) → Contains (remove xs i) (get_or xs k d)
+pub contains-other : {X : Type 0} (xs : List X) (i k : ℕ) (d : X) → k < length xs → (k < i) ⊎ (i < k) → Contains (remove xs i) (get_or xs k d)
 contains-other xs i k d below (inl before) =
     Contains-append_left (take i xs) (drop (suc i) xs) (get_or xs k d)
     (subst (Contains (take i xs)) (get_or-take i xs k d before)
@@ -26,7 +31,11 @@ contains-other xs i k d below (inr after) =
     (Contains-get_or (drop (suc i) xs) (k - suc i) d (omega (arith, length-drop (suc i) xs))))
 
 -- what holds of each two elements, either way round, holds of one and each other
-apart-remove : {X : Type 0} (R : X → X → Type 0) (xs : List X) (k : ℕ) (e : X) → ((x y : X) → R x y → R y x) → AllPairs R xs → k < length xs → All (R (get_or xs k e)) (remove xs k)
+apart-remove : {X : Type 0} (R : X → X → Type 0) (xs : List X) (k : ℕ) (e : X)
+    → ((x y : X) → R x y → R y x)
+    → AllPairs R xs
+    → k < length xs
+    → All (R (get_or xs k e)) (remove xs k)
 apart-remove R xs k e turn h below =
     let x = get_or xs k e in
     All-append (R x) (take k xs) (drop (suc k) xs)
@@ -42,11 +51,11 @@ apart-remove R xs k e turn h below =
 -- ---- products of differences, and the polynomials with given roots
 
 -- the polynomial that is the product of x - place over the places
-abbrev from_roots : {F : Type 0} (f : Operations F) → List F → List F
+abbrev pub from_roots : {F : Type 0} (f : Operations F) → List F → List F
 from_roots f [] = f.one ∷ []
 from_roots f (p ∷ ps) = sum_of f (map (f.mul p) (from_roots f ps)) (f.zero ∷ from_roots f ps)
 
-length-from_roots : {F : Type 0} (f : Operations F) (ps : List F) → length (from_roots f ps) ≤ suc (length ps)
+pub length-from_roots : {F : Type 0} (f : Operations F) (ps : List F) → length (from_roots f ps) ≤ suc (length ps)
 length-from_roots f [] = omega arith
 length-from_roots f (p ∷ ps) =
     let rest = length-from_roots f ps in
@@ -55,7 +64,7 @@ length-from_roots f (p ∷ ps) =
     (omega arith)
 
 module _ {F : Type 0} (f : Operations F) (is : IsField f) where
-  elements-from_roots : (ps : List F) → All f.IsElement ps → All f.IsElement (from_roots f ps)
+  pub elements-from_roots : (ps : List F) → All f.IsElement ps → All f.IsElement (from_roots f ps)
   elements-from_roots [] h = All-cons f.IsElement f.one [] is.one_element (All-nil f.IsElement)
   elements-from_roots (p ∷ ps) h =
       let rest = elements-from_roots ps (All-tail f.IsElement p ps h) in
@@ -63,7 +72,7 @@ module _ {F : Type 0} (f : Operations F) (is : IsField f) where
       (elements-scaled f is p (from_roots f ps) (All-head f.IsElement p ps h) rest)
       (All-cons f.IsElement f.zero (from_roots f ps) is.zero_element rest)
 
-  value-from_roots : (ps : List F) (x : F) → value_at f (from_roots f ps) x ≡ differences f x ps
+  pub value-from_roots : (ps : List F) (x : F) → value_at f (from_roots f ps) x ≡ differences f x ps
   value-from_roots [] x = is.add_zero (f.mul f.one f.one) ∙ is.mul_one f.one is.one_element
   value-from_roots (p ∷ ps) x =
       let cs = from_roots f ps in
@@ -74,7 +83,7 @@ module _ {F : Type 0} (f : Operations F) (is : IsField f) where
       ∙ sym (distributes_left f is x p v)
       ∙ ap (f.mul (f.add x p)) (value-from_roots ps x)
 
-  differences-element : (x : F) (ps : List F) → f.IsElement x → All f.IsElement ps → f.IsElement (differences f x ps)
+  pub differences-element : (x : F) (ps : List F) → f.IsElement x → All f.IsElement ps → f.IsElement (differences f x ps)
   differences-element x [] element h = is.one_element
   differences-element x (p ∷ ps) element h =
       is.mul_element (f.add x p) (differences f x ps)
@@ -82,7 +91,7 @@ module _ {F : Type 0} (f : Operations F) (is : IsField f) where
       (differences-element x ps element (All-tail f.IsElement p ps h))
 
   -- at one of the places the product is zero
-  differences-zero : (x : F) (ps : List F) (k : ℕ) → k < length ps → get_or ps k x ≡ x → differences f x ps ≡ f.zero
+  pub differences-zero : (x : F) (ps : List F) (k : ℕ) → k < length ps → get_or ps k x ≡ x → differences f x ps ≡ f.zero
   differences-zero x [] k below same = absurd (omega arith)
   differences-zero x (p ∷ ps) zero below same =
       ap (λ y. f.mul y (differences f x ps)) (ap (f.add x) same ∙ is.add_self x) ∙ mul-zero_left f is (differences f x ps)
@@ -102,7 +111,9 @@ module _ {F : Type 0} (f : Operations F) (is : IsField f) where
 
   -- ---- weighted sums
 
-  weighted_sum-zero : (w : ℕ → F) (values : List F) (i : ℕ) → ((j : ℕ) → i ≤ j → j < i + length values → w j ≡ f.zero) → weighted_sum f (map w (range_with_len i (length values))) values ≡ f.zero
+  weighted_sum-zero : (w : ℕ → F) (values : List F) (i : ℕ)
+      → ((j : ℕ) → i ≤ j → j < i + length values → w j ≡ f.zero)
+      → weighted_sum f (map w (range_with_len i (length values))) values ≡ f.zero
   weighted_sum-zero w [] i none = refl
   weighted_sum-zero w (v ∷ vs) i none =
       ap₂ f.add
@@ -111,7 +122,13 @@ module _ {F : Type 0} (f : Operations F) (is : IsField f) where
       ∙ is.add_zero f.zero
 
   -- weights that are 1 at k and 0 elsewhere pick the value of k
-  weighted_sum-pick : (w : ℕ → F) (values : List F) (i k : ℕ) (d : F) → All f.IsElement values → i ≤ k → k < i + length values → w k ≡ f.one → ((j : ℕ) → i ≤ j → j < i + length values → j ≢ k → w j ≡ f.zero) → weighted_sum f (map w (range_with_len i (length values))) values ≡ get_or values (k - i) d
+  weighted_sum-pick : (w : ℕ → F) (values : List F) (i k : ℕ) (d : F)
+      → All f.IsElement values
+      → i ≤ k
+      → k < i + length values
+      → w k ≡ f.one
+      → ((j : ℕ) → i ≤ j → j < i + length values → j ≢ k → w j ≡ f.zero)
+      → weighted_sum f (map w (range_with_len i (length values))) values ≡ get_or values (k - i) d
   weighted_sum-pick w [] i k d elements low high one none = absurd (omega arith)
   weighted_sum-pick w (v ∷ vs) i k d elements low high one none =
       elim (same_or_above i k low) [
@@ -159,7 +176,8 @@ module _ {F : Type 0} (f : Operations F) (is : IsField f) where
     combination [] i = []
     combination (v ∷ vs) i = sum_of f (map (f.mul v) (basis i)) (combination vs (i + 1))
 
-    value-combination : (values : List F) (i : ℕ) (x : F) → value_at f (combination values i) x ≡ weighted_sum f (map (weight f places x) (range_with_len i (length values))) values
+    value-combination : (values : List F) (i : ℕ) (x : F)
+        → value_at f (combination values i) x ≡ weighted_sum f (map (weight f places x) (range_with_len i (length values))) values
     value-combination [] i x = refl
     value-combination (v ∷ vs) i x =
         value_at-sum f is (map (f.mul v) (basis i)) (combination vs (i + 1)) x
@@ -182,7 +200,8 @@ module _ {F : Type 0} (f : Operations F) (is : IsField f) where
     elements-combination (v ∷ vs) i h within =
         elements-sum f is (map (f.mul v) (basis i)) (combination vs (i + 1))
         (elements-scaled f is v (basis i) (All-head f.IsElement v vs h)
-        (elements-scaled f is (f.inv (differences f (get_or places i f.zero) (remove places i))) (from_roots f (remove places i)) (inverse-element i (omega arith))
+        (elements-scaled f is (f.inv (differences f (get_or places i f.zero) (remove places i))) (from_roots f (remove places i))
+        (inverse-element i (omega arith))
         (elements-from_roots (remove places i) (elements-remove f.IsElement places i elements))))
         (elements-combination vs (i + 1) (All-tail f.IsElement v vs h) (omega arith))
 
@@ -213,7 +232,11 @@ module _ {F : Type 0} (f : Operations F) (is : IsField f) where
           sides : (a b : ℕ) → b ≢ a → (a < b) ⊎ (b < a)
           sides a b h = grind arith
 
-      value-at_place : (values : List F) (k : ℕ) → All f.IsElement values → length values ≡ length places → k < length places → value_at f (combination values 0) (get_or places k f.zero) ≡ get_or values k f.zero
+      value-at_place : (values : List F) (k : ℕ)
+          → All f.IsElement values
+          → length values ≡ length places
+          → k < length places
+          → value_at f (combination values 0) (get_or places k f.zero) ≡ get_or values k f.zero
       value-at_place values k h same below =
           value-combination values 0 (get_or places k f.zero)
           ∙ weighted_sum-pick (weight f places (get_or places k f.zero)) values 0 k f.zero h (omega arith) (omega arith)
@@ -222,7 +245,9 @@ module _ {F : Type 0} (f : Operations F) (is : IsField f) where
 
 -- ---- points as pairs
 
-get_or-zip : {X Y : Type 0} (xs : List X) (ys : List Y) (k : ℕ) (d : X × Y) → length ys ≡ length xs → get_or (zip xs ys) k d ≡ (get_or xs k d.0, get_or ys k d.1)
+get_or-zip : {X Y : Type 0} (xs : List X) (ys : List Y) (k : ℕ) (d : X × Y)
+    → length ys ≡ length xs
+    → get_or (zip xs ys) k d ≡ (get_or xs k d.0, get_or ys k d.1)
 get_or-zip [] [] k d same = refl
 get_or-zip [] (y ∷ ys) k d same = absurd (omega arith)
 get_or-zip (x ∷ xs) [] k d same = absurd (omega arith)

@@ -1,4 +1,5 @@
-use Rattle.std.proofs.Common.{◌≡◌, ◌≢◌, ℕ, ◌<◌, List, length, get_or, remove, zip, sym, ap, ap₂, ◌∙◌, subst, arith, below_more, get_or-set_other, get_or-set_same}
+use Rattle.std.proofs.Common.{◌≡◌, ◌≢◌, ℕ, ◌<◌, List, length, get_or, remove, zip, sym, ap, ap₂, ◌∙◌, subst, arith}
+use Rattle.std.proofs.Common.{below_more, get_or-set_other, get_or-set_same}
 use Rattle.std.proofs.lemmas.List.{get_or_default}
 use Rattle.std.proofs.lemmas.List.FromFn.{fill_by_all}
 use Rattle.s39_field.specs.FieldProduct.{byte_field, byte_modulus, product_modulo}
@@ -8,22 +9,28 @@ use Rattle.s39_field.specs.Theory.Weights.{denominator-nonzero, weights_interpol
 use Rattle.s39_field.proofs.interpolation.weights.Goals as goal
 
 -- the denominator, by the place that the definition reads
-denominator : (xs : List ℕ) (i first result : ℕ) → first ≡ get_or xs i first → i < length xs → result ≡ differences byte_field first (remove xs i) → result ≡ differences byte_field (get_or xs i 0) (remove xs i)
+denominator : (xs : List ℕ) (i first result : ℕ)
+    → first ≡ get_or xs i first
+    → i < length xs
+    → result ≡ differences byte_field first (remove xs i)
+    → result ≡ differences byte_field (get_or xs i 0) (remove xs i)
 denominator xs i first result read below is =
     is ∙ ap (λ x. differences byte_field x (remove xs i)) (read ∙ get_or_default xs i first 0 below)
 
 pub inv-requires : goal.inv-requires
 inv-requires c =
     let below : c.loop-i.i < length c.args.xs.now = omega arith in
-    let is = denominator c.args.xs.now c.loop-i.i c.index-xs-i.result c.product_of_differences-denominator.result c.index-xs-i.is below c.product_of_differences-denominator.ensures.product in
-    λ e. denominator-nonzero byte_field byte_field_is_field c.args.xs.now c.product_of_differences-denominator.ensures.elements c.requires.distinct c.loop-i.i below (sym is ∙ e)
+    let found = c.product_of_differences-denominator in
+    let is = denominator c.args.xs.now c.loop-i.i c.index-xs-i.result found.result c.index-xs-i.is below found.ensures.product in
+    λ e. denominator-nonzero byte_field byte_field_is_field c.args.xs.now found.ensures.elements c.requires.distinct c.loop-i.i below (sym is ∙ e)
 
 pub loop-i-preserved : goal.loop-i-preserved
 loop-i-preserved c =
     let i = c.loop-i.i in
     let out = c.loop-i.out in
     let within : i < length c.args.xs.now = omega arith in
-    let is = denominator c.args.xs.now i c.index-xs-i.result c.product_of_differences-denominator.result c.index-xs-i.is within c.product_of_differences-denominator.ensures.product in
+    let found = c.product_of_differences-denominator in
+    let is = denominator c.args.xs.now i c.index-xs-i.result found.result c.index-xs-i.is within found.ensures.product in
     let weight_is : c.mul.result ≡ weight byte_field c.args.xs.now c.args.at i =
     c.mul.ensures.product
     ∙ ap₂ (product_modulo byte_modulus) c.product_of_differences-numerator.ensures.product

@@ -6,7 +6,12 @@ use Rattle.s39_field.specs.Theory.Values.{value_at-cons}
 use Rattle.s39_field.proofs.polynomial.eval.Goals as goal
 
 -- the value with one coefficient more in front
-next_value : {F : Type 0} (f : Operations F) (is : IsField f) (c : F) (taken : List F) (x value product sum : F) → f.IsElement c → value ≡ value_at f taken x → product ≡ f.mul value x → sum ≡ f.add product c → sum ≡ value_at f (c ∷ taken) x
+next_value : {F : Type 0} (f : Operations F) (is : IsField f) (c : F) (taken : List F) (x value product sum : F)
+    → f.IsElement c
+    → value ≡ value_at f taken x
+    → product ≡ f.mul value x
+    → sum ≡ f.add product c
+    → sum ≡ value_at f (c ∷ taken) x
 next_value f is c taken x value product sum element so_far times plus =
     plus
     ∙ ap (λ p. f.add p c) (times ∙ ap (λ v. f.mul v x) so_far)
@@ -15,7 +20,10 @@ next_value f is c taken x value product sum element so_far times plus =
 
 pub loop-c-init : goal.loop-c-init
 loop-c-init g c =
-    let rest = ap (λ i. i.iter.rest.now) c.into_iter-c-iterator.ensures.into_iter_gives ∙ ap (λ i. i.rest.now) c.rev-c-items.ensures.source ∙ c.iter.ensures.rest in
+    let rest =
+    ap (λ i. i.iter.rest.now) c.into_iter-c-iterator.ensures.into_iter_gives
+    ∙ ap (λ i. i.rest.now) c.rev-c-items.ensures.source
+    ∙ c.iter.ensures.rest in
     ([], sym (append-nil _ ∙ rest), c.ZERO-value.ensures ∙ g.met.F.Field.zero_is)
 
 pub loop-c-preserved : goal.loop-c-preserved

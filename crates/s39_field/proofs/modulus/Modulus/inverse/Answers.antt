@@ -19,7 +19,10 @@ loop-preserved c =
     let is = subst HasDegree c.self.view_is c.self.invariant.0 in
     let k = c.loop.counter in
     let place : k + 1 - 1 ≡ k = omega arith in
-    let square = c.product-square.ensures.product ∙ ap₂ (product_modulo m) c.loop.invariant.square_is c.loop.invariant.square_is ∙ next_square m is c.args.a k (omega arith) in
+    let square =
+    c.product-square.ensures.product
+    ∙ ap₂ (product_modulo m) c.loop.invariant.square_is c.loop.invariant.square_is
+    ∙ next_square m is c.args.a k (omega arith) in
     record {
       square_element = c.product-square.ensures.element;
       power_element = c.product-power.ensures.element;

@@ -1,5 +1,5 @@
 use Rattle.std.proofs.Common.{◌≡◌, ◌<◌, ◌^◌}
-use Rattle.s39_field.specs.BinaryPolynomial.{sum_of}
+use Rattle.s39_field.specs.BinaryPolynomial.{binary_sum}
 use Rattle.s39_field.specs.FieldProduct.{product_modulo}
 use Rattle.s39_field.proofs.modulus.Modulus.product.Given as goal
 
@@ -8,7 +8,7 @@ abbrev pub invariant-loop-rest : goal.invariant-loop-rest
 invariant-loop-rest l = record {
   shifted_element : l.shifted < 2 ^ l.self.degree;
   sum_element : l.sum < 2 ^ l.self.degree;
-  together : sum_of l.sum (product_modulo l.self l.shifted l.rest) ≡ product_modulo l.self l.fn.a l.fn.b;
+  together : binary_sum l.sum (product_modulo l.self l.shifted l.rest) ≡ product_modulo l.self l.fn.a l.fn.b;
 }
 
 abbrev pub decreases-loop-rest : goal.decreases-loop-rest

@@ -1,6 +1,6 @@
 use Rattle.std.proofs.Common.{◌≡◌, ℕ, ◌<◌, ◌≤◌, get_or}
 use Rattle.s39_field.specs.FieldProduct.{byte_field}
-use Rattle.s39_field.proofs.interpolation.scaled_sum.Given as goal
+use Rattle.s39_field.proofs.rows.scaled_sum.Given as goal
 
 -- the bytes below k are sums, and the others are as they were
 abbrev pub invariant-loop-k : goal.invariant-loop-k

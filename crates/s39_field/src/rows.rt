@@ -1,0 +1,71 @@
+//! Rows of bytes: one element times each byte, sixteen bytes at a time.
+
+ghost use Rattle.std.specs.Prelude.{◌≡◌, ◌<◌, ◌≤◌, ◌+◌, ℕ, length, map, EachIndex, slice_index};
+ghost use Rattle.s39_field.specs.FieldProduct.{byte_field};
+
+use crate::byte::Gf256;
+use crate::operations::Field;
+use std::simd::prelude::*;
+
+/// The number of bytes in a vector.
+const LANES: usize = 16;
+
+/// What stands for `x^8` in the field: `x^4 + x^3 + x + 1`.
+const REDUCED: u8 = 0x1B;
+
+/// The product of `x` and each lane.
+fn doubled_lanes(row: u8x16) -> u8x16
+    ensures { result ≡ map (λ a. byte_field.mul a 2) row }
+{
+    let carries = u8x16::splat(0) - (row >> 7);
+    (row << 1) ^ (carries & u8x16::splat(REDUCED))
+}
+
+/// The product of `w` and each lane, in the field of 256 elements.
+pub fn lanes(w: Gf256, row: u8x16) -> u8x16
+    ensures { result ≡ map (byte_field.mul w) row }
+{
+    let mut sum = u8x16::splat(0);
+    let mut shifted = row;
+    let mut rest = u8::from(w);
+    for _ in 0..u8::BITS {
+        let taken = u8x16::splat(0) - u8x16::splat(rest & 1);
+        sum ^= shifted & taken;
+        shifted = doubled_lanes(shifted);
+        rest >>= 1;
+    }
+    sum
+}
+
+/// Adds `w` times a row to another as far as it fills whole vectors, and gives the number of bytes
+/// of these.
+fn scaled_sum_of_vectors(acc: &mut [u8], w: Gf256, row: &[u8]) -> usize
+    requires { length acc.old ≡ length row.now }
+    ensures within { result ≤ length acc.old }
+    ensures whole { length acc.old < result + LANES }
+    ensures same_length { length acc.new ≡ length acc.old }
+    ensures summed { (k : ℕ) → k < result → slice_index acc.new k
+        ≡ byte_field.add (slice_index acc.old k) (byte_field.mul w (slice_index row.now k)) }
+    ensures others { (k : ℕ) → result ≤ k → slice_index acc.new k ≡ slice_index acc.old k }
+{
+    let mut done = 0;
+    while acc.len() - done >= LANES {
+        let product = lanes(w, u8x16::from_slice(&row[done..]));
+        let sum = u8x16::from_slice(&acc[done..]) ^ product;
+        sum.copy_to_slice(&mut acc[done..]);
+        done += LANES;
+    }
+    done
+}
+
+/// Adds `w` times a row of bytes to another: each `acc[k]` becomes `acc[k] + w * row[k]`.
+pub fn scaled_sum(acc: &mut [u8], w: Gf256, row: &[u8])
+    requires { length acc.old ≡ length row.now }
+    ensures { EachIndex acc.old (λ k. slice_index acc.new k
+        ≡ byte_field.add (slice_index acc.old k) (byte_field.mul w (slice_index row.now k))) }
+{
+    let done = scaled_sum_of_vectors(acc, w, row);
+    for k in done..acc.len() {
+        acc[k] = u8::from(Gf256::from(acc[k]).add(w.mul(Gf256::from(row[k]))));
+    }
+}
