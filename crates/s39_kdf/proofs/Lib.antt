@@ -1,4 +1,5 @@
 pub mod Xor
 pub mod Lengths
 pub mod Parts
+pub mod ByteValues
 pub mod Rounds

@@ -1,7 +1,11 @@
 -- Lists of bytes.
-use Rattle.std.specs.Prelude.{ℕ, List, [], ◌∷◌, bit_xor}
+use Rattle.std.specs.Prelude.{ℕ, ◌<◌, List, [], ◌∷◌, All, bit_xor}
 use Rattle.std.specs.List.{flat_map}
 use Rattle.std.specs.Borrow.{Bor}
+
+-- a list of bytes
+abbrev pub AreBytes : List ℕ → Type 0
+AreBytes bytes = All (λ byte. byte < 256) bytes
 
 -- the bytes that a list of parts stands for: the parts, joined in order
 abbrev pub bytes_of : List (Bor (List ℕ)) → List ℕ

@@ -1,8 +1,8 @@
 -- The encryption of a master secret (SLIP-0039, "Encryption of the master secret"): a Feistel network
 -- of four rounds, whose round function is PBKDF2-HMAC-SHA256.
-use Rattle.std.specs.Prelude.{◌≡◌, ℕ, ◌*◌, ◌^◌, List, [], ◌∷◌, ◌++◌, length, codes, if◌then◌else◌}
+use Rattle.std.specs.Prelude.{◌≡◌, ℕ, ◌*◌, ◌^◌, ◌%◌, List, [], ◌∷◌, ◌++◌, length, codes, if◌then◌else◌}
 use Rattle.std.specs.Int.{w16, to_be_bytes}
-use Rattle.s39_kdf.specs.Bytes.{xor_of}
+use Rattle.s39_kdf.specs.Bytes.{AreBytes, xor_of}
 use Rattle.s39_kdf.specs.Pbkdf2.{pbkdf2}
 use Rattle.s39_kdf.specs.declared.params.Params.{Params}
 
@@ -41,4 +41,28 @@ pub record IsEncryption (secret passphrase : List ℕ) (params : Params) (result
 -- a text is the encryption of at most one secret
 abbrev pub EncryptsOneSecret : Type 0
 EncryptsOneSecret = (passphrase : List ℕ) (params : Params) (secret other result : List ℕ)
-    → IsEncryption secret passphrase params result → IsEncryption other passphrase params result → secret ≡ other
+    → IsEncryption secret passphrase params result
+    → IsEncryption other passphrase params result
+    → secret ≡ other
+
+-- a secret of an even number of bytes has one encryption
+abbrev pub SecretsHaveOneEncryption : Type 0
+SecretsHaveOneEncryption = (passphrase : List ℕ) (params : Params) (secret : List ℕ)
+    → length secret % 2 ≡ 0
+    → (result : List ℕ) × IsEncryption secret passphrase params result
+    × ((other : List ℕ) → IsEncryption secret passphrase params other → other ≡ result)
+
+-- a text of an even number of bytes is the encryption of one secret
+abbrev pub TextsHaveOneSecret : Type 0
+TextsHaveOneSecret = (passphrase : List ℕ) (params : Params) (result : List ℕ)
+    → length result % 2 ≡ 0
+    → (secret : List ℕ) × IsEncryption secret passphrase params result
+    × ((other : List ℕ) → IsEncryption other passphrase params result → other ≡ secret)
+
+-- a secret and its encryption have one length, and the one consists of bytes where the other does
+abbrev pub EncryptionKeepsLengthAndBytes : Type 0
+EncryptionKeepsLengthAndBytes = (passphrase : List ℕ) (params : Params) (secret result : List ℕ)
+    → IsEncryption secret passphrase params result
+    → (length result ≡ length secret)
+    × (AreBytes secret → AreBytes result)
+    × (AreBytes result → AreBytes secret)

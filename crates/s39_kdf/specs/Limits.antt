@@ -1,6 +1,12 @@
 -- Which passphrases and master secrets are accepted (SLIP-0039, "Passphrase" and "Generating the shares").
 use Rattle.std.specs.Prelude.{◌≡◌, ℕ, ◌-◌, ◌%◌, ◌≤◌, List, length, take, slice_index, All}
-use Rattle.s39_kdf.specs.declared.limits.TheConstants.{MIN_SECRET_BYTES, MAX_SECRET_BYTES}
+
+-- the fewest and the most bytes of a master secret; a share value is as long as the secret
+abbrev pub shortest_secret : ℕ
+shortest_secret = 16
+
+abbrev pub longest_secret : ℕ
+longest_secret = 128
 
 -- a printable character of ASCII
 abbrev pub IsPrintable : ℕ → Type 0
@@ -15,4 +21,4 @@ pub record IsFirstUnprintable (bytes : List ℕ) (position : ℕ) : Type 0 where
 
 -- a length in bytes that a master secret may have
 abbrev pub IsSecretLength : ℕ → Type 0
-IsSecretLength n = (n % 2 ≡ 0) × (MIN_SECRET_BYTES ≤ n) × (n ≤ MAX_SECRET_BYTES)
+IsSecretLength n = (n % 2 ≡ 0) × (shortest_secret ≤ n) × (n ≤ longest_secret)

@@ -18,7 +18,8 @@ type Half = ArrayVec<u8, MAX_HALF_BYTES>;
 pub fn encrypt(secret: &Bytes, passphrase: &[u8], params: Params) -> Bytes
     requires { array_vec_len secret.now % 2 ≡ 0 }
     ensures value { IsEncryption secret.now.items passphrase.now params result.items }
-    ensures only { (encrypted : List ℕ) → IsEncryption secret.now.items passphrase.now params encrypted
+    ensures only { (encrypted : List ℕ)
+        → IsEncryption secret.now.items passphrase.now params encrypted
         → encrypted ≡ result.items }
     ensures len { array_vec_len result ≡ array_vec_len secret.now }
 {
@@ -61,7 +62,8 @@ fn halves(bytes: &Bytes) -> (&[u8], &[u8])
 fn round(i: u8, half: &[u8], other: &[u8], passphrase: &[u8], params: Params) -> Half
     requires same_length { length half.now ≡ length other.now }
     requires fits { length other.now ≤ MAX_HALF_BYTES }
-    ensures value { result.items ≡ xor_of half.now (round_function passphrase.now params i other.now) }
+    ensures value { result.items
+        ≡ xor_of half.now (round_function passphrase.now params i other.now) }
     ensures len { array_vec_len result ≡ length half.now }
 {
     let mut key = [0; MAX_HALF_BYTES];

@@ -3,28 +3,40 @@ ghost use Rattle.std.specs.Prelude.{◌≡◌, ℕ, List, ◌≤◌, length};
 ghost use Rattle.s39_kdf.specs.Bytes.{bytes_of, xor_of};
 ghost use Rattle.s39_kdf.specs.Hmac.{hmac};
 ghost use Rattle.s39_kdf.specs.PreparedKey.{HoldsKey};
-ghost use Rattle.s39_kdf.specs.Pbkdf2.{iterate, block, pbkdf2};
+ghost use Rattle.s39_kdf.specs.Pbkdf2.{iterate, block, pbkdf2, longest_derived_key};
 
-use crate::keyed_hash::{PreparedKey, absorb};
+use crate::keyed_hash::{MAC_BYTES, PreparedKey, absorb};
 use sha2::Digest;
 
-/// Fills `out`, of at most 32 bytes, with the key that PBKDF2-HMAC-SHA256 derives from a password and
-/// a salt, each given as parts that are joined in order, in `iterations` iterations, at least one.
-#[tactic(auto, using(crate::proofs::Lengths::pbkdf2_short))]
+/// The most bytes that `pbkdf2` derives: two blocks.
+pub const MAX_DERIVED_BYTES: usize = 2 * MAC_BYTES;
+
+/// Fills `out`, of at most 64 bytes, with the key that PBKDF2-HMAC-SHA256 derives from a password and
+/// a salt, each given as parts that are joined in order, in `iterations` iterations, at least one (RFC
+/// 8018, section 5.2).
+#[tactic(auto, using(crate::proofs::Lengths::pbkdf2_one_block, crate::proofs::Lengths::pbkdf2_two_blocks))]
 pub fn pbkdf2(password: &[&[u8]], salt: &[&[u8]], iterations: u32, out: &mut [u8])
     requires iterations { 1 ≤ iterations }
-    requires one_block { length out.old ≤ 32 }
-    ensures { out.new ≡ pbkdf2 (bytes_of password.now) (bytes_of salt.now) iterations (length out.old) }
+    requires two_blocks { length out.old ≤ longest_derived_key }
+    ensures { out.new
+        ≡ pbkdf2 (bytes_of password.now) (bytes_of salt.now) iterations (length out.old) }
 {
     let key = PreparedKey::new(password);
-    let block = block(&key, salt, 1, iterations);
+    let first = block(&key, salt, 1, iterations);
     let len = out.len();
-    out.copy_from_slice(&block[..len]);
+    if len <= MAC_BYTES {
+        out.copy_from_slice(&first[..len]);
+    } else {
+        let second = block(&key, salt, 2, iterations);
+        let (front, back) = out.split_at_mut(MAC_BYTES);
+        front.copy_from_slice(&first);
+        back.copy_from_slice(&second[..len - MAC_BYTES]);
+    }
 }
 
 // The block of this number: the xor of as many HMACs as there are iterations, each of the one before.
 #[tactic(auto, using(crate::proofs::Lengths::block_one), unfolding(crate::specs::Pbkdf2::block, crate::specs::Pbkdf2::iterate))]
-fn block(key: &PreparedKey, salt: &[&[u8]], number: u32, iterations: u32) -> [u8; 32]
+fn block(key: &PreparedKey, salt: &[&[u8]], number: u32, iterations: u32) -> [u8; MAC_BYTES]
     requires { 1 ≤ iterations }
     ensures { (password : List ℕ) → HoldsKey key.now password
         → result ≡ block password (bytes_of salt.now) number iterations }
@@ -40,7 +52,7 @@ fn block(key: &PreparedKey, salt: &[&[u8]], number: u32, iterations: u32) -> [u8
 
 // The HMAC of the salt and a block's number.
 #[tactic(auto, unfolding(crate::specs::Pbkdf2::iterate))]
-fn first_iteration(key: &PreparedKey, salt: &[&[u8]], number: u32) -> [u8; 32]
+fn first_iteration(key: &PreparedKey, salt: &[&[u8]], number: u32) -> [u8; MAC_BYTES]
     ensures { (password : List ℕ) → HoldsKey key.now password
         → result ≡ iterate password (bytes_of salt.now) number 1 }
 {
@@ -51,7 +63,7 @@ fn first_iteration(key: &PreparedKey, salt: &[&[u8]], number: u32) -> [u8; 32]
 }
 
 // The HMAC of the one before.
-fn next_iteration(key: &PreparedKey, before: &[u8; 32]) -> [u8; 32]
+fn next_iteration(key: &PreparedKey, before: &[u8; MAC_BYTES]) -> [u8; MAC_BYTES]
     ensures { (password : List ℕ) → HoldsKey key.now password → result ≡ hmac password before.now }
 {
     let mut inner = key.begin();
@@ -59,10 +71,10 @@ fn next_iteration(key: &PreparedKey, before: &[u8; 32]) -> [u8; 32]
     key.finish(inner)
 }
 
-fn xor_into(sum: &mut [u8; 32], bytes: &[u8; 32])
+fn xor_into(sum: &mut [u8; MAC_BYTES], bytes: &[u8; MAC_BYTES])
     ensures { sum.new ≡ xor_of sum.old bytes.now }
 {
-    'bytes: for i in 0..32 {
+    'bytes: for i in 0..MAC_BYTES {
         sum[i] ^= bytes[i];
     }
 }

@@ -9,10 +9,14 @@ ghost use Rattle.s39_kdf.specs.PreparedKey.{HoldsKey};
 use arrayvec::ArrayVec;
 use sha2::{Digest, Sha256};
 
-const BLOCK_BYTES: usize = 64;
+/// The length of an HMAC-SHA256, in bytes.
+pub const MAC_BYTES: usize = 32;
+
+// The bytes of a block of SHA-256.
+pub(crate) const BLOCK_BYTES: usize = 64;
 
 /// The HMAC-SHA256 of a message under a key, each given as parts that are joined in order.
-pub fn hmac(key: &[&[u8]], message: &[&[u8]]) -> [u8; 32]
+pub fn hmac(key: &[&[u8]], message: &[&[u8]]) -> [u8; MAC_BYTES]
     ensures { result ≡ hmac (bytes_of key.now) (bytes_of message.now) }
 {
     let key = PreparedKey::new(key);
@@ -49,7 +53,7 @@ impl PreparedKey {
 
     // The HMAC of the message that was added to the hasher of `begin`.
     #[tactic(auto, unfolding(crate::specs::Hmac::hmac))]
-    pub(crate) fn finish(&self, inner: Sha256) -> [u8; 32]
+    pub(crate) fn finish(&self, inner: Sha256) -> [u8; MAC_BYTES]
         ensures { (key message : List ℕ) → HoldsKey self.now key
             → Holds256 inner (inner_pad key ++ message) → result ≡ hmac key message }
     {

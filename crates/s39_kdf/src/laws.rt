@@ -1,7 +1,36 @@
-//! A law of the cipher, proved as the contract of a function that does nothing.
-ghost use Rattle.s39_kdf.specs.Cipher.{EncryptsOneSecret};
+//! Laws of the cipher and of the limits, each proved as the contract of a function that does nothing.
+ghost use Rattle.std.specs.Prelude.{◌≡◌};
+ghost use Rattle.s39_kdf.specs.Cipher.{EncryptsOneSecret, SecretsHaveOneEncryption, TextsHaveOneSecret, EncryptionKeepsLengthAndBytes};
+ghost use Rattle.s39_kdf.specs.Limits.{shortest_secret, longest_secret};
+ghost use Rattle.s39_kdf.specs.Hmac.{block_length, mac_length};
+ghost use Rattle.s39_kdf.specs.Pbkdf2.{longest_derived_key};
+
+use crate::key_derivation::MAX_DERIVED_BYTES;
+use crate::keyed_hash::{BLOCK_BYTES, MAC_BYTES};
+use crate::limits::{MAX_SECRET_BYTES, MIN_SECRET_BYTES};
+
+/// The constants are the numbers by which the definitions go.
+pub fn numbers()
+    ensures shortest { MIN_SECRET_BYTES ≡ shortest_secret }
+    ensures longest { MAX_SECRET_BYTES ≡ longest_secret }
+    ensures block { BLOCK_BYTES ≡ block_length }
+    ensures mac { MAC_BYTES ≡ mac_length }
+    ensures derived { MAX_DERIVED_BYTES ≡ longest_derived_key }
+{}
 
 /// A text is the encryption of at most one secret under a passphrase and parameters.
 pub fn encrypts_one_secret()
     ensures { EncryptsOneSecret }
+{}
+
+/// A secret of an even number of bytes has one encryption, and a text of an even number of bytes is the
+/// encryption of one secret.
+pub fn one_encryption()
+    ensures of_secrets { SecretsHaveOneEncryption }
+    ensures of_texts { TextsHaveOneSecret }
+{}
+
+/// A secret and its encryption have one length, and the one consists of bytes where the other does.
+pub fn encryption_keeps_length_and_bytes()
+    ensures { EncryptionKeepsLengthAndBytes }
 {}

@@ -10,8 +10,8 @@ mod limits;
 mod params;
 
 pub use cipher::{decrypt, encrypt};
-pub use key_derivation::pbkdf2;
-pub use keyed_hash::hmac;
+pub use key_derivation::{MAX_DERIVED_BYTES, pbkdf2};
+pub use keyed_hash::{MAC_BYTES, hmac};
 pub use limits::{
     BadPassphrase, BadSecretLength, Bytes, MAX_SECRET_BYTES, MIN_SECRET_BYTES, check_passphrase,
     check_secret,

@@ -4,11 +4,11 @@ ghost use Rattle.s39_kdf.specs.Limits.{IsPrintable, IsFirstUnprintable, IsSecret
 
 use arrayvec::ArrayVec;
 
-/// The fewest bytes of a master secret: 128 bits.
+/// The fewest bytes of a master secret.
 pub const MIN_SECRET_BYTES: usize = 16;
 
 /// The most bytes of a master secret.
-pub const MAX_SECRET_BYTES: usize = 64;
+pub const MAX_SECRET_BYTES: usize = 128;
 
 /// The bytes of a master secret, an encrypted secret or a share value.
 pub type Bytes = ArrayVec<u8, MAX_SECRET_BYTES>;
@@ -29,7 +29,7 @@ impl BadPassphrase {
     }
 }
 
-/// A master secret's length is odd, below `MIN_SECRET_BYTES` or above `MAX_SECRET_BYTES`.
+/// A master secret's length is odd, below 16 bytes or above 128.
 #[derive(Clone, Copy, PartialEq, Eq, Debug)]
 pub struct BadSecretLength {
     /// The length in bytes.
@@ -64,8 +64,7 @@ fn is_printable(byte: u8) -> bool
     matches!(byte, 32..=126)
 }
 
-/// Copies a master secret, exactly where its length is even, at least `MIN_SECRET_BYTES` and at most
-/// `MAX_SECRET_BYTES`.
+/// Copies a master secret, exactly where its length is even, from 16 to 128 bytes.
 pub fn check_secret(secret: &[u8]) -> Result<Bytes, BadSecretLength>
     ensures accepted { IsOk result ↔ IsSecretLength (length secret.now) }
     ensures unchanged { IfOk result (λ bytes. bytes.items ≡ secret.now) }

@@ -1,6 +1,7 @@
 //! Values from outside: published vectors, and values that Python's hashlib computes.
 use super::*;
 use sha2::{Digest, Sha256};
+use std::process::Abort;
 use std::test::Fail;
 
 // RFC 4231, section 4, but for the case of a truncated digest.
@@ -53,13 +54,38 @@ fn hmac_vectors(rt: HostRuntime) {
     }
 }
 
+// A key of a block isn't hashed, and a longer one is, as Python's hmac computes it.
 #[test]
-fn hmac_hashes_a_key_longer_than_a_block(rt: HostRuntime) {
+fn hmac_of_long_keys(rt: HostRuntime) {
+    let mut ascending = [0; 124];
+    for i in 0..124u8 {
+        ascending[i as usize] = i;
+    }
+    let cases: [(&[u8], &[u8], &[u8; MAC_BYTES]); 3] = [
+        (
+            &ascending[..64],
+            b"A key of exactly one block",
+            b"\x6b\x12\xc8\x73\x12\xa4\xbd\x6d\x6d\x06\xfa\x1c\x01\x4a\x40\xd3\
+              \xe7\x43\x60\x82\x62\x1e\xde\x5e\x3d\x74\x57\x3f\xa1\xf1\xe8\xea",
+        ),
+        (
+            &[0xaa; 65],
+            b"text",
+            b"\xc1\x5e\x09\x99\x4f\x48\xe7\x74\x0d\x16\x8a\x8a\xa0\xe0\x25\x38\
+              \xf7\x9e\x28\x0c\x75\x6f\x3d\x79\x58\x47\x2c\xef\x86\x04\x4f\x98",
+        ),
+        (
+            &ascending,
+            b"A digest key of 124 bytes",
+            b"\x7d\x79\xf9\x67\x33\xec\x70\x5d\xe1\xaf\xb1\xd0\x3c\x9f\xcf\xf9\
+              \x89\xb0\xe8\x78\xbd\x55\xc0\x52\x74\x99\x6b\x57\x67\x53\x77\x7d",
+        ),
+    ];
+    for (key, message, digest) in cases {
+        assert_eq!(rt; &hmac(&[key], &[message]), digest);
+    }
     let digest = Sha256::digest(&[0xaa; 65]);
-    assert_eq!(rt;
-        hmac(&[&[0xaa; 65]], &[b"text"]),
-        hmac(&[&digest], &[b"text"])
-    );
+    assert_eq!(rt; &hmac(&[&digest], &[b"text"]), cases[1].2);
 }
 
 #[test]
@@ -68,42 +94,49 @@ fn hmac_joins_parts(rt: HostRuntime) {
         &[b"Je", b"", b"fe"],
         &[b"what do ya want ", b"for nothing?"],
     );
-    assert_eq!(rt; parts, hmac(&[b"Jefe"], &[b"what do ya want for nothing?"]));
+    assert_eq!(rt;
+        &parts,
+        b"\x5b\xdc\xc1\x46\xbf\x60\x75\x4e\x6a\x04\x24\x26\x08\x95\x75\xc7\
+              \x5a\x00\x3f\x08\x9d\x27\x39\x83\x9d\xec\x58\xb9\x64\xec\x38\x43"
+    );
 }
 
-// Of 32 bytes from the password `password` and the salt `salt`, as Python's hashlib computes them.
+// Of 64 bytes from the password `password` and the salt `salt`, as Python's hashlib computes them. A
+// shorter key is a beginning of a longer.
 #[test]
 fn pbkdf2_vectors(rt: HostRuntime) {
-    let cases: [(u32, &[u8; 32]); 3] = [
+    let cases: [(u32, &[u8; MAX_DERIVED_BYTES]); 3] = [
         (
             1,
             b"\x12\x0f\xb6\xcf\xfc\xf8\xb3\x2c\x43\xe7\x22\x52\x56\xc4\xf8\x37\
-              \xa8\x65\x48\xc9\x2c\xcc\x35\x48\x08\x05\x98\x7c\xb7\x0b\xe1\x7b",
+              \xa8\x65\x48\xc9\x2c\xcc\x35\x48\x08\x05\x98\x7c\xb7\x0b\xe1\x7b\
+              \x4d\xbf\x3a\x2f\x3d\xad\x33\x77\x26\x4b\xb7\xb8\xe8\x33\x0d\x4e\
+              \xfc\x74\x51\x41\x86\x17\xda\xbe\xf6\x83\x73\x53\x61\xcd\xc1\x8c",
         ),
         (
             2,
             b"\xae\x4d\x0c\x95\xaf\x6b\x46\xd3\x2d\x0a\xdf\xf9\x28\xf0\x6d\xd0\
-              \x2a\x30\x3f\x8e\xf3\xc2\x51\xdf\xd6\xe2\xd8\x5a\x95\x47\x4c\x43",
+              \x2a\x30\x3f\x8e\xf3\xc2\x51\xdf\xd6\xe2\xd8\x5a\x95\x47\x4c\x43\
+              \x83\x06\x51\xaf\xcb\x5c\x86\x2f\x0b\x24\x9b\xd0\x31\xf7\xa6\x75\
+              \x20\xd1\x36\x47\x0f\x5e\xc2\x71\xec\xe9\x1c\x07\x77\x32\x53\xd9",
         ),
         (
             4096,
             b"\xc5\xe4\x78\xd5\x92\x88\xc8\x41\xaa\x53\x0d\xb6\x84\x5c\x4c\x8d\
-              \x96\x28\x93\xa0\x01\xce\x4e\x11\xa4\x96\x38\x73\xaa\x98\x13\x4a",
+              \x96\x28\x93\xa0\x01\xce\x4e\x11\xa4\x96\x38\x73\xaa\x98\x13\x4a\
+              \xf7\xad\x98\xc1\xb4\x58\xce\x3f\xd7\x4c\xa3\x5b\xeb\xa3\xcd\xa7\
+              \xb8\xd1\x03\x8d\x6a\x87\x07\x1b\x91\x8f\x83\x74\x05\xf3\xfe\x77",
         ),
     ];
     for (iterations, key) in cases {
         assert!(rt; iterations > 0);
-        let mut derived = [0; 32];
-        pbkdf2(
-            &[b"pass", b"word"],
-            &[b"sa", b"lt"],
-            iterations,
-            &mut derived,
-        );
-        assert_eq!(rt; &derived, key);
-        let mut shorter = [0; 20];
-        pbkdf2(&[b"password"], &[b"salt"], iterations, &mut shorter);
-        assert_eq!(rt; shorter.as_slice(), &key[..20]);
+        for len in [0, 1, 20, 32, 33, 63, 64] {
+            assert!(rt; len <= key.len());
+            let mut derived = [0; MAX_DERIVED_BYTES];
+            let derived = &mut derived[..len];
+            pbkdf2(&[b"pass", b"word"], &[b"sa", b"lt"], iterations, derived);
+            assert_eq!(rt; &*derived, &key[..len]);
+        }
     }
 }
 
@@ -115,8 +148,19 @@ struct Case<'a> {
     encrypted: &'a [u8],
 }
 
-// Vectors of SLIP-0039 for one share of one, whose share value is the encrypted secret, and a secret of
-// 64 bytes under a passphrase of 64, as Python's hashlib computes it.
+// The secret of each case encrypts as it says, and the other way round.
+fn check_cases(rt: &impl Abort, cases: &[Case]) -> Result<(), Fail> {
+    for case in cases {
+        let secret = check_secret(case.secret).expect(rt, "a secret");
+        let encrypted = encrypt(&secret, case.passphrase, case.params);
+        assert_eq!(rt; encrypted.as_slice(), case.encrypted);
+        let decrypted = decrypt(&encrypted, case.passphrase, case.params);
+        assert_eq!(rt; decrypted.as_slice(), case.secret);
+    }
+    Ok(())
+}
+
+// Vectors of SLIP-0039 for one share of one, whose share value is the encrypted secret.
 #[test]
 fn cipher_vectors(rt: HostRuntime) -> Result<(), Fail> {
     let cases = [
@@ -152,6 +196,18 @@ fn cipher_vectors(rt: HostRuntime) -> Result<(), Fail> {
             secret: b"\x16\x79\xb4\x51\x6e\x0e\xe5\x95\x43\x51\xd2\x88\xa8\x38\xf4\x5e",
             encrypted: b"\x9e\x87\x73\xc7\x31\x3b\x11\xd3\xbf\xe2\x19\x29\x19\x76\x43\x3b",
         },
+    ];
+    check_cases(&rt, &cases)
+}
+
+// Secrets of 64, 66 and 128 bytes under a passphrase of 64, as Python's hashlib computes them.
+#[test]
+fn cipher_of_long_secrets(rt: HostRuntime) -> Result<(), Fail> {
+    let mut ascending = [0; MAX_SECRET_BYTES];
+    for i in 0..128u8 {
+        ascending[i as usize] = i;
+    }
+    let cases = [
         Case {
             params: Params {
                 id: 4660,
@@ -159,10 +215,7 @@ fn cipher_vectors(rt: HostRuntime) -> Result<(), Fail> {
                 exponent: 0,
             },
             passphrase: b" !\"#$%&'()*+,-./0123456789:;<=>?@ABCDEFGHIJKLMNOPQRSTUVWXYZ[\\]^_",
-            secret: b"\x00\x01\x02\x03\x04\x05\x06\x07\x08\x09\x0a\x0b\x0c\x0d\x0e\x0f\
-              \x10\x11\x12\x13\x14\x15\x16\x17\x18\x19\x1a\x1b\x1c\x1d\x1e\x1f\
-              \x20\x21\x22\x23\x24\x25\x26\x27\x28\x29\x2a\x2b\x2c\x2d\x2e\x2f\
-              \x30\x31\x32\x33\x34\x35\x36\x37\x38\x39\x3a\x3b\x3c\x3d\x3e\x3f",
+            secret: &ascending[..64],
             encrypted: b"\x42\xc4\xe8\x24\x6c\x07\xc9\xc8\xcd\x51\xc2\x98\x62\x36\x37\xe4\
               \x82\x4c\xf9\xff\xb4\xd8\x6e\x16\x4f\xdb\xa4\xeb\x20\xd6\xee\xab\
               \xab\x17\x5e\x21\x99\xc8\xc5\xec\x30\x53\xd6\x79\xda\x17\xee\xcf\
@@ -175,24 +228,45 @@ fn cipher_vectors(rt: HostRuntime) -> Result<(), Fail> {
                 exponent: 0,
             },
             passphrase: b" !\"#$%&'()*+,-./0123456789:;<=>?@ABCDEFGHIJKLMNOPQRSTUVWXYZ[\\]^_",
-            secret: b"\x00\x01\x02\x03\x04\x05\x06\x07\x08\x09\x0a\x0b\x0c\x0d\x0e\x0f\
-              \x10\x11\x12\x13\x14\x15\x16\x17\x18\x19\x1a\x1b\x1c\x1d\x1e\x1f\
-              \x20\x21\x22\x23\x24\x25\x26\x27\x28\x29\x2a\x2b\x2c\x2d\x2e\x2f\
-              \x30\x31\x32\x33\x34\x35\x36\x37\x38\x39\x3a\x3b\x3c\x3d\x3e\x3f",
+            secret: &ascending[..64],
             encrypted: b"\x9d\x1a\x0d\x2d\xbd\x3e\xd7\x37\x64\x9a\xc1\x14\x5c\xdb\xdb\xd4\
               \x08\x55\x76\xca\x65\x44\x6a\x83\xa6\x62\x35\xb1\xf8\xa6\x0d\x00\
               \xb3\x50\x25\xf4\xde\xd0\x98\xca\xbf\xb5\x59\x4b\x9f\x31\xa7\x6f\
               \x88\x2a\xcb\x3e\x2e\x75\xa7\xea\x62\xbd\x71\xac\xb7\xb6\x1b\x48",
         },
+        Case {
+            params: Params {
+                id: 4660,
+                extendable: false,
+                exponent: 0,
+            },
+            passphrase: b" !\"#$%&'()*+,-./0123456789:;<=>?@ABCDEFGHIJKLMNOPQRSTUVWXYZ[\\]^_",
+            secret: &ascending[..66],
+            encrypted: b"\x5a\xae\x32\x10\x62\xf3\xfc\x5f\x71\x10\x42\x23\xbe\x45\xf1\x4f\
+              \xae\x85\xaa\x00\x2f\x26\x60\x94\xa0\xe2\x76\xe8\x1c\xf8\x94\xc2\
+              \xac\x88\xc3\xc7\xe7\x6f\x58\x61\xff\x98\xc6\xd7\xf0\x5e\xa4\x9f\
+              \x66\x87\x9b\xdd\xeb\x51\x7e\xd6\xe8\xe6\x4d\x5d\xb7\x6c\xba\xdd\
+              \x9b\x6f",
+        },
+        Case {
+            params: Params {
+                id: 4660,
+                extendable: true,
+                exponent: 0,
+            },
+            passphrase: b" !\"#$%&'()*+,-./0123456789:;<=>?@ABCDEFGHIJKLMNOPQRSTUVWXYZ[\\]^_",
+            secret: &ascending[..128],
+            encrypted: b"\xd0\xb1\xb9\xfa\x80\x09\xd5\x9a\xe3\xe5\xc0\x2b\x43\xe5\xff\x14\
+              \x55\xa9\x79\x79\x55\x1c\x36\xf3\x7e\xec\xf7\x2b\xef\x3b\x41\x3f\
+              \x58\xc1\x8e\xf0\x71\xef\x53\xef\x43\xa9\xd3\x42\xc0\x8a\xed\xbc\
+              \x96\x34\x45\x3b\x83\xac\x65\x51\xbf\x1d\x56\x6e\x8b\xe3\x45\x68\
+              \xbd\x14\xaf\xb1\x0c\x3d\xbe\x7f\x67\x2b\xb3\x53\x90\xb4\x35\x30\
+              \x9e\x4e\xaf\x09\xb8\x7e\xa6\x82\x5e\x4b\x10\x62\x75\xdb\xbb\x88\
+              \x25\x41\x57\x34\xd2\xb1\x4b\xd0\x52\xa2\xd2\x8e\x3d\x16\x8f\xd0\
+              \xe7\xc2\xab\xe8\x8b\xb7\xe3\x63\x60\xcb\x4d\x18\xfe\xba\x8f\x79",
+        },
     ];
-    for case in &cases {
-        let secret = check_secret(case.secret).expect(&rt, "a secret");
-        let encrypted = encrypt(&secret, case.passphrase, case.params);
-        assert_eq!(rt; encrypted.as_slice(), case.encrypted);
-        let decrypted = decrypt(&encrypted, case.passphrase, case.params);
-        assert_eq!(rt; decrypted.as_slice(), case.secret);
-    }
-    Ok(())
+    check_cases(&rt, &cases)
 }
 
 #[test]
@@ -217,16 +291,22 @@ fn passphrases(rt: HostRuntime) {
 
 #[test]
 fn secret_lengths(rt: HostRuntime) {
-    let bytes = [7; 66];
+    let bytes = [7; 130];
     for (len, is_accepted) in [
         (0, false),
         (14, false),
         (15, false),
         (16, true),
         (17, false),
+        (18, true),
         (64, true),
         (65, false),
-        (66, false),
+        (66, true),
+        (126, true),
+        (127, false),
+        (128, true),
+        (129, false),
+        (130, false),
     ] {
         assert!(rt; len <= bytes.len());
         match check_secret(&bytes[..len]) {
