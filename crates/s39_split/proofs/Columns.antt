@@ -1,15 +1,17 @@
 -- Byte strings position by position, and their weighted sums.
-use Rattle.std.proofs.Common.{◌≡◌, ℕ, ◌+◌, ◌<◌, ◌≤◌, List, [], ◌∷◌, length, get_or, take, map, slice_index, refl, sym, ap, ap₂, ◌∙◌, arith, bit_xor}
+use Rattle.std.proofs.Common.{◌≡◌, ℕ, ◌+◌, ◌<◌, List, [], ◌∷◌, length, get_or, take, map, slice_index, refl, sym, ap, ap₂, ◌∙◌, subst, arith, bit_xor}
 use Rattle.std.specs.Borrow.{Bor}
 use Rattle.std.specs.List.{All, zip}
-use Rattle.std.proofs.lemmas.List.{length-map, get_or-map}
+use Rattle.std.proofs.lemmas.List.{length-map, get_or-map, get_or_default}
 use Rattle.std.proofs.lemmas.List.Elements.{All-map}
 use Rattle.arrayvec.specs.ArrayVec.{ArrayVec}
 use Rattle.s39_field.specs.FieldProduct.{byte_field, byte_modulus, product_modulo}
 use Rattle.s39_field.specs.Interpolation.{Interpolates, InterpolatesBytes, points_at, weighted_sum}
 use Rattle.s39_field.specs.Theory.Powers.{byte_field_is_field}
 use Rattle.s39_field.specs.Theory.Strings.{weighted_sum-more}
+use Rattle.s39_kdf.specs.Bytes.{AreBytes}
 use Rattle.s39_split.specs.Shares.{indexed_bytes}
+use Rattle.s39_split.proofs.Lists.{All-from_map}
 
 -- the bytes of the points' strings at one position
 abbrev pub column : ℕ → List (ℕ × Bor (ArrayVec ℕ)) → List ℕ
@@ -51,24 +53,27 @@ sums_interpolate points place ws value weights one_length bytes sums = record {
       rw (sums position below, ← zip_column points position) h;
 }
 
+-- rows have the length that their bytes have
+pub all_rows : (points : List (ℕ × Bor (ArrayVec ℕ))) (n : ℕ) → All (λ s. length s.1 ≡ n) (indexed_bytes points)
+    → All (λ p. length p.1.now.items ≡ n) points
+all_rows points n rows = All-from_map {Y = ℕ × List ℕ} (λ s. length s.1 ≡ n) (λ p. (p.0, p.1.now.items)) points rows
+
+-- rows of bytes
+pub AreBytes-rows : (points : List (ℕ × Bor (ArrayVec ℕ))) → All (λ p. (k : ℕ) → slice_index p.1.now.items k < 256) points
+    → All (λ s. AreBytes s.1) (indexed_bytes points)
+AreBytes-rows points bytes =
+    All-map (λ (s : ℕ × List ℕ). AreBytes s.1) (λ (p : ℕ × Bor (ArrayVec ℕ)). (p.0, p.1.now.items)) points
+    (λ i e inside k d within.
+    let P : ℕ → Type 0 = λ byte. byte < 256 in
+    subst P (get_or_default (get_or points i e).1.now.items k 0 d within) (bytes i e inside k))
+
 -- a row has the length that all have
 pub length-row : (points : List (ℕ × Bor (ArrayVec ℕ))) (n i : ℕ) (point : ℕ × Bor (ArrayVec ℕ)) → All (λ p. length p.1.now.items ≡ n) points
     → i < length points → point ≡ get_or points i point → length point.1.now.items ≡ n
 length-row points n i point one_length within is =
     ap (λ (p : ℕ × Bor (ArrayVec ℕ)). length p.1.now.items) is ∙ one_length i point within
 
--- what all rows have at least, the length that they have in the end is at least
-pub length-rows : (points : List (ℕ × Bor (ArrayVec ℕ))) (n least : ℕ) → 0 < length points → All (λ p. least ≤ length p.1.now.items) points
-    → All (λ s. length s.1 ≡ n) (indexed_bytes points) → least ≤ n
-length-rows [] n least some long one_length = absurd (omega arith)
-length-rows (p ∷ ps) n least some long one_length =
-    let this : length p.1.now.items ≡ n = one_length 0 (p.0, p.1.now.items) (omega arith) in
-    omega (arith, long 0 p (omega arith))
-
--- the length that all rows have, and the length that they have in the end, are one
-pub same-length-rows : (points : List (ℕ × Bor (ArrayVec ℕ))) (n m : ℕ) → 0 < length points → All (λ p. length p.1.now.items ≡ m) points
-    → All (λ s. length s.1 ≡ n) (indexed_bytes points) → n ≡ m
-same-length-rows [] n m some rows one_length = absurd (omega arith)
-same-length-rows (p ∷ ps) n m some rows one_length =
-    let this : length p.1.now.items ≡ n = one_length 0 (p.0, p.1.now.items) (omega arith) in
-    sym this ∙ rows 0 p (omega arith)
+-- the length that all strings have, and the length that they have in the end, are one
+pub same_length : (strings : List (ℕ × List ℕ)) (n m : ℕ) → 0 < length strings → All (λ s. length s.1 ≡ m) strings
+    → All (λ s. length s.1 ≡ n) strings → n ≡ m
+same_length strings n m some one other = sym (other 0 (0, []) some) ∙ one 0 (0, []) some

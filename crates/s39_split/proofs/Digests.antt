@@ -2,21 +2,21 @@
 use Rattle.std.proofs.Common.{◌≡◌, ℕ, ◌-◌, ◌+◌, List, [], ◌++◌, length, take, drop, sym, ap, ◌∙◌, inl, inr, arith, length-append}
 use Rattle.std.proofs.lemmas.List.{take_at, drop_at, take_all, drop_all, append-nil, nil_from_length}
 use Rattle.std.proofs.lemmas.Bool.{cases_lt}
-use Rattle.s39_split.specs.Sharing.{digest_of, digest_share}
+use Rattle.s39_split.specs.Sharing.{digest_length, digest_of, digest_share}
 
 -- a split's digest share has the secret's digest, under its own key
-pub digest_share-is_accepted : (key secret : List ℕ) (n : ℕ) → length (digest_share key secret) ≡ n → length key ≡ n - 4
-    → take 4 (digest_share key secret) ≡ digest_of (drop 4 (digest_share key secret)) secret
+pub digest_share-is_accepted : (key secret : List ℕ) (n : ℕ) → length (digest_share key secret) ≡ n → length key ≡ n - digest_length
+    → take digest_length (digest_share key secret) ≡ digest_of (drop digest_length (digest_share key secret)) secret
 digest_share-is_accepted key secret n whole rest =
     let digest = digest_of key secret in
     let parts : length (digest_share key secret) ≡ length digest + length key = length-append digest key in
-    elim (cases_lt n 4) [
+    elim (cases_lt n digest_length) [
       | inl short ↦
           let no_key : key ≡ [] = nil_from_length key (omega arith) in
-          take_all 4 (digest_share key secret) (omega arith)
+          take_all digest_length (digest_share key secret) (omega arith)
           ∙ ap (λ k. digest ++ k) no_key ∙ append-nil digest
-          ∙ ap (λ k. digest_of k secret) (no_key ∙ sym (drop_all 4 (digest_share key secret) (omega arith)))
+          ∙ ap (λ k. digest_of k secret) (no_key ∙ sym (drop_all digest_length (digest_share key secret) (omega arith)))
       | inr long ↦
-          let four : length digest ≡ 4 = omega arith in
-          take_at digest key 4 four ∙ ap (λ k. digest_of k secret) (sym (drop_at digest key 4 four))
+          let four : length digest ≡ digest_length = omega arith in
+          take_at digest key digest_length four ∙ ap (λ k. digest_of k secret) (sym (drop_at digest key digest_length four))
     ]

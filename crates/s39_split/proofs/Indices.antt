@@ -10,16 +10,23 @@ use Rattle.std.proofs.lemmas.Map.Views.{Contains-from_any}
 use Rattle.std.proofs.lemmas.Bool.{eqb-true}
 use Rattle.std.proofs.lemmas.Bool.Decides.{Decides-eqb}
 use Rattle.arrayvec.specs.ArrayVec.{ArrayVec}
-use Rattle.s39_field.specs.Theory.Roots.{AllPairs-map}
+use Rattle.s39_field.specs.Theory.Lists.{AllPairs-map}
+use Rattle.s39_split.specs.Sharing.{most_shares}
+use Rattle.s39_split.specs.Shares.{indexed_bytes, AreDistinct}
 
--- shares with distinct indices up to 15 are at most 16
-pub few_shares : (shares : List (ℕ × Bor (ArrayVec ℕ))) → AllPairs (λ a b. a.0 ≢ b.0) shares → All (λ s. s.0 ≤ 15) shares → length shares ≤ 16
+-- shares with distinct indices are no more than there are indices
+pub few_shares : (shares : List (ℕ × List ℕ)) → AreDistinct shares → All (λ s. s.0 < most_shares) shares → length shares ≤ most_shares
 few_shares shares distinct low =
     let indices : List ℕ = map (λ s. s.0) shares in
-    let apart : AllPairs (λ a b. a ≢ b) indices =
-    AllPairs-map (λ a b. a ≢ b) (λ s. s.0) shares distinct in
-    let below : All (λ i. i < 16) indices = All-map (λ i. i < 16) (λ s. s.0) shares (λ k d within. omega (arith, low k d within)) in
+    let apart : AllPairs (λ a b. a ≢ b) indices = AllPairs-map (λ a b. a ≢ b) (λ s. s.0) shares distinct in
+    let below : All (λ i. i < most_shares) indices = All-map (λ i. i < most_shares) (λ s. s.0) shares low in
     let count : length indices ≡ length shares = length-map shares (λ s. s.0) in
-    let few : length indices ≤ 16 = length-le_from_distinct_below indices 16 (IsDistinct-from_AllPairs Decides-eqb indices apart)
-    (λ q found. All-contains (λ i. i < 16) indices q below (Contains-from_any eqb-true q indices found)) in
+    let few : length indices ≤ most_shares = length-le_from_distinct_below indices most_shares (IsDistinct-from_AllPairs Decides-eqb indices apart)
+    (λ q found. All-contains (λ i. i < most_shares) indices q below (Contains-from_any eqb-true q indices found)) in
     omega arith
+
+pub few_lent : (shares : List (ℕ × Bor (ArrayVec ℕ))) → AreDistinct (indexed_bytes shares)
+    → All (λ s. s.0 < most_shares) (indexed_bytes shares) → length shares ≤ most_shares
+few_lent shares distinct low =
+    let count : length (indexed_bytes shares) ≡ length shares = length-map shares (λ s. (s.0, s.1.now.items)) in
+    omega (arith, few_shares (indexed_bytes shares) distinct low)

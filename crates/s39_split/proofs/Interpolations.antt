@@ -5,10 +5,11 @@ use Rattle.std.proofs.lemmas.List.{get_or-map, length-map}
 use Rattle.std.proofs.lemmas.List.Elements.{All-map}
 use Rattle.s39_field.specs.FieldProduct.{byte_field}
 use Rattle.s39_field.specs.Theory.Powers.{byte_field_is_field}
-use Rattle.s39_field.specs.Theory.Roots.{points_have_one_value, AllPairs-map}
+use Rattle.s39_field.specs.Theory.Lists.{AllPairs-map}
+use Rattle.s39_field.specs.Theory.Roots.{points_have_one_value}
 use Rattle.s39_field.specs.Polynomial.{value_at}
 use Rattle.s39_field.specs.Interpolation.{InterpolatesBytes, points_at}
-use Rattle.s39_split.specs.Recovery.{AreDistinct}
+use Rattle.s39_split.specs.Shares.{AreDistinct}
 
 -- a string that does not matter, as a default
 abbrev pub none : ℕ × List ℕ
@@ -71,7 +72,8 @@ module _ (strings : List (ℕ × List ℕ)) (distinct : AreDistinct strings) (pl
               let q = interpolated k none within in
               let long : position < length s.1 = omega (arith, q.one_length 0 none some, h.one_length 0 none some) in
               rw (point-at others position k d within)
-              (points_have_one_value byte_field byte_field_is_field (points_at strings position) s.0 (value_at byte_field p.coefficients s.0) (slice_index s.1 position)
+              (points_have_one_value byte_field byte_field_is_field (points_at strings position) s.0 (value_at byte_field p.coefficients s.0)
+              (slice_index s.1 position)
               (places_at strings position places) (distinct_at strings position distinct)
               (record { coefficients = p.coefficients; elements = p.elements; no_longer = p.no_longer; through = p.through; takes = refl })
               (q.each position long));

@@ -1,11 +1,16 @@
 pub mod Interpolations
 pub mod BasePoints
 pub mod Digests
+pub mod SplitPoints
 pub mod Choices
 pub mod Columns
 pub mod Lists
 pub mod Cuts
-pub mod Points
+pub mod Enumerated
+pub mod LentPoints
 pub mod Indices
 pub mod Splits
+pub mod Pieces
+pub mod SplitLaws
 pub mod OneOutcome
+pub mod FittedPoints

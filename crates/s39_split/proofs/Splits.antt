@@ -1,5 +1,6 @@
 -- A split's shares as they are made one by one.
-use Rattle.std.proofs.Common.{◌≡◌, ◌≢◌, ℕ, ◌+◌, ◌-◌, ◌<◌, ◌≤◌, List, [], ◌++◌, Some, length, get_or, take, set, sym, ap, ◌∙◌, subst, inl, inr, arith, length-append}
+use Rattle.std.proofs.Common.{◌≡◌, ◌≢◌, ℕ, ◌+◌, ◌-◌, ◌<◌, ◌≤◌, List, [], ◌++◌, Some, length, get_or, take, set, sym, ap, ◌∙◌, subst, inl, inr, arith}
+use Rattle.std.proofs.Common.{length-append}
 use Rattle.std.specs.List.{All, slice_get, concat, EachIndex}
 use Rattle.std.proofs.lemmas.List.{get_or-map, length-map, get_or-set_other, get_or-set_same, get_or-append_right, map-append, take_at}
 use Rattle.std.proofs.lemmas.List.Elements.{All-map}
@@ -7,7 +8,7 @@ use Rattle.std.proofs.lemmas.Option.{slice_get_within, get_or_from_slice_get, sl
 use Rattle.std.proofs.lemmas.Bool.{cases_lt}
 use Rattle.arrayvec.specs.ArrayVec.{ArrayVec}
 use Rattle.s39_field.specs.Interpolation.{InterpolatesBytes}
-use Rattle.s39_split.specs.Sharing.{IsSplit, base_points, digest_share}
+use Rattle.s39_split.specs.Sharing.{most_shares, digest_length, IsSplit, base_points, digest_share}
 use Rattle.s39_split.specs.Shares.{bytes_of}
 
 -- the bytes at an index
@@ -34,7 +35,8 @@ each_more P shares i share within before here k below s is =
     elim (cases_lt k i) [
       | inl earlier ↦
           let other : k ≢ i = omega arith in
-          before k earlier s (at-bytes shares k s share (omega arith) (sym (ap (λ (v : ArrayVec ℕ). v.items) (get_or-set_other shares i k share share other)) ∙ at.1))
+          before k earlier s (at-bytes shares k s share (omega arith)
+          (sym (ap (λ (v : ArrayVec ℕ). v.items) (get_or-set_other shares i k share share other)) ∙ at.1))
       | inr later ↦
           let same : k ≡ i = omega arith in
           let Q : ℕ → Type 0 = λ j. P j share.items in
@@ -44,7 +46,8 @@ each_more P shares i share within before here k below s is =
     ]
 
 module _ (threshold : ℕ) (secret random key : List ℕ) (random_shares other_shares : List (ArrayVec ℕ))
-    (several : 2 ≤ threshold) (key_length : length key ≡ length secret - 4)
+    (several : 2 ≤ threshold) (enough : threshold ≤ length random_shares + length other_shares)
+    (few : length random_shares + length other_shares ≤ most_shares) (key_length : length key ≡ length secret - digest_length)
     (random_number : length random_shares ≡ threshold - 2)
     (consumed : random ≡ key ++ concat (bytes_of random_shares))
     (interpolated : EachIndex other_shares (λ k. (share : List ℕ) → slice_get (bytes_of other_shares) k ≡ Some share
@@ -57,6 +60,9 @@ module _ (threshold : ℕ) (secret random key : List ℕ) (random_shares other_s
   -- the random shares and the others are a split
   pub split_is : IsSplit threshold (length (random_shares ++ other_shares)) secret random (bytes_of (random_shares ++ other_shares))
   split_is = record {
+    positive = omega arith;
+    enough = omega (arith, length-append random_shares other_shares);
+    few = omega (arith, length-append random_shares other_shares);
     number = length-map (random_shares ++ other_shares) (λ v. v.items);
     one_needed = λ one. absurd (omega arith);
     more_needed = λ _. record {
@@ -80,8 +86,12 @@ module _ (threshold : ℕ) (secret random key : List ℕ) (random_shares other_s
 
 -- where one share is enough, copies of the secret are a split
 pub copies_are : (threshold : ℕ) (secret random : List ℕ) (shares : List (ArrayVec ℕ)) → threshold ≡ 1 → random ≡ []
+    → threshold ≤ length shares → length shares ≤ most_shares
     → All (λ share. share.items ≡ secret) shares → IsSplit threshold (length shares) secret random (bytes_of shares)
-copies_are threshold secret random shares one no_random copies = record {
+copies_are threshold secret random shares one no_random enough few copies = record {
+  positive = omega arith;
+  enough = enough;
+  few = few;
   number = length-map shares (λ v. v.items);
   one_needed = λ _. (no_random, All-map (λ share. share ≡ secret) (λ v. v.items) shares copies);
   more_needed = λ several. absurd (several one);

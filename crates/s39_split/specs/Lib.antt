@@ -1,3 +1,4 @@
+pub mod Shares
 pub mod Sharing
 pub mod Recovery
-pub mod Shares
+pub mod Fitting

@@ -1,31 +1,31 @@
 -- The recovery of a secret from shares of one level (SLIP-0039, "Shamir's secret sharing" and
 -- "Recovery of the secret"), and its laws.
-use Rattle.std.specs.Prelude.{◌≡◌, ◌≢◌, ℕ, ◌<◌, ◌≤◌, List, [], ◌∷◌, Option, Some, None, length, take, drop, All, AllPairs}
+use Rattle.std.specs.Prelude.{◌≡◌, ◌≢◌, ℕ, ◌<◌, ◌≤◌, List, [], ◌∷◌, Option, Some, None, length, take, drop, All}
 use Rattle.std.specs.List.{slice_get}
 use Rattle.s39_field.specs.Interpolation.{InterpolatesBytes}
-use Rattle.s39_split.specs.Sharing.{digest_of, IsSplit}
-use Rattle.s39_split.specs.declared.places.TheConstants.{DIGEST_BYTES, DIGEST_PLACE, SECRET_PLACE}
+use Rattle.s39_kdf.specs.Bytes.{AreBytes}
+use Rattle.s39_split.specs.Shares.{AreDistinct, HaveOneLength}
+use Rattle.s39_split.specs.Sharing.{digest_place, secret_place, digest_length, digest_of, IsSplit}
 
 -- What two or more shares give: the secret S where the first 4 bytes of D are its digest under the
 -- rest of D as the key, and a refusal otherwise.
 pub record CombinesSeveral (shares : List (ℕ × List ℕ)) (outcome : Option (List ℕ)) : Type 0 where
   pub secret : List ℕ
   pub digest : List ℕ
-  pub secret_interpolated : InterpolatesBytes shares SECRET_PLACE secret
-  pub digest_interpolated : InterpolatesBytes shares DIGEST_PLACE digest
-  pub accepted : take DIGEST_BYTES digest ≡ digest_of (drop DIGEST_BYTES digest) secret → outcome ≡ Some secret
-  pub refused : take DIGEST_BYTES digest ≢ digest_of (drop DIGEST_BYTES digest) secret → outcome ≡ None
+  pub secret_interpolated : InterpolatesBytes shares secret_place secret
+  pub digest_interpolated : InterpolatesBytes shares digest_place digest
+  pub accepted : take digest_length digest ≡ digest_of (drop digest_length digest) secret
+      → outcome ≡ Some secret
+  pub refused : take digest_length digest ≢ digest_of (drop digest_length digest) secret
+      → outcome ≡ None
 
--- Shares, each with its index, combine to a secret, or are refused, which is None. Where one share is
--- enough, it is the secret.
+-- Shares, each with its index, as many as the threshold, combine to a secret, or are refused, which is
+-- None. Where one share is enough, it is the secret.
 pub record Combines (threshold : ℕ) (shares : List (ℕ × List ℕ)) (outcome : Option (List ℕ)) : Type 0 where
+  pub number : length shares ≡ threshold
   pub one_needed : threshold ≡ 1
       → (index : ℕ) × (share : List ℕ) × (shares ≡ (index, share) ∷ []) × (outcome ≡ Some share)
   pub more_needed : threshold ≢ 1 → CombinesSeveral shares outcome
-
--- no two shares have the same index
-abbrev pub AreDistinct : List (ℕ × List ℕ) → Type 0
-AreDistinct shares = AllPairs (λ a b. a.0 ≢ b.0) shares
 
 -- some of a split's shares, each with its index, in any order
 pub record AreSharesOf (shares : List (List ℕ)) (chosen : List (ℕ × List ℕ)) : Type 0 where
@@ -34,8 +34,8 @@ pub record AreSharesOf (shares : List (List ℕ)) (chosen : List (ℕ × List �
 
 -- any threshold many shares of a split combine to its secret, and to nothing else
 abbrev pub AnySharesCombine : Type 0
-AnySharesCombine = (threshold count : ℕ) (secret random : List ℕ) (shares : List (List ℕ)) (chosen : List (ℕ × List ℕ))
-    → 1 ≤ threshold → threshold ≤ count → count ≤ 16
+AnySharesCombine =
+    (threshold count : ℕ) (secret random : List ℕ) (shares : List (List ℕ)) (chosen : List (ℕ × List ℕ))
     → IsSplit threshold count secret random shares
     → AreSharesOf shares chosen → length chosen ≡ threshold
     → Combines threshold chosen (Some secret)
@@ -46,3 +46,23 @@ abbrev pub SharesCombineOnce : Type 0
 SharesCombineOnce = (threshold : ℕ) (shares : List (ℕ × List ℕ)) (outcome other : Option (List ℕ))
     → 0 < length shares → All (λ share. share.0 < 256) shares → AreDistinct shares
     → Combines threshold shares outcome → Combines threshold shares other → outcome ≡ other
+
+-- shares with different indices and one length combine to an outcome
+abbrev pub SharesCombine : Type 0
+SharesCombine = (threshold : ℕ) (shares : List (ℕ × List ℕ))
+    → 1 ≤ threshold
+    → length shares ≡ threshold
+    → All (λ share. share.0 < 256) shares
+    → All (λ share. AreBytes share.1) shares
+    → HaveOneLength shares
+    → AreDistinct shares
+    → (outcome : Option (List ℕ)) × Combines threshold shares outcome
+
+-- the secret that shares of a length combine to has that length, and consists of bytes where they do
+abbrev pub SecretsAreLikeTheirShares : Type 0
+SecretsAreLikeTheirShares = (threshold n : ℕ) (shares : List (ℕ × List ℕ)) (secret : List ℕ)
+    → 1 ≤ threshold
+    → Combines threshold shares (Some secret)
+    → All (λ share. length share.1 ≡ n) shares
+    → All (λ share. AreBytes share.1) shares
+    → (length secret ≡ n) × AreBytes secret

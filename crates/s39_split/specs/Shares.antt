@@ -1,5 +1,5 @@
--- What a contract sees of shares in memory.
-use Rattle.std.specs.Prelude.{ℕ, List, map}
+-- Shares, or points, as a list of indices and byte strings, and what a contract sees of them in memory.
+use Rattle.std.specs.Prelude.{◌≡◌, ◌≢◌, ℕ, List, length, map, AllPairs}
 use Rattle.std.specs.Borrow.{Bor}
 use Rattle.arrayvec.specs.ArrayVec.{ArrayVec}
 
@@ -10,3 +10,11 @@ bytes_of shares = map (λ share. share.items) shares
 -- each share's index and bytes
 abbrev pub indexed_bytes : List (ℕ × Bor (ArrayVec ℕ)) → List (ℕ × List ℕ)
 indexed_bytes shares = map (λ share. (share.0, share.1.now.items)) shares
+
+-- no two shares have the same index
+abbrev pub AreDistinct : List (ℕ × List ℕ) → Type 0
+AreDistinct shares = AllPairs (λ a b. a.0 ≢ b.0) shares
+
+-- all shares are equally long
+abbrev pub HaveOneLength : List (ℕ × List ℕ) → Type 0
+HaveOneLength shares = AllPairs (λ a b. length a.1 ≡ length b.1) shares

@@ -1,9 +1,12 @@
 //! The interpolation of byte strings.
-ghost use Rattle.std.specs.Prelude.{◌≡◌, ◌≢◌, ℕ, ◌<◌, ◌≤◌, List, length, take, map, zip, All, AllPairs, replicate, slice_index};
+ghost use Rattle.std.specs.Prelude.{◌≡◌, ℕ, ◌<◌, ◌≤◌, List, length, take, map, zip, All, replicate, slice_index};
 ghost use Rattle.arrayvec.specs.ArrayVec.{array_vec_len};
 ghost use Rattle.s39_field.specs.FieldProduct.{byte_field};
 ghost use Rattle.s39_field.specs.Interpolation.{Interpolates, InterpolatesBytes, weighted_sum};
-ghost use Rattle.s39_split.specs.Shares.{indexed_bytes};
+ghost use Rattle.s39_kdf.specs.Limits.{longest_secret};
+ghost use Rattle.s39_kdf.specs.Bytes.{AreBytes};
+ghost use Rattle.s39_split.specs.Sharing.{most_shares};
+ghost use Rattle.s39_split.specs.Shares.{indexed_bytes, AreDistinct};
 
 use crate::places::MAX_SHARES;
 use s39_field::{Field, Gf256, scaled_sum, weights};
@@ -12,10 +15,11 @@ use s39_kdf::{Bytes, MAX_SECRET_BYTES};
 // The one byte string that the points interpolate at `place`. A point is a place and a byte string.
 pub(crate) fn interpolate(points: &[(u8, &Bytes)], place: u8) -> Bytes
     requires some { 0 < length points.now }
-    requires few { length points.now ≤ MAX_SHARES }
-    requires distinct { AllPairs (λ a b. a.0 ≢ b.0) points.now }
-    requires one_length { (n : ℕ) × All (λ point. array_vec_len point.1.now ≡ n) points.now }
-    ensures { InterpolatesBytes (indexed_bytes points.now) place result.items }
+    requires few { length points.now ≤ most_shares }
+    requires distinct { AreDistinct (indexed_bytes points.now) }
+    requires one_length { (n : ℕ) × All (λ point. length point.1 ≡ n) (indexed_bytes points.now) }
+    ensures value { InterpolatesBytes (indexed_bytes points.now) place result.items }
+    ensures of_bytes { All (λ point. AreBytes point.1) (indexed_bytes points.now) }
 {
     let weights = weights_at(points, place);
     let mut value = zeros(points[0].1.len());
@@ -27,9 +31,9 @@ pub(crate) fn interpolate(points: &[(u8, &Bytes)], place: u8) -> Bytes
 
 // The weight of each point's value in the value at `place`.
 fn weights_at(points: &[(u8, &Bytes)], place: u8) -> [Gf256; MAX_SHARES]
-    requires few { length points.now ≤ MAX_SHARES }
-    requires distinct { AllPairs (λ a b. a.0 ≢ b.0) points.now }
-    ensures number { length result ≡ MAX_SHARES }
+    requires few { length points.now ≤ most_shares }
+    requires distinct { AreDistinct (indexed_bytes points.now) }
+    ensures number { length result ≡ most_shares }
     ensures interpolates { (values : List ℕ) → All (λ value. value < 256) values
         → length values ≡ length points.now
         → Interpolates byte_field (zip (map (λ point. point.0) points.now) values) place
@@ -54,13 +58,14 @@ fn add_scaled(value: &mut Bytes, weight: Gf256, row: &[u8])
     ensures len { array_vec_len value.new ≡ length row.now }
     ensures bytes { (k : ℕ) → slice_index row.now k < 256 }
     ensures sums { (k : ℕ) → k < length row.now → slice_index value.new.items k
-        ≡ byte_field.add (slice_index value.old.items k) (byte_field.mul weight (slice_index row.now k)) }
+        ≡ byte_field.add (slice_index value.old.items k)
+        (byte_field.mul weight (slice_index row.now k)) }
 {
     scaled_sum(value, weight, row);
 }
 
 fn zeros(n: usize) -> Bytes
-    requires { n ≤ MAX_SECRET_BYTES }
+    requires { n ≤ longest_secret }
     ensures { result.items ≡ replicate n 0 }
 {
     let mut bytes = Bytes::from([0; MAX_SECRET_BYTES]);

@@ -2,13 +2,17 @@
 #![tactic(auto)]
 
 mod digest;
+mod fitting;
 mod interpolation;
 pub mod laws;
+mod lent_points;
 mod places;
 mod recovery;
 mod sharing;
 
-pub use places::{DIGEST_BYTES, DIGEST_PLACE, MAX_SHARES, SECRET_PLACE};
+pub use fitting::fit;
+pub use lent_points::Points;
+pub use places::{DIGEST_BYTES, DIGEST_PLACE, MAX_RANDOM_BYTES, MAX_SHARES, SECRET_PLACE};
 pub use recovery::{DigestMismatch, combine};
 pub use sharing::{random_needed, split};
 

@@ -1,5 +1,7 @@
 //! The numbers that splitting and combining go by (SLIP-0039, "Shamir's secret sharing").
 
+use s39_kdf::MAX_SECRET_BYTES;
+
 /// The most shares of a split.
 pub const MAX_SHARES: usize = 16;
 
@@ -12,3 +14,7 @@ pub const SECRET_PLACE: u8 = 255;
 
 /// The length of a secret's digest, in bytes.
 pub const DIGEST_BYTES: usize = 4;
+
+/// The most random bytes that a split takes: the key of the digest, and 14 shares.
+pub const MAX_RANDOM_BYTES: usize = MAX_SECRET_BYTES - DIGEST_BYTES
+    + (MAX_SHARES - 2) * MAX_SECRET_BYTES;

@@ -1,16 +1,18 @@
 //! Combining shares (SLIP-0039, "Recovery of the secret").
-ghost use Rattle.std.specs.Prelude.{◌≡◌, ◌≢◌, ℕ, ◌≤◌, Some, None, List, Option, length, All, AllPairs, IfOk, OnErr};
+ghost use Rattle.std.specs.Prelude.{◌≡◌, ℕ, ◌<◌, ◌≤◌, Some, None, List, Option, length, All, IfOk, OnErr};
 ghost use Rattle.std.specs.Option.{option_map};
 ghost use Rattle.std.specs.Result.{result_ok};
 ghost use Rattle.arrayvec.specs.ArrayVec.{array_vec_len};
+ghost use Rattle.s39_kdf.specs.Limits.{shortest_secret};
+ghost use Rattle.s39_split.specs.Sharing.{most_shares};
 ghost use Rattle.s39_split.specs.Recovery.{Combines};
-ghost use Rattle.s39_split.specs.Shares.{indexed_bytes};
+ghost use Rattle.s39_split.specs.Shares.{indexed_bytes, AreDistinct, HaveOneLength};
 
 use crate::digest::digest_of;
 use crate::interpolation::interpolate;
 use crate::places::{DIGEST_BYTES, DIGEST_PLACE, SECRET_PLACE};
 use crate::sharing::copied;
-use s39_kdf::{Bytes, MIN_SECRET_BYTES};
+use s39_kdf::Bytes;
 
 /// The digest that the shares give isn't that of the secret that they give: a share is wrong, or they
 /// aren't all shares of one split.
@@ -28,22 +30,23 @@ impl DigestMismatch {
 
 /// The secret of the split that `t` shares belong to, from as many shares as its threshold `t` (SLIP-0039,
 /// "Recovery of the secret"). A share is its index, up to 15, and its bytes. The shares have different
-/// indices and one length, of at least 16 bytes, and stand in any order.
+/// indices and one length, from 16 to 128 bytes, and stand in any order.
 ///
 /// Where `t` is 1 the secret is the one share. Otherwise the answer is `DigestMismatch` exactly where the
 /// shares' digest isn't that of their secret.
 pub fn combine(t: u8, shares: &[(u8, &Bytes)]) -> Result<Bytes, DigestMismatch>
     requires positive { 1 ≤ t }
     requires number { length shares.now ≡ t }
-    requires distinct { AllPairs (λ a b. a.0 ≢ b.0) shares.now }
-    requires indices { All (λ share. share.0 ≤ 15) shares.now }
-    requires one_length { AllPairs (λ a b. array_vec_len a.1.now ≡ array_vec_len b.1.now) shares.now }
-    requires long { All (λ share. MIN_SECRET_BYTES ≤ array_vec_len share.1.now) shares.now }
-    ensures secret { IfOk result (λ secret. Combines t (indexed_bytes shares.now) (Some secret.items)) }
+    requires distinct { AreDistinct (indexed_bytes shares.now) }
+    requires indices { All (λ share. share.0 < most_shares) (indexed_bytes shares.now) }
+    requires one_length { HaveOneLength (indexed_bytes shares.now) }
+    requires long { All (λ share. shortest_secret ≤ length share.1) (indexed_bytes shares.now) }
+    ensures secret { IfOk result
+        (λ secret. Combines t (indexed_bytes shares.now) (Some secret.items)) }
     ensures refused { OnErr result (Combines t (indexed_bytes shares.now) None) }
     ensures only { (outcome : Option (List ℕ)) → Combines t (indexed_bytes shares.now) outcome
         → outcome ≡ option_map (λ secret. secret.items) (result_ok result) }
-    ensures length { (n : ℕ) → All (λ share. array_vec_len share.1.now ≡ n) shares.now
+    ensures length { (n : ℕ) → All (λ share. length share.1 ≡ n) (indexed_bytes shares.now)
         → IfOk result (λ secret. array_vec_len secret ≡ n) }
 {
     if t == 1 {

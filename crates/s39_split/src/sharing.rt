@@ -1,24 +1,26 @@
 //! Splitting a secret (SLIP-0039, "Sharing a secret").
-ghost use Rattle.std.specs.Prelude.{◌≡◌, ◌≢◌, ℕ, ◌+◌, ◌-◌, ◌*◌, ◌<◌, ◌≤◌, List, Some, length, take, All, AllPairs, EachIndex};
+ghost use Rattle.std.specs.Prelude.{◌≡◌, ℕ, ◌+◌, ◌-◌, ◌*◌, ◌<◌, ◌≤◌, List, Some, length, All, EachIndex};
 ghost use Rattle.s39_field.specs.Interpolation.{InterpolatesBytes};
 ghost use Rattle.std.specs.List.{concat, slice_get};
 ghost use Rattle.arrayvec.specs.ArrayVec.{array_vec_len};
-ghost use Rattle.s39_split.specs.Sharing.{random_needed, base_points, IsSplit};
-ghost use Rattle.s39_split.specs.Shares.{bytes_of, indexed_bytes};
+ghost use Rattle.s39_split.specs.Sharing.{most_shares, digest_length, random_needed, base_points, IsSplit};
+ghost use Rattle.s39_kdf.specs.Limits.{shortest_secret, longest_secret};
+ghost use Rattle.s39_split.specs.Shares.{bytes_of, indexed_bytes, AreDistinct};
 
 use crate::digest::digest_share;
 use crate::interpolation::interpolate;
-use crate::places::{DIGEST_BYTES, DIGEST_PLACE, MAX_SHARES, SECRET_PLACE};
-use s39_kdf::{Bytes, MAX_SECRET_BYTES, MIN_SECRET_BYTES};
+use crate::lent_points::Points;
+use crate::places::{DIGEST_BYTES, DIGEST_PLACE, SECRET_PLACE};
+use s39_kdf::Bytes;
 
-/// The number of random bytes that the split of a secret of `n_bytes` bytes, from 16 to 64, takes at
+/// The number of random bytes that the split of a secret of `n_bytes` bytes, from 16 to 128, takes at
 /// threshold `t`, from 1 to 16: none at threshold 1, else `n_bytes - 4` for the key of the digest and
 /// `n_bytes` for each of the shares 0 to `t - 3`.
 pub fn random_needed(t: u8, n_bytes: usize) -> usize
     requires positive { 1 ≤ t }
-    requires few { t ≤ MAX_SHARES }
-    requires long { MIN_SECRET_BYTES ≤ n_bytes }
-    requires fits { n_bytes ≤ MAX_SECRET_BYTES }
+    requires few { t ≤ most_shares }
+    requires long { shortest_secret ≤ n_bytes }
+    requires fits { n_bytes ≤ longest_secret }
     ensures { result ≡ random_needed t n_bytes }
 {
     if t == 1 {
@@ -28,7 +30,7 @@ pub fn random_needed(t: u8, n_bytes: usize) -> usize
     }
 }
 
-/// Splits a secret of at least 16 bytes at threshold `t`, from 1 to 16, into as many shares as `out` has
+/// Splits a secret of 16 to 128 bytes at threshold `t`, from 1 to 16, into as many shares as `out` has
 /// places, from `t` to 16 (SLIP-0039, "Sharing a secret"). A share's index is its place, and it is as long
 /// as the secret. Any `t` of the shares combine to the secret.
 ///
@@ -37,8 +39,8 @@ pub fn random_needed(t: u8, n_bytes: usize) -> usize
 pub fn split(t: u8, secret: &Bytes, random: &[u8], out: &mut [Bytes])
     requires positive { 1 ≤ t }
     requires enough { t ≤ length out.old }
-    requires few { length out.old ≤ MAX_SHARES }
-    requires long { MIN_SECRET_BYTES ≤ array_vec_len secret.now }
+    requires few { length out.old ≤ most_shares }
+    requires long { shortest_secret ≤ array_vec_len secret.now }
     requires random { length random.now ≡ random_needed t (array_vec_len secret.now) }
     ensures shares { IsSplit t (length out.old) secret.now.items random.now (bytes_of out.new) }
     ensures length { All (λ share. array_vec_len share ≡ array_vec_len secret.now) out.new }
@@ -69,8 +71,8 @@ pub(crate) fn copied(bytes: &Bytes) -> Bytes
 fn split_several(t: u8, secret: &Bytes, random: &[u8], out: &mut [Bytes])
     requires several { 2 ≤ t }
     requires enough { t ≤ length out.old }
-    requires few { length out.old ≤ MAX_SHARES }
-    requires long { MIN_SECRET_BYTES ≤ array_vec_len secret.now }
+    requires few { length out.old ≤ most_shares }
+    requires long { shortest_secret ≤ array_vec_len secret.now }
     requires random { length random.now ≡ random_needed t (array_vec_len secret.now) }
     ensures { IsSplit t (length out.old) secret.now.items random.now (bytes_of out.new) }
 {
@@ -79,16 +81,16 @@ fn split_several(t: u8, secret: &Bytes, random: &[u8], out: &mut [Bytes])
     cut(random_bytes, secret.len(), random_shares);
     let digest_share = digest_share(key, secret);
     let points = base_points(random_shares, &digest_share, secret);
-    interpolate_from(t - 2, &points[..usize::from(t)], other_shares);
+    interpolate_from(t - 2, points.as_slice(), other_shares);
 }
 
 // The shares become what the points interpolate at `first` and the places after it.
 fn interpolate_from(first: u8, points: &[(u8, &Bytes)], shares: &mut [Bytes])
     requires some { 0 < length points.now }
-    requires few { length points.now ≤ MAX_SHARES }
-    requires few_shares { first + length shares.old ≤ MAX_SHARES }
-    requires distinct { AllPairs (λ a b. a.0 ≢ b.0) points.now }
-    requires one_length { (n : ℕ) × All (λ point. array_vec_len point.1.now ≡ n) points.now }
+    requires few { length points.now ≤ most_shares }
+    requires few_shares { first + length shares.old ≤ most_shares }
+    requires distinct { AreDistinct (indexed_bytes points.now) }
+    requires one_length { (n : ℕ) × All (λ point. length point.1 ≡ n) (indexed_bytes points.now) }
     ensures { EachIndex shares.new (λ k. (share : List ℕ)
         → slice_get (bytes_of shares.new) k ≡ Some share
         → InterpolatesBytes (indexed_bytes points.now) (first + k) share) }
@@ -100,7 +102,7 @@ fn interpolate_from(first: u8, points: &[(u8, &Bytes)], shares: &mut [Bytes])
 
 // Cuts bytes into shares of `n` bytes.
 fn cut(bytes: &[u8], n: usize, shares: &mut [Bytes])
-    requires fits { n ≤ MAX_SECRET_BYTES }
+    requires fits { n ≤ longest_secret }
     requires length { length bytes.now ≡ length shares.old * n }
     ensures whole { bytes.now ≡ concat (bytes_of shares.new) }
     ensures length { All (λ share. array_vec_len share ≡ n) shares.new }
@@ -110,21 +112,21 @@ fn cut(bytes: &[u8], n: usize, shares: &mut [Bytes])
     }
 }
 
-// The points of which a split makes its shares, and then the secret again.
+// The points of which a split makes its shares.
 fn base_points<'a>(
     random_shares: &'a [Bytes],
     digest_share: &'a Bytes,
     secret: &'a Bytes,
-) -> [(u8, &'a Bytes); MAX_SHARES]
-    requires { length random_shares.now + 2 ≤ MAX_SHARES }
-    ensures { indexed_bytes (take (length random_shares.now + 2) result)
+) -> Points<'a>
+    requires { length random_shares.now + 2 ≤ most_shares }
+    ensures { result
         ≡ base_points (bytes_of random_shares.now) digest_share.now.items secret.now.items }
 {
-    let mut points = [(SECRET_PLACE, secret); MAX_SHARES];
+    let mut points = Points::new();
     for (i, share) in random_shares.iter().enumerate() {
-        points[i] = (i as u8, share);
+        points.push(i as u8, share);
     }
-    points[random_shares.len()] = (DIGEST_PLACE, digest_share);
-    points[random_shares.len() + 1] = (SECRET_PLACE, secret);
+    points.push(DIGEST_PLACE, digest_share);
+    points.push(SECRET_PLACE, secret);
     points
 }

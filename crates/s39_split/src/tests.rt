@@ -51,6 +51,7 @@ fn random_bytes(rt: HostRuntime) {
     assert_eq!(rt; random_needed(8, 16), 108);
     assert_eq!(rt; random_needed(16, 16), 236);
     assert_eq!(rt; random_needed(16, 64), 956);
+    assert_eq!(rt; random_needed(16, 128), 1916);
 }
 
 // Combines `t` of the shares, with the indices `start`, `start + stride`, .. modulo 16.
@@ -66,12 +67,12 @@ fn combined(
     requires stride { (stride ≡ 1) ⊎ (stride ≡ 5) }
     requires length { All (λ share. array_vec_len share ≡ 16) shares.now }
 {
-    let mut chosen = [(0, &shares[0]); 16];
-    for k in 0..16 {
+    let mut chosen = Points::new();
+    for k in 0..usize::from(t) {
         let index = (start + stride * k) % 16;
-        chosen[k] = (index as u8, &shares[index]);
+        chosen.push(index as u8, &shares[index]);
     }
-    combine(t, &chosen[..usize::from(t)])
+    combine(t, chosen.as_slice())
 }
 
 #[test]
@@ -89,5 +90,68 @@ fn any_shares_give_the_secret(rt: HostRuntime) {
             let combined = combined(t, start, stride, &shares).expect(&rt, "the digest agrees");
             assert_eq!(rt; combined.as_slice(), MEMBER_0.as_slice());
         }
+    }
+}
+
+// As a plain program in Python splits.
+#[test]
+fn split_vectors(rt: HostRuntime) {
+    let secret = Bytes::try_from(MEMBER_0.as_slice()).unwrap();
+    let mut random = [0; 28];
+    for i in 0..28 {
+        random[i] = i as u8;
+    }
+    let mut shares: [Bytes; 5] = Default::default();
+    split(3, &secret, &random, &mut shares);
+    let expected: [&[u8; 16]; 5] = [
+        b"\x0c\x0d\x0e\x0f\x10\x11\x12\x13\x14\x15\x16\x17\x18\x19\x1a\x1b",
+        b"\x27\x0f\x46\xc2\xe4\xae\xcc\x9c\xf5\x9b\xbe\xff\x1a\x63\xe7\x7e",
+        b"\x07\xbc\x4f\xa6\xb4\x10\xc7\x5d\x05\x11\x36\x2a\x73\x46\x92\x03",
+        b"\x2c\xbe\x07\x6b\x40\xaf\x19\xd2\xe4\x9f\x9e\xc2\x71\x3c\x6f\x66",
+        b"\x75\x96\xe5\xe6\x04\x98\x70\xb8\x3b\x11\xe1\x98\x69\x3d\xae\x4e",
+    ];
+    for i in 0..5 {
+        assert_eq!(rt; shares[i].as_slice(), expected[i].as_slice());
+    }
+}
+
+const KEY: [u8; 12] = *b"\x00\x01\x02\x03\x04\x05\x06\x07\x08\x09\x0a\x0b";
+
+const OTHER_SECRET: [u8; 16] = *b"\x10\x11\x12\x13\x14\x15\x16\x17\x18\x19\x1a\x1b\x1c\x1d\x1e\x1f";
+
+// As a plain program in Python finds the random bytes.
+#[test]
+fn fit_vectors(rt: HostRuntime) {
+    let secret = Bytes::try_from(MEMBER_0.as_slice()).unwrap();
+    let other = Bytes::try_from(OTHER_SECRET.as_slice()).unwrap();
+    let share = Bytes::try_from(MEMBER_2.as_slice()).unwrap();
+    let none = fit(2, &secret, &KEY, &[]);
+    assert_eq!(rt; none.as_slice(), KEY.as_slice());
+    let first = fit(3, &secret, &KEY, &[(0, &share)]);
+    assert_eq!(rt; &first[..12], KEY.as_slice());
+    assert_eq!(rt; &first[12..], MEMBER_2.as_slice());
+    let sixth = fit(3, &secret, &KEY, &[(5, &share)]);
+    assert_eq!(rt;
+        &sixth[12..],
+        b"\x9b\x54\xc6\xd7\xa1\xe3\x14\x1b\xaf\x44\x00\xaa\x59\xed\x27\x1c".as_slice()
+    );
+    let several = fit(4, &other, &KEY, &[(9, &share), (3, &secret)]);
+    assert_eq!(rt;
+        &several[12..],
+        b"\xbb\x30\x71\x83\x35\x5a\x53\x30\xa2\xe6\x76\xdd\x4f\xe7\xb7\x6f\
+            \xdd\x56\x09\x72\x92\xae\x31\xf1\x18\xb9\x71\xd7\x0e\x60\x05\xc7"
+            .as_slice()
+    );
+}
+
+#[test]
+fn any_secret_fits_a_share(rt: HostRuntime) {
+    let share = Bytes::try_from(MEMBER_2.as_slice()).unwrap();
+    for secret in [MEMBER_0, OTHER_SECRET] {
+        let secret = Bytes::try_from(secret.as_slice()).unwrap();
+        let random = fit(3, &secret, &KEY, &[(5, &share)]);
+        let mut shares: [Bytes; 16] = Default::default();
+        split(3, &secret, &random, &mut shares);
+        assert_eq!(rt; shares[5].as_slice(), MEMBER_2.as_slice());
     }
 }

@@ -1,6 +1,7 @@
 use Rattle.std.proofs.Common.{◌≡◌, ◌≢◌, ℕ, List, ◌++◌, length, take, map, arith}
 use Rattle.std.proofs.lemmas.List.{take_all, take_at, length-map}
-use Rattle.s39_field.specs.Theory.Roots.{AllPairs-map}
+use Rattle.s39_field.specs.Theory.Lists.{AllPairs-map}
+use Rattle.s39_split.proofs.Lists.{AllPairs-from_map}
 use Rattle.s39_split.proofs.interpolation.weights_at.Goals as goal
 
 pub weights-requires-clause-distinct : goal.weights-requires-clause-distinct
@@ -8,7 +9,8 @@ weights-requires-clause-distinct c =
     let all : take c.loop-i.i c.args.points.now ≡ c.args.points.now = take_all c.loop-i.i c.args.points.now c.loop-i-test.false in
     let i : c.loop-i.i ≡ length c.args.points.now = omega arith in
     let are : take (length c.args.points.now) c.loop-i.places ≡ map (λ p. p.0) c.args.points.now = cc in
-    rw are (AllPairs-map (λ a b. a ≢ b) (λ p. p.0) c.args.points.now c.requires.distinct)
+    rw are (AllPairs-map (λ a b. a ≢ b) (λ p. p.0) c.args.points.now
+    (AllPairs-from_map {Y = ℕ × List ℕ} (λ a b. a.0 ≢ b.0) (λ p. (p.0, p.1.now.items)) c.args.points.now c.requires.distinct))
 
 pub returns-clause-interpolates : goal.returns-clause-interpolates
 returns-clause-interpolates c =

@@ -8,4 +8,4 @@ pub loop-i-preserved : goal.loop-i-preserved
 loop-i-preserved c =
     let long = c.loop-i.auto.shares in
     each_more (λ k share. InterpolatesBytes (indexed_bytes c.args.points.now) (c.args.first + k) share) c.loop-i.shares c.loop-i.i c.interpolate.result
-    (omega arith) c.loop-i.invariant c.interpolate.ensures
+    (omega arith) c.loop-i.invariant c.interpolate.ensures.value

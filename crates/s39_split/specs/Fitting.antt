@@ -1,0 +1,14 @@
+-- Shares that are two fewer than the threshold tell nothing of the secret: whatever it is, some random
+-- bytes give just these shares.
+use Rattle.std.specs.Prelude.{◌≡◌, ℕ, List, ◌++◌}
+use Rattle.s39_split.specs.Sharing.{most_shares, IsSplit}
+use Rattle.s39_split.specs.Recovery.{AreSharesOf}
+
+-- These random bytes begin with the key of the digest, and by them the split of the secret into as many
+-- shares as there may be has the known shares, each with its index.
+pub record Fits (threshold : ℕ) (secret key : List ℕ) (known : List (ℕ × List ℕ)) (random : List ℕ) : Type 0 where
+  pub rest : List ℕ
+  pub begins : random ≡ key ++ rest
+  pub shares : List (List ℕ)
+  pub split : IsSplit threshold most_shares secret random shares
+  pub known_among : AreSharesOf shares known
