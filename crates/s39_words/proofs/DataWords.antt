@@ -1,9 +1,12 @@
 -- The fields of a share and its words determine each other.
-use Rattle.std.proofs.Common.{◌≡◌, ℕ, ◌+◌, ◌-◌, ◌*◌, ◌/◌, ◌%◌, ◌^◌, ◌<◌, ◌≤◌, List, ◌++◌, length, take, drop, replicate, refl, sym, ap, ◌∙◌, arith, All, subst}
+use Rattle.std.proofs.Common.{◌≡◌, ℕ, ◌+◌, ◌-◌, ◌*◌, ◌/◌, ◌%◌, ◌^◌, ◌<◌, ◌≤◌, Bool, true, false, List, ◌++◌, length, take, drop, replicate, refl, sym, ap, ◌∙◌, arith, All, subst}
+use Rattle.std.specs.Prelude.{◌==◌}
 use Rattle.std.specs.Int.Digits.{number_from_digits}
+use Rattle.std.proofs.lemmas.Bool.Decides.{nat_tests}
 use Rattle.std.proofs.lemmas.List.{length-append, length-take-le, length-drop, take-append-drop, take_at, drop_at, append_assoc, length-replicate, append-nil, take_all}
 use Rattle.std.proofs.lemmas.List.Concat.{flat_map-append}
 use Rattle.std.proofs.lemmas.List.Elements.{All-append, All-take, All-drop, All-replicate}
+use Rattle.s39_words.specs.Layout.{IsIndex}
 use Rattle.s39_words.specs.declared.share.ShareFields.{ShareFields}
 use Rattle.s39_words.specs.Bits.{bits, cut_in_tens}
 use Rattle.s39_words.specs.Share.{IsValue, IsShare, flag_bit, header_bits, value_bits, padding_bits, data_words}
@@ -85,8 +88,12 @@ module _ (f : ShareFields) where
   pub length-data_words : length (data_words f) ≡ word_count
   length-data_words = length-cut word_count (digits f) digits-below whole_words
 
-  pub data_words-below : All (λ w. w < 1024) (data_words f)
+  pub data_words-below : All IsIndex (data_words f)
   data_words-below = cut-below word_count (digits f) digits-below whole_words
+
+stored_flag : (flag : Bool) → (number_from_digits 2 (bits 1 (flag_bit flag)) == 1) ≡ flag
+stored_flag true = refl
+stored_flag false = refl
 
 -- what a data word and the words behind it leave
 module _ (f : ShareFields) (ok : IsShare f) (checksum : List ℕ) (three : length checksum ≡ 3) where
@@ -107,7 +114,7 @@ module _ (f : ShareFields) (ok : IsShare f) (checksum : List ℕ) (three : lengt
   is_word_count =
       let even : length f.value.items % 2 ≡ 0 = ok.value.even in
       let low : 16 ≤ length f.value.items = ok.value.at_least in
-      let high : length f.value.items ≤ 64 = ok.value.at_most in
+      let high : length f.value.items ≤ 128 = ok.value.at_most in
       record {
         padding = omega (arith, length-words);
         at_least = omega (arith, length-words);
@@ -124,8 +131,8 @@ module _ (f : ShareFields) (ok : IsShare f) (checksum : List ℕ) (three : lengt
   at_id : number_at (data_words f ++ checksum) 0 15 ≡ f.id
   at_id = ap (λ ds. number_from_digits 2 (take 15 (drop 0 ds))) all_bits ∙ number-bits-below 15 f.id ok.id
 
-  pub flag-is : flag_of (data_words f ++ checksum) ≡ 0
-  flag-is = ap (λ ds. number_from_digits 2 (take 1 (drop 15 ds))) all_bits ∙ ap (λ e. number_from_digits 2 (bits 1 (flag_bit e))) ok.extendable
+  pub flag-is : flag_of (data_words f ++ checksum) ≡ f.extendable
+  flag-is = ap (λ ds. number_from_digits 2 (take 1 (drop 15 ds)) == 1) all_bits ∙ stored_flag f.extendable
 
   at_exponent : number_at (data_words f ++ checksum) 16 4 ≡ f.exponent
   at_exponent = ap (λ ds. number_from_digits 2 (take 4 (drop 16 ds))) all_bits ∙ number-bits-below 4 f.exponent ok.exponent
@@ -180,7 +187,7 @@ module _ (f : ShareFields) (ok : IsShare f) (checksum : List ℕ) (three : lengt
       let a = ok.group_threshold in
       let b = ok.threshold_in_count in
       let c = ok.member_threshold in
-      same_fields (fields_at (data_words f ++ checksum)) f at_id (sym ok.extendable) at_exponent at_group_index (omega (arith, at_group_threshold)) (omega (arith, at_group_count)) at_member_index (omega (arith, at_member_threshold)) at_value
+      same_fields (fields_at (data_words f ++ checksum)) f at_id flag-is at_exponent at_group_index (omega (arith, at_group_threshold)) (omega (arith, at_group_count)) at_member_index (omega (arith, at_member_threshold)) at_value
 
 -- the words are those of one share alone
 pub same_from_data_words : (f g : ShareFields) (c d : List ℕ) → IsShare f → IsShare g → length c ≡ 3 → length d ≡ 3 → data_words f ++ c ≡ data_words g ++ d → f ≡ g
@@ -258,7 +265,6 @@ module _ (ws : List ℕ) (count : IsWordCount (length ws)) where
       let room = words-at_least in
       record {
         id = number_at-below 0 15 (omega arith);
-        extendable = refl;
         exponent = number_at-below 16 4 (omega arith);
         group_index = number_at-below 20 4 (omega arith);
         group_threshold = omega arith;
@@ -270,14 +276,17 @@ module _ (ws : List ℕ) (count : IsWordCount (length ws)) where
         value = is_value;
       }
 
-  module _ (flag : flag_of ws ≡ 0) (padding : All (λ b. b ≡ 0) (padding_of ws)) where
+  flag-bit : (n : ℕ) → n < 2 → flag_bit (n == 1) ≡ n
+  flag-bit n l = grind (arith, nat_tests)
+
+  module _ (padding : All (λ b. b ≡ 0) (padding_of ws)) where
     header-is : header_bits (fields_at ws) ≡ take 40 (bits_of_words ws)
     header-is =
         let room = words-at_least in
         let B = bits_of_words ws in
-        chained B (bits 15 (number_at ws 0 15)) (bits 1 0) (bits 4 (number_at ws 16 4)) (bits 4 (number_at ws 20 4)) (bits 4 (stored_group_threshold ws + 1 - 1)) (bits 4 (stored_group_count ws + 1 - 1)) (bits 4 (number_at ws 32 4)) (bits 4 (number_at ws 36 4 + 1 - 1))
+        chained B (bits 15 (number_at ws 0 15)) (bits 1 (flag_bit (flag_of ws))) (bits 4 (number_at ws 16 4)) (bits 4 (number_at ws 20 4)) (bits 4 (stored_group_threshold ws + 1 - 1)) (bits 4 (stored_group_count ws + 1 - 1)) (bits 4 (number_at ws 32 4)) (bits 4 (number_at ws 36 4 + 1 - 1))
         (joins 0 15 (number_at ws 0 15) (omega arith) refl)
-        (joins 15 1 0 (omega arith) (sym flag))
+        (joins 15 1 (flag_bit (flag_of ws)) (omega arith) (flag-bit (number_at ws 15 1) (number_at-below 15 1 (omega arith))))
         (joins 16 4 (number_at ws 16 4) (omega arith) refl)
         (joins 20 4 (number_at ws 20 4) (omega arith) refl)
         (joins 24 4 (stored_group_threshold ws + 1 - 1) (omega arith) (omega arith))
@@ -316,10 +325,10 @@ module _ (ws : List ℕ) (count : IsWordCount (length ws)) where
         ∙ ap (λ k. take k (bits_of_words ws)) n
 
     -- the words are the data words of those fields, and the last three
-    pub data_words-are : All (λ w. w < 1024) ws → data_words (fields_at ws) ++ drop (length ws - 3) ws ≡ ws
+    pub data_words-are : All IsIndex ws → data_words (fields_at ws) ++ drop (length ws - 3) ws ≡ ws
     data_words-are h =
         ap (λ ds. cut_in_tens ds ++ drop (length ws - 3) ws) (digits-are ∙ take-joined 10 (length ws - 3) ws (omega arith))
-        ∙ ap (λ xs. xs ++ drop (length ws - 3) ws) (cut-joined (take (length ws - 3) ws) (All-take (λ w. w < 1024) (length ws - 3) ws h))
+        ∙ ap (λ xs. xs ++ drop (length ws - 3) ws) (cut-joined (take (length ws - 3) ws) (All-take IsIndex (length ws - 3) ws h))
         ∙ take-append-drop (length ws - 3) ws
 
 -- ---- the padding, as one number
@@ -350,9 +359,9 @@ module _ (f : ShareFields) where
   pub written-none : (digits : List ℕ) (n : ℕ) → n ≡ length f.value.items → digits ≡ header_bits f ++ bits ((10 - 8 * n % 10) % 10) 0 → digits ≡ written_until 0
   written-none digits n e d = d ∙ ap (λ ds. header_bits f ++ ds) (written-padding n e) ∙ sym (append-nil (before))
 
-  pub written-room : (i : ℕ) → IsShare f → i < length f.value.items → length (written_until i) + 8 ≤ 560
+  pub written-room : (i : ℕ) → IsShare f → i < length f.value.items → length (written_until i) + 8 ≤ 1070
   written-room i ok l =
-      let high : length f.value.items ≤ 64 = ok.value.at_most in
+      let high : length f.value.items ≤ 128 = ok.value.at_most in
       omega (arith, length-append (before) (value_bits (take i f.value.items)), length-append (header_bits f) (padding_bits (length (value_bits f.value.items))), length-header f, length-padding f, length-joined 8 (take i f.value.items), length-take-le i f.value.items (omega arith))
 
   pub written-all : (i : ℕ) → length f.value.items ≤ i → cut_in_tens (written_until i) ≡ data_words f

@@ -9,6 +9,7 @@ use Rattle.std.proofs.lemmas.List.{length-map, length-take, length-append, map-a
 use Rattle.std.proofs.lemmas.List.Elements.{All-nil, All-cons, All-head, All-tail, All-same, All-take}
 use Rattle.std.proofs.lemmas.List.Quantifiers.{position-Some}
 use Rattle.s39_words.specs.declared.word_error.WordError.TheVariants.{WordCount}
+use Rattle.s39_words.specs.Layout.{most_words, IsIndex}
 use Rattle.s39_words.specs.WordList.{word_list, index_of}
 use Rattle.s39_words.specs.Spelling.{words_of, HaveIndices}
 use Rattle.s39_words.specs.Reading.{IsFirstUnknown, IsWordCount, PassesCount, Reads}
@@ -31,17 +32,17 @@ indices_same ws is js h k = some_same is js (sym h ∙ k)
 pub length_indices : (ws : List (List ℕ)) (is : List ℕ) → HaveIndices ws is → length is ≡ length ws
 length_indices ws is h = sym (length-map is Some) ∙ sym (ap length h) ∙ length-map ws index_of
 
-pub index_below : (word : List ℕ) (i : ℕ) → index_of word ≡ Some i → i < 1024
+pub index_below : (word : List ℕ) (i : ℕ) → index_of word ≡ Some i → IsIndex i
 index_below word i e = subst (λ n. i < n) length-word_list (position-Some (λ v. bytes_eq v word) word_list i [] e).0
 
 -- every index is one of the word list
-pub indices_below : (ws : List (List ℕ)) (is : List ℕ) → HaveIndices ws is → All (λ i. i < 1024) is
-indices_below ws [] h = All-nil (λ i. i < 1024)
+pub indices_below : (ws : List (List ℕ)) (is : List ℕ) → HaveIndices ws is → All IsIndex is
+indices_below ws [] h = All-nil IsIndex
 indices_below [] (i ∷ is) h = cc
 indices_below (w ∷ ws) (i ∷ is) h =
     let head : index_of w ≡ Some i = cc in
     let tails : map index_of ws ≡ map Some is = cc in
-    All-cons (λ i. i < 1024) i is (index_below w i head) (indices_below ws is tails)
+    All-cons IsIndex i is (index_below w i head) (indices_below ws is tails)
 
 unknown_after : (before : List (List ℕ)) (word : List ℕ) (after : List (List ℕ)) (is : List ℕ) → index_of word ≡ None → HaveIndices (before ++ word ∷ after) is → ⊥
 unknown_after [] word after [] unknown h = cc
@@ -94,11 +95,11 @@ indices_known (w ∷ ws) (i ∷ is) h =
     let tails : map index_of ws ≡ map Some is = cc in
     All-cons (λ w. IsSome (index_of w)) w ws (ap is_some head) (indices_known ws is tails)
 
--- these n words have indices, of which the first 59 are kept
+-- these n words have indices, of which the first most_words are kept
 pub record KeepIndices (ws : List (List ℕ)) (kept : List ℕ) (n : ℕ) : Type 0 where
   pub all : List ℕ
   pub known : HaveIndices ws all
-  pub kept_is : kept ≡ take 59 all
+  pub kept_is : kept ≡ take most_words all
   pub count : n ≡ length all
 
 pub keep_none : KeepIndices [] [] 0
@@ -108,31 +109,31 @@ length_push : (xs : List ℕ) (x n : ℕ) → n ≡ length xs → n + 1 ≡ leng
 length_push xs x n e = simp length-append (omega arith)
 
 -- one more word, where its index is kept if there is room
-pub keep_more : {E : Type 0} (ws : List (List ℕ)) (v v' : ArrayVec ℕ) (n : ℕ) (w : List ℕ) (i : ℕ) (r : Result (Unit {0}) E) → KeepIndices ws v.items n → index_of w ≡ Some i → OnOk r (v'.items ≡ v.items ++ i ∷ []) → OnErr r (v' ≡ v) → (IsOk r ↔ (length v.items < 59)) → KeepIndices (ws ++ w ∷ []) v'.items (n + 1)
+pub keep_more : {E : Type 0} (ws : List (List ℕ)) (v v' : ArrayVec ℕ) (n : ℕ) (w : List ℕ) (i : ℕ) (r : Result (Unit {0}) E) → KeepIndices ws v.items n → index_of w ≡ Some i → OnOk r (v'.items ≡ v.items ++ i ∷ []) → OnErr r (v' ≡ v) → (IsOk r ↔ (length v.items < most_words)) → KeepIndices (ws ++ w ∷ []) v'.items (n + 1)
 keep_more ws v v' n w i (Ok u) h e ok err room = record {
   all = h.all ++ i ∷ [];
   known = indices_more ws h.all w i h.known e;
   kept_is =
-      let short : length v.items < 59 = room.0 refl in
-      let n : length v.items ≡ min 59 (length h.all) = ap length h.kept_is ∙ length-take 59 h.all in
-      let is_all : v.items ≡ h.all = h.kept_is ∙ take_all 59 h.all (omega arith) in
-      let few : length (h.all ++ i ∷ []) ≤ 59 = simp length-append (omega arith) in
-      ok ∙ ap (λ xs. xs ++ i ∷ []) is_all ∙ sym (take_all 59 (h.all ++ i ∷ []) few);
+      let short : length v.items < most_words = room.0 refl in
+      let n : length v.items ≡ min most_words (length h.all) = ap length h.kept_is ∙ length-take most_words h.all in
+      let is_all : v.items ≡ h.all = h.kept_is ∙ take_all most_words h.all (omega arith) in
+      let few : length (h.all ++ i ∷ []) ≤ most_words = simp length-append (omega arith) in
+      ok ∙ ap (λ xs. xs ++ i ∷ []) is_all ∙ sym (take_all most_words (h.all ++ i ∷ []) few);
   count = length_push h.all i n h.count;
 }
 keep_more ws v v' n w i (Err u) h e ok err room = record {
   all = h.all ++ i ∷ [];
   known = indices_more ws h.all w i h.known e;
   kept_is =
-      let full : 59 ≤ length h.all =
-      let n : length v.items ≡ min 59 (length h.all) = ap length h.kept_is ∙ length-take 59 h.all in
-      ⊎_elim (λ few. absurd (false≢true (room.1 few))) (λ many. omega arith) (cases_lt (length v.items) 59) in
-      ap (λ u. u.items) err ∙ h.kept_is ∙ sym (take-append-le 59 h.all (i ∷ []) full);
+      let full : most_words ≤ length h.all =
+      let n : length v.items ≡ min most_words (length h.all) = ap length h.kept_is ∙ length-take most_words h.all in
+      ⊎_elim (λ few. absurd (false≢true (room.1 few))) (λ many. omega arith) (cases_lt (length v.items) most_words) in
+      ap (λ u. u.items) err ∙ h.kept_is ∙ sym (take-append-le most_words h.all (i ∷ []) full);
   count = length_push h.all i n h.count;
 }
 
-pub kept_below : (ws : List (List ℕ)) (kept : List ℕ) (n : ℕ) → KeepIndices ws kept n → All (λ i. i < 1024) kept
-kept_below ws kept n h = All-same (λ i. i < 1024) kept (take 59 h.all) h.kept_is (All-take (λ i. i < 1024) 59 h.all (indices_below ws h.all h.known))
+pub kept_below : (ws : List (List ℕ)) (kept : List ℕ) (n : ℕ) → KeepIndices ws kept n → All IsIndex kept
+kept_below ws kept n h = All-same IsIndex kept (take most_words h.all) h.kept_is (All-take IsIndex most_words h.all (indices_below ws h.all h.known))
 
 -- ---- the words of a text, taken in turn from the pieces between its separators
 
@@ -159,14 +160,14 @@ first_unknown text word kept n all done words done_is within word_is keeps unkno
   unknown = unknown;
 }
 
-at_most_59 : (n : ℕ) → IsWordCount n → n ≤ 59
-at_most_59 n h = omega arith
+pub at_most_words : (n : ℕ) → IsWordCount n → n ≤ most_words
+at_most_words n h = omega arith
 
 -- all words have indices, and a mnemonic may have as many
 pub passes_count : (text kept : List ℕ) (n : ℕ) (all done : List (List ℕ)) → words_of text ≡ lower all → done ≡ all → KeepIndices (lower done) kept n → IsWordCount n → PassesCount text kept
 passes_count text kept n all done words done_is keeps count =
-    let few : length keeps.all ≤ 59 = subst (λ m. m ≤ 59) keeps.count (at_most_59 n count) in
-    let is_all : kept ≡ keeps.all = keeps.kept_is ∙ take_all 59 keeps.all few in
+    let few : length keeps.all ≤ most_words = subst (λ m. m ≤ most_words) keeps.count (at_most_words n count) in
+    let is_all : kept ≡ keeps.all = keeps.kept_is ∙ take_all most_words keeps.all few in
     record {
       known = subst (λ xs. HaveIndices (words_of text) xs) (sym is_all) (subst (λ ws. HaveIndices ws keeps.all) (ap lower done_is ∙ sym words) keeps.known);
       count = subst IsWordCount (keeps.count ∙ sym (ap length is_all)) count;

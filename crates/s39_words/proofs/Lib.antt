@@ -1,10 +1,12 @@
 pub mod WordTable
 pub mod WordSearch
+pub mod Beginnings
 pub mod Rows
 pub mod Indices
 pub mod TextWords
 pub mod CubicDivision
 pub mod Remainders
+pub mod Registers
 pub mod Digits
 pub mod Pieces
 pub mod DataWords
@@ -15,3 +17,5 @@ pub mod SharesRead
 pub mod Listed
 pub mod Joined
 pub mod Printed
+pub mod Existence
+pub mod WrongWords

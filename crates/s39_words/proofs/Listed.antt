@@ -9,6 +9,7 @@ use Rattle.std.proofs.Math.ListN.{get_or-append}
 use Rattle.std.proofs.lemmas.List.Sums.{position_or_len_is, passes_at_first}
 use Rattle.std.proofs.lemmas.List.Elements.{All-nil, All-cons, All-head, All-tail}
 use Rattle.std.proofs.lemmas.Slice.Eq.{bytes_eq-Decides}
+use Rattle.s39_words.specs.Layout.{IsIndex, word_list_length, shortest_word, longest_word}
 use Rattle.s39_words.specs.WordList.{word_list, index_of, IsLetter, FitsRow, row_of}
 use Rattle.s39_words.specs.Spelling.{HaveIndices}
 use Rattle.s39_words.specs.Printing.{listed_word}
@@ -18,34 +19,34 @@ use Rattle.s39_words.proofs.WordSearch.{position_at, listed_once}
 -- a word of the list: small letters, and 4 to 8 of them
 pub record IsListed (word : List ℕ) : Type 0 where
   pub letters : All IsLetter word
-  pub at_least : 4 ≤ length word
-  pub at_most : length word ≤ 8
+  pub at_least : shortest_word ≤ length word
+  pub at_most : length word ≤ longest_word
 
-pub IsListed-listed_word : (index : ℕ) → index < 1024 → IsListed (listed_word index)
+pub IsListed-listed_word : (index : ℕ) → IsIndex index → IsListed (listed_word index)
 IsListed-listed_word index lt =
     let within : index < length word_list = omega (arith, length-word_list) in
     record { letters = letters index [] within; at_least = (lengths index [] within).0; at_most = (lengths index [] within).1 }
 
-pub listed_words : (indices : List ℕ) → All (λ i. i < 1024) indices → All IsListed (map listed_word indices)
+pub listed_words : (indices : List ℕ) → All IsIndex indices → All IsListed (map listed_word indices)
 listed_words [] all = All-nil IsListed
 listed_words (i ∷ is) all =
-    All-cons IsListed (listed_word i) (map listed_word is) (IsListed-listed_word i (All-head (λ k. k < 1024) i is all)) (listed_words is (All-tail (λ k. k < 1024) i is all))
+    All-cons IsListed (listed_word i) (map listed_word is) (IsListed-listed_word i (All-head IsIndex i is all)) (listed_words is (All-tail IsIndex i is all))
 
-pub short_word : (index : ℕ) (word : List ℕ) → index < 1024 → word ≡ listed_word index → length word ≤ 8
+pub short_word : (index : ℕ) (word : List ℕ) → IsIndex index → word ≡ listed_word index → length word ≤ longest_word
 short_word index word lt is = rw is (IsListed-listed_word index lt).at_most
 
 -- ---- the index of a word
 
-pub index_of-listed_word : (index : ℕ) → index < 1024 → index_of (listed_word index) ≡ Some index
+pub index_of-listed_word : (index : ℕ) → IsIndex index → index_of (listed_word index) ≡ Some index
 index_of-listed_word index lt =
     let within : index < length word_list = omega (arith, length-word_list) in
     position_at word_list (listed_word index) index within refl (λ k below. listed_once k index below within)
 
-pub HaveIndices-listed_words : (indices : List ℕ) → All (λ i. i < 1024) indices → HaveIndices (map listed_word indices) indices
+pub HaveIndices-listed_words : (indices : List ℕ) → All IsIndex indices → HaveIndices (map listed_word indices) indices
 HaveIndices-listed_words [] all = refl
 HaveIndices-listed_words (i ∷ is) all =
-    let first = index_of-listed_word i (All-head (λ k. k < 1024) i is all) in
-    let rest = HaveIndices-listed_words is (All-tail (λ k. k < 1024) i is all) in
+    let first = index_of-listed_word i (All-head IsIndex i is all) in
+    let rest = HaveIndices-listed_words is (All-tail IsIndex i is all) in
     cc
 
 -- a word with this index is the word that the list has there
@@ -77,15 +78,15 @@ words_from_indices (w ∷ ws) (i ∷ is) e =
 
 -- ---- the rows of the table
 
-pub FitsRow-listed_word : (index : ℕ) → index < 1024 → FitsRow (listed_word index)
+pub FitsRow-listed_word : (index : ℕ) → IsIndex index → FitsRow (listed_word index)
 FitsRow-listed_word index lt =
     let h = IsListed-listed_word index lt in
     record { letters = h.letters; short = h.at_most }
 
-pub length_rows : length (map row_of word_list) ≡ 1024
+pub length_rows : length (map row_of word_list) ≡ word_list_length
 length_rows = length-map word_list row_of ∙ length-word_list
 
-pub row_at : (index : ℕ) → index < 1024 → get_or (map row_of word_list) index [] ≡ row_of (listed_word index)
+pub row_at : (index : ℕ) → IsIndex index → get_or (map row_of word_list) index [] ≡ row_of (listed_word index)
 row_at index lt = get_or-map row_of word_list index [] [] (omega (arith, length-word_list))
 
 -- ---- the letters of a row

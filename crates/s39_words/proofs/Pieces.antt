@@ -5,6 +5,7 @@ use Rattle.std.specs.Int.Digits.{number_from_digits}
 use Rattle.std.proofs.lemmas.List.{length-append, length-take-le, length-drop, take-append-drop, take_at, drop_at, append_assoc, drop-drop, nil_from_length, append-nil}
 use Rattle.std.proofs.lemmas.List.Concat.{flat_map-append}
 use Rattle.std.proofs.lemmas.List.Elements.{All-cons, All-nil, All-append, All-head, All-tail, All-take, All-drop}
+use Rattle.s39_words.specs.Layout.{IsIndex}
 use Rattle.s39_words.specs.Bits.{bits, cut_in_tens}
 use Rattle.s39_words.specs.FieldsAt.{pieces}
 use Rattle.s39_words.proofs.Digits.{length-bits, bits-below, number-bits-below, number-below, bits-number}
@@ -68,11 +69,11 @@ pieces-joined w (n ∷ ns) rest h =
     ∙ ap (λ xs. n ∷ xs) (pieces-joined w ns rest (All-tail (λ n. n < 2 ^ w) n ns h))
 
 -- words are what their joined digits, cut in tens, give
-pub cut-joined : (ws : List ℕ) → All (λ w. w < 1024) ws → cut_in_tens (flat_map (bits 10) ws) ≡ ws
+pub cut-joined : (ws : List ℕ) → All IsIndex ws → cut_in_tens (flat_map (bits 10) ws) ≡ ws
 cut-joined [] h = refl
 cut-joined (w ∷ ws) h =
-    ap (λ x. x ∷ cut_in_tens (flat_map (bits 10) ws)) (number-bits-below 10 w (All-head (λ w. w < 1024) w ws h))
-    ∙ ap (λ xs. w ∷ xs) (cut-joined ws (All-tail (λ w. w < 1024) w ws h))
+    ap (λ x. x ∷ cut_in_tens (flat_map (bits 10) ws)) (number-bits-below 10 w (All-head IsIndex w ws h))
+    ∙ ap (λ xs. w ∷ xs) (cut-joined ws (All-tail IsIndex w ws h))
 
 take_whole : (k : ℕ) (ds : List ℕ) → length ds ≡ k → take k ds ≡ ds
 take_whole k ds e = let a : take k ds ++ drop k ds ≡ ds = take-append-drop k ds in
@@ -93,8 +94,8 @@ module _ (k : ℕ) (ds : List ℕ) (h : All (λ b. b < 2) ds) (e : length ds ≡
   pub length-cut : length (cut_in_tens ds) ≡ k
   length-cut = ap length cut-pieces ∙ length-pieces 10 k ds
 
-  pub cut-below : All (λ w. w < 1024) (cut_in_tens ds)
-  cut-below = let P : List ℕ → Type 0 = All (λ w. w < 1024) in subst P (sym cut-pieces) (pieces-below 10 k ds h (omega arith))
+  pub cut-below : All IsIndex (cut_in_tens ds)
+  cut-below = let P : List ℕ → Type 0 = All IsIndex in subst P (sym cut-pieces) (pieces-below 10 k ds h (omega arith))
 
 -- numbers are known by their joined digits
 pub same_from_joined : (w : ℕ) (ms ns : List ℕ) → All (λ n. n < 2 ^ w) ms → All (λ n. n < 2 ^ w) ns → length ms ≡ length ns → flat_map (bits w) ms ≡ flat_map (bits w) ns → ms ≡ ns

@@ -5,6 +5,7 @@ use Rattle.std.specs.Int.Digits.{number_from_digits}
 use Rattle.std.proofs.lemmas.Nat.{and_mask, or_shifted, one_shl, pow_pos, mod_below}
 use Rattle.std.proofs.lemmas.List.{take_at, drop_at, append_assoc, drop-drop, drop_more}
 use Rattle.std.proofs.lemmas.List.Elements.{All-get_or}
+use Rattle.s39_words.specs.Layout.{IsIndex}
 use Rattle.s39_words.specs.Bits.{bits}
 use Rattle.s39_words.specs.Reading.{bits_of_words, number_at}
 use Rattle.s39_words.specs.FieldsAt.{pieces}
@@ -23,14 +24,14 @@ middle before width after n rest =
     ∙ ap (take width) b
     ∙ take_at (bits width (n / 2 ^ after)) (bits after n ++ rest) width (length-bits width (n / 2 ^ after))
 
-module _ (ws : List ℕ) (place width : ℕ) (below : All (λ w. w < 1024) ws) (in_two : place % 10 + width ≤ 20) (within : place / 10 + 1 < length ws) where
+module _ (ws : List ℕ) (place width : ℕ) (below : All IsIndex ws) (in_two : place % 10 + width ≤ 20) (within : place / 10 + 1 < length ws) where
   -- the two words at the place, as one number
   abbrev pair : ℕ
   pair = get_or ws (place / 10) 0 * 1024 + get_or ws (place / 10 + 1) 0
 
   behind : drop (10 * (place / 10)) (bits_of_words ws) ≡ bits 20 pair ++ bits_of_words (drop (place / 10 + 1 + 1) ws)
   behind =
-      let b : get_or ws (place / 10 + 1) 0 < 1024 = All-get_or (λ w. w < 1024) ws (place / 10 + 1) 0 within below in
+      let b : get_or ws (place / 10 + 1) 0 < 1024 = All-get_or IsIndex ws (place / 10 + 1) 0 within below in
       drop-joined 10 (place / 10) ws (omega arith)
       ∙ ap bits_of_words (drop_more ws (place / 10) 0 (omega arith) ∙ ap (λ xs. get_or ws (place / 10) 0 ∷ xs) (drop_more ws (place / 10 + 1) 0 within))
       ∙ sym (append_assoc (bits 10 (get_or ws (place / 10) 0)) (bits 10 (get_or ws (place / 10 + 1) 0)) (bits_of_words (drop (place / 10 + 1 + 1) ws)))
@@ -51,8 +52,8 @@ module _ (ws : List ℕ) (place width : ℕ) (below : All (λ w. w < 1024) ws) (
   pub number_at-shifted : (a b : ℕ) → a ≡ get_or ws (place / 10) 0 → b ≡ get_or ws (place / 10 + 1) 0 → width ≤ 15
       → bit_and (bit_or (a * 1024 % 4294967296) b / 2 ^ (20 - place % 10 - width)) (1 * 2 ^ width % 4294967296 - 1) ≡ number_at ws place width
   number_at-shifted a b p q small =
-      let la : a < 1024 = subst (λ n. n < 1024) (sym p) (All-get_or (λ w. w < 1024) ws (place / 10) 0 (omega arith) below) in
-      let lb : b < 1024 = subst (λ n. n < 1024) (sym q) (All-get_or (λ w. w < 1024) ws (place / 10 + 1) 0 within below) in
+      let la : a < 1024 = subst IsIndex (sym p) (All-get_or IsIndex ws (place / 10) 0 (omega arith) below) in
+      let lb : b < 1024 = subst IsIndex (sym q) (All-get_or IsIndex ws (place / 10 + 1) 0 within below) in
       let m : a * 1024 % 4294967296 ≡ a * 1024 = mod-eq_of_lt (omega arith) in
       let o : bit_or (a * 1024) b ≡ a * 1024 + b = or_shifted a 10 b lb in
       ap (λ n. bit_and (bit_or n b / 2 ^ (20 - place % 10 - width)) (1 * 2 ^ width % 4294967296 - 1)) m

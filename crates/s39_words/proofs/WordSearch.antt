@@ -1,22 +1,26 @@
 -- The index of a word in the list, from a binary search among the rows.
-use Rattle.std.proofs.Common.{◌≡◌, ℕ, zero, suc, ◌+◌, ◌-◌, ◌<◌, List, [], ◌∷◌, ◌++◌, length, get_or, replicate, Some, None, Ok, Err, Result, refl, sym, ap, subst, ◌∙◌, ⊎_elim, arith}
+use Rattle.std.proofs.Common.{◌≡◌, ℕ, zero, suc, ◌-◌, ◌<◌, List, [], ◌∷◌, ◌++◌, length, get_or, replicate, Some, None, Ok, Err, Result, refl, sym, ap, subst, ◌∙◌, ⊎_elim, arith}
 use Rattle.std.specs.Prelude.{◌≢◌, map, All, position, bytes_eq}
 use Rattle.std.specs.List.{position_or_len, AllWithin}
-use Rattle.std.specs.List.Sorted.{IsSortedBy, IsNonDecreasingBy, IsBinarySearchResult, IsSearchInRange}
-use Rattle.std.specs.Ordering.{nat_cmp, is_lt, ordering_index, ordering_reverse}
+use Rattle.std.specs.List.Sorted.{IsNonDecreasingBy, IsBinarySearchResult, IsSearchInRange}
+use Rattle.std.specs.Ordering.{nat_cmp, ordering_index}
 use Rattle.std.specs.declared.cmp.Ordering.TheVariants.{Less, Equal, Greater}
 use Rattle.std.specs.Cmp.Lexicographic.{slice_cmp}
 use Rattle.std.specs.Result.{result_ok}
 use Rattle.std.proofs.lemmas.Bool.{false_from_ne_true, cases_lt, cond-true, cond-false, lt-ltb, le-ltb}
-use Rattle.std.proofs.lemmas.Cmp.{nat_list_cmp_total, tied_itself}
-use Rattle.std.proofs.lemmas.List.{get_or-map, length-map}
-use Rattle.std.proofs.lemmas.List.Elements.{All-head, All-tail}
+use Rattle.std.proofs.lemmas.Cmp.{nat_list_cmp_total, nat_cmp_total, tied_itself}
+use Rattle.std.proofs.lemmas.Bool.Decides.{nat_tests}
+use Rattle.std.proofs.lemmas.Nat.{be_bytes_8}
+use Rattle.std.proofs.Math.ListN.{get_or-eq_default}
+use Rattle.std.specs.Int.{w64, from_be_bytes, to_be_bytes}
+use Rattle.std.proofs.lemmas.List.{get_or-map, length-map, length-append, length-replicate}
+use Rattle.std.proofs.lemmas.List.Elements.{All-head, All-tail, All-append, All-weaker, All-replicate}
 use Rattle.std.proofs.lemmas.List.Sorted.{searchable_from_sorted}
 use Rattle.std.proofs.lemmas.List.Sums.{position_or_len_is}
-use Rattle.std.proofs.lemmas.Map.Lookups.{exact_bytes}
 use Rattle.std.proofs.lemmas.Slice.Eq.{bytes_eq-Decides}
-use Rattle.s39_words.specs.WordList.{word_list, index_of, row_of, FitsRow, IsLetter}
-use Rattle.s39_words.proofs.WordTable.{length-word_list, lengths, letters, ascending, rows_ascending}
+use Rattle.s39_words.specs.Layout.{IsIndex, word_list_length, longest_word}
+use Rattle.s39_words.specs.WordList.{word_list, index_of, row_of, number_of_row, FitsRow, IsLetter}
+use Rattle.s39_words.proofs.WordTable.{length-word_list, lengths, letters, ascending, rows_in_order}
 
 -- ---- the place of a word in a list of words
 
@@ -59,6 +63,18 @@ filled_same (x ∷ xs) (y ∷ ys) m n hv hw e =
 row_of_same : (v w : List ℕ) → All IsLetter v → All IsLetter w → row_of v ≡ row_of w → v ≡ w
 row_of_same v w = filled_same v w (8 - length v) (8 - length w)
 
+length-row : (w : List ℕ) → FitsRow w → length (row_of w) ≡ longest_word
+length-row w fits = omega (arith, length-append w (replicate (longest_word - length w) 32), length-replicate {A = ℕ} (longest_word - length w) 32, fits.short)
+
+row-bytes : (w : List ℕ) → FitsRow w → (i : ℕ) → get_or (row_of w) i 0 < 256
+row-bytes w fits i =
+    let letters = All-weaker IsLetter (λ b. b < 256) (λ c l. omega (arith, l)) w fits.letters in
+    let all = All-append (λ b. b < 256) w (replicate (longest_word - length w) 32) letters (All-replicate (λ b. b < 256) (longest_word - length w) 32 (omega arith)) in
+    ⊎_elim
+    (λ inside. all i 0 inside)
+    (λ outside. let none = get_or-eq_default (row_of w) 0 outside in omega (arith, none))
+    (cases_lt i (length (row_of w)))
+
 -- ---- the words of the list
 
 listed_fits : (k : ℕ) → k < length word_list → FitsRow (get_or word_list k [])
@@ -85,45 +101,53 @@ row_at k within = get_or-map row_of word_list k [] [] within
 length_rows : length (map row_of word_list) ≡ length word_list
 length_rows = simp length-map
 
-rows_sorted : IsSortedBy (λ a b. is_lt (slice_cmp nat_cmp a b)) (map row_of word_list)
-rows_sorted k d low high =
-    let less : slice_cmp nat_cmp (get_or (map row_of word_list) k d) (get_or (map row_of word_list) (k + 1) d) ≡ Less = rows_ascending k (k + 1) d (omega arith) high in
-    let back : slice_cmp nat_cmp (get_or (map row_of word_list) (k + 1) d) (get_or (map row_of word_list) k d) ≡ ordering_reverse (slice_cmp nat_cmp (get_or (map row_of word_list) k d) (get_or (map row_of word_list) (k + 1) d)) = nat_list_cmp_total.antisymm (get_or (map row_of word_list) (k + 1) d) (get_or (map row_of word_list) k d) in
-    rw (back, less)
+-- a row is known by its number
+same_row : (v w : List ℕ) → FitsRow v → FitsRow w → number_of_row (row_of v) ≡ number_of_row (row_of w) → row_of v ≡ row_of w
+unfolding number_of_row
+same_row v w p q e =
+    sym (be_bytes_8 (row_of v) (from_be_bytes w64 (row_of v)) (length-row v p) (row-bytes v p) refl)
+    ∙ ap (to_be_bytes w64) e
+    ∙ be_bytes_8 (row_of w) (from_be_bytes w64 (row_of w)) (length-row w q) (row-bytes w q) refl
 
-searchable : (w : List ℕ) → IsNonDecreasingBy (λ y. ordering_index (slice_cmp nat_cmp y w)) (map row_of word_list)
-searchable w = searchable_from_sorted nat_list_cmp_total (λ y. y) (map row_of word_list) w rows_sorted
+same_number : (a b : ℕ) → nat_cmp a b ≡ Equal → a ≡ b
+same_number a b e = grind (arith, nat_tests)
 
--- what a binary search for the row of a word finds
-pub index_of_searched : (w : List ℕ) (r : Result ℕ ℕ) → FitsRow w → IsSearchInRange r (length (map row_of word_list)) → IsBinarySearchResult (λ y. slice_cmp nat_cmp y (row_of w)) (map row_of word_list) r → index_of w ≡ result_ok r
+searchable : (x : ℕ) → IsNonDecreasingBy (λ row. ordering_index (nat_cmp (number_of_row row) x)) (map row_of word_list)
+searchable x = searchable_from_sorted nat_cmp_total number_of_row (map row_of word_list) x (λ k d low high. rows_in_order k d high)
+
+-- what a binary search for the number of a word's row finds
+pub index_of_searched : (w : List ℕ) (r : Result ℕ ℕ) → FitsRow w → IsSearchInRange r (length (map row_of word_list)) → IsBinarySearchResult (λ row. nat_cmp (number_of_row row) (number_of_row (row_of w))) (map row_of word_list) r → index_of w ≡ result_ok r
 index_of_searched w (Ok i) fits within found =
     let inside : i < length word_list = subst (λ n. i < n) length_rows within in
-    let row_same : get_or (map row_of word_list) i [] ≡ row_of w = exact_bytes _ _ (found []) in
+    let listed = listed_fits i inside in
+    let numbers : number_of_row (row_of (get_or word_list i [])) ≡ number_of_row (row_of w) =
+    ap number_of_row (sym (row_at i inside)) ∙ same_number _ _ (found []) in
     let same : get_or word_list i [] ≡ w =
-    row_of_same (get_or word_list i []) w (listed_fits i inside).letters fits.letters (sym (row_at i inside) ∙ row_same) in
+    row_of_same (get_or word_list i []) w listed.letters fits.letters (same_row (get_or word_list i []) w listed fits numbers) in
     position_at word_list w i inside same (λ k below e. listed_once k i below inside (e ∙ sym same))
 index_of_searched w (Err i) fits within found =
-    let parts : AllWithin (λ y. slice_cmp nat_cmp y (row_of w) ≡ Less) (map row_of word_list) 0 i × AllWithin (λ y. slice_cmp nat_cmp y (row_of w) ≡ Greater) (map row_of word_list) i (length (map row_of word_list)) = found (searchable (row_of w)) in
+    let x = number_of_row (row_of w) in
+    let parts : AllWithin (λ row. nat_cmp (number_of_row row) x ≡ Less) (map row_of word_list) 0 i × AllWithin (λ row. nat_cmp (number_of_row row) x ≡ Greater) (map row_of word_list) i (length (map row_of word_list)) = found (searchable x) in
     position_none word_list w (λ k inside same.
     let row_same : get_or (map row_of word_list) k [] ≡ row_of w = row_at k inside ∙ ap row_of same in
-    let tied : slice_cmp nat_cmp (row_of w) (row_of w) ≡ Equal = tied_itself nat_list_cmp_total (row_of w) in
-    let equal : slice_cmp nat_cmp (get_or (map row_of word_list) k []) (row_of w) ≡ Equal = subst (λ y. slice_cmp nat_cmp y (row_of w) ≡ Equal) (sym row_same) tied in
+    let tied : nat_cmp x x ≡ Equal = tied_itself nat_cmp_total x in
+    let equal : nat_cmp (number_of_row (get_or (map row_of word_list) k [])) x ≡ Equal = subst (λ row. nat_cmp (number_of_row row) x ≡ Equal) (sym row_same) tied in
     ⊎_elim
-    (λ below. let less : slice_cmp nat_cmp (get_or (map row_of word_list) k []) (row_of w) ≡ Less = parts.0 k [] (omega arith) below in cc)
-    (λ above. let greater : slice_cmp nat_cmp (get_or (map row_of word_list) k []) (row_of w) ≡ Greater = parts.1 k [] above (subst (λ n. k < n) (sym length_rows) inside) in cc)
+    (λ below. let less : nat_cmp (number_of_row (get_or (map row_of word_list) k [])) x ≡ Less = parts.0 k [] (omega arith) below in cc)
+    (λ above. let greater : nat_cmp (number_of_row (get_or (map row_of word_list) k [])) x ≡ Greater = parts.1 k [] above (subst (λ n. k < n) (sym length_rows) inside) in cc)
     (cases_lt k i))
 
 -- the same, as the code has it
-pub index_of_search : (w row : List ℕ) (rows : List (List ℕ)) (r : Result ℕ ℕ) → FitsRow w → row ≡ row_of w → rows ≡ map row_of word_list → IsSearchInRange r (length rows) → IsBinarySearchResult (λ y. slice_cmp nat_cmp y row) rows r → index_of w ≡ result_ok r
-index_of_search w row rows r fits row_is rows_are within found =
+pub index_of_search : (w row : List ℕ) (x : ℕ) (rows : List (List ℕ)) (r : Result ℕ ℕ) → FitsRow w → row ≡ row_of w → x ≡ number_of_row row → rows ≡ map row_of word_list → IsSearchInRange r (length rows) → IsBinarySearchResult (λ y. nat_cmp (number_of_row y) x) rows r → index_of w ≡ result_ok r
+index_of_search w row x rows r fits row_is x_is rows_are within found =
     index_of_searched w r fits
     (subst (λ xs. IsSearchInRange r (length xs)) rows_are within)
-    (subst (λ xs. IsBinarySearchResult (λ y. slice_cmp nat_cmp y (row_of w)) xs r) rows_are
-    (subst (λ x. IsBinarySearchResult (λ y. slice_cmp nat_cmp y x) rows r) row_is found))
+    (subst (λ xs. IsBinarySearchResult (λ y. nat_cmp (number_of_row y) (number_of_row (row_of w))) xs r) rows_are
+    (subst (λ n. IsBinarySearchResult (λ y. nat_cmp (number_of_row y) n) rows r) (x_is ∙ ap number_of_row row_is) found))
 
-pub found_in_list : (rows : List (List ℕ)) (r : Result ℕ ℕ) (i : ℕ) → rows ≡ map row_of word_list → IsSearchInRange r (length rows) → Some i ≡ result_ok r → i < 1024
+pub found_in_list : (rows : List (List ℕ)) (r : Result ℕ ℕ) (i : ℕ) → rows ≡ map row_of word_list → IsSearchInRange r (length rows) → Some i ≡ result_ok r → IsIndex i
 found_in_list rows (Ok j) i rows_are within e =
     let same : i ≡ j = cc in
-    let n : length rows ≡ 1024 = ap length rows_are ∙ length_rows ∙ length-word_list in
+    let n : length rows ≡ word_list_length = ap length rows_are ∙ length_rows ∙ length-word_list in
     omega arith
 found_in_list rows (Err j) i rows_are within e = cc

@@ -4,6 +4,7 @@ use Rattle.std.proofs.lemmas.Nat.{and_mask, or_shifted, one_shl, pow_pos, pow-ad
 use Rattle.std.proofs.lemmas.List.{length-append, append_assoc, append-nil}
 use Rattle.std.proofs.lemmas.List.Concat.{flat_map-append}
 use Rattle.std.proofs.lemmas.List.Elements.{All-push}
+use Rattle.s39_words.specs.Layout.{IsIndex}
 use Rattle.s39_words.specs.Bits.{bits, cut_in_tens}
 use Rattle.s39_words.specs.Reading.{bits_of_words}
 use Rattle.s39_words.proofs.Digits.{length-bits, bits_parts, bits_join, bits_low}
@@ -11,7 +12,7 @@ use Rattle.s39_words.proofs.Pieces.{length-joined, cut-joined}
 
 -- the words and the digits behind them, which the number writes, are these digits
 pub record AreDigits (words : List ℕ) (held rest : ℕ) (digits : List ℕ) : Type 0 where
-  pub words_below : All (λ w. w < 1024) words
+  pub words_below : All IsIndex words
   pub rest_below : rest < 2 ^ held
   pub joined : bits_of_words words ++ bits held rest ≡ digits
 
@@ -20,7 +21,7 @@ length-digits words held rest digits d =
     omega (arith, length-append (bits_of_words words) (bits held rest), length-joined 10 words, length-bits held rest, ap length d.joined)
 
 -- a number more
-pub written : (words : List ℕ) (held rest width n : ℕ) → All (λ w. w < 1024) words → rest < 2 ^ held → n < 2 ^ width
+pub written : (words : List ℕ) (held rest width n : ℕ) → All IsIndex words → rest < 2 ^ held → n < 2 ^ width
     → AreDigits words (held + width) (rest * 2 ^ width + n) (bits_of_words words ++ bits held rest ++ bits width n)
 written words held rest width n below small l = record {
   words_below = below;
@@ -39,7 +40,7 @@ word_more words after rest digits d =
     let w = rest / 2 ^ after in
     let low : bits after (rest % 2 ^ after) ≡ bits after rest = sym (bits_low after (rest / 2 ^ after) (rest % 2 ^ after)) ∙ ap (bits after) (shr_split rest after) in
     record {
-      words_below = All-push (λ w. w < 1024) words w d.words_below (shr_below rest 10 after d.rest_below);
+      words_below = All-push IsIndex words w d.words_below (shr_below rest 10 after d.rest_below);
       rest_below = mod_below rest (2 ^ after) (pow_pos after);
       joined =
           ap (λ ds. ds ++ bits after (rest % 2 ^ after)) (flat_map-append (bits 10) words (w ∷ []) ∙ ap (λ ds. bits_of_words words ++ ds) (append-nil (bits 10 w)))

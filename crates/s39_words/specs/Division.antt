@@ -1,11 +1,25 @@
--- Long division of a list of coefficients by the generator of the checksum.
-use Rattle.std.specs.Prelude.{ℕ}
+-- Long division of a list of coefficients by the generator of the checksum, and what it leaves as one number.
+use Rattle.std.specs.Prelude.{ℕ, ◌+◌, ◌*◌, ◌/◌, ◌%◌, ◌^◌}
 use Rattle.s39_field.specs.FieldProduct.{word_field}
-use Rattle.s39_words.specs.declared.checksum.Remainder.{Remainder}
+use Rattle.s39_words.specs.Layout.{word_list_length}
+
+-- what division leaves: the coefficients of x^2 and of x, and the constant one
+pub record Remainder : Type 0 where
+  pub square : ℕ
+  pub linear : ℕ
+  pub constant : ℕ
 
 -- the remainder 1
 abbrev pub one_remainder : Remainder
 one_remainder = record { square = 0; linear = 0; constant = 1 }
+
+-- the lower coefficients of the generator, each times an element
+abbrev pub generator_times : ℕ → Remainder
+generator_times element = record {
+  square = word_field.mul element 14;
+  linear = word_field.mul element 56;
+  constant = word_field.mul element 64;
+}
 
 -- the remainder of r x + c, as x^3 leaves 14 x^2 + 56 x + 64
 abbrev pub next_remainder : Remainder → ℕ → Remainder
@@ -14,3 +28,11 @@ next_remainder r c = record {
   linear = word_field.add r.constant (word_field.mul r.square 56);
   constant = word_field.add c (word_field.mul r.square 64);
 }
+
+-- a remainder as one number: ten binary digits for each coefficient, that of x^2 highest
+abbrev pub packed : Remainder → ℕ
+packed r = (r.square * word_list_length + r.linear) * word_list_length + r.constant
+
+-- the remainder in such a number
+abbrev pub unpacked : ℕ → Remainder
+unpacked n = record { square = n / 2 ^ 20; linear = n / 2 ^ 10 % 2 ^ 10; constant = n % 2 ^ 10 }

@@ -1,8 +1,9 @@
 -- The fields that the words of a mnemonic hold, of a number of words that a mnemonic may have.
-use Rattle.std.specs.Prelude.{ℕ, zero, suc, ◌+◌, ◌-◌, ◌*◌, ◌/◌, List, [], ◌∷◌, length, take, drop, false}
+use Rattle.std.specs.Prelude.{ℕ, zero, suc, ◌+◌, ◌-◌, ◌/◌, List, [], ◌∷◌, length, take, drop}
 use Rattle.std.specs.Int.Digits.{number_from_digits}
 use Rattle.s39_words.specs.declared.share.ShareFields.{ShareFields}
-use Rattle.s39_words.specs.Reading.{padding_length, bits_of_words, number_at, stored_group_threshold, stored_group_count}
+use Rattle.s39_words.specs.Layout.{header_length}
+use Rattle.s39_words.specs.Reading.{value_field_length, padding_length, bits_of_words, number_at, flag_of, stored_group_threshold, stored_group_count}
 
 -- the first k pieces of w binary digits, each as a number
 abbrev pub pieces : ℕ → ℕ → List ℕ → List ℕ
@@ -11,17 +12,17 @@ pieces w (suc k) digits = number_from_digits 2 (take w digits) ∷ pieces w k (d
 
 -- the number of bytes of the value in a mnemonic of n words
 abbrev pub byte_count : ℕ → ℕ
-byte_count n = (10 * (n - 7) - padding_length n) / 8
+byte_count n = (value_field_length n - padding_length n) / 8
 
 -- the bytes of the value, which stand behind the padding
 abbrev pub value_at : List ℕ → List ℕ
-value_at indices = pieces 8 (byte_count (length indices)) (drop (40 + padding_length (length indices)) (bits_of_words indices))
+value_at indices = pieces 8 (byte_count (length indices)) (drop (header_length + padding_length (length indices)) (bits_of_words indices))
 
--- the fields in these words, whose flag is 0
+-- the fields in these words
 abbrev pub fields_at : List ℕ → ShareFields
 fields_at indices = record {
   id = number_at indices 0 15;
-  extendable = false;
+  extendable = flag_of indices;
   exponent = number_at indices 16 4;
   group_index = number_at indices 20 4;
   group_threshold = stored_group_threshold indices + 1;

@@ -1,3 +1,4 @@
+pub mod Layout
 pub mod Bits
 pub mod Share
 pub mod Checksum
@@ -5,5 +6,6 @@ pub mod Division
 pub mod WordList
 pub mod Spelling
 pub mod Reading
+pub mod Mistyping
 pub mod FieldsAt
 pub mod Printing

@@ -1,11 +1,12 @@
 -- What a text is read as: the share that it spells, or the first cause for which it spells none.
-use Rattle.std.specs.Prelude.{◌≡◌, ◌≢◌, ℕ, suc, ◌+◌, ◌-◌, ◌*◌, ◌%◌, ◌<◌, ◌≤◌, List, ◌∷◌, ◌++◌, All, length, take, drop, None, IsSome, Result, Ok, Err, false}
+use Rattle.std.specs.Prelude.{◌≡◌, ℕ, suc, ◌+◌, ◌-◌, ◌*◌, ◌/◌, ◌%◌, ◌<◌, ◌≤◌, List, ◌∷◌, ◌++◌, All, length, take, drop, None, IsSome, Result, Ok, Err, Bool, ◌==◌}
 use Rattle.std.specs.List.{flat_map}
 use Rattle.std.specs.Int.Digits.{number_from_digits}
-use Rattle.s39_kdf.specs.declared.limits.TheConstants.{MIN_SECRET_BYTES, MAX_SECRET_BYTES}
+use Rattle.s39_kdf.specs.Limits.{shortest_secret, longest_secret}
 use Rattle.s39_words.specs.declared.share.ShareFields.{ShareFields}
 use Rattle.s39_words.specs.declared.word_error.WordError.{WordError}
-use Rattle.s39_words.specs.declared.word_error.WordError.TheVariants.{UnknownWord, WordCount, Extendable, BadChecksum, BadPadding, GroupThreshold}
+use Rattle.s39_words.specs.declared.word_error.WordError.TheVariants.{UnknownWord, WordCount, BadChecksum, BadPadding, GroupThreshold}
+use Rattle.s39_words.specs.Layout.{word_bits, header_length, most_padding, checksum_length}
 use Rattle.s39_words.specs.Bits.{bits}
 use Rattle.s39_words.specs.Checksum.{IsValidChecksum}
 use Rattle.s39_words.specs.WordList.{index_of}
@@ -21,27 +22,31 @@ pub record IsFirstUnknown (words : List (List ℕ)) (position : ℕ) : Type 0 wh
   pub known : All (λ w. IsSome (index_of w)) before
   pub unknown : index_of word ≡ None
 
--- the number of padding bits before the value, in a mnemonic of n words
-abbrev pub padding_length : ℕ → ℕ
-padding_length n = 10 * (n - 7) % 16
+-- the bits between the fields before the value and the checksum, in a mnemonic of n words: padding and the value
+abbrev pub value_field_length : ℕ → ℕ
+value_field_length n = word_bits * (n - (header_length / word_bits + checksum_length))
 
--- a mnemonic may have n words: at most eight bits of padding, and a value as long as a master secret may be
+-- the number of padding bits before the value, which has an even number of bytes
+abbrev pub padding_length : ℕ → ℕ
+padding_length n = value_field_length n % 16
+
+-- a mnemonic may have n words: not too much padding, and a value as long as a master secret may be
 pub record IsWordCount (n : ℕ) : Type 0 where
-  pub padding : padding_length n ≤ 8
-  pub at_least : padding_length n + 8 * MIN_SECRET_BYTES ≤ 10 * (n - 7)
-  pub at_most : 10 * (n - 7) ≤ padding_length n + 8 * MAX_SECRET_BYTES
+  pub padding : padding_length n ≤ most_padding
+  pub at_least : padding_length n + 8 * shortest_secret ≤ value_field_length n
+  pub at_most : value_field_length n ≤ padding_length n + 8 * longest_secret
 
 -- the bits of these words, ten each
 abbrev pub bits_of_words : List ℕ → List ℕ
-bits_of_words indices = flat_map (bits 10) indices
+bits_of_words indices = flat_map (bits word_bits) indices
 
 -- the number in the bits from this place on, as many as the width
 abbrev pub number_at : List ℕ → ℕ → ℕ → ℕ
 number_at indices place width = number_from_digits 2 (take width (drop place (bits_of_words indices)))
 
--- the flag, as a number
-abbrev pub flag_of : List ℕ → ℕ
-flag_of indices = number_at indices 15 1
+-- the extendable flag
+abbrev pub flag_of : List ℕ → Bool
+flag_of indices = number_at indices 15 1 == 1
 
 -- the group threshold and the group count, both less one as they are stored
 abbrev pub stored_group_threshold : List ℕ → ℕ
@@ -52,7 +57,7 @@ stored_group_count indices = number_at indices 28 4
 
 -- the bits between the fields before the value and the value
 abbrev pub padding_of : List ℕ → List ℕ
-padding_of indices = take (padding_length (length indices)) (drop 40 (bits_of_words indices))
+padding_of indices = take (padding_length (length indices)) (drop header_length (bits_of_words indices))
 
 -- ---- the tests of a mnemonic, in their order
 
@@ -61,15 +66,10 @@ pub record PassesCount (text indices : List ℕ) : Type 0 where
   pub known : HaveIndices (words_of text) indices
   pub count : IsWordCount (length indices)
 
--- and the extendable flag is 0
-pub record PassesFlag (text indices : List ℕ) : Type 0 where
-  pub earlier : PassesCount text indices
-  pub flag : flag_of indices ≡ 0
-
--- and the checksum is valid
+-- and the checksum is valid, by the flag that stands in the words
 pub record PassesChecksum (text indices : List ℕ) : Type 0 where
-  pub earlier : PassesFlag text indices
-  pub checksum : IsValidChecksum false indices
+  pub earlier : PassesCount text indices
+  pub checksum : IsValidChecksum (flag_of indices) indices
 
 -- and all padding bits are 0
 pub record PassesPadding (text indices : List ℕ) : Type 0 where
@@ -81,8 +81,7 @@ abbrev pub Reads : List ℕ → Result ShareFields WordError → Type 0
 Reads text (Ok share) = Spells text share
 Reads text (Err (UnknownWord position)) = IsFirstUnknown (words_of text) position
 Reads text (Err (WordCount n)) = (indices : List ℕ) × HaveIndices (words_of text) indices × (n ≡ length indices) × ¬ IsWordCount n
-Reads text (Err Extendable) = (indices : List ℕ) × PassesCount text indices × (flag_of indices ≢ 0)
-Reads text (Err BadChecksum) = (indices : List ℕ) × PassesFlag text indices × ¬ IsValidChecksum false indices
+Reads text (Err BadChecksum) = (indices : List ℕ) × PassesCount text indices × ¬ IsValidChecksum (flag_of indices) indices
 Reads text (Err BadPadding) = (indices : List ℕ) × PassesChecksum text indices × ¬ All (λ b. b ≡ 0) (padding_of indices)
 Reads text (Err GroupThreshold) = (indices : List ℕ) × PassesPadding text indices × (stored_group_count indices < stored_group_threshold indices)
 
@@ -93,4 +92,3 @@ code_of (WordCount _) = 12
 code_of BadChecksum = 13
 code_of BadPadding = 14
 code_of GroupThreshold = 15
-code_of Extendable = 16

@@ -1,29 +1,29 @@
 -- A share, and its data words (SLIP-0039, "Format of the share mnemonic").
-use Rattle.std.specs.Prelude.{◌≡◌, ℕ, ◌-◌, ◌%◌, ◌^◌, ◌<◌, ◌≤◌, List, ◌++◌, All, Bool, false, length, replicate, if◌then◌else◌}
+use Rattle.std.specs.Prelude.{◌≡◌, ℕ, ◌-◌, ◌%◌, ◌^◌, ◌<◌, ◌≤◌, List, ◌++◌, All, Bool, length, replicate, if◌then◌else◌}
 use Rattle.std.specs.List.{flat_map}
-use Rattle.s39_kdf.specs.declared.limits.TheConstants.{MIN_SECRET_BYTES, MAX_SECRET_BYTES}
+use Rattle.s39_kdf.specs.Limits.{shortest_secret, longest_secret}
 use Rattle.s39_words.specs.declared.share.ShareFields.{ShareFields}
+use Rattle.s39_words.specs.Layout.{id_bits, exponent_bits, most_groups, most_members}
 use Rattle.s39_words.specs.Bits.{bits, cut_in_tens}
 
 -- an even number of bytes, as many as a master secret may have
 pub record IsValue (value : List ℕ) : Type 0 where
   pub bytes : All (λ b. b < 256) value
   pub even : length value % 2 ≡ 0
-  pub at_least : MIN_SECRET_BYTES ≤ length value
-  pub at_most : length value ≤ MAX_SECRET_BYTES
+  pub at_least : shortest_secret ≤ length value
+  pub at_most : length value ≤ longest_secret
 
 -- the fields of a share that can be printed and read
 pub record IsShare (f : ShareFields) : Type 0 where
-  pub id : f.id < 2 ^ 15
-  pub extendable : f.extendable ≡ false
-  pub exponent : f.exponent < 16
-  pub group_index : f.group_index < 16
+  pub id : f.id < 2 ^ id_bits
+  pub exponent : f.exponent < 2 ^ exponent_bits
+  pub group_index : f.group_index < most_groups
   pub group_threshold : 1 ≤ f.group_threshold
   pub threshold_in_count : f.group_threshold ≤ f.group_count
-  pub group_count : f.group_count ≤ 16
-  pub member_index : f.member_index < 16
+  pub group_count : f.group_count ≤ most_groups
+  pub member_index : f.member_index < most_members
   pub member_threshold : 1 ≤ f.member_threshold
-  pub member_threshold_in_range : f.member_threshold ≤ 16
+  pub member_threshold_in_range : f.member_threshold ≤ most_members
   pub value : IsValue f.value.items
 
 -- 1 for a flag that is set

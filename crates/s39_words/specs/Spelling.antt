@@ -3,6 +3,7 @@ use Rattle.std.specs.Prelude.{◌≡◌, ℕ, List, ◌++◌, Bool, ◌||◌, �
 use Rattle.std.specs.List.{slice_split}
 use Rattle.std.specs.Str.{str_to_ascii_lowercase}
 use Rattle.s39_words.specs.declared.share.ShareFields.{ShareFields}
+use Rattle.s39_words.specs.Layout.{checksum_length}
 use Rattle.s39_words.specs.Share.{IsShare, data_words}
 use Rattle.s39_words.specs.Checksum.{IsValidChecksum}
 use Rattle.s39_words.specs.WordList.{index_of}
@@ -23,6 +24,6 @@ HaveIndices words indices = map index_of words ≡ map Some indices
 pub record Spells (text : List ℕ) (share : ShareFields) : Type 0 where
   pub is_share : IsShare share
   pub checksum : List ℕ
-  pub checksum_length : length checksum ≡ 3
+  pub checksum_words : length checksum ≡ checksum_length
   pub words : HaveIndices (words_of text) (data_words share ++ checksum)
   pub valid : IsValidChecksum share.extendable (data_words share ++ checksum)

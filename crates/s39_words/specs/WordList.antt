@@ -1,5 +1,6 @@
 -- The word list of SLIP-0039 ("Wordlist").
 use Rattle.std.specs.Prelude.{◌≡◌, ℕ, ◌-◌, ◌≤◌, List, [], ◌∷◌, ◌++◌, All, Option, codes, length, replicate, flat_map, position, bytes_eq, ◌==◌}
+use Rattle.std.specs.Int.{w64, from_be_bytes}
 use Rattle.std.specs.List.{slice_split}
 use Rattle.std.specs.Ordering.{nat_cmp}
 use Rattle.std.specs.declared.cmp.Ordering.TheVariants.{Less}
@@ -26,6 +27,10 @@ pub record FitsRow (word : List ℕ) : Type 0 where
 -- eight bytes that hold a word: its letters, then spaces
 abbrev pub row_of : List ℕ → List ℕ
 row_of word = word ++ replicate (8 - length word) 32
+
+-- a row as one number, its first byte the highest
+unfoldable pub number_of_row : List ℕ → ℕ
+number_of_row row = from_be_bytes w64 row
 
 -- the 1,024 words, each as its letters
 unfoldable pub word_list : List (List ℕ)

@@ -1,96 +1,125 @@
 //! The checksum of a mnemonic, RS1024 (SLIP-0039, "Checksum").
-ghost use Rattle.std.specs.Prelude.{◌≡◌, ◌↔◌, ℕ, ◌<◌, List, ◌++◌, All, IsTrue, length, fold};
+ghost use Rattle.std.specs.Prelude.{◌≡◌, ◌↔◌, ℕ, ◌^◌, ◌<◌, List, ◌++◌, All, IsTrue, length, fold};
+ghost use Rattle.s39_words.specs.Layout.{IsIndex, checksum_length};
 ghost use Rattle.s39_words.specs.Checksum.{IsValidChecksum, customization_string};
-ghost use Rattle.s39_words.specs.Division.{next_remainder, one_remainder};
+ghost use Rattle.s39_words.specs.Division.{packed, unpacked, generator_times, next_remainder, one_remainder};
 
-use s39_field::{Field, Gf1024};
+use crate::size::WORD_BITS;
 
-/// The element that stands for a word.
-fn element(word: u16) -> Gf1024
-    requires { word < 1024 }
-    ensures { result ≡ word }
-{
-    Gf1024::try_from(word).unwrap()
+/// The lower coefficients of the generator, each times 2^i in the field of 1,024 elements, for i from 0 to 9:
+/// ten bits for each coefficient, that of x^2 highest.
+pub(crate) const GENERATOR_TIMES: [u32; WORD_BITS] = [
+    0x00E0_E040,
+    0x01C1_C080,
+    0x0383_8100,
+    0x0707_0200,
+    0x0E0E_0009,
+    0x1C0C_2412,
+    0x3808_6C24,
+    0x3090_FC48,
+    0x21B1_F890,
+    0x03F3_F120,
+];
+
+/// The bits of one coefficient.
+const COEFFICIENT: u32 = (1 << WORD_BITS) - 1;
+
+/// The bits of the two lower coefficients.
+const LOWER_COEFFICIENTS: u32 = (1 << (2 * WORD_BITS)) - 1;
+
+/// What long division by the generator leaves: ten bits for each coefficient, that of x^2 highest.
+#[derive(Clone, Copy)]
+struct Register {
+    bits: u32,
+    ghost three_coefficients: { bits < 2 ^ 30 },
 }
 
-/// What long division by the generator leaves: the coefficients of x^2 and of x, and the constant one.
-#[derive(Clone, Copy, PartialEq, Eq)]
-struct Remainder {
-    square: Gf1024,
-    linear: Gf1024,
-    constant: Gf1024,
-}
-
-impl Remainder {
-    fn one() -> Remainder
-        ensures { result ≡ one_remainder }
+impl Register {
+    /// The register that holds the constant 1.
+    fn one() -> Register
+        ensures { unpacked result.bits ≡ one_remainder }
     {
-        Remainder {
-            square: Gf1024::ZERO,
-            linear: Gf1024::ZERO,
-            constant: Gf1024::ONE,
+        Register { bits: 1 }
+    }
+
+    /// The register with one coefficient more.
+    fn next(self, coefficient: u16) -> Register
+        requires { IsIndex coefficient }
+        ensures { unpacked result.bits ≡ next_remainder (unpacked self.bits) coefficient }
+    {
+        let highest = self.bits >> (2 * WORD_BITS);
+        let shifted = (self.bits & LOWER_COEFFICIENTS) << WORD_BITS ^ u32::from(coefficient);
+        Register {
+            bits: shifted ^ generator_times(highest),
         }
     }
 
-    fn next(self, coefficient: Gf1024) -> Remainder
-        ensures { result ≡ next_remainder self coefficient }
+    /// The register with a coefficient more for each word.
+    fn after_words(self, words: &[u16]) -> Register
+        requires { All IsIndex words.now }
+        ensures { unpacked result.bits ≡ fold next_remainder (unpacked self.bits) words.now }
     {
-        Remainder {
-            square: self.linear.add(self.square.mul(element(14))),
-            linear: self.constant.add(self.square.mul(element(56))),
-            constant: coefficient.add(self.square.mul(element(64))),
-        }
-    }
-
-    fn after_words(self, words: &[u16]) -> Remainder
-        requires { All (λ w. w < 1024) words.now }
-        ensures { result ≡ fold next_remainder self words.now }
-    {
-        let mut remainder = self;
+        let mut register = self;
         for word in words {
-            remainder = remainder.next(element(*word));
+            register = register.next(*word);
         }
-        remainder
+        register
+    }
+
+    /// The register of the customization string.
+    fn after_customization_string(extendable: bool) -> Register
+        ensures { unpacked result.bits ≡ fold next_remainder one_remainder (customization_string extendable) }
+    {
+        let customization_string: &[u8] = if extendable {
+            b"shamir_extendable"
+        } else {
+            b"shamir"
+        };
+        let mut register = Register::one();
+        for byte in customization_string {
+            register = register.next(u16::from(*byte));
+        }
+        register
     }
 }
 
-fn after_customization_string(extendable: bool) -> Remainder
-    ensures { result ≡ fold next_remainder one_remainder (customization_string extendable) }
+/// The lower coefficients of the generator, each times this element.
+fn generator_times(element: u32) -> u32
+    requires { IsIndex element }
+    ensures { result ≡ packed (generator_times element) }
 {
-    let customization_string: &[u8] = if extendable {
-        b"shamir_extendable"
-    } else {
-        b"shamir"
-    };
-    let mut remainder = Remainder::one();
-    for byte in customization_string {
-        remainder = remainder.next(element(u16::from(*byte)));
+    let mut sum = 0;
+    for i in 0..WORD_BITS {
+        if element >> i & 1 == 1 {
+            sum ^= GENERATOR_TIMES[i];
+        }
     }
-    remainder
+    sum
 }
 
 /// Whether these words, indices in the word list, end with their checksum.
 pub(crate) fn is_valid_checksum(extendable: bool, words: &[u16]) -> bool
-    requires { All (λ w. w < 1024) words.now }
+    requires { All IsIndex words.now }
     ensures { IsTrue result ↔ IsValidChecksum extendable words.now }
 {
-    after_customization_string(extendable).after_words(words) == Remainder::one()
+    let register = Register::after_customization_string(extendable).after_words(words);
+    register.bits == 1
 }
 
 /// The checksum of these data words: three indices in the word list.
 pub(crate) fn checksum_of(extendable: bool, data_words: &[u16]) -> [u16; 3]
-    requires { All (λ w. w < 1024) data_words.now }
-    ensures in_range { All (λ w. w < 1024) result }
+    requires { All IsIndex data_words.now }
+    ensures in_range { All IsIndex result }
     ensures valid { IsValidChecksum extendable (data_words.now ++ result) }
-    ensures only { (checksum : List ℕ) → length checksum ≡ 3 → All (λ w. w < 1024) checksum
+    ensures only { (checksum : List ℕ) → length checksum ≡ checksum_length → All IsIndex checksum
         → IsValidChecksum extendable (data_words.now ++ checksum) → checksum ≡ result }
 {
-    let remainder = after_customization_string(extendable)
+    let register = Register::after_customization_string(extendable)
         .after_words(data_words)
         .after_words(&[0, 0, 0]);
     [
-        u16::from(remainder.square),
-        u16::from(remainder.linear),
-        u16::from(remainder.constant.add(Gf1024::ONE)),
+        (register.bits >> (2 * WORD_BITS)) as u16,
+        (register.bits >> WORD_BITS & COEFFICIENT) as u16,
+        (register.bits & COEFFICIENT ^ 1) as u16,
     ]
 }

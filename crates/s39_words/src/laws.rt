@@ -1,24 +1,71 @@
 //! Facts about the definitions, each the contract of a function that does nothing, but for `read_back`.
-ghost use Rattle.std.specs.Prelude.{◌≡◌, ℕ, ◌<◌, ◌≤◌, Bool, List, ◌++◌, All, AllPairs, Result, length};
+ghost use Rattle.std.specs.Prelude.{◌≡◌, ◌≢◌, ℕ, ◌^◌, ◌<◌, ◌≤◌, Bool, List, [], ◌++◌, All, AllPairs, Contains, Result, length, slice_index, take};
+ghost use Rattle.s39_words.specs.Layout.{IsIndex, word_list_length, shortest_word, longest_word, telling_letters, word_bits, header_length, id_bits, exponent_bits, most_groups, most_members, most_padding, checksum_length, fewest_words, most_words, longest_text};
 ghost use Rattle.s39_words.specs.declared.share.ShareFields.{ShareFields};
 ghost use Rattle.s39_words.specs.declared.word_error.WordError.{WordError as Cause};
 ghost use Rattle.s39_words.specs.Checksum.{IsValidChecksum};
+ghost use Rattle.s39_words.specs.Division.{packed, generator_times};
+ghost use Rattle.s39_words.specs.Mistyping.{IsMnemonic, IsMistyped};
 ghost use Rattle.s39_words.specs.Printing.{IsPrinted};
-ghost use Rattle.s39_words.specs.Reading.{Reads};
+ghost use Rattle.s39_words.specs.Reading.{IsWordCount, Reads};
+ghost use Rattle.s39_words.specs.Share.{IsShare};
 ghost use Rattle.s39_words.specs.Spelling.{Spells};
 ghost use Rattle.s39_words.specs.WordList.{word_list, IsLetter, ComesBefore};
 
+use crate::checksum::GENERATOR_TIMES;
 use crate::printing::print;
 use crate::share::Share;
+use crate::size::{
+    CHECKSUM_WORDS, EXPONENT_BITS, HEADER_BITS, ID_BITS, MAX_GROUPS, MAX_LETTERS, MAX_MEMBERS,
+    MAX_PADDING_BITS, MAX_TEXT_BYTES, MAX_WORDS, MIN_WORDS, WORD_BITS,
+};
 use crate::spelling::parse;
 use crate::word_error::WordError;
 
+/// The numbers by which the code goes are those of the definitions.
+pub fn numbers()
+    ensures letters { MAX_LETTERS ≡ longest_word }
+    ensures bits { WORD_BITS ≡ word_bits }
+    ensures header { HEADER_BITS ≡ header_length }
+    ensures id { ID_BITS ≡ id_bits }
+    ensures exponent { EXPONENT_BITS ≡ exponent_bits }
+    ensures groups { MAX_GROUPS ≡ most_groups }
+    ensures members { MAX_MEMBERS ≡ most_members }
+    ensures padding { MAX_PADDING_BITS ≡ most_padding }
+    ensures checksum { CHECKSUM_WORDS ≡ checksum_length }
+    ensures fewest { MIN_WORDS ≡ fewest_words }
+    ensures most { MAX_WORDS ≡ most_words }
+    ensures text { MAX_TEXT_BYTES ≡ longest_text }
+{}
+
+/// A mnemonic has 20 to 110 words, and there is one of each of these numbers.
+pub fn word_counts()
+    ensures least { IsWordCount fewest_words }
+    ensures greatest { IsWordCount most_words }
+    ensures between { (n : ℕ) → IsWordCount n → (fewest_words ≤ n) × (n ≤ most_words) }
+{}
+
 /// The word list has 1,024 words of four to eight small letters, and each word comes before all later ones.
 pub fn word_list_ascends()
-    ensures count { length word_list ≡ 1024 }
-    ensures lengths { All (λ word. (4 ≤ length word) × (length word ≤ 8)) word_list }
+    ensures count { length word_list ≡ word_list_length }
+    ensures lengths { All (λ word. (shortest_word ≤ length word) × (length word ≤ longest_word)) word_list }
     ensures letters { All (λ word. All IsLetter word) word_list }
     ensures ascending { AllPairs ComesBefore word_list }
+{}
+
+/// The first four letters of a word of the list tell it from all others.
+pub fn first_letters_tell_words_apart()
+    ensures { AllPairs (λ v w. take telling_letters v ≢ take telling_letters w) word_list }
+{}
+
+/// No proper beginning of a word of the list is a word of the list.
+pub fn no_word_begins_another()
+    ensures { (word rest : List ℕ) → Contains word_list word → Contains word_list (word ++ rest) → rest ≡ [] }
+{}
+
+/// The ten constants of the checksum's register are the lower coefficients of the generator, each times 2^i.
+pub fn register_constants()
+    ensures { (i : ℕ) → i < word_bits → slice_index GENERATOR_TIMES i ≡ packed (generator_times (2 ^ i)) }
 {}
 
 /// No text spells two shares.
@@ -26,18 +73,35 @@ pub fn one_share()
     ensures { (text : List ℕ) (f g : ShareFields) → Spells text f → Spells text g → f ≡ g }
 {}
 
+/// Every text is read as something.
+pub fn every_text_has_a_reading()
+    ensures { (text : List ℕ) → (reading : Result ShareFields Cause) × Reads text reading }
+{}
+
 /// No text is read as two things.
 pub fn one_reading()
     ensures { (text : List ℕ) (r s : Result ShareFields Cause) → Reads text r → Reads text s → r ≡ s }
 {}
 
+/// All words have a checksum.
+pub fn every_checksum_exists()
+    ensures { (extendable : Bool) (words : List ℕ) → All IsIndex words
+        → (checksum : List ℕ) × (length checksum ≡ checksum_length) × All IsIndex checksum
+        × IsValidChecksum extendable (words ++ checksum) }
+{}
+
 /// No words have two checksums.
 pub fn one_checksum()
     ensures { (extendable : Bool) (words checksum other : List ℕ)
-        → All (λ w. w < 1024) words → All (λ w. w < 1024) checksum → All (λ w. w < 1024) other
-        → length checksum ≡ 3 → length other ≡ 3
+        → All IsIndex words → All IsIndex checksum → All IsIndex other
+        → length checksum ≡ checksum_length → length other ≡ checksum_length
         → IsValidChecksum extendable (words ++ checksum) → IsValidChecksum extendable (words ++ other)
         → checksum ≡ other }
+{}
+
+/// Every share has a spelling with small letters and single spaces.
+pub fn every_share_has_a_printed_form()
+    ensures { (share : ShareFields) → IsShare share → (text : List ℕ) × IsPrinted text share }
 {}
 
 /// No share has two spellings with small letters and single spaces.
@@ -52,3 +116,9 @@ pub fn read_back(share: &Share) -> Result<Share, WordError>
 {
     parse(&print(share))
 }
+
+/// A text whose words are those of a mnemonic but for one, two or three is read as one with a bad checksum.
+pub fn three_wrong_words()
+    ensures { (text mnemonic : List ℕ) → IsMnemonic mnemonic → IsMistyped text mnemonic
+        → Reads text (Err WordError.BadChecksum) }
+{}

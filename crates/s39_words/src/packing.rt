@@ -1,51 +1,52 @@
 //! The words of a mnemonic as the fields of a share, and the fields as words.
 ghost use Rattle.std.specs.Prelude.{◌≡◌, ◌≢◌, ℕ, ◌+◌, ◌*◌, ◌/◌, ◌%◌, ◌^◌, ◌<◌, ◌≤◌, ◌↔◌, All, length, IsTrue, IsSome, IfSome};
+ghost use Rattle.s39_words.specs.Layout.{IsIndex};
 ghost use Rattle.s39_words.specs.Reading.{IsWordCount, number_at as number_in, flag_of, padding_of};
 ghost use Rattle.s39_words.specs.FieldsAt.{value_at, fields_at};
 ghost use Rattle.s39_words.specs.Share.{IsShare, header_bits, data_words};
 
 use crate::share::{Share, ShareFields};
-use crate::size::MAX_DATA_WORDS;
+use crate::size::{EXPONENT_BITS, HEADER_BITS, ID_BITS, MAX_DATA_WORDS, OTHER_WORDS, WORD_BITS};
 use crate::word_writer::WordWriter;
 use arrayvec::ArrayVec;
 use s39_kdf::Bytes;
 
 /// The number in the binary digits of the words, ten each, from this place on.
 fn number_at(words: &[u16], place: usize, width: usize) -> u16
-    requires indices { All (λ w. w < 1024) words.now }
-    requires width { width ≤ 15 }
-    requires in_two_words { place % 10 + width ≤ 20 }
-    requires within { place / 10 + 1 < length words.now }
+    requires indices { All IsIndex words.now }
+    requires width { width ≤ ID_BITS }
+    requires in_two_words { place % WORD_BITS + width ≤ 2 * WORD_BITS }
+    requires within { place / WORD_BITS + 1 < length words.now }
     ensures number { result ≡ number_in words.now place width }
     ensures below { result < 2 ^ width }
 {
-    let first = place / 10;
-    let pair = u32::from(words[first]) << 10 | u32::from(words[first + 1]);
-    let behind = 20 - place % 10 - width;
+    let first = place / WORD_BITS;
+    let pair = u32::from(words[first]) << WORD_BITS | u32::from(words[first + 1]);
+    let behind = 2 * WORD_BITS - place % WORD_BITS - width;
     (pair >> behind & ((1 << width) - 1)) as u16
 }
 
 /// Whether the extendable flag is set in the words of a mnemonic.
 pub(crate) fn has_flag(words: &[u16]) -> bool
-    requires indices { All (λ w. w < 1024) words.now }
+    requires indices { All IsIndex words.now }
     requires count { IsWordCount (length words.now) }
-    ensures { IsTrue result ↔ (flag_of words.now ≢ 0) }
+    ensures { result ≡ flag_of words.now }
 {
-    number_at(words, 15, 1) != 0
+    number_at(words, ID_BITS, 1) == 1
 }
 
-/// The fields in the words of a mnemonic whose flag is 0, or `None` where a padding bit isn't 0.
+/// The fields in the words of a mnemonic, or `None` where a padding bit isn't 0.
 pub(crate) fn fields_of(words: &[u16]) -> Option<ShareFields>
-    requires indices { All (λ w. w < 1024) words.now }
+    requires indices { All IsIndex words.now }
     requires count { IsWordCount (length words.now) }
     ensures padding { IsSome result ↔ All (λ b. b ≡ 0) (padding_of words.now) }
     ensures fields { IfSome result (λ fields. fields ≡ fields_at words.now) }
 {
     Some(ShareFields {
         value: value_of(words)?,
-        id: number_at(words, 0, 15),
-        extendable: false,
-        exponent: number_at(words, 16, 4) as u8,
+        id: number_at(words, 0, ID_BITS),
+        extendable: has_flag(words),
+        exponent: number_at(words, 16, EXPONENT_BITS) as u8,
         group_index: number_at(words, 20, 4) as u8,
         group_threshold: number_at(words, 24, 4) as u8 + 1,
         group_count: number_at(words, 28, 4) as u8 + 1,
@@ -56,19 +57,19 @@ pub(crate) fn fields_of(words: &[u16]) -> Option<ShareFields>
 
 /// The value in the words of a mnemonic, or `None` where a padding bit before it isn't 0.
 fn value_of(words: &[u16]) -> Option<Bytes>
-    requires indices { All (λ w. w < 1024) words.now }
+    requires indices { All IsIndex words.now }
     requires count { IsWordCount (length words.now) }
     ensures padding { IsSome result ↔ All (λ b. b ≡ 0) (padding_of words.now) }
     ensures value { IfSome result (λ value. value.items ≡ value_at words.now) }
 {
-    let digits = 10 * (words.len() - 7);
+    let digits = WORD_BITS * (words.len() - OTHER_WORDS);
     let padding = digits % 16;
-    if number_at(words, 40, padding) != 0 {
+    if number_at(words, HEADER_BITS, padding) != 0 {
         return None;
     }
     let mut value = Bytes::new();
     for i in 0..(digits - padding) / 8 {
-        value.push(number_at(words, 40 + padding + 8 * i, 8) as u8);
+        value.push(number_at(words, HEADER_BITS + padding + 8 * i, 8) as u8);
     }
     Some(value)
 }
@@ -76,13 +77,13 @@ fn value_of(words: &[u16]) -> Option<Bytes>
 /// All fields of a share but the checksum, as words.
 pub(crate) fn data_words_of(share: &Share) -> ArrayVec<u16, MAX_DATA_WORDS>
     ensures same { result.items ≡ data_words share.now }
-    ensures in_list { All (λ w. w < 1024) result.items }
+    ensures in_list { All IsIndex result.items }
     ensures in_range { IsShare share.now }
 {
     let fields = share.fields();
     let mut words = header_of(fields);
     let bytes = fields.value.as_slice();
-    words.write(0, (10 - 8 * bytes.len() % 10) % 10);
+    words.write(0, (WORD_BITS - 8 * bytes.len() % WORD_BITS) % WORD_BITS);
     for byte in bytes {
         words.write(u16::from(*byte), 8);
     }
@@ -95,9 +96,9 @@ fn header_of(fields: &ShareFields) -> WordWriter
     ensures { result ≡ header_bits fields.now }
 {
     let mut words = WordWriter::new();
-    words.write(fields.id, 15);
+    words.write(fields.id, ID_BITS);
     words.write(u16::from(fields.extendable), 1);
-    words.write(u16::from(fields.exponent), 4);
+    words.write(u16::from(fields.exponent), EXPONENT_BITS);
     words.write(u16::from(fields.group_index), 4);
     words.write(u16::from(fields.group_threshold - 1), 4);
     words.write(u16::from(fields.group_count - 1), 4);

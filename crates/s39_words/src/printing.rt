@@ -1,28 +1,32 @@
 //! The printed form of a share.
 ghost use Rattle.std.specs.Prelude.{◌≡◌, ◌<◌, ◌≤◌, All, length, map};
 ghost use Rattle.std.specs.List.{join_with_byte};
+ghost use Rattle.s39_words.specs.Layout.{IsIndex};
 ghost use Rattle.s39_words.specs.Printing.{listed_word, IsPrinted};
 
 use crate::checksum::checksum_of;
 use crate::packing::data_words_of;
 use crate::share::Share;
-use crate::size::{MAX_TEXT_BYTES, MAX_WORDS};
+use crate::size::{MAX_LETTERS, MAX_TEXT_BYTES, MAX_WORDS};
 use crate::word_list::rows;
 use arrayvec::ArrayVec;
 
 /// The word at an index of the list.
-fn word_at(index: u16) -> &'static [u8]
-    requires { index < 1024 }
+pub(crate) fn word_at(index: u16) -> &'static [u8]
+    requires { IsIndex index }
     ensures { result.now ≡ listed_word index }
 {
     let row = &rows()[index as usize];
-    let len = row.iter().position(|byte| *byte == b' ').unwrap_or(8);
+    let len = row
+        .iter()
+        .position(|byte| *byte == b' ')
+        .unwrap_or(MAX_LETTERS);
     &row[..len]
 }
 
 /// The words at these indices of the list, with single spaces between.
 fn text_of(indices: &[u16]) -> ArrayVec<u8, MAX_TEXT_BYTES>
-    requires in_list { All (λ index. index < 1024) indices.now }
+    requires in_list { All IsIndex indices.now }
     requires short { length indices.now ≤ MAX_WORDS }
     ensures { result.items ≡ join_with_byte 32 (map listed_word indices.now) }
 {
@@ -36,13 +40,14 @@ fn text_of(indices: &[u16]) -> ArrayVec<u8, MAX_TEXT_BYTES>
     text
 }
 
-/// The spelling of a share with small letters and single spaces: 20 to 59 words of the word list
+/// The spelling of a share with small letters and single spaces: 20 to 110 words of the word list
 /// (SLIP-0039, "Format of the share mnemonic").
 pub fn print(share: &Share) -> ArrayVec<u8, MAX_TEXT_BYTES>
     ensures { IsPrinted result.items share.now }
 {
     let data_words = data_words_of(share);
-    let checksum = checksum_of(share.extendable(), &data_words);
+    let extendable = share.extendable();
+    let checksum = checksum_of(extendable, &data_words);
     let mut indices: ArrayVec<u16, MAX_WORDS> = ArrayVec::new();
     indices.try_extend_from_slice(&data_words).unwrap();
     indices.try_extend_from_slice(&checksum).unwrap();

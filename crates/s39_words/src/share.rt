@@ -2,6 +2,7 @@
 ghost use Rattle.std.specs.Prelude.{◌≡◌, ◌↔◌, IsTrue, IsSome, IfSome};
 ghost use Rattle.s39_words.specs.Share.{IsValue};
 
+use crate::size::{EXPONENT_BITS, ID_BITS, MAX_GROUPS, MAX_MEMBERS};
 use s39_kdf::{Bytes, MAX_SECRET_BYTES, MIN_SECRET_BYTES};
 use std::marker::Model;
 
@@ -24,7 +25,7 @@ pub struct ShareFields {
     pub member_index: u8,
     /// The member threshold, 1 to 16.
     pub member_threshold: u8,
-    /// The share value, an even number of bytes from 16 to 64.
+    /// The share value, an even number of bytes from 16 to 128.
     pub value: Bytes,
 }
 
@@ -51,21 +52,20 @@ impl Share {
 
     /// The share with these fields, or `None` where a field is out of its range: an identifier from 2^15 on, an
     /// exponent or an index over 15, a threshold or a group count of 0 or over 16, a group threshold above the
-    /// group count, a value of an odd number of bytes or of less than 16 or more than 64, or a flag that is set.
+    /// group count, or a value of an odd number of bytes or of less than 16 or more than 128.
     pub fn new(fields: ShareFields) -> Option<Share>
         ensures in_range { IsSome result ↔ IsShare fields }
         ensures same { IfSome result (λ share. share ≡ fields) }
     {
-        if fields.id < 1 << 15
-            && !fields.extendable
-            && fields.exponent < 16
-            && fields.group_index < 16
+        if fields.id < 1 << ID_BITS
+            && fields.exponent < 1 << EXPONENT_BITS
+            && fields.group_index < MAX_GROUPS
             && 1 <= fields.group_threshold
             && fields.group_threshold <= fields.group_count
-            && fields.group_count <= 16
-            && fields.member_index < 16
+            && fields.group_count <= MAX_GROUPS
+            && fields.member_index < MAX_MEMBERS
             && 1 <= fields.member_threshold
-            && fields.member_threshold <= 16
+            && fields.member_threshold <= MAX_MEMBERS
             && is_value(&fields.value)
         {
             Some(Share { fields })
@@ -81,7 +81,7 @@ impl Share {
         self.fields.id
     }
 
-    /// The extendable flag, `false` for every share.
+    /// The extendable flag: whether the identifier is left out of the encryption and the checksum is of that kind.
     pub fn extendable(&self) -> bool
         ensures { result ≡ self.now.extendable }
     {
@@ -130,7 +130,7 @@ impl Share {
         self.fields.member_threshold
     }
 
-    /// The share value, an even number of bytes from 16 to 64.
+    /// The share value, an even number of bytes from 16 to 128.
     pub fn value(&self) -> &Bytes
         ensures { result.now ≡ self.now.value }
     {
@@ -146,7 +146,7 @@ impl Share {
     }
 }
 
-/// Whether a share may have this value: an even number of bytes from 16 to 64.
+/// Whether a share may have this value: an even number of bytes from 16 to 128.
 fn is_value(value: &[u8]) -> bool
     ensures { IsTrue result ↔ IsValue value.now }
 {

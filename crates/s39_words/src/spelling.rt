@@ -1,32 +1,38 @@
 //! The text of a mnemonic.
-ghost use Rattle.std.specs.Prelude.{◌≡◌, ◌<◌, ◌↔◌, All, IsTrue, IfOk, IfErr, Result};
+ghost use Rattle.std.specs.Prelude.{◌≡◌, ◌↔◌, ℕ, List, All, IsTrue, IfOk, IfErr, Result};
+ghost use Rattle.s39_words.specs.Layout.{IsIndex};
 ghost use Rattle.s39_words.specs.declared.share.ShareFields.{ShareFields};
 ghost use Rattle.s39_words.specs.declared.word_error.WordError.{WordError as Cause};
 ghost use Rattle.s39_words.specs.Reading.{Reads, PassesCount, IsWordCount};
+ghost use Rattle.s39_words.specs.Mistyping.{IsMnemonic, IsMistyped};
 ghost use Rattle.s39_words.specs.Spelling.{is_separator};
 
 use crate::checksum::is_valid_checksum;
 use crate::packing::{fields_of, has_flag};
 use crate::share::Share;
-use crate::size::{MAX_WORDS, MIN_WORDS};
+use crate::size::{MAX_PADDING_BITS, MAX_WORDS, MIN_WORDS, OTHER_WORDS, WORD_BITS};
 use crate::word_error::WordError;
 use crate::word_list::index_of_word;
 use arrayvec::ArrayVec;
 
 /// Reads a text as the share that it spells, or as the first cause for which it spells none: an unknown word, a
-/// number of words that no mnemonic has, a set flag, a checksum that isn't valid, a padding bit that isn't 0, or a
-/// group threshold above the group count.
+/// number of words that no mnemonic has, a checksum that isn't valid, a padding bit that isn't 0, or a group
+/// threshold above the group count.
+///
+/// One, two or three wrong words in a mnemonic, all of the word list and none of them changing the flag, always come
+/// out as a checksum that isn't valid.
 pub fn parse(line: &[u8]) -> Result<Share, WordError>
     ensures reading { Reads line.now result }
     // Nothing else is what the text reads as.
     ensures only { (reading : Result ShareFields Cause) → Reads line.now reading → result ≡ reading }
+    // One, two or three wrong words of a mnemonic are found.
+    ensures mistyped { (mnemonic : List ℕ) → IsMnemonic mnemonic → IsMistyped line.now mnemonic
+        → result ≡ Err WordError.BadChecksum }
 {
     let indices = indices_of(line)?;
     let words = indices.as_slice();
-    if has_flag(words) {
-        return Err(WordError::Extendable);
-    }
-    if !is_valid_checksum(false, words) {
+    let extendable = has_flag(words);
+    if !is_valid_checksum(extendable, words) {
         return Err(WordError::BadChecksum);
     }
     let Some(fields) = fields_of(words) else {
@@ -41,7 +47,7 @@ pub(crate) type Indices = ArrayVec<u16, MAX_WORDS>;
 /// The indices of a text's words, where all are in the word list and a mnemonic may have as many.
 pub(crate) fn indices_of(line: &[u8]) -> Result<Indices, WordError>
     ensures found { IfOk result (λ indices. PassesCount line.now indices.items) }
-    ensures in_list { IfOk result (λ indices. All (λ i. i < 1024) indices.items) }
+    ensures in_list { IfOk result (λ indices. All IsIndex indices.items) }
     ensures refused { IfErr result (λ e. Reads line.now (Err e)) }
 {
     let mut indices = ArrayVec::new();
@@ -72,5 +78,6 @@ fn separates(byte: &u8) -> bool
 fn is_word_count(words: usize) -> bool
     ensures { IsTrue result ↔ IsWordCount words }
 {
-    (MIN_WORDS..=MAX_WORDS).contains(&words) && 10 * (words - 7) % 16 <= 8
+    (MIN_WORDS..=MAX_WORDS).contains(&words)
+        && WORD_BITS * (words - OTHER_WORDS) % 16 <= MAX_PADDING_BITS
 }

@@ -1,7 +1,10 @@
 //! The vectors of SLIP-0039, texts that are no mnemonic, and what the word list holds.
 use crate::laws::read_back;
+use crate::printing::word_at;
 use crate::word_list::{index_of_word, rows};
-use crate::{WordError, parse, print};
+use crate::{MAX_TEXT_BYTES, WordError, parse, print};
+use arrayvec::ArrayVec;
+use sha2::{Digest, Sha256};
 use std::test::Fail;
 
 const ONE_OF_ONE: &str =
@@ -25,6 +28,13 @@ const ONE_OF_ONE_256_BITS: &str =
 const EXTENDABLE_ONE_OF_ONE: &str =
     "testify swimming academic academic column loyalty smear include exotic bedroom exotic wrist lobe cover grief golden smart junior estimate learn";
 
+// Each field at its highest and the value 00 01 02 .. 7f, as a plain Python reading of the standard spells it.
+const LONGEST_VALUE: &str =
+    "zero zero zero zero academic academic eclipse adult away extra legs aluminum clay pancake satisfy argue disaster usual agency behavior evoke editor employer born garlic military losing busy industry tendency senior ceramic luxury demand amuse clothes oral level escape crisis prune space mansion deal scene chubby slap destroy stick increase auction divorce ultimate says explain early acrobat biology metric email blanket graduate solution episode cover railroad best exercise drove aircraft fiber fantasy failure finance much flexible gray petition staff friendly jewelry visitor brave gesture material endless focus grownup parcel muscle object helpful random together surprise identify sheriff diminish campus install sympathy luck funding jury vampire station paid typical kernel task";
+
+const EXTENDABLE_TWO_WORDS_EXCHANGED: &str =
+    "learn swimming academic academic column loyalty smear include exotic bedroom exotic wrist lobe cover grief golden smart junior estimate testify";
+
 const GROUP_THRESHOLD_ABOVE_COUNT: &str =
     "music husband acrobat acid artist finance center either graduate swimming object bike medical clothes station aspect spider maiden bulb welcome";
 
@@ -35,6 +45,8 @@ fn prints_the_text_that_it_read(rt: HostRuntime) -> Result<(), Fail> {
         TWO_NEEDED_MEMBER_2,
         TWO_NEEDED_MEMBER_0,
         ONE_OF_ONE_256_BITS,
+        EXTENDABLE_ONE_OF_ONE,
+        LONGEST_VALUE,
     ] {
         let share = parse(text.as_bytes())?;
         assert_eq!(rt; print(&share).as_slice(), text.as_bytes());
@@ -65,6 +77,42 @@ fn fields_of_a_vector(rt: HostRuntime) -> Result<(), Fail> {
 }
 
 #[test]
+fn fields_of_an_extendable_vector(rt: HostRuntime) -> Result<(), Fail> {
+    let share = parse(EXTENDABLE_ONE_OF_ONE.as_bytes())?;
+    assert_eq!(rt; share.id(), 29019);
+    assert!(rt; share.extendable());
+    assert_eq!(rt; share.exponent(), 3);
+    assert_eq!(rt; share.group_index(), 0);
+    assert_eq!(rt; share.group_threshold(), 1);
+    assert_eq!(rt; share.group_count(), 1);
+    assert_eq!(rt; share.member_index(), 0);
+    assert_eq!(rt; share.member_threshold(), 1);
+    assert_eq!(rt;
+        share.value().as_slice(),
+        b"\x9e\x87\x73\xc7\x31\x3b\x11\xd3\xbf\xe2\x19\x29\x19\x76\x43\x3b".as_slice()
+    );
+    Ok(())
+}
+
+#[test]
+fn fields_of_the_longest_value(rt: HostRuntime) -> Result<(), Fail> {
+    let share = parse(LONGEST_VALUE.as_bytes())?;
+    assert_eq!(rt; share.id(), 32767);
+    assert!(rt; share.extendable());
+    assert_eq!(rt; share.exponent(), 15);
+    assert_eq!(rt; share.group_index(), 15);
+    assert_eq!(rt; share.group_threshold(), 16);
+    assert_eq!(rt; share.group_count(), 16);
+    assert_eq!(rt; share.member_index(), 15);
+    assert_eq!(rt; share.member_threshold(), 16);
+    assert_eq!(rt; share.value().len(), 128);
+    for (i, byte) in share.value().iter().enumerate() {
+        assert_eq!(rt; usize::from(*byte), i);
+    }
+    Ok(())
+}
+
+#[test]
 fn refused_texts(rt: HostRuntime) {
     let longer: &str =
         "duckling enlarge academic academic agency result length solution fridge kidney coal piece deal husband erode duke ajar critical decision keyboard academic";
@@ -75,7 +123,7 @@ fn refused_texts(rt: HostRuntime) {
     for (text, error) in [
         (ONE_OF_ONE_BAD_CHECKSUM, WordError::BadChecksum),
         (ONE_OF_ONE_BAD_PADDING, WordError::BadPadding),
-        (EXTENDABLE_ONE_OF_ONE, WordError::Extendable),
+        (EXTENDABLE_TWO_WORDS_EXCHANGED, WordError::BadChecksum),
         (GROUP_THRESHOLD_ABOVE_COUNT, WordError::GroupThreshold),
         (shorter, WordError::WordCount { words: 19 }),
         (longer, WordError::WordCount { words: 21 }),
@@ -90,9 +138,8 @@ fn refused_texts(rt: HostRuntime) {
         WordError::BadChecksum.code(),
         WordError::BadPadding.code(),
         WordError::GroupThreshold.code(),
-        WordError::Extendable.code(),
     ];
-    assert_eq!(rt; codes, [11, 12, 13, 14, 15, 16]);
+    assert_eq!(rt; codes, [11, 12, 13, 14, 15]);
     assert_eq!(rt;
         parse(&[b'a'; 1024]).err(),
         Some(WordError::UnknownWord { position: 1 })
@@ -105,10 +152,11 @@ fn refused_texts(rt: HostRuntime) {
 fn word_counts(rt: HostRuntime) {
     let accepted = [
         20, 22, 23, 25, 27, 28, 30, 31, 33, 35, 36, 38, 39, 41, 43, 44, 46, 47, 49, 51, 52, 54, 55,
-        57, 59,
+        57, 59, 60, 62, 63, 65, 67, 68, 70, 71, 73, 75, 76, 78, 79, 81, 83, 84, 86, 87, 89, 91, 92,
+        94, 95, 97, 99, 100, 102, 103, 105, 107, 108, 110,
     ];
-    let line = [*b"academic "; 111];
-    for words in 0..111 {
+    let line = [*b"academic "; 130];
+    for words in 0..=130 {
         let text = line[..words].as_flattened();
         let count = WordError::WordCount { words };
         assert_eq!(rt;
@@ -117,6 +165,51 @@ fn word_counts(rt: HostRuntime) {
             "{words} words"
         );
     }
+}
+
+/// The mnemonic with another word at this place.
+fn with_word(mnemonic: &str, place: usize, word: &[u8]) -> ArrayVec<u8, MAX_TEXT_BYTES> {
+    let mut changed = ArrayVec::new();
+    for (i, kept) in mnemonic.as_bytes().split(|byte| *byte == b' ').enumerate() {
+        if i > 0 {
+            let _ = changed.try_push(b' ');
+        }
+        let _ = changed.try_extend_from_slice(if i == place { word } else { kept });
+    }
+    changed
+}
+
+// The flag is the sixth bit of the second word.
+fn leaves_the_flag(place: usize, kept: u16, index: u16) -> bool {
+    place != 1 || kept >> 4 & 1 == index >> 4 & 1
+}
+
+// Each 31st word of the list at each place. The contract of `parse` is about all 19,948 such texts.
+#[test]
+fn one_wrong_word(rt: HostRuntime) {
+    let mut tried = 0_u32;
+    for (place, word) in ONE_OF_ONE
+        .as_bytes()
+        .split(|byte| *byte == b' ')
+        .enumerate()
+    {
+        let kept = index_of_word(word).unwrap_or(0);
+        for index in (0..1024).step_by(31) {
+            if index != kept && leaves_the_flag(place, kept, index) {
+                let changed = with_word(ONE_OF_ONE, place, word_at(index));
+                assert_eq!(rt; parse(&changed).err(), Some(WordError::BadChecksum));
+                tried = tried.saturating_add(1);
+            }
+        }
+    }
+    assert_eq!(rt; tried, 657);
+}
+
+#[test]
+fn three_wrong_words(rt: HostRuntime) {
+    let text =
+        b"theory painting academic academic zero sweater year military elder discuss acne wildlife boring employer fused large satoshi bundle carbon zero anatomy hamster leaves tracks paces beyond phantom capital marvel lips brave detect zero";
+    assert_eq!(rt; parse(text).err(), Some(WordError::BadChecksum));
 }
 
 #[test]
@@ -130,6 +223,19 @@ fn finds_words(rt: HostRuntime) {
     assert_eq!(rt; index_of_word(b"ducklin"), None);
     assert_eq!(rt; index_of_word(b"acid    "), None);
     assert_eq!(rt; index_of_word(b""), None);
+}
+
+// Each word of the standard's list, followed by a line feed.
+#[test]
+fn word_list_is_the_standards(rt: HostRuntime) {
+    let mut hasher = Sha256::new();
+    for index in 0..1024 {
+        hasher.update(word_at(index));
+        hasher.update(b"\n");
+    }
+    let digest =
+        b"\xbc\xc4\x55\x53\x40\x33\x2d\x16\x97\x18\xae\xd8\xbf\x31\xdd\x9d\x52\x48\xcb\x7d\xa6\xe5\xd3\x55\x14\x0e\xf4\xf1\xe6\x01\xee\xc3";
+    assert_eq!(rt; hasher.finalize(), *digest);
 }
 
 #[test]

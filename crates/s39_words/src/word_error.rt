@@ -8,8 +8,6 @@ pub enum WordError {
     UnknownWord { position: usize },
     /// All words are in the word list, but no mnemonic has this many.
     WordCount { words: usize },
-    /// The extendable flag is set.
-    Extendable,
     /// The checksum isn't valid.
     BadChecksum,
     /// A padding bit before the value isn't zero.
@@ -21,14 +19,13 @@ pub enum WordError {
 impl WordError {
     ghost use Rattle.s39_words.specs.Reading.{code_of};
 
-    /// The code of the cause, 11 to 16.
+    /// The code of the cause, 11 to 15.
     pub fn code(&self) -> u8
         ensures { result ≡ code_of self.now }
     {
         match self {
             WordError::UnknownWord { .. } => 11,
             WordError::WordCount { .. } => 12,
-            WordError::Extendable => 16,
             WordError::BadChecksum => 13,
             WordError::BadPadding => 14,
             WordError::GroupThreshold => 15,

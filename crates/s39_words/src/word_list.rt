@@ -1,11 +1,14 @@
 //! The word list of SLIP-0039.
 ghost use Rattle.std.specs.Prelude.{◌≡◌, ◌<◌, ◌↔◌, map, All, IsSome, IfSome, IsTrue};
-ghost use Rattle.std.specs.Char.{is_ascii_alphabetic};
+ghost use Rattle.std.specs.Char.{is_ascii_alphabetic, to_ascii_lowercase};
 ghost use Rattle.std.specs.Str.{str_to_ascii_lowercase};
-ghost use Rattle.s39_words.specs.WordList.{word_list, index_of, FitsRow, row_of};
+ghost use Rattle.s39_words.specs.Layout.{IsIndex};
+ghost use Rattle.s39_words.specs.WordList.{word_list, index_of, FitsRow, row_of, number_of_row};
+
+use crate::size::MAX_LETTERS;
 
 /// A word's letters, filled up with spaces. A space is never part of a word.
-type Row = [u8; 8];
+type Row = [u8; MAX_LETTERS];
 
 #[rattlefmt::skip]
 static ROWS: [Row; 1024] = [
@@ -146,11 +149,16 @@ pub(crate) fn rows() -> &'static [Row]
     &ROWS
 }
 
-/// Whether all bytes are ASCII letters.
-fn is_alphabetic(word: &[u8]) -> bool
-    ensures { IsTrue result ↔ All (λ byte. IsTrue (is_ascii_alphabetic byte)) word.now }
+/// The small letter of an ASCII letter, or `None` of another byte.
+fn small_letter(byte: u8) -> Option<u8>
+    ensures letter { IsSome result ↔ IsTrue (is_ascii_alphabetic byte) }
+    ensures small { IfSome result (λ letter. letter ≡ to_ascii_lowercase byte) }
 {
-    word.iter().all(|byte| byte.is_ascii_alphabetic())
+    if byte.is_ascii_alphabetic() {
+        Some(byte.to_ascii_lowercase())
+    } else {
+        None
+    }
 }
 
 /// The row of a word, its capitals as small letters, or `None` where no word in the list has such bytes or as many.
@@ -158,21 +166,32 @@ fn row_of_word(word: &[u8]) -> Option<Row>
     ensures fits { IsSome result ↔ FitsRow (str_to_ascii_lowercase word.now) }
     ensures row { IfSome result (λ row. row ≡ row_of (str_to_ascii_lowercase word.now)) }
 {
-    if word.len() > 8 || !is_alphabetic(word) {
+    if word.len() > MAX_LETTERS {
         return None;
     }
-    let mut row = [b' '; 8];
-    row[..word.len()].copy_from_slice(word);
-    row.make_ascii_lowercase();
+    let mut row = [b' '; MAX_LETTERS];
+    for (i, byte) in word.iter().enumerate() {
+        row[i] = small_letter(*byte)?;
+    }
     Some(row)
+}
+
+/// A row as one number, so that two are compared in one step: the rows are in the order of these numbers.
+#[tactic(auto, unfolding(crate::specs::WordList::number_of_row))]
+fn number_of(row: &Row) -> u64
+    ensures { result ≡ number_of_row row.now }
+{
+    u64::from_be_bytes(*row)
 }
 
 /// The index of a word in the list, 0 to 1023, its ASCII capitals read as small letters.
 pub(crate) fn index_of_word(word: &[u8]) -> Option<u16>
     ensures same { result ≡ index_of (str_to_ascii_lowercase word.now) }
-    ensures in_list { IfSome result (λ index. index < 1024) }
+    ensures in_list { IfSome result (λ index. IsIndex index) }
 {
     let row = row_of_word(word)?;
-    let index = rows().binary_search(&row).ok()?;
-    Some(index as u16)
+    match rows().binary_search_by_key(&number_of(&row), number_of) {
+        Ok(index) => Some(index as u16),
+        Err(_) => None,
+    }
 }

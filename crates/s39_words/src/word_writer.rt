@@ -2,7 +2,7 @@
 ghost use Rattle.std.specs.Prelude.{◌≡◌, ◌+◌, ◌*◌, ◌%◌, ◌^◌, ◌<◌, ◌≤◌, [], ◌++◌, length};
 ghost use Rattle.s39_words.specs.Bits.{bits, cut_in_tens};
 
-use crate::size::MAX_DATA_WORDS;
+use crate::size::{ID_BITS, MAX_DATA_WORDS, WORD_BITS};
 use arrayvec::ArrayVec;
 use std::marker::Model;
 
@@ -17,6 +17,7 @@ pub(crate) struct WordWriter {
 
 impl Model for WordWriter {
     ghost use Rattle.std.specs.Prelude.{ℕ, ◌^◌, ◌<◌, List, ◌++◌, All};
+    ghost use Rattle.s39_words.specs.Layout.{IsIndex, word_bits};
     ghost use Rattle.s39_words.specs.Bits.{bits};
     ghost use Rattle.s39_words.specs.Reading.{bits_of_words};
 
@@ -24,7 +25,7 @@ impl Model for WordWriter {
 
     ghost view = { λ w. bits_of_words w.words.items ++ bits w.held w.rest };
 
-    ghost invariant = { λ w. (w.held < 10) × (w.rest < 2 ^ w.held) × All (λ n. n < 1024) w.words.items };
+    ghost invariant = { λ w. (w.held < word_bits) × (w.rest < 2 ^ w.held) × All IsIndex w.words.items };
 }
 
 impl WordWriter {
@@ -40,15 +41,15 @@ impl WordWriter {
 
     /// Appends the lowest `width` digits of the number, which has no others.
     pub(crate) fn write(&mut self, number: u16, width: usize)
-        requires width { width ≤ 15 }
+        requires width { width ≤ ID_BITS }
         requires digits { number < 2 ^ width }
-        requires room { length self.old + width ≤ 10 * MAX_DATA_WORDS }
+        requires room { length self.old + width ≤ WORD_BITS * MAX_DATA_WORDS }
         ensures { self.new ≡ self.old ++ bits width number }
     {
         self.rest = self.rest << width | u32::from(number);
         self.held += width;
-        while self.held >= 10 {
-            self.held -= 10;
+        while self.held >= WORD_BITS {
+            self.held -= WORD_BITS;
             self.words.push((self.rest >> self.held) as u16);
             self.rest &= (1 << self.held) - 1;
         }
@@ -56,7 +57,7 @@ impl WordWriter {
 
     /// The words, where the digits make whole words.
     pub(crate) fn into_words(self) -> ArrayVec<u16, MAX_DATA_WORDS>
-        requires { length self % 10 ≡ 0 }
+        requires { length self % WORD_BITS ≡ 0 }
         ensures { result.items ≡ cut_in_tens self }
     {
         let WordWriter {

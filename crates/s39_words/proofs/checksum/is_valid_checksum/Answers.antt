@@ -1,12 +1,13 @@
-use Rattle.std.proofs.Common.{◌≡◌, IsTrue, rules}
-use Rattle.std.specs.Prelude.{◌↔◌}
-use Rattle.s39_words.specs.Division.{one_remainder}
+use Rattle.std.proofs.Common.{◌≡◌, ap, ◌∙◌, rules, fold}
+use Rattle.s39_words.specs.Division.{unpacked, next_remainder}
 use Rattle.s39_words.proofs.Remainders.{valid_after}
+use Rattle.s39_words.proofs.Registers.{holds_one}
 use Rattle.s39_words.proofs.checksum.is_valid_checksum.Goals as goal
 
 pub returns : goal.returns
 returns c =
-    let r = c.after_words.result in
-    let equal : IsTrue c.eq.result ↔ (r ≡ one_remainder) = search rules in
-    let valid = valid_after c.args.extendable c.args.words.now r (search rules) c.requires in
-    (λ t. valid.1 (equal.0 t), λ m. equal.1 (valid.0 m))
+    let bits = c.after_words-register.result.bits in
+    let remainder_is = c.after_words-register.ensures ∙ ap (λ r. fold next_remainder r c.args.words.now) c.after_customization_string.ensures in
+    let valid = valid_after c.args.extendable c.args.words.now (unpacked bits) remainder_is c.requires in
+    let one = holds_one bits in
+    (λ t. let e : bits ≡ 1 = search rules in valid.1 (one.0 e), λ m. let e = one.1 (valid.0 m) in search rules)

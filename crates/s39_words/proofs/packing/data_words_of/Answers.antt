@@ -1,5 +1,6 @@
-use Rattle.std.proofs.Common.{◌≡◌, ◌<◌, ◌-◌, ◌*◌, ◌%◌, ◌++◌, length, ap, ◌∙◌, arith}
+use Rattle.std.proofs.Common.{◌≡◌, ◌-◌, ◌*◌, ◌%◌, ◌++◌, length, ap, ◌∙◌, arith}
 use Rattle.std.proofs.lemmas.List.Elements.{All-same}
+use Rattle.s39_words.specs.Layout.{IsIndex}
 use Rattle.s39_words.specs.declared.share.ShareFields.{ShareFields}
 use Rattle.s39_words.specs.Bits.{bits, cut_in_tens}
 use Rattle.s39_words.specs.Share.{header_bits, data_words}
@@ -28,6 +29,6 @@ returns c =
     c.into_words.ensures ∙ ap cut_in_tens c.loop-byte.invariant ∙ written-all c.args.share.now c.loop-byte.byte-index (omega (arith, n)) in
     record {
       same = words;
-      in_list = All-same (λ w. w < 1024) c.into_words.result.items (data_words c.args.share.now) words (data_words-below c.args.share.now);
+      in_list = All-same IsIndex c.into_words.result.items (data_words c.args.share.now) words (data_words-below c.args.share.now);
       in_range = c.fields-fields.ensures.in_range;
     }

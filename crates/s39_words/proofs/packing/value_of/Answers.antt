@@ -1,4 +1,5 @@
 use Rattle.std.proofs.Common.{◌+◌, ◌<◌, ◌++◌, sym, ap, ◌∙◌, arith, length, drop, [], ◌∷◌}
+use Rattle.s39_kdf.specs.Limits.{longest_secret}
 use Rattle.s39_words.specs.Reading.{padding_length, bits_of_words}
 use Rattle.s39_words.proofs.DataWords.{padding_from_number, number_from_padding}
 use Rattle.s39_words.proofs.Pieces.{length-pieces}
@@ -13,7 +14,7 @@ pub push-requires : goal.push-requires
 push-requires c =
     let a = c.requires.count.at_most in
     let e = ap length c.loop-i.invariant ∙ length-pieces 8 c.loop-i.i (drop (40 + padding_length (length c.args.words.now)) (bits_of_words c.args.words.now)) in
-    let h : length c.loop-i.value.items < 64 = omega (arith, e) in
+    let h : length c.loop-i.value.items < longest_secret = omega (arith, e) in
     (omega arith, h)
 
 pub loop-i-preserved : goal.loop-i-preserved

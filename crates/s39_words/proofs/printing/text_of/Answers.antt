@@ -1,6 +1,7 @@
 use Rattle.std.proofs.Common.{◌≤◌, ◌+◌, [], ◌∷◌, ◌++◌, length, get_or, take, ap, ◌∙◌, arith}
 use Rattle.std.specs.Prelude.{map}
 use Rattle.std.specs.List.{join_with_byte}
+use Rattle.s39_words.specs.Layout.{longest_text}
 use Rattle.s39_words.specs.Printing.{listed_word}
 use Rattle.s39_words.proofs.Listed.{short_word}
 use Rattle.s39_words.proofs.Joined.{joined_first, joined_later}
@@ -10,7 +11,7 @@ use Rattle.s39_words.proofs.printing.text_of.Goals.{then-i-gt0, else-i-gt0}
 pub unwrap-requires : goal.unwrap-requires
 unwrap-requires c =
     let short = short_word (get_or c.args.indices.now c.loop-i.i 0) c.word_at.result.now (c.requires.in_list c.loop-i.i 0 c.loop-i-test.true) c.word_at.ensures in
-    let room : length c.if-i-gt0.text.items + length c.word_at.result.now ≤ 530 =
+    let room : length c.if-i-gt0.text.items + length c.word_at.result.now ≤ longest_text =
     elim c.if-i-gt0.branch [
       | then-i-gt0 w ↦ let t = ap (λ (v : _). length v.items) w.text-is in omega (arith, c.loop-i.invariant.short, w.push.ensures.len)
       | else-i-gt0 w ↦ let t = ap (λ (v : _). length v.items) w.text-is in omega (arith, c.loop-i.invariant.short)

@@ -1,21 +1,23 @@
-use Rattle.std.proofs.Common.{refl, arith}
-use Rattle.s39_words.proofs.Rows.{fits_from_alphabetic, short_from_fits, alphabetic_from_fits, row_of_lower}
+use Rattle.std.proofs.Common.{refl, sym, ap, ◌∙◌}
+use Rattle.std.specs.Prelude.{is_some}
+use Rattle.std.proofs.lemmas.Bool.{false≢true}
+use Rattle.s39_words.proofs.Rows.{holds-more, holds-row, holds-fits, no_letter}
 use Rattle.s39_words.proofs.word_list.row_of_word.Goals as goal
-use Rattle.s39_words.proofs.word_list.row_of_word.Goals.{then-word-gt8-via-then-word-gt8, then-word-gt8-via-else-word-gt8+then-not-is_alphabetic}
 
-pub returns-then-word-gt8-clause-fits : goal.returns-then-word-gt8-clause-fits
-returns-then-word-gt8-clause-fits c =
-    elim c.then-word-gt8.branch [
-      | then-word-gt8-via-then-word-gt8 w ↦
-          (λ no. cc, λ fits. absurd (omega (arith, short_from_fits c.args.word.now fits)))
-      | then-word-gt8-via-else-word-gt8+then-not-is_alphabetic w ↦
-          (λ no. cc, λ fits. w.if-not-is_alphabetic.ensures.1 (alphabetic_from_fits c.args.word.now fits))
-    ]
+pub returns-in_err-row-clause-fits : goal.returns-in_err-row-clause-fits
+returns-in_err-row-clause-fits c = (
+  λ some. absurd (false≢true (sym (ap is_some c.from_residual.ensures) ∙ some)),
+  λ fits. absurd (no_letter c.args.word.now c.loop-i.i c.loop-i-test.true (λ letter. false≢true (c.in_err-row.ensures.letter.1 letter)) fits),
+)
+
+pub loop-i-preserved : goal.loop-i-preserved
+loop-i-preserved c =
+    holds-more c.loop-i.row c.args.word.now c.loop-i.i c.in_ok-row.field-0 c.loop-i.invariant c.loop-i-test.true c.if-word-gt-MAX_LETTERS.false (c.in_ok-row.ensures.letter.0 refl) c.in_ok-row.ensures.small
 
 pub returns-clause-fits : goal.returns-clause-fits
 returns-clause-fits c =
-    (λ _. fits_from_alphabetic c.args.word.now c.if-word-gt8.false (c.if-not-is_alphabetic.ensures.0 refl), λ _. refl)
+    (λ some. holds-fits c.loop-i.row c.args.word.now c.loop-i.i c.loop-i.invariant c.loop-i-test.false c.if-word-gt-MAX_LETTERS.false, λ fits. refl)
 
 pub returns-clause-row : goal.returns-clause-row
 returns-clause-row c =
-    row_of_lower c.args.word.now c.copy_from_slice.new.self c.make_ascii_lowercase.new.self c.copy_from_slice.ensures.after c.make_ascii_lowercase.ensures.after
+    holds-row c.loop-i.row c.args.word.now c.loop-i.i c.loop-i.invariant c.loop-i-test.false c.loop-i.auto.i-end

@@ -1,6 +1,7 @@
 use Rattle.std.proofs.Common.{◌≡◌, ◌+◌, ◌-◌, ◌*◌, ◌/◌, ◌%◌, ◌^◌, ◌<◌, [], ◌∷◌, ◌++◌, length, sym, ap, ◌∙◌, subst, arith, bit_or, bit_and}
 use Rattle.std.proofs.lemmas.List.{length-append}
 use Rattle.std.proofs.lemmas.Nat.{shr_below}
+use Rattle.s39_words.specs.Layout.{most_words, checksum_length}
 use Rattle.s39_words.specs.Bits.{bits}
 use Rattle.s39_words.proofs.Digits.{length-bits}
 use Rattle.s39_words.proofs.Written.{AreDigits, length-digits, written, shifted-is, word_more, masked-is}
@@ -33,7 +34,7 @@ pub push-requires : goal.push-requires
 push-requires c =
     let w = c.loop-self.self-inside in
     let n = length-digits w.words.items w.held w.rest _ c.loop-self.invariant.digits in
-    let h : length w.words.items < 56 = omega (arith, n, length-append c.args.self.now (bits c.args.width c.args.number), length-bits c.args.width c.args.number) in
+    let h : length w.words.items < most_words - checksum_length = omega (arith, n, length-append c.args.self.now (bits c.args.width c.args.number), length-bits c.args.width c.args.number) in
     (omega arith, h)
 
 pub loop-self-preserved : goal.loop-self-preserved

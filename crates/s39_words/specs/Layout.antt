@@ -1,0 +1,58 @@
+-- How long a mnemonic and its parts are (SLIP-0039, "Format of the share mnemonic", "Checksum", "Wordlist").
+use Rattle.std.specs.Prelude.{ℕ, ◌<◌}
+
+-- the words of the word list, the letters of its shortest and its longest word, and the bits that a word stands for
+abbrev pub word_list_length : ℕ
+word_list_length = 1024
+
+abbrev pub shortest_word : ℕ
+shortest_word = 4
+
+abbrev pub longest_word : ℕ
+longest_word = 8
+
+abbrev pub word_bits : ℕ
+word_bits = 10
+
+-- the first letters of a word that tell it from all others
+abbrev pub telling_letters : ℕ
+telling_letters = 4
+
+-- the bits of the fields before the value, among them those of the identifier and of the exponent
+abbrev pub header_length : ℕ
+header_length = 40
+
+abbrev pub id_bits : ℕ
+id_bits = 15
+
+abbrev pub exponent_bits : ℕ
+exponent_bits = 4
+
+-- the most groups, and the most members of a group
+abbrev pub most_groups : ℕ
+most_groups = 16
+
+abbrev pub most_members : ℕ
+most_members = 16
+
+-- the most bits of padding before the value
+abbrev pub most_padding : ℕ
+most_padding = 8
+
+-- the words of a checksum
+abbrev pub checksum_length : ℕ
+checksum_length = 3
+
+-- the fewest and the most words of a mnemonic, and the most bytes of its printed form
+abbrev pub fewest_words : ℕ
+fewest_words = 20
+
+abbrev pub most_words : ℕ
+most_words = 110
+
+abbrev pub longest_text : ℕ
+longest_text = 989
+
+-- an index in the word list
+abbrev pub IsIndex : ℕ → Type 0
+IsIndex index = index < word_list_length

@@ -1,0 +1,32 @@
+-- A mnemonic of which some words were written wrong.
+use Rattle.std.specs.Prelude.{◌≡◌, ℕ, suc, ◌≤◌, List, [], ◌∷◌, All, length, ◌==◌, if◌then◌else◌}
+use Rattle.s39_words.specs.Layout.{IsIndex}
+use Rattle.s39_words.specs.Checksum.{IsValidChecksum}
+use Rattle.s39_words.specs.Reading.{IsWordCount, flag_of}
+use Rattle.s39_words.specs.Spelling.{words_of, HaveIndices}
+
+-- the most wrong words that are always found
+abbrev pub most_wrong_words : ℕ
+most_wrong_words = 3
+
+-- the places, the first of them counted as this one, at which two lists differ
+abbrev pub differing_places : ℕ → List ℕ → List ℕ → List ℕ
+differing_places place [] ws = []
+differing_places place (v ∷ vs) [] = []
+differing_places place (v ∷ vs) (w ∷ ws) = if v == w then differing_places (suc place) vs ws else place ∷ differing_places (suc place) vs ws
+
+-- the words of a mnemonic, by their indices: as many as it may have, with a valid checksum
+pub record IsMnemonic (indices : List ℕ) : Type 0 where
+  pub count : IsWordCount (length indices)
+  pub in_list : All IsIndex indices
+  pub checksum : IsValidChecksum (flag_of indices) indices
+
+-- The words of the text are those of the mnemonic but for one, two or three, all in the word list, and as many; the
+-- extendable flag, which selects the customization string, is the same.
+pub record IsMistyped (text mnemonic : List ℕ) : Type 0 where
+  pub words : List ℕ
+  pub known : HaveIndices (words_of text) words
+  pub same_count : length words ≡ length mnemonic
+  pub same_flag : flag_of words ≡ flag_of mnemonic
+  pub wrong : 1 ≤ length (differing_places 0 words mnemonic)
+  pub few : length (differing_places 0 words mnemonic) ≤ most_wrong_words
