@@ -30,13 +30,13 @@ abbrev pub members_below : List ShareFields → ℕ → ℕ → List ℕ
 members_below set group n = filter (is_at_hand set group) (range_with_len 0 n)
 
 -- what a function of an element gives is among what it gives of all
-Contains-map : {X Y : Type 0} (f : X → Y) (xs : List X) (x : X) → Contains xs x → Contains (map f xs) (f x)
+pub Contains-map : {X Y : Type 0} (f : X → Y) (xs : List X) (x : X) → Contains xs x → Contains (map f xs) (f x)
 Contains-map f xs x (k, below, here) =
     let short : k < length (map f xs) = omega (arith, length-map xs f) in
     (k, short, get_or-map f xs k x (f x) below ∙ ap f here)
 
 -- what is among what it gives of all is what it gives of one
-one_of_map : {X Y : Type 0} (f : X → Y) (xs : List X) (y : Y) → Contains (map f xs) y → (x : X) × Contains xs x × (f x ≡ y)
+pub one_of_map : {X Y : Type 0} (f : X → Y) (xs : List X) (y : Y) → Contains (map f xs) y → (x : X) × Contains xs x × (f x ≡ y)
 one_of_map f [] y (k, below, here) = absurd (omega arith)
 one_of_map f (x ∷ xs) y (zero, below, here) = (x, (0, omega arith, refl), here)
 one_of_map f (x ∷ xs) y (suc k, below, here) =
@@ -44,7 +44,7 @@ one_of_map f (x ∷ xs) y (suc k, below, here) =
     (z, (suc j, omega arith, at), same)
 
 -- what holds of what it gives of each two elements holds of each two that it gives
-AllPairs-map : {X Y : Type 0} (R : Y → Y → Type 0) (f : X → Y) (xs : List X) → AllPairs (λ a b. R (f a) (f b)) xs → AllPairs R (map f xs)
+pub AllPairs-map : {X Y : Type 0} (R : Y → Y → Type 0) (f : X → Y) (xs : List X) → AllPairs (λ a b. R (f a) (f b)) xs → AllPairs R (map f xs)
 AllPairs-map R f [] h = AllPairs-nil R
 AllPairs-map R f (x ∷ xs) h =
     AllPairs-cons R (f x) (map f xs)

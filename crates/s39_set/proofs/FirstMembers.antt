@@ -16,19 +16,19 @@ use Rattle.s39_set.proofs.MembersOf.{names_in_group-group}
 use Rattle.s39_set.proofs.GroupSplit.{split_at_group, names_in_group-back, names_in_group-joined, names_in_group-joined_later, is_complete-at, first_members-at, is_complete-none, filter-range_agree}
 
 -- names at hand, of the groups from a on, have just the members that the thresholds ask, and `needed` of the k groups from a on
-record HasJustFrom (T : ℕ → Option ℕ) (N : List (ℕ × ℕ)) (a k needed : ℕ) (names : List (ℕ × ℕ)) : Type 0 where
-  ascending : IsAscending names
-  at_hand : All (Contains N) names
-  from : All (λ name. a ≤ name.0) names
-  groups : needed ≡ length (filter (is_complete T names) (range_with_len a k))
-  members : All (λ name. T name.0 ≡ Some (length (names_in_group name.0 names))) names
+pub record HasJustFrom (T : ℕ → Option ℕ) (N : List (ℕ × ℕ)) (a k needed : ℕ) (names : List (ℕ × ℕ)) : Type 0 where
+  pub ascending : IsAscending names
+  pub at_hand : All (Contains N) names
+  pub from : All (λ name. a ≤ name.0) names
+  pub groups : needed ≡ length (filter (is_complete T names) (range_with_len a k))
+  pub members : All (λ name. T name.0 ≡ Some (length (names_in_group name.0 names))) names
 
 -- the first members of the first complete groups, of the k from a on, don't come after these names
-abbrev AreLeast : (T : ℕ → Option ℕ) (N : List (ℕ × ℕ)) (a k needed : ℕ) (names : List (ℕ × ℕ)) → Type 0
+abbrev pub AreLeast : (T : ℕ → Option ℕ) (N : List (ℕ × ℕ)) (a k needed : ℕ) (names : List (ℕ × ℕ)) → Type 0
 AreLeast T N a k needed names = names_cmp (members_of T N (take needed (filter (is_complete T N) (range_with_len a k)))) names ≢ Greater
 
 -- names of a group come before those of later ones
-before_later : (group : ℕ) (some others back : List (ℕ × ℕ)) → 1 ≤ length some → All (λ name. name.0 ≡ group) some → 1 ≤ length back → All (λ name. group < name.0) back → names_cmp (some ++ others) back ≢ Greater
+pub before_later : (group : ℕ) (some others back : List (ℕ × ℕ)) → 1 ≤ length some → All (λ name. name.0 ≡ group) some → 1 ≤ length back → All (λ name. group < name.0) back → names_cmp (some ++ others) back ≢ Greater
 before_later group [] others back l here m later = absurd (omega arith)
 before_later group (x ∷ xs) others [] l here m later = absurd (omega arith)
 before_later group (x ∷ xs) others (y ∷ ys) l here m later =
@@ -38,10 +38,10 @@ before_later group (x ∷ xs) others (y ∷ ys) l here m later =
 
 module _ (T : ℕ → Option ℕ) (N : List (ℕ × ℕ)) (positive : (g t : ℕ) → T g ≡ Some t → 1 ≤ t) where
   -- no group is complete in no names
-  none_complete : (a k : ℕ) → filter (is_complete T []) (range_with_len a k) ≡ []
+  pub none_complete : (a k : ℕ) → filter (is_complete T []) (range_with_len a k) ≡ []
   none_complete a k = filter-none (is_complete T []) (range_with_len a k) (λ i d below. is_complete-none T [] (get_or (range_with_len a k) i d) (positive (get_or (range_with_len a k) i d)) refl)
 
-  some_from_needed : (a k m : ℕ) (names : List (ℕ × ℕ)) → suc m ≡ length (filter (is_complete T names) (range_with_len a k)) → 1 ≤ length names
+  pub some_from_needed : (a k m : ℕ) (names : List (ℕ × ℕ)) → suc m ≡ length (filter (is_complete T names) (range_with_len a k)) → 1 ≤ length names
   some_from_needed a k m [] e = let none : suc m ≡ 0 = e ∙ ap length (none_complete a k) in absurd (omega arith)
   some_from_needed a k m (x ∷ xs) e = omega arith
 
@@ -125,7 +125,7 @@ module _ (T : ℕ → Option ℕ) (N : List (ℕ × ℕ)) (positive : (g t : ℕ
       subst (λ g. T g ≡ Some (length (names_in_group g ((f ∷ fs) ++ back)))) (All-head (λ name. name.0 ≡ a) f fs here) of_first in
       least_with ascending a k needed (f ∷ fs) back h here later (threshold ∙ ap (λ some. Some (length some)) of_group) others
 
-  least_from : IsAscending N → (a k needed : ℕ) (names : List (ℕ × ℕ)) → HasJustFrom T N a k needed names → AreLeast T N a k needed names
+  pub least_from : IsAscending N → (a k needed : ℕ) (names : List (ℕ × ℕ)) → HasJustFrom T N a k needed names → AreLeast T N a k needed names
   least_from ascending a zero zero names h = slice_cmp-nil_not_greater name_cmp names
   least_from ascending a zero (suc needed) names h = slice_cmp-nil_not_greater name_cmp names
   least_from ascending a (suc k) needed names h =

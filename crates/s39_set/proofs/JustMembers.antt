@@ -31,13 +31,13 @@ filter_same p q (x ∷ xs) h =
     rw (All-head (λ y. p y ≡ q y) x xs h, rest)
 
 -- a name's group has a name
-some_in_group : (names : List (ℕ × ℕ)) (name : ℕ × ℕ) → Contains names name → 0 < length (names_in_group name.0 names)
+pub some_in_group : (names : List (ℕ × ℕ)) (name : ℕ × ℕ) → Contains names name → 0 < length (names_in_group name.0 names)
 some_in_group names name among =
     let (k, below, here) = Contains-filter (λ n. n.0 == name.0) names name among (eq-eqb name.0 name.0 refl) in
     omega arith
 
 -- a fact of the groups of all names is one of each group that has a name
-at_group : (P : ℕ → Type 0) (names : List (ℕ × ℕ)) → All (λ name. P name.0) names → (g : ℕ) → 0 < length (names_in_group g names) → P g
+pub at_group : (P : ℕ → Type 0) (names : List (ℕ × ℕ)) → All (λ name. P name.0) names → (g : ℕ) → 0 < length (names_in_group g names) → P g
 at_group P names h g some =
     let (name, among) = one_of (names_in_group g names) some in
     let group : name.0 ≡ g = All-contains (λ n. n.0 ≡ g) (names_in_group g names) name (names_in_group-group g names) among in

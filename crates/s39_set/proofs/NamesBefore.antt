@@ -1,5 +1,7 @@
 -- Ascending names that all come before another.
-use Rattle.std.proofs.Common.{◌≡◌, ℕ, suc, ◌+◌, ◌*◌, ◌<◌, ◌≤◌, List, [], ◌∷◌, ◌++◌, length, get_or, All, Less, arith}
+use Rattle.std.proofs.Common.{◌≡◌, ℕ, suc, ◌+◌, ◌-◌, ◌*◌, ◌<◌, ◌≤◌, List, [], ◌∷◌, ◌++◌, length, get_or, All, Less, inl, inr, sym, ap, subst, ◌∙◌, arith}
+use Rattle.std.proofs.lemmas.Bool.{cases_lt}
+use Rattle.std.proofs.lemmas.List.{get_or_default}
 use Rattle.std.proofs.lemmas.Bool.Decides.{nat_tests}
 use Rattle.std.proofs.lemmas.List.Elements.{All-head, All-tail, All-push}
 use Rattle.std.proofs.lemmas.List.Quantifiers.{all_pairs_push}
@@ -42,3 +44,22 @@ AreNames-push names name are group member earlier = record {
   groups = All-push (λ x. x.0 < 16) names name are.groups group;
   members = All-push (λ x. x.1 < 16) names name are.members member;
 }
+
+less_names : (a b c d e f : ℕ) → name_cmp (a, b) (c, d) ≡ Less → name_cmp (c, d) (e, f) ≡ Less → name_cmp (a, b) (e, f) ≡ Less
+less_names a b c d e f h k = grind (arith, nat_tests)
+
+-- the order of names goes on
+pub less_than : (x y z : ℕ × ℕ) → name_cmp x y ≡ Less → name_cmp y z ≡ Less → name_cmp x z ≡ Less
+less_than x y z h k = less_names x.0 x.1 y.0 y.1 z.0 z.1 h k
+
+-- ascending names all come before a name where the last of them does
+pub all_before : (names : List (ℕ × ℕ)) (last name : ℕ × ℕ) → IsAscending names → 0 < length names → get_or names (length names - 1) last ≡ last → name_cmp last name ≡ Less → All (λ x. name_cmp x name ≡ Less) names
+all_before names last name ascending some at less k d below =
+    elim (cases_lt k (length names - 1)) [
+      | inl earlier ↦ (let before : name_cmp (get_or names k d) (get_or names (length names - 1) d) ≡ Less = ascending k (length names - 1) d earlier (omega arith) in
+          let same : get_or names (length names - 1) d ≡ last = get_or_default names (length names - 1) d last (omega arith) ∙ at in
+          less_than (get_or names k d) last name (subst (λ n. name_cmp (get_or names k d) n ≡ Less) same before) less)
+      | inr here ↦ (let is_last : k ≡ length names - 1 = omega arith in
+          let same : get_or names k d ≡ last = ap (λ i. get_or names i d) is_last ∙ get_or_default names (length names - 1) d last (omega arith) ∙ at in
+          subst (λ n. name_cmp n name ≡ Less) (sym same) less)
+    ]

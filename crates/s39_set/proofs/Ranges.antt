@@ -9,13 +9,13 @@ use Rattle.std.proofs.lemmas.List.Sums.{length-filter, count_by-le-length}
 use Rattle.s39_set.proofs.CompleteGroups.{range-below}
 
 -- one more element, where fewer are taken than asked for, is taken
-take_push_short : {X : Type 0} (n : ℕ) (xs : List X) (x : X) → length (take n xs) < n → take n (xs ++ x ∷ []) ≡ take n xs ++ x ∷ []
+pub take_push_short : {X : Type 0} (n : ℕ) (xs : List X) (x : X) → length (take n xs) < n → take n (xs ++ x ∷ []) ≡ take n xs ++ x ∷ []
 take_push_short n xs x short =
     let few : length xs < n = omega (arith, length-take n xs) in
     take_all n (xs ++ x ∷ []) (omega (arith, length_push xs x)) ∙ ap (λ ys. ys ++ x ∷ []) (sym (take_all n xs (omega arith)))
 
 -- where as many are taken, it isn't
-take_push_full : {X : Type 0} (n : ℕ) (xs : List X) (x : X) → n ≤ length (take n xs) → take n (xs ++ x ∷ []) ≡ take n xs
+pub take_push_full : {X : Type 0} (n : ℕ) (xs : List X) (x : X) → n ≤ length (take n xs) → take n (xs ++ x ∷ []) ≡ take n xs
 take_push_full n xs x full = take-append-le n xs (x ∷ []) (omega (arith, length-take n xs))
 
 -- one number more is behind the others

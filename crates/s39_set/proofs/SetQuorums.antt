@@ -1,20 +1,23 @@
 -- The quorums of a share set.
-use Rattle.std.proofs.Common.{◌≡◌, ℕ, ◌<◌, ◌≤◌, List, length, find, map, take, All, Option, Some, None, refl, sym, ap, subst, ◌∙◌, arith}
+use Rattle.std.proofs.Common.{◌≡◌, ℕ, ◌<◌, ◌≤◌, List, length, get_or, find, map, take, All, Contains, Option, Some, None, [], ◌∷◌, ◌⊎◌, inl, inr, refl, sym, ap, subst, ◌∙◌, arith}
 use Rattle.std.specs.Prelude.{IsSomeAnd}
 use Rattle.std.specs.Option.{option_map}
+use Rattle.std.proofs.lemmas.Bool.{cases_lt}
 use Rattle.std.proofs.lemmas.List.Elements.{All-map, All-weaker, All-contains}
 use Rattle.s39_words.specs.declared.share.ShareFields.{ShareFields}
 use Rattle.s39_words.specs.Share.{IsShare}
 use Rattle.s39_set.specs.Groups.{complete_groups, members_of}
 use Rattle.s39_set.specs.ShareSet.{IsShareSet, name_of, is_in_group}
-use Rattle.s39_set.specs.Quorums.{group_threshold_of, member_threshold_of, MeetsThresholds, IsQuorum, IsLeastQuorum, HasJustTheGroups}
+use Rattle.s39_set.specs.Quorums.{group_threshold_of, member_threshold_of, MeetsThresholds, IsQuorum, IsFirstQuorumAfter, HasJustTheGroups}
+use Rattle.s39_set.specs.Written.{quorum_text, IsWrittenForm}
 use Rattle.s39_set.specs.Lack.{IsLack, IsIncomplete}
 use Rattle.s39_set.specs.declared.set_lack.SetLack.{SetLack}
 use Rattle.s39_set.specs.declared.set_lack.SetLack.TheVariants.{NoShares, Incomplete}
 use Rattle.s39_set.proofs.Finds.{Contains-find}
+use Rattle.s39_set.proofs.Sublists.{Contains-head}
 use Rattle.s39_set.proofs.Thresholds.{Meets, HasJust}
 use Rattle.s39_set.proofs.Minimal.{just_from_minimal, minimal_from_just, meets_from_just, groups_at_hand, first_members_have_just}
-use Rattle.s39_set.proofs.FirstMembers.{first_members_are_least}
+use Rattle.s39_set.proofs.FirstMembers.{none_complete, first_members_are_least}
 
 -- what meets the set's thresholds meets them as plain numbers
 pub meets_from_set : (set : List ShareFields) (names : List (ℕ × ℕ)) (required : ℕ) → group_threshold_of set ≡ Some required → MeetsThresholds set names → Meets (member_threshold_of set) (map name_of set) required names
@@ -77,6 +80,19 @@ module _ (set : List ShareFields) (is : IsShareSet set) where
           let some : 1 ≤ share.member_threshold = valid.member_threshold in
           omega arith
 
+  -- and so is its group threshold
+  pub group_threshold-positive : (required : ℕ) → group_threshold_of set ≡ Some required → 1 ≤ required
+  group_threshold-positive required e = by set refl e
+    where
+      by : (shares : List ShareFields) → set ≡ shares → group_threshold_of shares ≡ Some required → 1 ≤ required
+      by [] same h = absurd (let none : None ≡ Some required = h in cc)
+      by (share ∷ shares) same h =
+          let valid : IsShare share = All-contains IsShare set share is.each (subst (λ ss. Contains ss share) (sym same) (Contains-head share shares)) in
+          let both : Some share.group_threshold ≡ Some required = h in
+          let threshold : share.group_threshold ≡ required = cc in
+          let some : 1 ≤ share.group_threshold = valid.group_threshold in
+          omega arith
+
   -- its groups are below 16
   pub groups-below : All (λ name. name.0 < 16) (map name_of set)
   groups-below =
@@ -112,13 +128,14 @@ module _ (set : List ShareFields) (is : IsShareSet set) where
       }
 
   -- where enough groups are complete, the first members of the first of them are the least quorum
-  pub first_members-least_quorum : (required : ℕ) → group_threshold_of set ≡ Some required → required ≤ length (complete_groups (member_threshold_of set) (map name_of set)) → IsLeastQuorum set (members_of (member_threshold_of set) (map name_of set) (take required (complete_groups (member_threshold_of set) (map name_of set))))
+  pub first_members-least_quorum : (required : ℕ) → group_threshold_of set ≡ Some required → required ≤ length (complete_groups (member_threshold_of set) (map name_of set)) → IsFirstQuorumAfter set None (members_of (member_threshold_of set) (map name_of set) (take required (complete_groups (member_threshold_of set) (map name_of set))))
   first_members-least_quorum required e enough =
       let names = members_of (member_threshold_of set) (map name_of set) (take required (complete_groups (member_threshold_of set) (map name_of set))) in
       let just = first_members_have_just (member_threshold_of set) member_threshold-positive (map name_of set) required is.ascending enough in
       record {
         quorum = quorum_from_just names (set_from_just set names required e just);
-        least = λ other quorum.
+        after = tt;
+        least = λ other quorum _.
             first_members_are_least (member_threshold_of set) (map name_of set) required member_threshold-positive groups-below is.ascending other
             (just_from_set set other required e (just_from_quorum other quorum));
       }
@@ -132,3 +149,34 @@ module _ (set : List ShareFields) (is : IsShareSet set) where
         let enough = groups_at_hand (member_threshold_of set) (map name_of set) required names is.ascending (meets_from_set set names required e meets) in
         absurd (omega arith);
   }
+
+-- a set has a first quorum or a lack
+pub first_or_lack : (set : List ShareFields) → IsShareSet set → ((names : List (ℕ × ℕ)) × IsFirstQuorumAfter set None names) ⊎ ((lack : SetLack) × IsLack set lack)
+first_or_lack [] is = inr (NoShares, refl)
+first_or_lack (share ∷ shares) is =
+    let set = share ∷ shares in
+    let required = share.group_threshold in
+    let complete = length (complete_groups (member_threshold_of set) (map name_of set)) in
+    elim (cases_lt complete required) [
+      | inl few ↦ inr (Incomplete complete required, incomplete_from_fewer set is required refl few)
+      | inr enough ↦ inl (members_of (member_threshold_of set) (map name_of set) (take required (complete_groups (member_threshold_of set) (map name_of set))), first_members-least_quorum set is required refl enough)
+    ]
+
+-- the names of a quorum are names in order, and there are some
+pub written_of_quorum : (set : List ShareFields) → IsShareSet set → (names : List (ℕ × ℕ)) → IsQuorum set names → IsWrittenForm (quorum_text names) names
+written_of_quorum set is names quorum = record {
+  some = λ none.
+      let (required, e) = group_threshold-from_meets set names quorum.meets in
+      let meets = meets_from_set set names required e quorum.meets in
+      let some = group_threshold-positive set is required e in
+      let no_groups : length (complete_groups (member_threshold_of set) names) ≡ 0 =
+      ap (λ ns. length (complete_groups (member_threshold_of set) ns)) none ∙ ap length (none_complete (member_threshold_of set) (map name_of set) (member_threshold-positive set is) 0 16) in
+      let enough = meets.groups in
+      absurd (omega arith);
+  are_names = record {
+    ascending = quorum.meets.at_hand.ascending;
+    groups = λ k d below. All-contains (λ name. name.0 < 16) (map name_of set) (get_or names k d) (groups-below set is) (quorum.meets.at_hand.at_hand k d below);
+    members = λ k d below. All-contains (λ name. name.1 < 16) (map name_of set) (get_or names k d) (members-below set is) (quorum.meets.at_hand.at_hand k d below);
+  };
+  text_is = refl;
+}

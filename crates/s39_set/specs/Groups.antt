@@ -2,16 +2,16 @@
 use Rattle.std.specs.Prelude.{ℕ, List, length, filter, take, Option, Bool, false, nat_le, unwrap_or}
 use Rattle.std.specs.List.{range_with_len, flat_map}
 use Rattle.std.specs.Option.{option_map_or}
-use Rattle.s39_set.specs.Names.{names_in_group}
+use Rattle.s39_set.specs.Names.{most_groups, names_in_group}
 
 -- these names have at least a group's member threshold of its members
 abbrev pub is_complete : (ℕ → Option ℕ) → List (ℕ × ℕ) → ℕ → Bool
 is_complete member_threshold names group =
     option_map_or (λ threshold. nat_le threshold (length (names_in_group group names))) (member_threshold group) false
 
--- the groups, 0 to 15, of which that is so
+-- the groups of which that is so
 abbrev pub complete_groups : (ℕ → Option ℕ) → List (ℕ × ℕ) → List ℕ
-complete_groups member_threshold names = filter (is_complete member_threshold names) (range_with_len 0 16)
+complete_groups member_threshold names = filter (is_complete member_threshold names) (range_with_len 0 most_groups)
 
 -- The first quorum; no public contract cites these.
 

@@ -2,5 +2,10 @@ pub mod Names
 pub mod Groups
 pub mod ShareSet
 pub mod Quorums
+pub mod Listing
+pub mod Looks
+pub mod Written
 pub mod Lack
+pub mod Masks
+pub mod Steps
 pub mod Places

@@ -5,6 +5,18 @@ use Rattle.std.specs.declared.cmp.Ordering.{Ordering}
 use Rattle.std.specs.declared.cmp.Ordering.TheVariants.{Less}
 use Rattle.std.specs.Cmp.Lexicographic.{slice_cmp}
 
+-- a backup has at most so many groups
+abbrev pub most_groups : ℕ
+most_groups = 16
+
+-- a group has at most so many members
+abbrev pub most_members : ℕ
+most_members = 16
+
+-- so many names there are
+abbrev pub most_names : ℕ
+most_names = 256
+
 -- names are compared by group, then by member
 abbrev pub name_cmp : ℕ × ℕ → ℕ × ℕ → Ordering
 name_cmp a b = ordering_then (nat_cmp a.0 b.0) (nat_cmp a.1 b.1)
@@ -12,6 +24,10 @@ name_cmp a b = ordering_then (nat_cmp a.0 b.0) (nat_cmp a.1 b.1)
 -- lists of names are compared name by name
 abbrev pub names_cmp : List (ℕ × ℕ) → List (ℕ × ℕ) → Ordering
 names_cmp some others = slice_cmp name_cmp some others
+
+-- the lists of names are in ascending order, and no two are the same
+abbrev pub AreInOrder : List (List (ℕ × ℕ)) → Type 0
+AreInOrder lists = AllPairs (λ a b. names_cmp a b ≡ Less) lists
 
 -- each name comes before all later ones
 abbrev pub IsAscending : List (ℕ × ℕ) → Type 0
@@ -21,8 +37,8 @@ IsAscending names = AllPairs (λ a b. name_cmp a b ≡ Less) names
 abbrev pub names_in_group : ℕ → List (ℕ × ℕ) → List (ℕ × ℕ)
 names_in_group group names = filter (λ name. name.0 == group) names
 
--- names in order, of groups and members below 16
+-- names in order, of groups and members that a backup may have
 pub record AreNames (names : List (ℕ × ℕ)) : Type 0 where
   pub ascending : IsAscending names
-  pub groups : All (λ name. name.0 < 16) names
-  pub members : All (λ name. name.1 < 16) names
+  pub groups : All (λ name. name.0 < most_groups) names
+  pub members : All (λ name. name.1 < most_members) names

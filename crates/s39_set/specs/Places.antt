@@ -6,6 +6,7 @@ use Rattle.s39_words.specs.Share.{flag_bit}
 use Rattle.s39_set.specs.declared.common.Common.{Common}
 use Rattle.s39_set.specs.declared.set_error.SetError.{SetError}
 use Rattle.s39_set.specs.declared.set_error.SetError.TheVariants.{OtherIdentifier, OtherExtendable, OtherExponent, OtherGroupThreshold, OtherGroupCount, OtherLength, OtherMemberThreshold, ConflictingShare}
+use Rattle.s39_set.specs.Names.{most_groups, most_members}
 use Rattle.s39_set.specs.ShareSet.{IsShareSet, name_of, is_in_group, has_name, some_differs}
 use Rattle.s39_set.specs.Quorums.{member_threshold_of}
 
@@ -13,9 +14,9 @@ use Rattle.s39_set.specs.Quorums.{member_threshold_of}
 abbrev pub shares_at : List (Option ShareFields) → List ShareFields
 shares_at places = filter_map (λ place. place) places
 
--- the place of a name: 16 for each group
+-- the place of a name: as many for each group as it may have members
 abbrev pub place_of : ℕ × ℕ → ℕ
-place_of name = 16 * name.0 + name.1
+place_of name = most_members * name.0 + name.1
 
 -- what a share has in common with all of its backup
 abbrev pub common_of : ShareFields → Common
@@ -57,5 +58,5 @@ pub record IsKept (common : Option Common) (member_thresholds : List (Option ℕ
   pub is_set : IsShareSet (shares_at places)
   pub own_place : (k : ℕ) → IfSome (slice_index_or places k None) (λ share. place_of (name_of share) ≡ k)
   pub common_is : common ≡ common_of_all (shares_at places)
-  pub thresholds_are : (group : ℕ) → group < 16
+  pub thresholds_are : (group : ℕ) → group < most_groups
       → slice_index_or member_thresholds group None ≡ member_threshold_of (shares_at places) group

@@ -1,7 +1,7 @@
 -- Quorums: the minimal sets of names that meet the thresholds.
 use Rattle.std.specs.Prelude.{◌≡◌, ◌≢◌, ℕ, ◌≤◌, List, [], ◌∷◌, length, map, find, All, Contains, Option, Some, None, IsSomeAnd}
 use Rattle.std.specs.Option.{option_map}
-use Rattle.std.specs.declared.cmp.Ordering.TheVariants.{Greater}
+use Rattle.std.specs.declared.cmp.Ordering.TheVariants.{Less, Greater}
 use Rattle.s39_words.specs.declared.share.ShareFields.{ShareFields}
 use Rattle.s39_set.specs.Names.{names_cmp, IsAscending, names_in_group}
 use Rattle.s39_set.specs.Groups.{complete_groups}
@@ -37,10 +37,24 @@ pub record IsQuorum (set : List ShareFields) (names : List (ℕ × ℕ)) : Type 
   pub meets : MeetsThresholds set names
   pub minimal : (fewer : List (ℕ × ℕ)) → IsProperSubset fewer names → ¬ MeetsThresholds set fewer
 
--- the quorum whose list of names is least
-pub record IsLeastQuorum (set : List ShareFields) (names : List (ℕ × ℕ)) : Type 0 where
+-- names that come after a given list, or any names where none is given
+abbrev pub ComesAfter : Option (List (ℕ × ℕ)) → List (ℕ × ℕ) → Type 0
+ComesAfter None names = Unit {0}
+ComesAfter (Some given) names = names_cmp given names ≡ Less
+
+-- the quorum whose list of names is least of those that come after a given list, or of all
+pub record IsFirstQuorumAfter (set : List ShareFields) (given : Option (List (ℕ × ℕ))) (names : List (ℕ × ℕ)) : Type 0 where
   pub quorum : IsQuorum set names
-  pub least : (other : List (ℕ × ℕ)) → IsQuorum set other → names_cmp names other ≢ Greater
+  pub after : ComesAfter given names
+  pub least : (other : List (ℕ × ℕ)) → IsQuorum set other → ComesAfter given other → names_cmp names other ≢ Greater
+
+-- the quorum whose list of names is least
+abbrev pub IsLeastQuorum : List ShareFields → List (ℕ × ℕ) → Type 0
+IsLeastQuorum set names = IsFirstQuorumAfter set None names
+
+-- no quorum comes after a given list, or there is none at all
+abbrev pub HasNoQuorumAfter : List ShareFields → Option (List (ℕ × ℕ)) → Type 0
+HasNoQuorumAfter set given = (names : List (ℕ × ℕ)) → IsQuorum set names → ¬ ComesAfter given names
 
 -- just as many groups as the group threshold are complete, and each group with a name here has just as many as its
 -- member threshold

@@ -1,12 +1,13 @@
 //! The first quorum of a set.
-ghost use Rattle.std.specs.Prelude.{◌≡◌, ◌<◌, ◌++◌, length, map, find, take, All, is_some, IfOk, IfErr, Err};
-ghost use Rattle.s39_set.specs.Names.{names_in_group};
+ghost use Rattle.std.specs.Prelude.{◌≡◌, ◌<◌, ◌++◌, length, map, find, take, All, is_some, None, IfOk, IfErr, Err};
+ghost use Rattle.s39_set.specs.Names.{most_groups, names_in_group};
 ghost use Rattle.s39_set.specs.Groups.{is_complete, complete_groups, first_members, members_of};
 ghost use Rattle.s39_set.specs.ShareSet.{IsShareSet, name_of, has_name};
-ghost use Rattle.s39_set.specs.Quorums.{IsLeastQuorum, member_threshold_of};
+ghost use Rattle.s39_set.specs.Quorums.{IsFirstQuorumAfter, member_threshold_of};
 ghost use Rattle.s39_set.specs.Lack.{IsLack};
 ghost use Rattle.s39_set.specs.declared.set_lack.SetLack.{SetLack as Lack};
 
+use crate::limits::{MAX_GROUPS, MAX_MEMBERS};
 use crate::quorum::Quorum;
 use crate::set_lack::SetLack;
 use crate::share_set::{ShareSet, share_at};
@@ -18,7 +19,7 @@ use crate::share_set::{ShareSet, share_at};
 /// names of them meet the thresholds.
 pub fn first(set: &ShareSet) -> Result<Quorum, SetLack>
     ensures is_set { IsShareSet set.now }
-    ensures least { IfOk result (IsLeastQuorum set.now) }
+    ensures first { IfOk result (IsFirstQuorumAfter set.now None) }
     ensures lack { IfErr result (IsLack set.now) }
     ensures only { (lack : Lack) → IsLack set.now lack → result ≡ Err lack }
 {
@@ -36,7 +37,7 @@ fn complete_groups(set: &ShareSet) -> u8
         ≡ length (complete_groups (member_threshold_of set.now) (map name_of set.now)) }
 {
     let mut complete = 0;
-    for group in 0..16 {
+    for group in 0..MAX_GROUPS {
         if is_complete(set, group) {
             complete += 1;
         }
@@ -46,7 +47,7 @@ fn complete_groups(set: &ShareSet) -> u8
 
 /// Whether a group has at least its member threshold of shares.
 fn is_complete(set: &ShareSet, group: u8) -> bool
-    requires { group < 16 }
+    requires { group < most_groups }
     ensures { result ≡ is_complete (member_threshold_of set.now) (map name_of set.now) group }
 {
     match set.member_threshold(group) {
@@ -57,11 +58,11 @@ fn is_complete(set: &ShareSet, group: u8) -> bool
 
 /// How many shares of a group the set has.
 fn members_at_hand(set: &ShareSet, group: u8) -> u8
-    requires { group < 16 }
+    requires { group < most_groups }
     ensures { result ≡ length (names_in_group group (map name_of set.now)) }
 {
     let mut members = 0;
-    for member in 0..16 {
+    for member in 0..MAX_MEMBERS {
         if is_at_hand(set, group, member) {
             members += 1;
         }
@@ -84,7 +85,7 @@ fn first_members(set: &ShareSet, required: u8) -> Quorum
 {
     let mut quorum = Quorum::new();
     let mut groups = 0;
-    for group in 0..16 {
+    for group in 0..MAX_GROUPS {
         if groups < required && is_complete(set, group) {
             push_first_members(set, group, &mut quorum);
             groups += 1;
@@ -95,14 +96,14 @@ fn first_members(set: &ShareSet, required: u8) -> Quorum
 
 /// Appends a group's first members, as many as its member threshold asks.
 fn push_first_members(set: &ShareSet, group: u8, quorum: &mut Quorum)
-    requires group { group < 16 }
+    requires group { group < most_groups }
     requires earlier { All (λ name. name.0 < group) quorum.old }
     ensures { quorum.new ≡ quorum.old
         ++ first_members (member_threshold_of set.now) (map name_of set.now) group }
 {
     let threshold = set.member_threshold(group).unwrap_or(0);
     let mut members = 0;
-    for member in 0..16 {
+    for member in 0..MAX_MEMBERS {
         if is_at_hand(set, group, member) && members < threshold {
             quorum.push(group, member);
             members += 1;

@@ -2,20 +2,29 @@
 #![tactic(auto)]
 
 mod common;
+mod cursor;
 pub mod laws;
 mod least;
+mod limits;
 mod looks;
+mod masks;
+mod next;
 mod quorum;
 mod set_error;
 mod set_lack;
 mod share_set;
 
+pub use cursor::{BadCursor, parse_quorum};
 pub use least::first;
+pub use limits::{MAX_GROUPS, MAX_MEMBERS, MAX_NAMES};
 pub use looks::{Looks, has};
+pub use next::{NotAQuorum, next_after};
 pub use quorum::{Quorum, is_quorum};
 pub use set_error::{Added, SetError};
 pub use set_lack::SetLack;
 pub use share_set::{ShareSet, share_at};
 
+#[cfg(test)]
+mod next_tests;
 #[cfg(test)]
 mod tests;

@@ -1,21 +1,23 @@
 //! Quorums: the minimal sets of names that meet the thresholds.
-ghost use Rattle.std.specs.Prelude.{◌≡◌, ℕ, ◌+◌, ◌-◌, ◌<◌, ◌≤◌, ◌↔◌, ◌++◌, [], ◌∷◌, length, map, All, Contains, Some, IsTrue, slice_index};
+ghost use Rattle.std.specs.Prelude.{◌≡◌, ℕ, ◌+◌, ◌-◌, ◌*◌, ◌<◌, ◌≤◌, ◌↔◌, ◌++◌, [], ◌∷◌, length, map, All, Contains, Some, IsTrue, slice_index};
 ghost use Rattle.std.specs.declared.cmp.Ordering.TheVariants.{Less};
-ghost use Rattle.s39_set.specs.Names.{name_cmp, IsAscending, names_in_group};
+ghost use Rattle.s39_set.specs.Names.{most_groups, most_members, most_names, name_cmp, names_in_group};
+ghost use Rattle.s39_set.specs.Looks.{most_test_looks};
 ghost use Rattle.s39_set.specs.ShareSet.{IsShareSet, name_of};
 ghost use Rattle.s39_set.specs.Quorums.{member_threshold_of, IsQuorum, HasJustTheMembers};
 
+use crate::limits::{GROUPS, MAX_GROUPS, MAX_NAMES};
 use crate::looks::{Looks, has};
 use crate::share_set::ShareSet;
 use arrayvec::ArrayVec;
 use std::marker::Model;
 
-/// A list of at most 256 names of shares, each a group and a member index, in ascending order.
+/// A list of at most `MAX_NAMES` names of shares, each a group and a member index, in ascending order.
 ///
 /// Whether it is a quorum depends on a set (`is_quorum`).
 #[derive(Debug, Drop)]
 pub struct Quorum {
-    pairs: ArrayVec<(u8, u8), 256>,
+    pairs: ArrayVec<(u8, u8), MAX_NAMES>,
 }
 
 impl Model for Quorum {
@@ -43,19 +45,29 @@ impl Quorum {
         }
     }
 
-    /// The names, at most 256, each a group and a member index from 0 to 15, in ascending order.
+    /// The names, at most `MAX_NAMES`, each a group and a member index from 0 to 15, in ascending order.
     pub fn pairs(&self) -> &[(u8, u8)]
         ensures same { result.now ≡ self.now }
         ensures names { AreNames self.now }
-        ensures short { length self.now ≤ 256 }
+        ensures short { length self.now ≤ most_names }
     {
         self.pairs.as_slice()
     }
 
+    /// Whether all names come before this one.
+    pub(crate) fn is_before(&self, group: u8, member: u8) -> bool
+        ensures { IsTrue result ↔ All (λ name. name_cmp name (group, member) ≡ Less) self.now }
+    {
+        match self.pairs.last() {
+            None => true,
+            Some(last) => is_earlier(*last, group, member),
+        }
+    }
+
     /// Appends a name.
     pub(crate) fn push(&mut self, group: u8, member: u8)
-        requires group { group < 16 }
-        requires member { member < 16 }
+        requires group { group < most_groups }
+        requires member { member < most_members }
         requires later { All (λ name. name_cmp name (group, member) ≡ Less) self.old }
         ensures { self.new ≡ self.old ++ (group, member) ∷ [] }
     {
@@ -63,27 +75,39 @@ impl Quorum {
     }
 }
 
+/// Whether one name comes before another.
+fn is_earlier(name: (u8, u8), group: u8, member: u8) -> bool
+    ensures { IsTrue result ↔ (name_cmp name (group, member) ≡ Less) }
+{
+    name.0 < group || name.0 == group && name.1 < member
+}
+
 /// Whether a list of names is a quorum of a set: all are names of its shares, they meet the thresholds, and no
 /// proper subset of them does.
 ///
-/// It adds at most 1,024 to the looks, whose count the caller keeps at most `u64::MAX - 1024`.
+/// It adds at most 1,024 to the looks, whose count the caller keeps at most `u64::MAX - 1024`; where it answers
+/// `true`, at least one for each name.
 pub fn is_quorum(set: &ShareSet, quorum: &Quorum, looks: &mut Looks) -> bool
-    requires { looks.old ≤ u64.MAX - 1024 }
+    requires { looks.old ≤ u64.MAX - most_test_looks }
     ensures quorum { IsTrue result ↔ IsQuorum set.now quorum.now }
+    ensures is_set { IsTrue result → IsShareSet set.now }
     ensures at_least { looks.old ≤ looks.new }
-    ensures at_most { looks.new ≤ looks.old + 1024 }
+    ensures each_name { IsTrue result → looks.old + length quorum.now ≤ looks.new }
+    ensures at_most { looks.new ≤ looks.old + most_test_looks }
 {
-    are_at_hand(set, quorum.pairs(), looks) && has_just_the_members(set, quorum.pairs())
+    are_at_hand(set, quorum.pairs(), looks) && has_just_the_members(set, quorum.pairs(), looks)
 }
 
 /// Whether the set has shares of all these names.
 fn are_at_hand(set: &ShareSet, names: &[(u8, u8)], looks: &mut Looks) -> bool
-    requires { looks.old + length names.now ≤ u64.MAX }
+    requires { looks.old + 2 * length names.now ≤ u64.MAX }
     ensures at_hand { IsTrue result ↔ All (Contains (map name_of set.now)) names.now }
     ensures at_least { looks.old ≤ looks.new }
-    ensures at_most { looks.new ≤ looks.old + length names.now }
+    ensures each_name { IsTrue result → looks.old + 2 * length names.now ≤ looks.new }
+    ensures at_most { looks.new ≤ looks.old + 2 * length names.now }
 {
     for (group, member) in names {
+        looks.turn();
         if !has(set, *group, *member, looks) {
             return false;
         }
@@ -93,16 +117,20 @@ fn are_at_hand(set: &ShareSet, names: &[(u8, u8)], looks: &mut Looks) -> bool
 
 /// Whether just as many groups as the group threshold have a name among these, and each of them just as many
 /// as its member threshold.
-fn has_just_the_members(set: &ShareSet, names: &[(u8, u8)]) -> bool
-    requires groups { All (λ name. name.0 < 16) names.now }
-    requires short { length names.now ≤ 256 }
+fn has_just_the_members(set: &ShareSet, names: &[(u8, u8)], looks: &mut Looks) -> bool
+    requires groups { All (λ name. name.0 < most_groups) names.now }
+    requires short { length names.now ≤ most_names }
+    requires looks { looks.old + length names.now + most_groups ≤ u64.MAX }
     ensures just { IsTrue result ↔ HasJustTheMembers set.now names.now }
     ensures is_set { IsShareSet set.now }
+    ensures at_least { looks.old ≤ looks.new }
+    ensures at_most { looks.new ≤ looks.old + length names.now + most_groups }
 {
     let required = set.group_threshold();
-    let counts = members_of_groups(names);
+    let counts = members_of_groups(names, looks);
     let mut groups = 0;
-    for group in 0..16 {
+    for group in 0..MAX_GROUPS {
+        looks.turn();
         let members = counts[usize::from(group)];
         if members > 0 {
             if !asks_for(set, group, members) {
@@ -116,7 +144,7 @@ fn has_just_the_members(set: &ShareSet, names: &[(u8, u8)]) -> bool
 
 /// Whether the member threshold of a group is this number.
 fn asks_for(set: &ShareSet, group: u8, members: u16) -> bool
-    requires { group < 16 }
+    requires { group < most_groups }
     ensures { IsTrue result ↔ (member_threshold_of set.now group ≡ Some members) }
 {
     match set.member_threshold(group) {
@@ -126,14 +154,17 @@ fn asks_for(set: &ShareSet, group: u8, members: u16) -> bool
 }
 
 /// How many of these names each of the groups 0 to 15 has.
-fn members_of_groups(names: &[(u8, u8)]) -> [u16; 16]
-    requires groups { All (λ name. name.0 < 16) names.now }
-    requires short { length names.now ≤ 256 }
-    ensures { (group : ℕ) → group < 16
+pub(crate) fn members_of_groups(names: &[(u8, u8)], looks: &mut Looks) -> [u16; GROUPS]
+    requires groups { All (λ name. name.0 < most_groups) names.now }
+    requires short { length names.now ≤ most_names }
+    requires looks { looks.old + length names.now ≤ u64.MAX }
+    ensures counts { (group : ℕ) → group < most_groups
         → slice_index result group ≡ length (names_in_group group names.now) }
+    ensures looks { looks.new ≡ looks.old + length names.now }
 {
-    let mut counts = [0; 16];
+    let mut counts = [0; GROUPS];
     for (group, _) in names {
+        looks.turn();
         counts[usize::from(*group)] += 1;
     }
     counts

@@ -11,7 +11,7 @@ pub enum Added {
 }
 
 /// The first cause for which a share can't join a set. The variants stand in the order in which they are tried;
-/// `OtherExtendable` doesn't occur while no share may have its flag set. Indices are 0 to 15.
+/// indices are 0 to 15.
 #[derive(Clone, Copy, Debug, PartialEq, Eq)]
 pub enum SetError {
     /// The set's shares have another identifier.

@@ -1,23 +1,25 @@
 //! Share sets.
 ghost use Rattle.std.specs.Prelude.{◌≡◌, ◌<◌, ◌↔◌, [], find, Contains, Some, None, Ok, OnOk, OnErr, IfErr};
 ghost use Rattle.std.specs.Option.{option_copied};
+ghost use Rattle.s39_set.specs.Names.{most_groups, most_members};
 ghost use Rattle.s39_set.specs.Places.{place_of, last_refusal_of};
 ghost use Rattle.s39_set.specs.Quorums.{group_threshold_of, member_threshold_of};
 ghost use Rattle.s39_set.specs.ShareSet.{IsShareSet, HasOneMore, refusal_of, has_name};
 
 use crate::common::Common;
+use crate::limits::{GROUPS, MAX_GROUPS, MAX_MEMBERS, MAX_NAMES};
 use crate::set_error::{Added, SetError};
 use s39_words::Share;
 use std::array;
 use std::marker::Model;
 
-/// The shares of one backup that are at hand, each once, in the order of their group and member indices: 256 at
-/// most. A set keeps a place for each of them and takes no memory.
+/// The shares of one backup that are at hand, each once, in the order of their group and member indices:
+/// `MAX_NAMES` at most. A set keeps a place for each of them and takes no memory.
 #[derive(Drop)]
 pub struct ShareSet {
     common: Option<Common>,
-    member_thresholds: [Option<u8>; 16],
-    places: [Option<Share>; 256],
+    member_thresholds: [Option<u8>; GROUPS],
+    places: [Option<Share>; MAX_NAMES],
 }
 
 impl Model for ShareSet {
@@ -40,7 +42,7 @@ impl ShareSet {
     {
         ShareSet {
             common: None,
-            member_thresholds: [None; 16],
+            member_thresholds: [None; GROUPS],
             places: array::from_fn(|_| None),
         }
     }
@@ -111,7 +113,7 @@ impl ShareSet {
 
     /// The member threshold of the shares of a group, where the set has one.
     pub(crate) fn member_threshold(&self, group: u8) -> Option<u8>
-        requires { group < 16 }
+        requires { group < most_groups }
         ensures { result ≡ member_threshold_of self.now group }
     {
         self.member_thresholds[usize::from(group)]
@@ -126,13 +128,13 @@ impl ShareSet {
     }
 }
 
-/// The place of a name: 16 for each group.
+/// The place of a name: as many for each group as it may have members.
 fn place_of(group: u8, member: u8) -> usize
-    requires group { group < 16 }
-    requires member { member < 16 }
+    requires group { group < most_groups }
+    requires member { member < most_members }
     ensures { result ≡ place_of (group, member) }
 {
-    usize::from(group) * 16 + usize::from(member)
+    usize::from(group) * usize::from(MAX_MEMBERS) + usize::from(member)
 }
 
 /// The share of this group and member index: `None` exactly where the set has none, as for an index over 15.
@@ -140,7 +142,7 @@ pub fn share_at(set: &ShareSet, group: u8, member: u8) -> Option<&Share>
     ensures share { option_copied result ≡ find (has_name group member) set.now }
     ensures is_set { IsShareSet set.now }
 {
-    if group < 16 && member < 16 {
+    if group < MAX_GROUPS && member < MAX_MEMBERS {
         set.places[place_of(group, member)].as_ref()
     } else {
         None

@@ -1,4 +1,7 @@
-use crate::{Added, Looks, SetError, SetLack, ShareSet, first, has, is_quorum, share_at};
+use crate::{
+    Added, BadCursor, Looks, SetError, SetLack, ShareSet, first, has, is_quorum, parse_quorum,
+    share_at,
+};
 use s39_kdf::check_secret;
 use s39_words::{Share, ShareFields, parse};
 use std::test::Fail;
@@ -33,7 +36,12 @@ fn fields_with(text: &str, value: &[u8]) -> Result<ShareFields, Fail> {
 }
 
 /// A share of 16 zero bytes, of a backup of sixteen groups.
-fn zeros(group_threshold: u8, group: u8, member_threshold: u8, member: u8) -> Result<Share, Fail> {
+pub(crate) fn zeros(
+    group_threshold: u8,
+    group: u8,
+    member_threshold: u8,
+    member: u8,
+) -> Result<Share, Fail> {
     share(ShareFields {
         id: 0,
         extendable: false,
@@ -49,7 +57,7 @@ fn zeros(group_threshold: u8, group: u8, member_threshold: u8, member: u8) -> Re
 
 /// Groups 0 and 3 of member threshold 2 with members 0, 5, 15 and 1, and group 15 of member threshold 1 with
 /// members 3 and 4.
-fn three_groups(group_threshold: u8) -> Result<ShareSet, Fail> {
+pub(crate) fn three_groups(group_threshold: u8) -> Result<ShareSet, Fail> {
     let mut set = ShareSet::new();
     for (group, member_threshold, member) in [
         (15, 1, 4),
@@ -191,7 +199,8 @@ fn quorums_of_another_set(rt: HostRuntime) -> Result<(), Fail> {
     let quorum = first(&three_groups(2)?)?;
     let mut looks = Looks::new();
     assert!(rt; is_quorum(&three_groups(2)?, &quorum, &mut looks));
-    assert!(rt; looks.count() <= 1024);
+    let names = quorum.pairs().len() as u64;
+    assert!(rt; names <= looks.count() && looks.count() <= 1024);
     assert!(rt; !is_quorum(&three_groups(1)?, &quorum, &mut looks));
     assert!(rt; !is_quorum(&ShareSet::new(), &quorum, &mut looks));
     Ok(())
@@ -249,4 +258,20 @@ fn codes_of_causes(rt: HostRuntime) {
         .code(),
         30
     );
+}
+
+#[test]
+fn texts_that_are_no_names(rt: HostRuntime) -> Result<(), Fail> {
+    for text in [
+        "0.2+0.0", "0.0+0.0", "0.00", "16.0", "", "0.16", "00.0", "0", "0.", ".0", "0.0+", "+0.0",
+        "0.0 ", "0.1.2", "0.10+0.2", "1.0+0.0", "0.-1", "0,0", "0.0++0.1", "0.256",
+    ] {
+        assert!(rt; matches!(parse_quorum(text.as_bytes()), Err(BadCursor)));
+    }
+    assert_eq!(rt;
+        parse_quorum(b"0.2+0.10+9.15+10.0+15.9")?.pairs(),
+        [(0, 2), (0, 10), (9, 15), (10, 0), (15, 9)].as_slice()
+    );
+    assert_eq!(rt; BadCursor.code(), 61);
+    Ok(())
 }

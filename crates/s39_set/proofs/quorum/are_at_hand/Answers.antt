@@ -22,3 +22,6 @@ returns-clause-at_hand c = (
   λ _. All-from_get_or (Contains (map name_of c.args.set.now)) c.args.names.now (0, 0) (λ k below. c.loop-group.invariant.at_hand k (omega arith)),
   λ _. refl,
 )
+
+pub returns-clause-each_name : goal.returns-clause-each_name
+returns-clause-each_name c = λ _. omega arith

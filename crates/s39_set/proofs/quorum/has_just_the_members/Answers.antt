@@ -16,7 +16,7 @@ returns-then-not-asks_for-clause-just c = (
       let names = c.args.names.now in
       let group = c.loop-group.group in
       let count : get_or c.members_of_groups-counts.result c.from.result 0 ≡ length (names_in_group group names) =
-      ap (λ g. get_or c.members_of_groups-counts.result g 0) c.from.ensures ∙ c.members_of_groups-counts.ensures group c.loop-group-test.true in
+      ap (λ g. get_or c.members_of_groups-counts.result g 0) c.from.ensures ∙ c.members_of_groups-counts.ensures.counts group c.loop-group-test.true in
       let exact : member_threshold_of c.args.set.now group ≡ Some (length (names_in_group group names)) =
       exact_from_just c.args.set.now names has group c.loop-group-test.true (omega arith) in
       absurd (false≢true (sym c.if-not-asks_for.true ∙ c.asks_for.ensures.1 (exact ∙ ap Some (sym count)))),
@@ -30,17 +30,19 @@ loop-group-preserved c =
     let names = c.args.names.now in
     let group = c.loop-group.group in
     let count : get_or c.members_of_groups-counts.result c.from.result 0 ≡ length (names_in_group group names) =
-    ap (λ g. get_or c.members_of_groups-counts.result g 0) c.from.ensures ∙ c.members_of_groups-counts.ensures group c.loop-group-test.true in
+    ap (λ g. get_or c.members_of_groups-counts.result g 0) c.from.ensures ∙ c.members_of_groups-counts.ensures.counts group c.loop-group-test.true in
     elim c.if-members-gt0.branch [
       | then-members-gt0+else-not-asks_for w ↦ (
           let some : 0 < length (names_in_group group names) = omega arith in
           record {
+            looks_are = omega arith;
             exact = below_more _ _ c.loop-group.invariant.exact (λ _. w.asks_for.ensures.0 w.if-not-asks_for.false ∙ ap Some count);
             groups_are = omega (arith, length-filter-range_more_yes (has_members names) group (lt-ltb 0 (length (names_in_group group names)) some));
           })
       | else-members-gt0 w ↦ (
           let none : length (names_in_group group names) ≤ 0 = omega arith in
           record {
+            looks_are = omega arith;
             exact = below_more _ _ c.loop-group.invariant.exact (λ some. absurd (omega arith));
             groups_are = omega (arith, length-filter-range_more_no (has_members names) group (le-ltb 0 (length (names_in_group group names)) none));
           })

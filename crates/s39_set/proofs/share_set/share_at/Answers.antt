@@ -4,19 +4,19 @@ use Rattle.s39_set.specs.ShareSet.{has_name}
 use Rattle.s39_set.proofs.Kept.{share_in_place, no_share_past}
 use Rattle.s39_set.proofs.share_set.share_at.Goals as goal
 
-pub returns-then-member-lt16-clause-share : goal.returns-then-member-lt16-clause-share
-returns-then-member-lt16-clause-share c =
+pub returns-then-member-lt-MAX_MEMBERS-clause-share : goal.returns-then-member-lt-MAX_MEMBERS-clause-share
+returns-then-member-lt-MAX_MEMBERS-clause-share c =
     let inside = c.set.inside in
     let below : c.place_of.result < length inside.places = omega arith in
     c.as_ref.ensures.value
     ∙ get_or_default inside.places c.place_of.result c.index-set-place_of.result None below
     ∙ ap (λ k. get_or inside.places k None) c.place_of.ensures
-    ∙ sym (share_in_place inside.common inside.member_thresholds inside.places c.set.invariant c.args.group c.args.member c.if-member-lt16.true)
+    ∙ sym (share_in_place inside.common inside.member_thresholds inside.places c.set.invariant c.args.group c.args.member c.if-member-lt-MAX_MEMBERS.true)
     ∙ ap (find (has_name c.args.group c.args.member)) c.set.view_is
 
-pub returns-else-group-lt16-clause-share : goal.returns-else-group-lt16-clause-share
-returns-else-group-lt16-clause-share c =
+pub returns-else-group-lt-MAX_GROUPS-clause-share : goal.returns-else-group-lt-MAX_GROUPS-clause-share
+returns-else-group-lt-MAX_GROUPS-clause-share c =
     let inside = c.set.inside in
     sym (no_share_past inside.common inside.member_thresholds inside.places c.set.invariant c.args.group c.args.member
-    (⊎_elim (λ h. inr h.1) (λ h. inl h) c.else-group-lt16.either))
+    (⊎_elim (λ h. inr h.1) (λ h. inl h) c.else-group-lt-MAX_GROUPS.either))
     ∙ ap (find (has_name c.args.group c.args.member)) c.set.view_is

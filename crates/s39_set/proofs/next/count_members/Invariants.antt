@@ -1,0 +1,12 @@
+use Rattle.std.proofs.Common.{◌≡◌, ◌+◌, ◌-◌, ◌≤◌, length, filter}
+use Rattle.std.specs.List.{range_with_len}
+use Rattle.s39_set.specs.Masks.{is_in}
+use Rattle.s39_set.proofs.next.count_members.Given as goal
+
+abbrev pub invariant-loop-member : goal.invariant-loop-member
+invariant-loop-member l = record {
+  members_are : l.members ≡ length (filter (is_in l.masks l.group) (range_with_len l.from (l.member - l.from)));
+  few : l.members ≤ l.member;
+  at_least : l.fn.looks ≤ l.looks;
+  at_most : l.looks ≤ l.fn.looks + l.member;
+}

@@ -1,0 +1,69 @@
+-- What a step to the next quorum knows. No public contract cites this.
+use Rattle.std.specs.Prelude.{◌≡◌, ℕ, ◌+◌, ◌-◌, ◌<◌, Bool, true, false, List, length, map, take, filter, Contains, IsTrue, ◌↔◌, ◌++◌, Option, Some, None, nat_lt, unwrap_or, slice_index_or}
+use Rattle.std.specs.List.{range_with_len, flat_map}
+use Rattle.s39_words.specs.declared.share.ShareFields.{ShareFields}
+use Rattle.s39_set.specs.declared.masks.Masks.{Masks}
+use Rattle.s39_set.specs.declared.next.Choice.{Choice}
+use Rattle.s39_set.specs.declared.next.Tail.{Tail}
+use Rattle.s39_set.specs.declared.next.Tail.TheVariants.{Group, LaterGroups}
+use Rattle.s39_set.specs.Names.{most_groups, most_members, names_in_group}
+use Rattle.s39_set.specs.Groups.{is_complete}
+use Rattle.s39_set.specs.ShareSet.{name_of}
+use Rattle.s39_set.specs.Quorums.{member_threshold_of}
+use Rattle.s39_set.specs.Masks.{is_in}
+
+-- the masks have just these names
+abbrev pub AreMasksOf : Masks → List (ℕ × ℕ) → Type 0
+AreMasksOf masks names = (g m : ℕ) → g < most_groups → m < most_members → (IsTrue (is_in masks g m) ↔ Contains names (g, m))
+
+-- the names of a group's members, from one on, that are in the masks
+abbrev pub members_from : Masks → ℕ → ℕ → List (ℕ × ℕ)
+members_from masks group a = map (λ member. (group, member)) (filter (is_in masks group) (range_with_len a (most_members - a)))
+
+-- the first members of a group in the masks, as many as its threshold asks
+abbrev pub members_taken : List ShareFields → Masks → ℕ → List (ℕ × ℕ)
+members_taken set masks group = take (unwrap_or (member_threshold_of set group) 0) (members_from masks group 0)
+
+-- the first complete groups, from one on
+abbrev pub groups_from : List Bool → ℕ → List ℕ
+groups_from complete a = filter (λ g. slice_index_or complete g false) (range_with_len a (most_groups - a))
+
+-- what is known of a set and of names
+pub record Knows (set : List ShareFields) (names : List (ℕ × ℕ)) (choice : Choice) : Type 0 where
+  pub at_hand : AreMasksOf choice.at_hand (map name_of set)
+  pub chosen : AreMasksOf choice.chosen names
+  pub complete : (g : ℕ) → g < most_groups → slice_index_or choice.complete g false ≡ is_complete (member_threshold_of set) (map name_of set) g
+  pub members : (g : ℕ) → g < most_groups → slice_index_or choice.members g 0 ≡ length (names_in_group g names)
+
+-- some member of a name's group above it is at hand and not chosen
+abbrev pub HasSpareMember : Choice → ℕ × ℕ → Type 0
+HasSpareMember choice x = (m : ℕ) × ((x.1 < m) × (m < most_members) × IsTrue (is_in choice.at_hand x.0 m) × (is_in choice.chosen x.0 m ≡ false))
+
+-- all that are at hand are chosen
+abbrev pub AllAreChosen : Choice → ℕ × ℕ → Type 0
+AllAreChosen choice x = (m : ℕ) → x.1 < m → m < most_members → IsTrue (is_in choice.at_hand x.0 m) → IsTrue (is_in choice.chosen x.0 m)
+
+-- some group above it is complete and has no chosen name
+abbrev pub HasSpareGroup : Choice → ℕ × ℕ → Type 0
+HasSpareGroup choice x = (g : ℕ) × ((x.0 < g) × (g < most_groups) × (slice_index_or choice.complete g false ≡ true) × (slice_index_or choice.members g 0 ≡ 0))
+
+-- all that are complete have
+abbrev pub AllAreUsed : Choice → ℕ × ℕ → Type 0
+AllAreUsed choice x = (g : ℕ) → x.0 < g → g < most_groups → slice_index_or choice.complete g false ≡ true → 0 < slice_index_or choice.members g 0
+
+-- what can stand in the place of x behind these names, and from where
+abbrev pub IsTailFor : Choice → List (ℕ × ℕ) → ℕ × ℕ → Option Tail → Type 0
+IsTailFor choice before x None = AllAreChosen choice x × (length (names_in_group x.0 before) ≡ 0 → AllAreUsed choice x)
+IsTailFor choice before x (Some Group) = HasSpareMember choice x
+IsTailFor choice before x (Some LaterGroups) = AllAreChosen choice x × (length (names_in_group x.0 before) ≡ 0) × HasSpareGroup choice x
+
+-- how many groups above a name's have chosen names
+abbrev pub groups_used : Choice → ℕ × ℕ → ℕ
+groups_used choice x = length (filter (λ g. nat_lt 0 (slice_index_or choice.members g 0)) (range_with_len (x.0 + 1) (15 - x.0)))
+
+-- the names that stand there
+abbrev pub tail_names : List ShareFields → Choice → ℕ × ℕ → Tail → List (ℕ × ℕ)
+tail_names set choice x Group =
+    take (length (members_from choice.chosen x.0 (x.1 + 1)) + 1) (members_from choice.at_hand x.0 (x.1 + 1))
+    ++ flat_map (members_taken set choice.at_hand) (take (groups_used choice x) (groups_from choice.complete (x.0 + 1)))
+tail_names set choice x LaterGroups = flat_map (members_taken set choice.at_hand) (take (groups_used choice x + 1) (groups_from choice.complete (x.0 + 1)))

@@ -1,0 +1,378 @@
+//! The quorum that comes next.
+ghost use Rattle.std.specs.Prelude.{◌≡◌, ◌↔◌, ◌+◌, ◌-◌, ◌*◌, ◌<◌, ◌≤◌, ◌++◌, ℕ, List, Option, Some, None, true, false, length, map, take, filter, nat_lt, All, Contains, IsTrue, OnOk, OnErr, IfOk, IfSome, slice_index, slice_index_or, Ok};
+ghost use Rattle.std.specs.List.{flat_map, range_with_len};
+ghost use Rattle.std.specs.declared.cmp.Ordering.TheVariants.{Less};
+ghost use Rattle.s39_set.specs.Names.{most_groups, most_members, most_names, name_cmp, names_in_group, AreNames};
+ghost use Rattle.s39_set.specs.Groups.{is_complete};
+ghost use Rattle.s39_set.specs.Looks.{most_step_looks};
+ghost use Rattle.s39_set.specs.ShareSet.{IsShareSet, name_of};
+ghost use Rattle.s39_set.specs.Quorums.{member_threshold_of, IsQuorum, IsFirstQuorumAfter, HasNoQuorumAfter};
+ghost use Rattle.s39_set.specs.Masks.{is_in};
+ghost use Rattle.s39_set.specs.Steps.{AreMasksOf, Knows, members_from, members_taken, groups_from, IsTailFor, tail_names};
+
+use crate::limits::{GROUPS, MAX_GROUPS, MAX_MEMBERS};
+use crate::looks::{Looks, has};
+use crate::masks::Masks;
+use crate::quorum::{Quorum, is_quorum, members_of_groups};
+use crate::share_set::ShareSet;
+
+/// A list of names is no quorum of a set.
+#[derive(Clone, Copy, Debug, PartialEq, Eq)]
+pub struct NotAQuorum;
+
+impl NotAQuorum {
+    /// The code of this refusal, 62.
+    pub fn code(&self) -> u8
+        ensures { result ≡ 62 }
+    {
+        62
+    }
+}
+
+/// The first quorum of a set that comes after a given one, `None` where that is the last.
+///
+/// The error is answered exactly where the given list isn't a quorum of the set. The call adds at most 16,384 to the
+/// looks, whose count the caller keeps at most `u64::MAX - 16384`.
+pub fn next_after(
+    set: &ShareSet,
+    quorum: &Quorum,
+    looks: &mut Looks,
+) -> Result<Option<Quorum>, NotAQuorum>
+    requires { looks.old ≤ u64.MAX - most_step_looks }
+    ensures quorum { OnOk result (IsQuorum set.now quorum.now) }
+    ensures not_a_quorum { OnErr result (¬ IsQuorum set.now quorum.now) }
+    ensures next { IfOk result (λ next. IfSome next (IsFirstQuorumAfter set.now (Some quorum.now))) }
+    ensures last { result ≡ Ok None → HasNoQuorumAfter set.now (Some quorum.now) }
+
+    ensures at_least { looks.old ≤ looks.new }
+    ensures at_most { looks.new ≤ looks.old + most_step_looks }
+{
+    if !is_quorum(set, quorum, looks) {
+        return Err(NotAQuorum);
+    }
+    let names = quorum.pairs();
+    let choice = Choice::of(set, names, looks);
+    for place in (0..names.len()).rev() {
+        looks.turn();
+        if let Some(tail) = choice.tail(names, place, looks) {
+            return Ok(Some(choice.completed(set, names, place, tail, looks)));
+        }
+    }
+    Ok(None)
+}
+
+/// What a step knows of a set and a quorum of it.
+#[derive(Drop)]
+pub(crate) struct Choice {
+    /// The names of the set's shares.
+    pub(crate) at_hand: Masks,
+    /// The names of the quorum.
+    pub(crate) chosen: Masks,
+    /// Which groups have at least their member threshold of shares.
+    pub(crate) complete: [bool; GROUPS],
+    /// How many names of the quorum each group has.
+    pub(crate) members: [u16; GROUPS],
+}
+
+/// Where the names come from that can stand in the place of a name and of all behind it.
+#[derive(Clone, Copy)]
+pub(crate) enum Tail {
+    /// Its own group, with a greater member in its place.
+    Group,
+    /// Later groups alone.
+    LaterGroups,
+}
+
+/// Whether a member of a group above this one is at hand and not chosen.
+fn has_spare_member(
+    at_hand: &Masks,
+    chosen: &Masks,
+    group: u8,
+    member: u8,
+    looks: &mut Looks,
+) -> bool
+    requires group { group < most_groups }
+    requires member { member < most_members }
+    requires looks { looks.old + most_members ≤ u64.MAX }
+    ensures spare { IsTrue result → (m : ℕ) × ((member < m) × (m < most_members) × IsTrue (is_in at_hand.now group m) × (is_in chosen.now group m ≡ false)) }
+    ensures all { result ≡ false → (m : ℕ) → member < m → m < most_members → IsTrue (is_in at_hand.now group m) → IsTrue (is_in chosen.now group m) }
+    ensures at_least { looks.old ≤ looks.new }
+    ensures at_most { looks.new ≤ looks.old + most_members }
+{
+    for other in member + 1..MAX_MEMBERS {
+        looks.turn();
+        if at_hand.has(group, other) && !chosen.has(group, other) {
+            return true;
+        }
+    }
+    false
+}
+
+/// Whether a group above this one is complete and has no chosen name.
+fn has_spare_group(
+    complete: &[bool; GROUPS],
+    members: &[u16; GROUPS],
+    group: u8,
+    looks: &mut Looks,
+) -> bool
+    requires group { group < most_groups }
+    requires looks { looks.old + most_groups ≤ u64.MAX }
+    ensures spare { IsTrue result → (g : ℕ) × ((group < g) × (g < most_groups) × (slice_index_or complete.now g false ≡ true) × (slice_index_or members.now g 0 ≡ 0)) }
+    ensures all { result ≡ false → (g : ℕ) → group < g → g < most_groups → slice_index_or complete.now g false ≡ true → 0 < slice_index_or members.now g 0 }
+    ensures at_least { looks.old ≤ looks.new }
+    ensures at_most { looks.new ≤ looks.old + most_groups }
+{
+    for other in group + 1..MAX_GROUPS {
+        looks.turn();
+        if complete[usize::from(other)] && members[usize::from(other)] == 0 {
+            return true;
+        }
+    }
+    false
+}
+
+/// How many groups above this one have chosen names.
+fn groups_above(members: &[u16; GROUPS], group: u8, looks: &mut Looks) -> u8
+    requires group { group < most_groups }
+    requires looks { looks.old + most_groups ≤ u64.MAX }
+    ensures groups { result ≡ length (filter (λ g. nat_lt 0 (slice_index_or members.now g 0)) (range_with_len (group + 1) (15 - group))) }
+    ensures few { result ≤ most_groups }
+    ensures at_least { looks.old ≤ looks.new }
+    ensures at_most { looks.new ≤ looks.old + most_groups }
+{
+    let mut groups = 0;
+    for other in group + 1..MAX_GROUPS {
+        looks.turn();
+        if members[usize::from(other)] > 0 {
+            groups += 1;
+        }
+    }
+    groups
+}
+
+/// How many members of a group, from one on, are in the masks.
+fn count_members(masks: &Masks, group: u8, from: u8, looks: &mut Looks) -> u8
+    requires group { group < most_groups }
+    requires from { from ≤ most_members }
+    requires looks { looks.old + most_members ≤ u64.MAX }
+    ensures members { result ≡ length (members_from masks.now group from) }
+    ensures few { result ≤ most_members }
+    ensures at_least { looks.old ≤ looks.new }
+    ensures at_most { looks.new ≤ looks.old + most_members }
+{
+    let mut members = 0;
+    for member in from..MAX_MEMBERS {
+        looks.turn();
+        if masks.has(group, member) {
+            members += 1;
+        }
+    }
+    members
+}
+
+impl Choice {
+    fn of(set: &ShareSet, names: &[(u8, u8)], looks: &mut Looks) -> Choice
+        requires names { AreNames names.now }
+        requires short { length names.now ≤ most_names }
+        requires is_set { IsShareSet set.now }
+        requires looks { looks.old + 2048 ≤ u64.MAX }
+        ensures knows { Knows set.now names.now result }
+        ensures at_least { looks.old ≤ looks.new }
+        ensures at_most { looks.new ≤ looks.old + 2048 }
+    {
+        let at_hand = shares_at_hand(set, looks);
+        Choice {
+            at_hand,
+            chosen: masks_of(names, looks),
+            complete: groups_complete(set, &at_hand, looks),
+            members: members_of_groups(names, looks),
+        }
+    }
+
+    /// Whether a greater name can stand in a place, and then where it and the names behind it come from.
+    fn tail(&self, names: &[(u8, u8)], place: usize, looks: &mut Looks) -> Option<Tail>
+        requires names { AreNames names.now }
+        requires place { place < length names.now }
+        requires looks { looks.old + 32 ≤ u64.MAX }
+        ensures tail { IsTailFor self.now (take place names.now) (slice_index_or names.now place (0, 0)) result }
+        ensures at_least { looks.old ≤ looks.new }
+        ensures at_most { looks.new ≤ looks.old + 32 }
+    {
+        let (group, member) = names[place];
+        if has_spare_member(&self.at_hand, &self.chosen, group, member, looks) {
+            Some(Tail::Group)
+        } else if is_first_of_group(names, place)
+            && has_spare_group(&self.complete, &self.members, group, looks)
+        {
+            Some(Tail::LaterGroups)
+        } else {
+            None
+        }
+    }
+
+    /// The names before a place, and the least that can stand there and behind it.
+    fn completed(
+        &self,
+        set: &ShareSet,
+        names: &[(u8, u8)],
+        place: usize,
+        tail: Tail,
+        looks: &mut Looks,
+    ) -> Quorum
+        requires names { AreNames names.now }
+        requires short { length names.now ≤ most_names }
+        requires place { place < length names.now }
+        requires looks { looks.old + 1024 ≤ u64.MAX }
+        ensures names { result ≡ take place names.now ++ tail_names set.now self.now (slice_index_or names.now place (0, 0)) tail }
+        ensures at_least { looks.old ≤ looks.new }
+        ensures at_most { looks.new ≤ looks.old + 1024 }
+    {
+        let (group, member) = names[place];
+        let mut next = copied(&names[..place], looks);
+        let groups = groups_above(&self.members, group, looks);
+        match tail {
+            Tail::Group => {
+                let members = count_members(&self.chosen, group, member + 1, looks) + 1;
+                push_members(&self.at_hand, group, member + 1, members, &mut next, looks);
+                self.push_groups(set, group + 1, groups, &mut next, looks);
+            }
+            Tail::LaterGroups => {
+                self.push_groups(set, group + 1, groups + 1, &mut next, looks);
+            }
+        }
+        next
+    }
+
+    /// Appends the first members of the first complete groups from one on, so many groups as wanted, of each as many
+    /// as its member threshold asks.
+    fn push_groups(
+        &self,
+        set: &ShareSet,
+        from: u8,
+        wanted: u8,
+        quorum: &mut Quorum,
+        looks: &mut Looks,
+    )
+        requires from { from ≤ most_groups }
+        requires earlier { All (λ name. name.0 < from) quorum.old }
+        requires looks { looks.old + 512 ≤ u64.MAX }
+        ensures names { quorum.new ≡ quorum.old ++ flat_map (members_taken set.now self.now.at_hand) (take wanted (groups_from self.now.complete from)) }
+        ensures at_least { looks.old ≤ looks.new }
+        ensures at_most { looks.new ≤ looks.old + 512 }
+    {
+        let mut groups = 0;
+        for group in from..MAX_GROUPS {
+            looks.turn();
+            if groups < wanted && self.complete[usize::from(group)] {
+                let members = set.member_threshold(group).unwrap_or(0);
+                push_members(&self.at_hand, group, 0, members, quorum, looks);
+                groups += 1;
+            }
+        }
+    }
+}
+
+/// Which shares a set has.
+fn shares_at_hand(set: &ShareSet, looks: &mut Looks) -> Masks
+    requires looks { looks.old + 512 ≤ u64.MAX }
+    ensures names { AreMasksOf result (map name_of set.now) }
+    ensures at_least { looks.old ≤ looks.new }
+    ensures at_most { looks.new ≤ looks.old + 512 }
+{
+    let mut at_hand = Masks::new();
+    for name in 0..256u16 {
+        looks.turn();
+        let (group, member) = ((name / 16) as u8, (name % 16) as u8);
+        if has(set, group, member, looks) {
+            at_hand.insert(group, member);
+        }
+    }
+    at_hand
+}
+
+/// These names as masks.
+fn masks_of(names: &[(u8, u8)], looks: &mut Looks) -> Masks
+    requires names { AreNames names.now }
+    requires looks { looks.old + length names.now ≤ u64.MAX }
+    ensures names { AreMasksOf result names.now }
+    ensures looks { looks.new ≡ looks.old + length names.now }
+{
+    let mut masks = Masks::new();
+    for (group, member) in names {
+        looks.turn();
+        masks.insert(*group, *member);
+    }
+    masks
+}
+
+/// Which groups have at least their member threshold of shares.
+fn groups_complete(set: &ShareSet, at_hand: &Masks, looks: &mut Looks) -> [bool; GROUPS]
+    requires at_hand { AreMasksOf at_hand.now (map name_of set.now) }
+    requires is_set { IsShareSet set.now }
+    requires looks { looks.old + 512 ≤ u64.MAX }
+    ensures complete { (g : ℕ) → g < most_groups
+        → slice_index_or result g false ≡ is_complete (member_threshold_of set.now) (map name_of set.now) g }
+    ensures at_least { looks.old ≤ looks.new }
+    ensures at_most { looks.new ≤ looks.old + 512 }
+{
+    let mut complete = [false; GROUPS];
+    for group in 0..MAX_GROUPS {
+        looks.turn();
+        if let Some(threshold) = set.member_threshold(group) {
+            complete[usize::from(group)] = threshold <= count_members(at_hand, group, 0, looks);
+        }
+    }
+    complete
+}
+
+/// Whether the name before a place, if there is one, is of another group.
+fn is_first_of_group(names: &[(u8, u8)], place: usize) -> bool
+    requires names { AreNames names.now }
+    requires place { place < length names.now }
+    ensures first { IsTrue result → length (names_in_group (slice_index_or names.now place (0, 0)).0 (take place names.now)) ≡ 0 }
+    ensures other { result ≡ false → 0 < length (names_in_group (slice_index_or names.now place (0, 0)).0 (take place names.now)) }
+{
+    place == 0 || names[place - 1].0 != names[place].0
+}
+
+/// A list of these names.
+fn copied(names: &[(u8, u8)], looks: &mut Looks) -> Quorum
+    requires names { AreNames names.now }
+    requires looks { looks.old + length names.now ≤ u64.MAX }
+    ensures names { result ≡ names.now }
+    ensures looks { looks.new ≡ looks.old + length names.now }
+{
+    let mut quorum = Quorum::new();
+    for (group, member) in names {
+        looks.turn();
+        quorum.push(*group, *member);
+    }
+    quorum
+}
+
+/// Appends the first members in the masks of a group from one on, as many as wanted.
+fn push_members(
+    masks: &Masks,
+    group: u8,
+    from: u8,
+    wanted: u8,
+    quorum: &mut Quorum,
+    looks: &mut Looks,
+)
+    requires group { group < most_groups }
+    requires from { from ≤ most_members }
+    requires earlier { All (λ name. name_cmp name (group, from) ≡ Less) quorum.old }
+    requires looks { looks.old + most_members ≤ u64.MAX }
+    ensures names { quorum.new ≡ quorum.old ++ take wanted (members_from masks.now group from) }
+    ensures at_least { looks.old ≤ looks.new }
+    ensures at_most { looks.new ≤ looks.old + most_members }
+{
+    let mut members = 0;
+    for member in from..MAX_MEMBERS {
+        looks.turn();
+        if members < wanted && masks.has(group, member) {
+            quorum.push(group, member);
+            members += 1;
+        }
+    }
+}
