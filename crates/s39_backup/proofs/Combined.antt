@@ -1,0 +1,74 @@
+-- What is combined, as the code holds it.
+use Rattle.std.proofs.Common.{◌≡◌, ℕ, ◌+◌, ◌<◌, ◌≤◌, ◌==◌, Bool, true, false, List, [], ◌∷◌, ◌++◌, length, find, Contains, Option, Some, None, refl, sym, ap, subst, ◌∙◌, arith}
+use Rattle.std.specs.Prelude.{IfSome, IsSome}
+use Rattle.std.specs.Borrow.{Bor}
+use Rattle.std.specs.Option.{option_copied}
+use Rattle.std.proofs.lemmas.List.{length-map, map_push}
+use Rattle.std.proofs.lemmas.Bool.Decides.{nat_tests}
+use Rattle.arrayvec.specs.ArrayVec.{ArrayVec}
+use Rattle.s39_words.specs.declared.share.ShareFields.{ShareFields}
+use Rattle.s39_set.specs.Names.{names_in_group}
+use Rattle.s39_set.specs.ShareSet.{has_name}
+use Rattle.s39_split.specs.Recovery.{Combines}
+use Rattle.s39_backup.specs.Combination.{member_shares, GroupCombines}
+use Rattle.s39_backup.specs.GroupShares.{indexed_bytes, value_bytes_of, groups_below, IsExactQuorum, AreOfOneLevel, AreGroupShares}
+use Rattle.s39_backup.proofs.Values.{Contains-find, HasShare}
+use Rattle.s39_backup.proofs.Levels.{length-member_shares, members_of_one_level, group_combines, some_group, few_group_shares, group_shares_more}
+
+-- a share that is found is one of the set
+pub among-found : (found : Option (Bor ShareFields)) (group member : ℕ) (set : List ShareFields)
+    → option_copied found ≡ find (has_name group member) set → IfSome found (λ share. Contains set share.now)
+among-found None group member set is = tt
+among-found (Some share) group member set is = Contains-find (has_name group member) set share.now (sym is)
+
+-- the share of a name of the set is found
+pub found_some : (found : Option (Bor ShareFields)) (group member : ℕ) (set : List ShareFields) → HasShare set (group, member)
+    → option_copied found ≡ find (has_name group member) set → IsSome found
+found_some None group member set has is = let found = has.found in cc
+found_some (Some share) group member set has is = refl
+
+-- a quorum has a name
+pub some_name : (set : List ShareFields) (names : List (ℕ × ℕ)) → IsExactQuorum set names → 0 < length names
+some_name set [] quorum = let some = some_group set [] quorum in omega arith
+some_name set (n ∷ ns) quorum = omega arith
+
+pub length-indexed_bytes : (items : List (ℕ × ArrayVec ℕ)) → length (indexed_bytes items) ≡ length items
+length-indexed_bytes items = length-map items (λ share. (share.0, share.1.items))
+
+module _ (set : List ShareFields) (names : List (ℕ × ℕ)) (quorum : IsExactQuorum set names) (group : ℕ) where
+  module _ (members : List (ℕ × List ℕ)) (is : members ≡ member_shares set names group) where
+    pub length-members : length members ≡ length (names_in_group group names)
+    length-members = ap length is ∙ length-member_shares set names group
+
+    -- the shares of a group can be combined
+    pub members_can : 0 < length members → AreOfOneLevel (value_bytes_of set) members
+    members_can some =
+        subst (AreOfOneLevel (value_bytes_of set)) (sym is) (members_of_one_level set names quorum group (omega (arith, length-members)))
+
+    -- and combine as the group does
+    pub members_combine : (outcome : Option (List ℕ)) → 0 < length members → Combines (length members) members outcome
+        → GroupCombines set names group outcome
+    members_combine outcome some combines =
+        group_combines set names quorum group outcome (omega (arith, length-members)) (subst (λ s. Combines (length s) s outcome) is combines)
+
+  module _ (shares : List (ℕ × ArrayVec ℕ)) (before : AreGroupShares set names (groups_below names group) (indexed_bytes shares)) where
+    pub few_shares : length shares ≤ group
+    few_shares =
+        omega (arith, few_group_shares set names quorum (indexed_bytes shares) group before, length-indexed_bytes shares)
+
+    -- the share of one group more
+    pub shares_more : (share : ArrayVec ℕ) (new : List (ℕ × ArrayVec ℕ)) → new ≡ shares ++ (group, share) ∷ [] → 0 < length (names_in_group group names)
+        → GroupCombines set names group (Some share.items) → length share.items ≡ value_bytes_of set
+        → AreGroupShares set names (groups_below names (group + 1)) (indexed_bytes new)
+    shares_more share new is some combines bytes =
+        let pushed : indexed_bytes new ≡ indexed_bytes shares ++ (group, share.items) ∷ [] =
+        ap indexed_bytes is ∙ map_push (λ s. (s.0, s.1.items)) shares (group, share) in
+        subst (AreGroupShares set names (groups_below names (group + 1))) (sym pushed)
+        (group_shares_more set names quorum (indexed_bytes shares) group share.items before some combines bytes)
+
+-- a list that isn't empty has an element
+pub some_from_test : (test : Bool) (n : ℕ) → test ≡ (n == 0) → test ≡ false → 0 < n
+some_from_test test n is fails = grind (arith, nat_tests)
+
+pub none_from_test : (test : Bool) (n : ℕ) → test ≡ (n == 0) → test ≡ true → n ≤ 0
+none_from_test test n is passes = grind (arith, nat_tests)

@@ -1,0 +1,27 @@
+-- What a function gives of the elements of a list, and pairs in two lists.
+use Rattle.std.proofs.Common.{◌≡◌, ℕ, ◌<◌, Bool, List, [], ◌∷◌, length, get_or, filter, map, All, AllPairs, refl, ap, arith}
+use Rattle.std.specs.List.{zip, AllZip}
+use Rattle.std.proofs.lemmas.List.{length-map, get_or-map}
+use Rattle.std.proofs.lemmas.List.Elements.{All-head, All-tail}
+
+-- what is true of the images of the elements is true of the list of the images
+pub AllPairs-map : {X Y : Type 0} (R : Y → Y → Type 0) (f : X → Y) (xs : List X) → ((i j : ℕ) (d : X) → i < j → j < length xs → R (f (get_or xs i d)) (f (get_or xs j d)))
+    → (d : X) → AllPairs R (map f xs)
+AllPairs-map R f xs h d i j e before within =
+    let count : length (map f xs) ≡ length xs = length-map xs f in
+    let short : j < length xs = omega arith in
+    rw (get_or-map f xs i d e (omega arith), get_or-map f xs j d e short) (h i j d before short)
+
+-- tests that agree at each element of a list choose the same ones
+pub filter_same : {X : Type 0} (p q : X → Bool) (xs : List X) → ((x : X) → p x ≡ q x) → filter p xs ≡ filter q xs
+filter_same p q [] h = refl
+filter_same p q (x ∷ xs) h = let rest = filter_same p q xs h in rw (h x, rest)
+
+-- pairs, taken apart and joined
+pub zip-parts : {X Y : Type 0} (pairs : List (X × Y)) → zip (map (λ p. p.0) pairs) (map (λ p. p.1) pairs) ≡ pairs
+zip-parts [] = refl
+zip-parts (p ∷ ps) = ap (λ rest. p ∷ rest) (zip-parts ps)
+
+pub AllZip-parts : {X Y : Type 0} (R : X → Y → Type 0) (pairs : List (X × Y)) → All (λ p. R p.0 p.1) pairs → AllZip R (map (λ p. p.0) pairs) (map (λ p. p.1) pairs)
+AllZip-parts R [] h = tt
+AllZip-parts R (p ∷ ps) h = (All-head (λ q. R q.0 q.1) p ps h, AllZip-parts R ps (All-tail (λ q. R q.0 q.1) p ps h))

@@ -1,0 +1,11 @@
+pub mod Images
+pub mod Ranges
+pub mod Values
+pub mod Levels
+pub mod Combined
+pub mod Recovered
+pub mod OneRecovery
+pub mod Creating
+pub mod Memos
+pub mod Plans
+pub mod Promise

@@ -1,0 +1,50 @@
+-- What the group shares of a quorum combine to, and the parameters of its set.
+use Rattle.std.proofs.Common.{◌≡◌, ℕ, ◌%◌, List, [], ◌∷◌, length, map, All, Contains, Some, None, sym, ap, ◌∙◌, arith}
+use Rattle.std.proofs.lemmas.List.Elements.{All-contains}
+use Rattle.arrayvec.specs.ArrayVec.{ArrayVec}
+use Rattle.s39_kdf.specs.declared.params.Params.{Params}
+use Rattle.s39_words.specs.declared.share.ShareFields.{ShareFields}
+use Rattle.s39_words.specs.Share.{IsShare}
+use Rattle.s39_set.specs.ShareSet.{Agrees, IsShareSet}
+use Rattle.s39_split.specs.Recovery.{Combines}
+use Rattle.s39_backup.specs.Combination.{groups_of, CombinesTo, MismatchesOfGroups}
+use Rattle.s39_backup.specs.Outcome.{AreParams}
+use Rattle.s39_backup.specs.GroupShares.{indexed_bytes, value_bytes_of, IsExactQuorum, AreOfOneLevel, AreGroupShares}
+use Rattle.s39_backup.proofs.Values.{values_agree}
+use Rattle.s39_backup.proofs.Levels.{some_share, group_threshold_is, groups_of_one_level, all_combine, groups_combine}
+
+-- the parameters of one share are those of all
+pub params_from_share : (set : List ShareFields) (share : ShareFields) (params : Params) → IsShareSet set → Contains set share
+    → params.id ≡ share.id → params.extendable ≡ share.extendable → params.exponent ≡ share.exponent → AreParams set params
+params_from_share [] share params is (k, below, here) id extendable exponent = absurd (omega arith)
+params_from_share (s ∷ ss) share params is among id extendable exponent =
+    let same : Agrees share s = All-contains (λ t. All (Agrees t) (s ∷ ss)) (s ∷ ss) share is.agree among 0 s (omega arith) in
+    (id ∙ same.id, extendable ∙ same.extendable, exponent ∙ same.exponent)
+
+module _ (set : List ShareFields) (names : List (ℕ × ℕ)) (quorum : IsExactQuorum set names) (items : List (ℕ × ArrayVec ℕ))
+    (is : AreGroupShares set names (groups_of names) (indexed_bytes items)) where
+  pub shares_can : AreOfOneLevel (value_bytes_of set) (indexed_bytes items)
+  shares_can = groups_of_one_level set names quorum (indexed_bytes items) is
+
+  -- the values have an even length
+  pub value_bytes-even : value_bytes_of set % 2 ≡ 0
+  value_bytes-even =
+      let (share, among) = some_share set (length (groups_of names)) (group_threshold_is set names quorum) in
+      ap (λ n. n % 2) (sym (All-contains (λ s. length s.value.items ≡ value_bytes_of set) set share (values_agree set quorum.is_set) among))
+      ∙ (All-contains IsShare set share quorum.is_set.each among).value.even
+
+  -- where they are refused, the groups mismatch
+  pub groups_mismatch : Combines (length (indexed_bytes items)) (indexed_bytes items) None → MismatchesOfGroups set names
+  groups_mismatch refused = record {
+    shares = map (λ share. share.1) (indexed_bytes items);
+    groups = all_combine set names quorum (indexed_bytes items) (groups_of names) is;
+    refused = groups_combine set names quorum (indexed_bytes items) None is refused;
+  }
+
+  -- where they combine, the quorum combines to the same
+  pub combines_to : (encrypted : List ℕ) → Combines (length (indexed_bytes items)) (indexed_bytes items) (Some encrypted) → CombinesTo set names encrypted
+  combines_to encrypted combines = record {
+    shares = map (λ s. s.1) (indexed_bytes items);
+    groups = all_combine set names quorum (indexed_bytes items) (groups_of names) is;
+    combined = groups_combine set names quorum (indexed_bytes items) (Some encrypted) is combines;
+  }

@@ -1,0 +1,127 @@
+-- Backups created from a secret (SLIP-0039, "Shamir's secret sharing" and "Encryption of the master secret").
+use Rattle.std.specs.Prelude.{◌≡◌, ◌≢◌, ℕ, ◌+◌, ◌*◌, ◌%◌, ◌^◌, List, [], ◌∷◌, ◌++◌, All, Contains, length, map, sum_by, Result, Ok, Err}
+use Rattle.std.specs.List.{concat, enumerate_from}
+use Rattle.s39_kdf.specs.declared.params.Params.{Params}
+use Rattle.s39_kdf.specs.Limits.{IsPrintable, IsFirstUnprintable, IsSecretLength}
+use Rattle.s39_kdf.specs.Cipher.{IsEncryption}
+use Rattle.s39_split.specs.Sharing.{random_needed as level_random_needed, IsSplit}
+use Rattle.s39_words.specs.declared.ShareFields.{ShareFields}
+use Rattle.s39_words.specs.Layout.{id_bits}
+use Rattle.s39_backup.specs.declared.plan.Members.{Members}
+use Rattle.s39_backup.specs.declared.options.Options.{Options}
+use Rattle.s39_backup.specs.declared.create_error.CreateError.{CreateError}
+use Rattle.s39_backup.specs.declared.create_error.CreateError.TheVariants.{Passphrase, SecretLength, BadRandomLength}
+use Rattle.s39_backup.specs.Plan.{IsPlan}
+
+-- the random bytes of the identifier
+abbrev pub identifier_length : ℕ
+identifier_length = 2
+
+-- How many random bytes a backup of a secret of n bytes takes: those of the identifier, of the group level, and of
+-- each group.
+abbrev pub random_needed : ℕ → List Members → ℕ → ℕ
+random_needed group_threshold groups n =
+    identifier_length + level_random_needed group_threshold n + sum_by (λ members. level_random_needed members.threshold n) groups
+
+-- the most random bytes that a level takes: those of threshold 16, with the longest secret
+abbrev pub most_level_random : ℕ
+most_level_random = 1916
+
+-- the most random bytes that a backup takes: those of sixteen groups of which all sixteen members are needed, and all
+-- groups, with the longest secret
+abbrev pub most_random : ℕ
+most_random = 32574
+
+-- the identifier that random bytes give: big-endian, the highest bit left out
+abbrev pub identifier_of : ℕ → ℕ → ℕ
+identifier_of high low = (256 * high + low) % 2 ^ id_bits
+
+-- the parameters of the cipher
+pub record AreCreatedParams (options : Options) (high low : ℕ) (params : Params) : Type 0 where
+  pub id : params.id ≡ identifier_of high low
+  pub extendable : params.extendable ≡ options.extendable
+  pub exponent : params.exponent ≡ options.exponent
+
+-- the share of a group is split among its members by the group's piece of the random bytes, for each group
+abbrev pub AreSplitAmong : List Members → List (List ℕ) → List (List ℕ) → List (List (List ℕ)) → Type 0
+AreSplitAmong [] [] [] [] = Unit {0}
+AreSplitAmong (members ∷ groups) (share ∷ shares) (piece ∷ pieces) (values ∷ others) =
+    IsSplit members.threshold members.count share piece values × AreSplitAmong groups shares pieces others
+AreSplitAmong _ _ _ _ = ⊥
+
+module _ (params : Params) (group_threshold group_count : ℕ) where
+  -- the share with this group and member index
+  abbrev pub created_share : ℕ → Members → ℕ → List ℕ → ShareFields
+  created_share group members member value = record {
+    id = params.id;
+    extendable = params.extendable;
+    exponent = params.exponent;
+    group_index = group;
+    group_threshold = group_threshold;
+    group_count = group_count;
+    member_index = member;
+    member_threshold = members.threshold;
+    value = record { items = value };
+  }
+
+  -- the shares of a group's members
+  abbrev pub created_group : ℕ → Members → List (List ℕ) → List ShareFields
+  created_group group members values = map (λ share. created_share group members share.0 share.1) (enumerate_from 0 values)
+
+  -- the shares of the groups from this one on
+  abbrev pub created_groups : ℕ → List Members → List (List (List ℕ)) → List ShareFields
+  created_groups group [] values = []
+  created_groups group (members ∷ groups) [] = []
+  created_groups group (members ∷ groups) (values ∷ others) =
+      created_group group members values ++ created_groups (group + 1) groups others
+
+-- A backup created from a secret, with a passphrase, a plan, options and random bytes. The encrypted secret is split
+-- into the group shares, and each of these among its members. The random bytes are those of the identifier, of the
+-- group level and of each group, in this order. The shares stand by group, then member.
+pub record IsCreatedFrom (secret passphrase : List ℕ) (group_threshold : ℕ) (groups : List Members) (options : Options)
+    (random : List ℕ) (shares : List ShareFields) : Type 0 where
+  pub high : ℕ
+  pub low : ℕ
+  pub group_piece : List ℕ
+  pub pieces : List (List ℕ)
+  pub params : Params
+  pub encrypted : List ℕ
+  pub group_shares : List (List ℕ)
+  pub values : List (List (List ℕ))
+  pub consumed : random ≡ high ∷ low ∷ group_piece ++ concat pieces
+  pub params_are : AreCreatedParams options high low params
+  pub encryption : IsEncryption secret passphrase params encrypted
+  pub groups_split : IsSplit group_threshold (length groups) encrypted group_piece group_shares
+  pub members_split : AreSplitAmong groups group_shares pieces values
+  pub shares_are : shares ≡ created_groups params group_threshold (length groups) 0 groups values
+
+-- what the creation of a backup gives: its shares, or the first cause that applies
+abbrev pub IsCreation : List ℕ → List ℕ → ℕ → List Members → Options → List ℕ → Result (List ShareFields) CreateError → Type 0
+IsCreation secret passphrase group_threshold groups options random (Ok shares) =
+    All IsPrintable passphrase × IsSecretLength (length secret)
+    × (length random ≡ random_needed group_threshold groups (length secret))
+    × IsCreatedFrom secret passphrase group_threshold groups options random shares
+IsCreation secret passphrase group_threshold groups options random (Err (Passphrase bad)) =
+    IsFirstUnprintable passphrase bad.position
+IsCreation secret passphrase group_threshold groups options random (Err (SecretLength bad)) =
+    All IsPrintable passphrase × ¬ IsSecretLength (length secret) × (bad.bytes ≡ length secret)
+IsCreation secret passphrase group_threshold groups options random (Err (BadRandomLength needed)) =
+    All IsPrintable passphrase × IsSecretLength (length secret)
+    × (needed ≡ random_needed group_threshold groups (length secret)) × (length random ≢ needed)
+
+-- the code of a cause
+abbrev pub create_code_of : CreateError → ℕ
+create_code_of (Passphrase _) = 41
+create_code_of (SecretLength _) = 42
+create_code_of (BadRandomLength _) = 43
+
+-- shares of a backup that was created from this secret with this passphrase, whatever plan, options and random bytes
+pub record AreOfBackup (set : List ShareFields) (passphrase secret : List ℕ) : Type 0 where
+  pub group_threshold : ℕ
+  pub groups : List Members
+  pub options : Options
+  pub random : List ℕ
+  pub shares : List ShareFields
+  pub is_plan : IsPlan group_threshold groups
+  pub created : IsCreatedFrom secret passphrase group_threshold groups options random shares
+  pub belong : All (Contains shares) set

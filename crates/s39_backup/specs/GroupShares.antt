@@ -1,0 +1,44 @@
+-- The shares of one level, as they are combined. No public contract cites this.
+use Rattle.std.specs.Prelude.{◌≡◌, ◌≢◌, ℕ, ◌<◌, ◌≤◌, List, [], ◌∷◌, length, map, filter, nat_lt, All, AllPairs, Some}
+use Rattle.std.specs.List.{range_with_len}
+use Rattle.arrayvec.specs.ArrayVec.{ArrayVec}
+use Rattle.s39_kdf.specs.Limits.{shortest_secret}
+use Rattle.s39_split.specs.Sharing.{most_shares}
+use Rattle.s39_words.specs.declared.ShareFields.{ShareFields}
+use Rattle.s39_set.specs.Names.{names_in_group}
+use Rattle.s39_set.specs.ShareSet.{IsShareSet}
+use Rattle.s39_set.specs.Quorums.{HasJustTheGroups}
+use Rattle.s39_backup.specs.Combination.{GroupCombines}
+
+-- each share's index and bytes
+abbrev pub indexed_bytes : List (ℕ × ArrayVec ℕ) → List (ℕ × List ℕ)
+indexed_bytes shares = map (λ share. (share.0, share.1.items)) shares
+
+-- the length of the values of a set's shares, in which they agree
+abbrev pub value_bytes_of : List ShareFields → ℕ
+value_bytes_of [] = 0
+value_bytes_of (share ∷ shares) = length share.value.items
+
+-- names with just the groups and members that the thresholds of a share set ask
+pub record IsExactQuorum (set : List ShareFields) (names : List (ℕ × ℕ)) : Type 0 where
+  pub is_set : IsShareSet set
+  pub exact : HasJustTheGroups set names
+
+-- shares that can be combined: at least one, each with an index of its own, and all of one length
+pub record AreOfOneLevel (bytes : ℕ) (shares : List (ℕ × List ℕ)) : Type 0 where
+  pub some : 0 < length shares
+  pub few : length shares ≤ most_shares
+  pub distinct : AllPairs (λ a b. a.0 ≢ b.0) shares
+  pub indices : All (λ share. share.0 < most_shares) shares
+  pub lengths : All (λ share. length share.1 ≡ bytes) shares
+  pub long : shortest_secret ≤ bytes
+
+-- the groups below a number of which a name is among these
+abbrev pub groups_below : List (ℕ × ℕ) → ℕ → List ℕ
+groups_below names n = filter (λ group. nat_lt 0 (length (names_in_group group names))) (range_with_len 0 n)
+
+-- these are the shares of these groups, each with its group index
+pub record AreGroupShares (set : List ShareFields) (names : List (ℕ × ℕ)) (groups : List ℕ) (shares : List (ℕ × List ℕ)) : Type 0 where
+  pub indices : map (λ share. share.0) shares ≡ groups
+  pub combine : All (λ share. GroupCombines set names share.0 (Some share.1)) shares
+  pub lengths : All (λ share. length share.1 ≡ value_bytes_of set) shares

@@ -1,0 +1,95 @@
+-- Plans, and the texts that give them.
+use Rattle.std.specs.Prelude.{◌≡◌, ◌⊎◌, ◌≢◌, ℕ, ◌<◌, ◌≤◌, List, [], ◌∷◌, ◌++◌, All, codes, length, Result, Ok, Err}
+use Rattle.std.specs.Fmt.{decimal}
+use Rattle.s39_set.specs.Names.{most_groups, most_members}
+use Rattle.s39_backup.specs.declared.plan.Members.{Members}
+use Rattle.s39_backup.specs.declared.plan_error.PlanError.{PlanError}
+use Rattle.s39_backup.specs.declared.plan_error.PlanError.TheVariants.{BadPlan, PlanGroups, PlanMembers, OneOfMany}
+
+-- a group has no more members than there may be, and enough for its threshold
+pub record HasEnoughMembers (members : Members) : Type 0 where
+  pub few : members.count ≤ most_members
+  pub enough : members.threshold ≤ members.count
+
+-- one of many is enough, so that each of them is the group's share
+abbrev pub IsOneOfMany : Members → Type 0
+IsOneOfMany members = (members.threshold ≡ 1) × (1 < members.count)
+
+-- the members of a group in a plan
+pub record IsGroup (members : Members) : Type 0 where
+  pub positive : 1 ≤ members.threshold
+  pub enough : HasEnoughMembers members
+  pub not_one_of_many : ¬ IsOneOfMany members
+
+-- there are no more groups than there may be, and enough for the group threshold
+pub record HasEnoughGroups (group_threshold : ℕ) (groups : List Members) : Type 0 where
+  pub few : length groups ≤ most_groups
+  pub enough : group_threshold ≤ length groups
+
+-- a plan: how many groups are needed, and each group's members
+pub record IsPlan (group_threshold : ℕ) (groups : List Members) : Type 0 where
+  pub positive : 1 ≤ group_threshold
+  pub enough : HasEnoughGroups group_threshold groups
+  pub each : All IsGroup groups
+
+-- ---- texts
+
+-- a number of one or two digits that doesn't begin with 0
+pub record IsPlanNumber (n : ℕ) : Type 0 where
+  pub positive : 1 ≤ n
+  pub short : n < 100
+
+-- `TofN`
+abbrev pub members_text : Members → List ℕ
+members_text members = decimal members.threshold ++ codes "of" ++ decimal members.count
+
+-- the texts of groups, joined by commas
+abbrev pub groups_text : List Members → List ℕ
+groups_text [] = []
+groups_text (members ∷ []) = members_text members
+groups_text (members ∷ next ∷ more) = members_text members ++ codes "," ++ groups_text (next ∷ more)
+
+-- The text is `TofN`, which is one group at group threshold 1, or `GT/T1ofN1,T2ofN2,..`, whatever the numbers.
+pub record HasPlanForm (text : List ℕ) (group_threshold : ℕ) (groups : List Members) : Type 0 where
+  pub some : groups ≢ []
+  pub threshold_number : IsPlanNumber group_threshold
+  pub thresholds : All (λ members. IsPlanNumber members.threshold) groups
+  pub counts : All (λ members. IsPlanNumber members.count) groups
+  pub written : (text ≡ decimal group_threshold ++ codes "/" ++ groups_text groups)
+      ⊎ ((group_threshold ≡ 1) × (length groups ≡ 1) × (text ≡ groups_text groups))
+
+-- what is read from a text of the form of a plan: the group threshold, and each group's members
+pub record PlanForm (text : List ℕ) : Type 0 where
+  pub group_threshold : ℕ
+  pub groups : List Members
+  pub form : HasPlanForm text group_threshold groups
+
+-- the group at this place, from 0, is the first that a plan can't have, and refused so
+pub record IsFirstRefusedGroup (groups : List Members) (place : ℕ) (IsRefused : Members → Type 0) : Type 0 where
+  pub before : List Members
+  pub members : Members
+  pub after : List Members
+  pub parts : groups ≡ before ++ members ∷ after
+  pub place_is : place ≡ length before
+  pub accepted : All IsGroup before
+  pub refused : IsRefused members
+
+-- What a text is read as: a plan, its group threshold and its groups, or the first cause that applies: it has another
+-- form; the number of groups; and then group by group the number of members, and one of many.
+abbrev pub IsPlanReading : List ℕ → Result (ℕ × List Members) PlanError → Type 0
+IsPlanReading text (Ok plan) = HasPlanForm text plan.0 plan.1 × IsPlan plan.0 plan.1
+IsPlanReading text (Err BadPlan) = ¬ PlanForm text
+IsPlanReading text (Err PlanGroups) = (read : PlanForm text) × ¬ HasEnoughGroups read.group_threshold read.groups
+IsPlanReading text (Err (PlanMembers group)) =
+    (read : PlanForm text) × HasEnoughGroups read.group_threshold read.groups
+    × IsFirstRefusedGroup read.groups group (λ members. ¬ HasEnoughMembers members)
+IsPlanReading text (Err (OneOfMany group)) =
+    (read : PlanForm text) × HasEnoughGroups read.group_threshold read.groups
+    × IsFirstRefusedGroup read.groups group (λ members. HasEnoughMembers members × IsOneOfMany members)
+
+-- the code of a cause
+abbrev pub plan_code_of : PlanError → ℕ
+plan_code_of BadPlan = 31
+plan_code_of PlanGroups = 32
+plan_code_of (PlanMembers _) = 33
+plan_code_of (OneOfMany _) = 34

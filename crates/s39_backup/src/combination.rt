@@ -1,0 +1,186 @@
+//! What the shares of a quorum combine to (SLIP-0039, "Shamir's secret sharing").
+ghost use Rattle.std.specs.Prelude.{◌≡◌, ◌≢◌, ℕ, ◌<◌, ◌≤◌, ◌%◌, length, map, All, Contains, Some, None, Ok, Err, IfOk, IfErr, IsOkAnd, OnErr, List};
+ghost use Rattle.arrayvec.specs.ArrayVec.{array_vec_len};
+ghost use Rattle.s39_kdf.specs.Limits.{shortest_secret};
+ghost use Rattle.s39_split.specs.Recovery.{Combines};
+ghost use Rattle.s39_set.specs.ShareSet.{IsShareSet, name_of};
+ghost use Rattle.s39_set.specs.Quorums.{IsQuorum};
+ghost use Rattle.s39_backup.specs.Combination.{IsCombination, MismatchesInGroup, member_shares, groups_of, value_of};
+ghost use Rattle.s39_backup.specs.Outcome.{AreParams};
+ghost use Rattle.s39_backup.specs.Created.{AreOfBackup};
+ghost use Rattle.s39_backup.specs.GroupShares.{IsExactQuorum, AreOfOneLevel, AreGroupShares, indexed_bytes};
+
+use crate::laws::{every_quorum_combines, one_combination};
+use arrayvec::ArrayVec;
+use s39_kdf::{Bytes, Params};
+use s39_set::laws::quorums_are_exact;
+use s39_set::{MAX_GROUPS, Quorum, ShareSet, share_at};
+use s39_split::{DigestMismatch, MAX_SHARES, Points, combine};
+use s39_words::Share;
+
+/// Where the digest of what shares combine to isn't the one that they have: a share is wrong, or they aren't all of
+/// one split.
+#[derive(Clone, Copy, Debug, PartialEq, Eq)]
+pub enum Mismatch {
+    /// The shares of this group, the lowest such.
+    InGroup { group: u8 },
+    /// The group shares, where those of each group combine.
+    OfGroups,
+}
+
+impl Mismatch {
+    /// The code of the cause.
+    pub fn code(&self) -> u8
+        ensures { result ≡ 51 }
+    {
+        51
+    }
+}
+
+/// Group shares, each its group index and its bytes.
+type GroupShares = ArrayVec<(u8, Bytes), MAX_SHARES>;
+
+/// The encrypted secret to which the shares of a quorum of the set combine, or the mismatch of a digest. It is as
+/// long as the values of the set: an even number of bytes, from 16 to 128.
+///
+/// The shares of each group are combined, and then the group shares.
+/// The caller knows that the names are a quorum (`s39_set::is_quorum`).
+pub fn combine_quorum(set: &ShareSet, quorum: &Quorum) -> Result<Bytes, Mismatch>
+    requires { IsQuorum set.now quorum.now }
+    ensures encrypted { IfOk result (λ encrypted.
+        IsCombination set.now quorum.now (Ok encrypted.items)) }
+    ensures mismatch { IfErr result (λ mismatch.
+        IsCombination set.now quorum.now (Err mismatch)) }
+    ensures length { IfOk result (λ encrypted.
+        All (λ share. array_vec_len share.value ≡ array_vec_len encrypted) set.now) }
+    ensures even { IfOk result (λ encrypted. array_vec_len encrypted % 2 ≡ 0) }
+    ensures long { IfOk result (λ encrypted. shortest_secret ≤ array_vec_len encrypted) }
+    // Shares of a created backup combine to its encrypted secret.
+    ensures created { (passphrase secret : List ℕ) (backup : AreOfBackup set.now passphrase secret)
+        → IsOkAnd result (λ encrypted. encrypted.items ≡ backup.created.encrypted) }
+{
+    are_a_share_set(set);
+    one_combination();
+    every_quorum_combines();
+    combine_levels(set, quorum)
+}
+
+/// The encrypted secret to which the shares of a quorum combine, or the mismatch of a digest.
+fn combine_levels(set: &ShareSet, quorum: &Quorum) -> Result<Bytes, Mismatch>
+    requires { IsQuorum set.now quorum.now }
+    ensures encrypted { IfOk result (λ encrypted.
+        IsCombination set.now quorum.now (Ok encrypted.items)) }
+    ensures mismatch { IfErr result (λ mismatch.
+        IsCombination set.now quorum.now (Err mismatch)) }
+    ensures length { IfOk result (λ encrypted.
+        All (λ share. array_vec_len share.value ≡ array_vec_len encrypted) set.now) }
+    ensures even { IfOk result (λ encrypted. array_vec_len encrypted % 2 ≡ 0) }
+    ensures long { IfOk result (λ encrypted. shortest_secret ≤ array_vec_len encrypted) }
+{
+    are_a_share_set(set);
+    quorums_are_exact();
+    let shares = group_shares(set, quorum.pairs())?;
+    match combine_all(&lend(&shares)) {
+        Ok(encrypted) => Ok(encrypted),
+        Err(DigestMismatch) => Err(Mismatch::OfGroups),
+    }
+}
+
+/// The parameters of the cipher, in which all shares of the set agree.
+/// The caller knows that the names are a quorum, so that there is a share.
+pub fn params_of(set: &ShareSet, quorum: &Quorum) -> Params
+    requires { IsQuorum set.now quorum.now }
+    ensures { AreParams set.now result }
+{
+    let fields = first_share(set, quorum.pairs()).fields();
+    Params {
+        id: fields.id,
+        extendable: fields.extendable,
+        exponent: fields.exponent,
+    }
+}
+
+/// The shares of a set are of one backup, each once.
+pub(crate) fn are_a_share_set(set: &ShareSet)
+    ensures { IsShareSet set.now }
+{
+    let _ = share_at(set, 0, 0);
+}
+
+/// The share of the first name of a quorum.
+fn first_share<'a>(set: &'a ShareSet, names: &[(u8, u8)]) -> &'a Share
+    requires { IsQuorum set.now names.now }
+    ensures among { Contains set.now result.now }
+    ensures is_set { IsShareSet set.now }
+{
+    are_a_share_set(set);
+    quorums_are_exact();
+    let name = names[0];
+    share_at(set, name.0, name.1).unwrap()
+}
+
+/// What the shares of each group combine to, with the group's index, or the first group that is refused.
+fn group_shares(set: &ShareSet, names: &[(u8, u8)]) -> Result<GroupShares, Mismatch>
+    requires { IsExactQuorum set.now names.now }
+    ensures shares { IfOk result (λ shares.
+        AreGroupShares set.now names.now (groups_of names.now) (indexed_bytes shares.items)) }
+    ensures mismatch { IfErr result (λ error. (group : ℕ)
+        × (error ≡ Mismatch.InGroup group) × MismatchesInGroup set.now names.now group) }
+{
+    let mut shares = GroupShares::new();
+    for group in 0..MAX_GROUPS {
+        let members = member_shares(set, names, group);
+        if !members.is_empty() {
+            let Ok(share) = combine_all(&members) else {
+                return Err(Mismatch::InGroup { group });
+            };
+            shares.push((group, share));
+        }
+    }
+    Ok(shares)
+}
+
+/// The shares of a group among these names, each its member index and its value, lent.
+fn member_shares<'a>(set: &'a ShareSet, names: &[(u8, u8)], group: u8) -> Points<'a>
+    requires { IsExactQuorum set.now names.now }
+    ensures { result ≡ member_shares set.now names.now group }
+{
+    let mut shares = Points::new();
+    for (of, member) in names {
+        if *of == group {
+            shares.push(*member, value_at(set, group, *member));
+        }
+    }
+    shares
+}
+
+/// The value of the share of this group and member index, which the set has.
+fn value_at(set: &ShareSet, group: u8, member: u8) -> &Bytes
+    requires { Contains (map name_of set.now) (group, member) }
+    ensures { result.now.items ≡ value_of set.now (group, member) }
+{
+    share_at(set, group, member).unwrap().value()
+}
+
+/// These shares, lent.
+fn lend(shares: &GroupShares) -> Points<'_>
+    ensures { result ≡ indexed_bytes shares.now.items }
+{
+    let mut lent = Points::new();
+    for (index, bytes) in shares.as_slice() {
+        lent.push(*index, bytes);
+    }
+    lent
+}
+
+/// What shares combine to, as many as their threshold asks.
+fn combine_all(shares: &Points<'_>) -> Result<Bytes, DigestMismatch>
+    requires { (bytes : ℕ) × AreOfOneLevel bytes shares.now }
+    ensures secret { IfOk result (λ secret.
+        Combines (length shares.now) shares.now (Some secret.items)) }
+    ensures refused { OnErr result (Combines (length shares.now) shares.now None) }
+    ensures length { (bytes : ℕ) → All (λ share. length share.1 ≡ bytes) shares.now
+        → IfOk result (λ secret. array_vec_len secret ≡ bytes) }
+{
+    combine(shares.len() as u8, shares.as_slice())
+}

@@ -1,0 +1,81 @@
+//! The shares of a created backup.
+ghost use Rattle.std.specs.Prelude.{◌≡◌, ◌<◌, ◌≤◌, [], ◌∷◌, ◌++◌, length};
+ghost use Rattle.s39_set.specs.Names.{most_names};
+ghost use Rattle.s39_words.specs.Share.{IsShare};
+
+use s39_kdf::{Bytes, MIN_SECRET_BYTES};
+use s39_set::MAX_NAMES;
+use s39_words::{Share, ShareFields};
+use std::array;
+use std::marker::Model;
+
+/// The shares of a created backup, by group, then member: 256 at most. They have fixed places and take no memory.
+#[derive(Drop)]
+pub struct Created {
+    places: [Share; MAX_NAMES],
+    len: usize,
+}
+
+impl Model for Created {
+    ghost use Rattle.std.specs.Prelude.{List, ◌≤◌, take};
+    ghost use Rattle.s39_words.specs.declared.share.ShareFields.{ShareFields};
+    ghost use Rattle.s39_set.specs.Names.{most_names};
+
+    ghost Value = { List ShareFields };
+
+    ghost view = { λ created. take created.len created.places };
+
+    ghost invariant = { λ created. created.len ≤ most_names };
+}
+
+impl Created {
+    /// No shares.
+    pub fn new() -> Created
+        ensures { result ≡ [] }
+    {
+        Created {
+            places: array::from_fn(|_| blank()),
+            len: 0,
+        }
+    }
+
+    /// The shares, by group, then member.
+    pub fn shares(&self) -> &[Share]
+        ensures shares { result.now ≡ self.now }
+        ensures few { length self.now ≤ most_names }
+    {
+        &self.places[..self.len]
+    }
+
+    /// Takes the shares away.
+    pub(crate) fn clear(&mut self)
+        ensures { self.new ≡ [] }
+    {
+        self.len = 0;
+    }
+
+    /// Appends a share.
+    pub(crate) fn push(&mut self, share: Share)
+        requires { length self.old < most_names }
+        ensures { self.new ≡ self.old ++ share ∷ [] }
+    {
+        self.places[self.len] = share;
+        self.len += 1;
+    }
+}
+
+/// A share that stands where none is yet.
+fn blank() -> Share {
+    let fields = ShareFields {
+        id: 0,
+        extendable: false,
+        exponent: 0,
+        group_index: 0,
+        group_threshold: 1,
+        group_count: 1,
+        member_index: 0,
+        member_threshold: 1,
+        value: Bytes::try_from([0; MIN_SECRET_BYTES].as_slice()).unwrap(),
+    };
+    Share::new(fields).unwrap()
+}

@@ -1,0 +1,69 @@
+//! Facts about the definitions, each the contract of a function that does nothing.
+ghost use Rattle.std.specs.Prelude.{◌≡◌, ℕ, List, Result, Ok, replicate};
+ghost use Rattle.s39_kdf.specs.Limits.{longest_secret};
+ghost use Rattle.s39_set.specs.Names.{most_groups, most_members};
+ghost use Rattle.s39_backup.specs.Created.{AreOfBackup, identifier_length, random_needed, most_random};
+ghost use Rattle.s39_words.specs.declared.ShareFields.{ShareFields};
+ghost use Rattle.s39_set.specs.ShareSet.{IsShareSet};
+ghost use Rattle.s39_set.specs.Quorums.{IsQuorum};
+ghost use Rattle.s39_backup.specs.declared.combination.Mismatch.{Mismatch};
+ghost use Rattle.s39_backup.specs.Combination.{IsCombination};
+ghost use Rattle.s39_backup.specs.Outcome.{IsOutcome};
+
+use crate::creation::ID_BYTES;
+use s39_kdf::laws::encrypts_one_secret;
+use s39_set::laws::quorums_are_exact;
+use s39_split::laws::{any_shares_combine, shares_combine_once};
+
+/// The program's constant is the number by which the definitions go, and the plan of sixteen groups of sixteen members,
+/// all of them needed, takes the most random bytes.
+pub fn numbers()
+    ensures identifier { ID_BYTES ≡ identifier_length }
+    ensures most { random_needed most_groups
+        (replicate most_groups (record { threshold = most_members; count = most_members }))
+        longest_secret ≡ most_random }
+{}
+
+/// A quorum of a share set combines to one encrypted secret or mismatch.
+pub fn one_combination()
+    ensures { (set : List ShareFields) (names : List (ℕ × ℕ))
+        (combination other : Result (List ℕ) Mismatch)
+        → IsShareSet set → IsQuorum set names
+        → IsCombination set names combination → IsCombination set names other
+        → combination ≡ other }
+{
+    quorums_are_exact();
+    shares_combine_once();
+}
+
+/// A quorum of a share set has one outcome with a passphrase.
+pub fn one_outcome()
+    ensures { (set : List ShareFields) (names : List (ℕ × ℕ)) (passphrase : List ℕ)
+        (outcome other : Result (List ℕ) Mismatch)
+        → IsShareSet set → IsQuorum set names
+        → IsOutcome set names passphrase outcome → IsOutcome set names passphrase other
+        → outcome ≡ other }
+{
+    one_combination();
+    encrypts_one_secret();
+}
+
+/// Every quorum of shares of a created backup combines to its encrypted secret.
+pub fn every_quorum_combines()
+    ensures { (set : List ShareFields) (names : List (ℕ × ℕ)) (passphrase secret : List ℕ)
+        → IsShareSet set → IsQuorum set names → (backup : AreOfBackup set passphrase secret)
+        → IsCombination set names (Ok backup.created.encrypted) }
+{
+    quorums_are_exact();
+    any_shares_combine();
+}
+
+/// Every quorum of shares of a created backup recovers its secret, with the passphrase of the creation.
+pub fn every_quorum_recovers()
+    ensures { (set : List ShareFields) (names : List (ℕ × ℕ)) (passphrase secret : List ℕ)
+        → IsShareSet set → IsQuorum set names → AreOfBackup set passphrase secret
+        → IsOutcome set names passphrase (Ok secret) }
+{
+    quorums_are_exact();
+    any_shares_combine();
+}

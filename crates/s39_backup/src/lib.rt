@@ -1,0 +1,28 @@
+//! What SLIP-0039 backups are: what a quorum of shares combines to and recovers. No device and no line has a part
+//! in it, and no call takes memory.
+#![tactic(auto)]
+
+mod combination;
+mod create_error;
+mod created;
+mod creation;
+pub mod laws;
+mod memo;
+mod options;
+mod outcome;
+mod plan;
+mod plan_error;
+mod plan_text;
+
+pub use combination::{Mismatch, combine_quorum, params_of};
+pub use create_error::CreateError;
+pub use created::Created;
+pub use creation::create;
+pub use memo::Memo;
+pub use options::Options;
+pub use outcome::{RecoverError, recover_by, recover_quorum};
+pub use plan::{Members, Plan};
+pub use plan_error::PlanError;
+
+#[cfg(test)]
+mod tests;

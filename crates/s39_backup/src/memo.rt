@@ -1,0 +1,138 @@
+//! Secrets that were deciphered once and are kept.
+ghost use Rattle.std.specs.Prelude.{◌≡◌, ◌≢◌, ℕ, ◌+◌, ◌%◌, ◌≤◌, min, List, [], ◌∷◌, ◌++◌, length, map, All, Contains, None, IfSome};
+ghost use Rattle.arrayvec.specs.ArrayVec.{array_vec_len};
+ghost use Rattle.s39_kdf.specs.Limits.{shortest_secret};
+ghost use Rattle.s39_kdf.specs.Cipher.{IsEncryption};
+ghost use Rattle.s39_backup.specs.Memo.{newest, entries_of};
+
+use arrayvec::ArrayVec;
+use s39_kdf::laws::encrypts_one_secret;
+use s39_kdf::{Bytes, Params, decrypt};
+use std::marker::Model;
+
+/// How many secrets a memo keeps.
+pub(crate) const MAX_KEPT: usize = 4;
+
+/// A value that was deciphered, and its secret.
+#[derive(Default, Drop)]
+struct Deciphered {
+    encrypted: Bytes,
+    secret: Bytes,
+}
+
+/// The secrets of the last four or fewer distinct encrypted values that were deciphered with a passphrase and parameters.
+///
+/// A contract sees it as these, oldest first, and the number of values that it deciphered.
+#[derive(Drop)]
+pub struct Memo<'a> {
+    passphrase: &'a [u8],
+    params: Params,
+    made: u64,
+    kept: ArrayVec<Deciphered, MAX_KEPT>,
+}
+
+impl<'a> Model for Memo<'a> {
+    ghost use Rattle.s39_backup.specs.Memo.{MemoState, AreDeciphered, entries_of};
+
+    ghost Value = { MemoState };
+
+    ghost view = { λ memo. record {
+      passphrase = memo.passphrase.now;
+      params = memo.params;
+      made = memo.made;
+      kept = entries_of memo.kept.items;
+    } };
+
+    ghost invariant = { λ memo. AreDeciphered memo.passphrase.now memo.params
+        (entries_of memo.kept.items) };
+}
+
+impl<'a> Memo<'a> {
+    /// A memo that has deciphered nothing yet.
+    pub fn new(passphrase: &'a [u8], params: Params) -> Memo<'a>
+        ensures passphrase { result.passphrase ≡ passphrase.now }
+        ensures params { result.params ≡ params }
+        ensures made { result.made ≡ 0 }
+        ensures kept { result.kept ≡ [] }
+    {
+        Memo {
+            passphrase,
+            params,
+            made: 0,
+            kept: ArrayVec::new(),
+        }
+    }
+
+    /// How many values were deciphered. It stays at 2^64 - 1 once there.
+    pub fn made(&self) -> u64
+        ensures { result ≡ self.now.made }
+    {
+        self.made
+    }
+
+    /// The secret whose encryption this value is: an even number of bytes, at least 16. It is as long.
+    ///
+    /// Where the value is kept, nothing is deciphered, and the memo stays as it is. Else it is deciphered and kept,
+    /// and the oldest of five goes.
+    pub fn secret(&mut self, encrypted: &Bytes) -> Bytes
+        requires even { array_vec_len encrypted.now % 2 ≡ 0 }
+        requires long { shortest_secret ≤ array_vec_len encrypted.now }
+        ensures secret { IsEncryption result.items self.old.passphrase self.old.params encrypted.now.items }
+        ensures only { (secret : List ℕ)
+            → IsEncryption secret self.old.passphrase self.old.params encrypted.now.items
+            → secret ≡ result.items }
+        ensures remembered { Contains (map (λ entry. entry.0) self.old.kept) encrypted.now.items
+            → self.new ≡ self.old }
+        ensures deciphered { ¬ Contains (map (λ entry. entry.0) self.old.kept) encrypted.now.items
+            → self.new ≡ record self.old {
+              made = min (self.old.made + 1) u64.MAX;
+              kept = newest (self.old.kept ++ (encrypted.now.items, result.items) ∷ []);
+            } }
+    {
+        encrypts_one_secret();
+        if let Some(secret) = kept_secret(self.kept.as_slice(), encrypted) {
+            return secret;
+        }
+        let secret = decrypt(encrypted, self.passphrase, self.params);
+        let entry = Deciphered {
+            encrypted: copied(encrypted),
+            secret: copied(&secret),
+        };
+        keep(&mut self.kept, entry);
+        self.made = self.made.saturating_add(1);
+        secret
+    }
+}
+
+/// The secret that is kept of this value.
+fn kept_secret(kept: &[Deciphered], encrypted: &Bytes) -> Option<Bytes>
+    ensures found { IfSome result (λ secret.
+        Contains (entries_of kept.now) (encrypted.now.items, secret.items)) }
+    ensures missing { result ≡ None
+        → All (λ entry. entry.encrypted.items ≢ encrypted.now.items) kept.now }
+{
+    for entry in kept {
+        if entry.encrypted.as_slice() == encrypted.as_slice() {
+            return Some(copied(&entry.secret));
+        }
+    }
+    None
+}
+
+/// Keeps what was deciphered, and lets the oldest of five go.
+fn keep(kept: &mut ArrayVec<Deciphered, MAX_KEPT>, entry: Deciphered)
+    ensures { entries_of kept.new.items
+        ≡ newest (entries_of kept.old.items ++ (entry.encrypted.items, entry.secret.items) ∷ []) }
+{
+    if kept.is_full() {
+        kept.remove(0);
+    }
+    kept.push(entry);
+}
+
+/// A copy of bytes, which takes no memory.
+fn copied(bytes: &Bytes) -> Bytes
+    ensures { result.items ≡ bytes.now.items }
+{
+    Bytes::try_from(bytes.as_slice()).unwrap()
+}

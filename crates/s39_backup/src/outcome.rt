@@ -1,0 +1,97 @@
+//! What a quorum recovers with a passphrase (SLIP-0039, "Encryption of the master secret").
+ghost use Rattle.std.specs.Prelude.{◌≡◌, ◌≢◌, ◌↔◌, All, Ok, Err, IfOk, IfErr, IsOkAnd, ℕ, List};
+ghost use Rattle.arrayvec.specs.ArrayVec.{array_vec_len};
+ghost use Rattle.s39_set.specs.ShareSet.{IsShareSet};
+ghost use Rattle.s39_set.specs.Quorums.{IsQuorum};
+ghost use Rattle.s39_backup.specs.declared.combination.Mismatch.{Mismatch};
+ghost use Rattle.s39_backup.specs.Outcome.{IsOutcome};
+ghost use Rattle.s39_backup.specs.Created.{AreOfBackup};
+
+use crate::combination::{Mismatch, are_a_share_set, combine_quorum, params_of};
+use crate::laws::{every_quorum_recovers, one_outcome};
+use s39_kdf::{Bytes, decrypt};
+use s39_set::{Looks, Quorum, ShareSet, is_quorum};
+
+/// Why a quorum gives no secret.
+#[derive(Clone, Copy, Debug, PartialEq, Eq)]
+pub enum RecoverError {
+    /// The names are no quorum of the set.
+    NotAQuorum,
+    /// The digests of the quorum's shares, or of its group shares, aren't those of what they combine to.
+    DigestMismatch(Mismatch),
+}
+
+impl RecoverError {
+    ghost use Rattle.s39_backup.specs.RecoverError.{code_of};
+
+    /// The code of the cause: 62 or 51.
+    pub fn code(&self) -> u8
+        ensures { result ≡ code_of self.now }
+    {
+        match self {
+            RecoverError::NotAQuorum => 62,
+            RecoverError::DigestMismatch(mismatch) => mismatch.code(),
+        }
+    }
+}
+
+/// The secret that a quorum of a set recovers with a passphrase (SLIP-0039, "Shamir's secret sharing" and
+/// "Encryption of the master secret"). It is as long as the values of the set.
+///
+/// Names that are no quorum of the set are refused first (`NotAQuorum`), and then shares that don't combine
+/// (`DigestMismatch`, with the answer of `combine_quorum`). A wrong passphrase isn't noticed: as a rule it gives
+/// another secret, and no error. The passphrase isn't checked here.
+pub fn recover_by(set: &ShareSet, quorum: &Quorum, passphrase: &[u8]) -> Result<Bytes, RecoverError>
+    ensures is_set { IsShareSet set.now }
+    ensures quorum { (result ≢ Err RecoverError.NotAQuorum) ↔ IsQuorum set.now quorum.now }
+    ensures secret { IfOk result (λ secret.
+        IsOutcome set.now quorum.now passphrase.now (Ok secret.items)) }
+    ensures mismatch { (mismatch : Mismatch) → result ≡ Err (RecoverError.DigestMismatch mismatch)
+        → IsOutcome set.now quorum.now passphrase.now (Err mismatch) }
+    ensures length { IfOk result (λ secret.
+        All (λ share. array_vec_len share.value ≡ array_vec_len secret) set.now) }
+    // Every quorum of shares of a created backup gives its secret, with the passphrase of the creation.
+    ensures created { (secret : List ℕ) → AreOfBackup set.now passphrase.now secret
+        → IsQuorum set.now quorum.now
+        → IsOkAnd result (λ recovered. recovered.items ≡ secret) }
+{
+    are_a_share_set(set);
+    if !is_quorum(set, quorum, &mut Looks::new()) {
+        return Err(RecoverError::NotAQuorum);
+    }
+    recover_quorum(set, quorum, passphrase).map_err(RecoverError::DigestMismatch)
+}
+
+/// The secret that a quorum of a set recovers with a passphrase, as `recover_by` gives it, or the mismatch to which
+/// its shares combine. The caller knows that the names are a quorum (`s39_set::is_quorum`).
+pub fn recover_quorum(set: &ShareSet, quorum: &Quorum, passphrase: &[u8]) -> Result<Bytes, Mismatch>
+    requires { IsQuorum set.now quorum.now }
+    ensures secret { IfOk result (λ secret.
+        IsOutcome set.now quorum.now passphrase.now (Ok secret.items)) }
+    ensures mismatch { IfErr result (λ mismatch.
+        IsOutcome set.now quorum.now passphrase.now (Err mismatch)) }
+    ensures length { IfOk result (λ secret.
+        All (λ share. array_vec_len share.value ≡ array_vec_len secret) set.now) }
+    // Shares of a created backup give its secret, with the passphrase of the creation.
+    ensures created { (secret : List ℕ) → AreOfBackup set.now passphrase.now secret
+        → IsOkAnd result (λ recovered. recovered.items ≡ secret) }
+{
+    are_a_share_set(set);
+    one_outcome();
+    every_quorum_recovers();
+    decipher_quorum(set, quorum, passphrase)
+}
+
+/// The secret that a quorum of a set recovers with a passphrase, or the mismatch to which its shares combine.
+fn decipher_quorum(set: &ShareSet, quorum: &Quorum, passphrase: &[u8]) -> Result<Bytes, Mismatch>
+    requires { IsQuorum set.now quorum.now }
+    ensures secret { IfOk result (λ secret.
+        IsOutcome set.now quorum.now passphrase.now (Ok secret.items)) }
+    ensures mismatch { IfErr result (λ mismatch.
+        IsOutcome set.now quorum.now passphrase.now (Err mismatch)) }
+    ensures length { IfOk result (λ secret.
+        All (λ share. array_vec_len share.value ≡ array_vec_len secret) set.now) }
+{
+    let encrypted = combine_quorum(set, quorum)?;
+    Ok(decrypt(&encrypted, passphrase, params_of(set, quorum)))
+}

@@ -1,0 +1,181 @@
+//! Plans, created backups and the memo, with values from outside.
+use super::*;
+use s39_kdf::{Bytes, Params};
+use s39_words::print;
+
+/// The master secret of a published vector.
+const SECRET: [u8; 16] = *b"\xbb\x54\xaa\xc4\xb8\x9d\xc8\x68\xba\x37\xd9\xcc\x21\xb2\xce\xce";
+
+#[test]
+fn refused_plans(rt: HostRuntime) {
+    let cases = [
+        ("1of3", 34),
+        ("3of2", 33),
+        ("2of17", 33),
+        ("3/1of1,1of1", 32),
+        ("1of1,1of1", 31),
+        ("0of1", 31),
+        ("02of3", 31),
+        ("2/2of3", 32),
+        (
+            "1/1of1,1of1,1of1,1of1,1of1,1of1,1of1,1of1,1of1,1of1,1of1,1of1,1of1,1of1,1of1,1of1,1of1",
+            32,
+        ),
+        ("0/1of1", 31),
+        ("1/1of1,", 31),
+        (" 1of1", 31),
+        ("100of1", 31),
+        ("", 31),
+        ("2/1of3,5of2", 34),
+        ("99of99", 33),
+        ("2/5of2,1of3", 33),
+        ("1/2of2,1of3", 34),
+        ("1/2of2/2of2", 31),
+        ("2of2x", 31),
+        ("1/", 31),
+    ];
+    for (text, code) in cases {
+        let refusal = Plan::parse(text).err();
+        assert_eq!(rt; refusal.map(|refusal| refusal.code()), Some(code));
+    }
+}
+
+#[test]
+fn accepted_plans(rt: HostRuntime) {
+    let plan = Plan::parse("16of16").expect(&rt, "a plan");
+    assert_eq!(rt; plan.group_threshold, 1);
+    assert_eq!(rt;
+        plan.groups.as_slice(),
+        [Members {
+            threshold: 16,
+            count: 16
+        }]
+        .as_slice()
+    );
+    for text in ["3of5", "1/3of5"] {
+        let plan = Plan::parse(text).expect(&rt, "a plan");
+        assert_eq!(rt; plan.group_threshold, 1);
+        assert_eq!(rt;
+            plan.groups.as_slice(),
+            [Members {
+                threshold: 3,
+                count: 5
+            }]
+            .as_slice()
+        );
+    }
+    let plan = Plan::parse("2/2of3,1of1,10of12").expect(&rt, "a plan");
+    assert_eq!(rt; plan.group_threshold, 2);
+    assert_eq!(rt;
+        plan.groups.as_slice(),
+        [
+            Members {
+                threshold: 2,
+                count: 3
+            },
+            Members {
+                threshold: 1,
+                count: 1
+            },
+            Members {
+                threshold: 10,
+                count: 12
+            }
+        ]
+        .as_slice()
+    );
+}
+
+#[test]
+fn published_mnemonic(rt: HostRuntime) {
+    let plan = Plan::parse("1of1").expect(&rt, "a plan");
+    let options = Options {
+        exponent: 0,
+        extendable: false,
+    };
+    let mut created = Created::new();
+    create(
+        &plan,
+        &SECRET,
+        b"TREZOR",
+        options,
+        b"\x1f\x09",
+        &mut created,
+    )
+    .expect(&rt, "accepted");
+    assert_eq!(rt; created.shares().len(), 1);
+    for share in created.shares() {
+        assert_eq!(rt;
+            print(share).as_slice(),
+            b"duckling enlarge academic academic agency result length solution fridge kidney coal piece deal husband erode duke ajar critical decision keyboard".as_slice()
+        );
+    }
+}
+
+#[test]
+fn five_mnemonics(rt: HostRuntime) {
+    let mnemonics: [&[u8]; 5] = [
+        b"academic aluminum acrobat leaf buyer drink heat negative damage union purchase photo inmate training amazing yield bucket wrote mule cluster",
+        b"academic aluminum acrobat lily august piece column laser headset unusual blimp nuclear sweater criminal credit eyebrow trouble silent axis skin",
+        b"academic aluminum acrobat lungs dive behavior mobile ting perfect ultimate weapon join paper involve clinic acrobat jerky preach gross usual",
+        b"academic aluminum beard leader chest elite grant group club deploy increase divorce puny cylinder romp frequent crush ruler erode bucket",
+        b"academic aluminum ceramic leader cylinder decorate mobile devote echo finger program firm starting dwarf grumpy harvest enforce raisin sprinkle phantom",
+    ];
+    let plan = Plan::parse("2/2of3,1of1,1of1").expect(&rt, "a plan");
+    let options = Options {
+        exponent: 0,
+        extendable: false,
+    };
+    let random = [
+        0, 1, 2, 3, 4, 5, 6, 7, 8, 9, 10, 11, 12, 13, 14, 15, 16, 17, 18, 19, 20, 21, 22, 23, 24,
+        25,
+    ];
+    let mut created = Created::new();
+    create(&plan, &SECRET, b"TREZOR", options, &random, &mut created).expect(&rt, "accepted");
+    assert_eq!(rt; created.shares().len(), 5);
+    for (share, mnemonic) in created.shares().iter().zip(mnemonics) {
+        assert_eq!(rt; print(share).as_slice(), mnemonic);
+    }
+}
+
+#[test]
+fn refused_creations(rt: HostRuntime) {
+    let plan = Plan::parse("1of1").expect(&rt, "a plan");
+    let options = Options {
+        exponent: 0,
+        extendable: false,
+    };
+    let mut created = Created::new();
+    let refusal = create(&plan, &[0; 14], b"a\x07", options, b"", &mut created).err();
+    assert_eq!(rt; refusal.map(|refusal| refusal.code()), Some(41));
+    let refusal = create(&plan, &[0; 14], b"", options, b"", &mut created).err();
+    assert_eq!(rt; refusal.map(|refusal| refusal.code()), Some(42));
+    for random in [b"".as_slice(), b"\x00", b"\x00\x00\x00"] {
+        let refusal = create(&plan, &SECRET, b"", options, random, &mut created).err();
+        assert_eq!(rt; refusal, Some(CreateError::BadRandomLength { needed: 2 }));
+    }
+    assert_eq!(rt; created.shares().len(), 0);
+}
+
+#[test]
+fn values_deciphered_once(rt: HostRuntime) {
+    let rows: [(&[u8], u64); 4] = [
+        (&[0, 0, 0, 0, 0, 0, 0], 1),
+        (&[0, 1, 0, 1], 2),
+        (&[0, 1, 2, 3, 4, 0], 6),
+        (&[0, 1, 2, 3, 4, 1], 5),
+    ];
+    let params = Params {
+        id: 0,
+        extendable: false,
+        exponent: 0,
+    };
+    for (values, made) in rows {
+        let mut memo = Memo::new(b"TREZOR", params);
+        for value in values {
+            let encrypted = Bytes::try_from([*value; 16].as_slice()).unwrap();
+            let _ = memo.secret(&encrypted);
+        }
+        assert_eq!(rt; memo.made(), made);
+    }
+}
