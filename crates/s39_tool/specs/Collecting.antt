@@ -1,10 +1,10 @@
 -- Within a run; no public contract cites this.
-use Rattle.std.specs.Prelude.{◌≡◌, ◌⊎◌, List, Contains, Some, None, Result, Ok, Err}
+use Rattle.std.specs.Prelude.{◌≡◌, ◌⊎◌, ℕ, List, Contains, Option, Some, None, Result, Ok, Err}
 use Rattle.s39_words.specs.declared.ShareFields.{ShareFields}
 use Rattle.s39_set.specs.ShareSet.{IsShareSet, HasOneMore, refusal_of}
-use Rattle.s39_set.specs.declared.set_error.SetError.{SetError}
-use Rattle.s39_tool.specs.declared.fault.Refusal.{Refusal}
-use Rattle.s39_tool.specs.declared.fault.Refusal.TheVariants.{Set}
+use Rattle.s39_tool.specs.declared.fault.LineRefusal.{LineRefusal}
+use Rattle.s39_tool.specs.Lines.{Holds}
+use Rattle.s39_tool.specs.Accepted.{IsRefusedAmong}
 
 -- the share isn't refused, and the set had it before or has it more
 pub record AddsShare (old : List ShareFields) (share : ShareFields) (new : List ShareFields) : Type 0 where
@@ -12,7 +12,12 @@ pub record AddsShare (old : List ShareFields) (share : ShareFields) (new : List 
   pub is_set : IsShareSet new
   pub added : (Contains old share × (new ≡ old)) ⊎ HasOneMore old share new
 
--- a share is taken by adding it, or refused for the first cause for which it can't join
-abbrev pub CollectsShare : List ShareFields → ShareFields → Result (Unit {0}) Refusal → List ShareFields → Type 0
-CollectsShare old share (Ok _) new = AddsShare old share new
-CollectsShare old share (Err refusal) new = (error : SetError) × (refusal_of old share ≡ Some error) × (refusal ≡ Set error)
+-- what a line holds is added
+abbrev pub AddsHeld : List ShareFields → Option ShareFields → List ShareFields → Type 0
+AddsHeld old None new = old ≡ new
+AddsHeld old (Some share) new = AddsShare old share new
+
+-- a line is taken by adding the share that it holds, or refused beside the shares of the set
+abbrev pub CollectsLine : List ShareFields → List ℕ → Result (Unit {0}) LineRefusal → List ShareFields → Type 0
+CollectsLine old line (Ok _) new = (held : Option ShareFields) × Holds line held × AddsHeld old held new
+CollectsLine old line (Err refusal) new = IsRefusedAmong old line refusal

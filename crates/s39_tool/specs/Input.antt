@@ -3,7 +3,10 @@ use Rattle.std.specs.Prelude.{ℕ, List, [], ◌∷◌, Bool, true, not, ◌==�
 use Rattle.std.specs.List.{slice_split}
 use Rattle.std.specs.Option.{option_map_or}
 use Rattle.s39_words.specs.Spelling.{is_separator}
-use Rattle.s39_tool.specs.declared.lines.TheConstants.{MAX_LINE_BYTES}
+
+-- the most bytes of a line, its line feed not counted
+abbrev pub longest_line : ℕ
+longest_line = 1024
 
 -- the bytes that came, and whether the input ended after them or failed
 pub record Input : Type 0 where
@@ -20,7 +23,7 @@ parts_of bytes = slice_split is_line_feed bytes
 -- the parts but the last, which no line feed ended; it is kept where it is too long already
 abbrev pub finished_parts : List (List ℕ) → List (List ℕ)
 finished_parts [] = []
-finished_parts (last ∷ []) = if nat_lt MAX_LINE_BYTES (length last) then last ∷ [] else []
+finished_parts (last ∷ []) = if nat_lt longest_line (length last) then last ∷ [] else []
 finished_parts (part ∷ next ∷ parts) = part ∷ finished_parts (next ∷ parts)
 
 -- The lines. The last one may lack its line feed where the input ended. Where it failed, a line that lacks it

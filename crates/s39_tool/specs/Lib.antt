@@ -2,12 +2,11 @@ pub mod Device
 pub mod Input
 pub mod Fault
 pub mod Lines
+pub mod Runs
 pub mod Midway
 pub mod Output
 pub mod Show
 pub mod Accepted
 pub mod Collecting
-pub mod Outcome
-pub mod GroupShares
-pub mod RecoverError
 pub mod Recover
+pub mod Create

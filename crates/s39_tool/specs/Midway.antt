@@ -1,39 +1,44 @@
 -- Within a run; no public contract cites this.
-use Rattle.std.specs.Prelude.{◌≡◌, ℕ, ◌≤◌, List, [], ◌∷◌, ◌++◌, length, Option, Some, None, Bool, if◌then◌else◌, Result, Ok, Err}
-use Rattle.s39_words.specs.declared.ShareFields.{ShareFields}
-use Rattle.s39_tool.specs.declared.lines.TheConstants.{MAX_LINE_BYTES}
-use Rattle.s39_tool.specs.declared.fault.Refusal.{Refusal}
-use Rattle.s39_tool.specs.declared.fault.Fault.{Fault}
-use Rattle.s39_tool.specs.Input.{parts_of}
-use Rattle.s39_tool.specs.Fault.{has_line, line_number}
-use Rattle.s39_tool.specs.Lines.{Holds, TakesAll, TakesLines, StopsAtLine}
+use Rattle.std.specs.Prelude.{◌≡◌, ℕ, ◌≤◌, List, [], ◌∷◌, ◌++◌, length, Bool, true, false, Result, Ok, Err}
+use Rattle.s39_tool.specs.declared.fault.RefusedLine.{RefusedLine}
+use Rattle.s39_tool.specs.declared.fault.Stop.{Stop}
+use Rattle.s39_tool.specs.declared.fault.Stop.TheVariants.{AtLine, ReadFailed}
+use Rattle.s39_tool.specs.Input.{Input, longest_line, parts_of, lines_of}
+use Rattle.s39_tool.specs.Fault.{line_number}
+use Rattle.s39_tool.specs.Lines.{IsRefusedLine}
 
--- the fault of this refusal at the line of this number
-abbrev pub fault_at : ℕ → Refusal → Fault
-fault_at number refusal = record { line = if has_line refusal then Some number else None; refusal = refusal }
+-- A run has a state, and takes lines: `takes old line answer new` where it answers so of a line.
+module _ {S C : Type 0} (takes : S → List ℕ → Result (Unit {0}) C → S → Type 0) where
+  -- these lines are taken, one after the other
+  abbrev pub TakesLines : List (List ℕ) → S → S → Type 0
+  TakesLines [] old new = old ≡ new
+  TakesLines (line ∷ lines) old new = (next : S) × takes old line (Ok tt) next × TakesLines lines next new
 
--- what the line holds is taken
-pub record TakesLine {S : Type 0} (takes : S → ShareFields → Result (Unit {0}) Refusal → S → Type 0) (line : List ℕ) (old new : S) : Type 0 where
-  pub held : Option ShareFields
-  pub holds : Holds line held
-  pub taken : TakesAll takes (held ∷ []) old new
+  -- the lines before one that is refused are taken
+  abbrev pub StopsAtLine : List (List ℕ) → S → S → RefusedLine C → Type 0
+  StopsAtLine lines old new refused =
+      (reached : S) × IsRefusedLine (λ taken mid. TakesLines taken old mid) (λ mid line cause. takes mid line (Err cause) new) lines reached refused
 
--- In the middle of a line.
-module _ {S : Type 0} (takes : S → ShareFields → Result (Unit {0}) Refusal → S → Type 0) where
+  -- the run takes the lines up to the first that is refused, and answers so
+  abbrev pub RunsOver : Input → S → S → Result (Unit {0}) (Stop C) → Type 0
+  RunsOver input old new (Ok _) = (input.ended ≡ true) × TakesLines (lines_of input) old new
+  RunsOver input old new (Err (AtLine refused)) = StopsAtLine (lines_of input) old new refused
+  RunsOver input old new (Err ReadFailed) = (input.ended ≡ false) × TakesLines (lines_of input) old new
+
   -- of the bytes that came, the lines that ended are taken, and these are left of the line with this number
   pub record IsMidway (came unfinished : List ℕ) (number : ℕ) (old new : S) : Type 0 where
     pub lines : List (List ℕ)
-    pub taken : TakesLines takes lines old new
+    pub taken : TakesLines lines old new
     pub parts : parts_of came ≡ lines ++ unfinished ∷ []
-    pub short : length unfinished ≤ MAX_LINE_BYTES
+    pub short : length unfinished ≤ longest_line
     pub number_is : number ≡ line_number (length lines)
 
   -- the run stops at a line that is refused whatever follows the bytes that came
-  abbrev pub StopsWithin : List ℕ → S → S → Fault → Type 0
-  StopsWithin came old new fault =
-      (rest : List ℕ) (ended : Bool) → StopsAtLine takes (record { bytes = came ++ rest; ended = ended }) old new fault
+  abbrev pub StopsWithin : List ℕ → S → S → RefusedLine C → Type 0
+  StopsWithin came old new refused =
+      (rest : List ℕ) (ended : Bool) → StopsAtLine (lines_of (record { bytes = came ++ rest; ended = ended })) old new refused
 
   -- after these bytes the run is in the middle of a line, or it has stopped
-  abbrev pub ReachesOrStops : List ℕ → List ℕ → ℕ → S → S → Result (Unit {0}) Fault → Type 0
+  abbrev pub ReachesOrStops : List ℕ → List ℕ → ℕ → S → S → Result (Unit {0}) (RefusedLine C) → Type 0
   ReachesOrStops came unfinished number old new (Ok _) = IsMidway came unfinished number old new
-  ReachesOrStops came unfinished number old new (Err fault) = StopsWithin came old new fault
+  ReachesOrStops came unfinished number old new (Err refused) = StopsWithin came old new refused

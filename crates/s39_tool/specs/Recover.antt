@@ -1,40 +1,42 @@
 -- The output of `recover`.
-use Rattle.std.specs.Prelude.{◌≡◌, ◌⊎◌, ℕ, ◌+◌, List, [], ◌∷◌, ◌++◌, All, Option, None, Result, Ok, Err}
-use Rattle.std.specs.Io.KnownBytes.{Appends}
+use Rattle.std.specs.Prelude.{◌≡◌, ◌⊎◌, ℕ, List, [], ◌∷◌, ◌++◌, All, None, Result, Ok, Err}
 use Rattle.hex.specs.Hex.{encode_lower}
 use Rattle.s39_kdf.specs.declared.limits.BadPassphrase.{BadPassphrase}
 use Rattle.s39_kdf.specs.Limits.{IsPrintable, IsFirstUnprintable}
 use Rattle.s39_words.specs.declared.ShareFields.{ShareFields}
 use Rattle.s39_set.specs.Quorums.{IsLeastQuorum}
 use Rattle.s39_set.specs.Lack.{IsLack}
-use Rattle.s39_tool.specs.declared.fault.Refusal.{Refusal}
-use Rattle.s39_tool.specs.declared.fault.Refusal.TheVariants.{Passphrase, Lack, DigestMismatch, WriteFailed}
+use Rattle.s39_tool.specs.declared.fault.Refusal.TheVariants.{Passphrase, Lack as LackRefusal, DigestMismatch as MismatchRefusal}
+use Rattle.s39_tool.specs.declared.fault.LineRefusal.{LineRefusal}
+use Rattle.s39_tool.specs.declared.fault.Stop.{Stop}
 use Rattle.s39_tool.specs.declared.fault.Fault.{Fault}
-use Rattle.s39_tool.specs.Device.{Counted}
+use Rattle.s39_tool.specs.declared.recover.Unrecovered.{Unrecovered}
+use Rattle.s39_tool.specs.declared.recover.Unrecovered.TheVariants.{Lack, DigestMismatch}
+use Rattle.s39_backup.specs.declared.combination.Mismatch.{Mismatch}
 use Rattle.s39_tool.specs.Input.{Input}
-use Rattle.s39_tool.specs.Output.{WritesWhole}
+use Rattle.s39_tool.specs.Fault.{fault_of, fault_of_stop}
 use Rattle.s39_tool.specs.Accepted.{IsReadAs}
-use Rattle.s39_tool.specs.Outcome.{IsOutcome}
+use Rattle.s39_backup.specs.Outcome.{IsOutcome}
 
 -- the line that shows a secret: lower-case hexadecimal, and a line feed
 abbrev pub secret_line : List ℕ → List ℕ
 secret_line secret = encode_lower secret ++ 10 ∷ []
 
--- a fault at no line
-abbrev pub fault_of : Refusal → Fault
-fault_of refusal = record { line = None; refusal = refusal }
-
 -- the least quorum of the set has this outcome
-pub record HasOutcome (set : List ShareFields) (passphrase : List ℕ) (outcome : Result (List ℕ) (Option ℕ)) : Type 0 where
+pub record HasOutcome (set : List ShareFields) (passphrase : List ℕ) (outcome : Result (List ℕ) Mismatch) : Type 0 where
   pub names : List (ℕ × ℕ)
   pub least : IsLeastQuorum set names
   pub outcome_is : IsOutcome set names passphrase outcome
 
 -- why no secret is recovered from the set: it has no quorum, or the digests of the least one mismatch
-abbrev pub IsUnrecovered : List ShareFields → List ℕ → Refusal → Type 0
+abbrev pub IsUnrecovered : List ShareFields → List ℕ → Unrecovered → Type 0
 IsUnrecovered set passphrase (Lack lack) = IsLack set lack
-IsUnrecovered set passphrase (DigestMismatch group) = HasOutcome set passphrase (Err group)
-IsUnrecovered set passphrase _ = ⊥
+IsUnrecovered set passphrase (DigestMismatch mismatch) = HasOutcome set passphrase (Err mismatch)
+
+-- the fault of a set that gives no secret
+abbrev pub fault_of_unrecovered : Unrecovered → Fault
+fault_of_unrecovered (Lack lack) = fault_of (LackRefusal lack)
+fault_of_unrecovered (DigestMismatch mismatch) = fault_of (MismatchRefusal mismatch)
 
 -- the passphrase is refused for its first byte that isn't printable
 pub record RefusesPassphrase (passphrase : List ℕ) (fault : Fault) : Type 0 where
@@ -45,11 +47,11 @@ pub record RefusesPassphrase (passphrase : List ℕ) (fault : Fault) : Type 0 wh
 -- the set of the input's shares gives no secret
 pub record RefusesSet (passphrase : List ℕ) (input : Input) (fault : Fault) : Type 0 where
   pub set : List ShareFields
-  pub refusal : Refusal
+  pub cause : Unrecovered
   pub printable : All IsPrintable passphrase
   pub read : IsReadAs input (Ok set)
-  pub refused : IsUnrecovered set passphrase refusal
-  pub fault_is : fault ≡ fault_of refusal
+  pub refused : IsUnrecovered set passphrase cause
+  pub fault_is : fault ≡ fault_of_unrecovered cause
 
 -- this secret is recovered from the set of the input's shares
 pub record RecoversSecret (passphrase : List ℕ) (input : Input) (text : List ℕ) : Type 0 where
@@ -67,21 +69,5 @@ IsRecoverOutput passphrase input text (Ok _) = RecoversSecret passphrase input t
 IsRecoverOutput passphrase input text (Err fault) =
     (text ≡ [])
     × (RefusesPassphrase passphrase fault
-    ⊎ (All IsPrintable passphrase × IsReadAs input (Err fault))
+    ⊎ ((stop : Stop LineRefusal) × All IsPrintable passphrase × IsReadAs input (Err stop) × (fault ≡ fault_of_stop stop))
     ⊎ RefusesSet passphrase input fault)
-
--- the writer's bytes grow by what `recover` writes for the input, with this answer
-pub record WritesRecovery {W : Type 0} (contents : W → Option (List ℕ)) (old new : W) (passphrase : List ℕ) (input : Input)
-    (answer : Result (Unit {0}) Fault) : Type 0 where
-  pub text : List ℕ
-  pub appends : Appends (contents old) (contents new) text
-  pub output : IsRecoverOutput passphrase input text answer
-
--- Within a run; no public contract cites this.
-module _ {W : Type 0} (contents : W → Option (List ℕ)) where
-  -- the secret's line is written, or no secret is recovered and nothing is written, or a write fails
-  abbrev pub WritesSecret : List ShareFields → List ℕ → Counted W → Counted W → Result (Unit {0}) Refusal → Type 0
-  WritesSecret set passphrase old new (Ok _) =
-      (secret : List ℕ) × HasOutcome set passphrase (Ok secret) × WritesWhole contents old (secret_line secret) new
-  WritesSecret set passphrase old new (Err refusal) =
-      (IsUnrecovered set passphrase refusal × (new ≡ old)) ⊎ ((refusal ≡ WriteFailed) × (new.failures ≡ old.failures + 1))

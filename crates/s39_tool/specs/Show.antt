@@ -1,19 +1,24 @@
 -- The output of `show`.
-use Rattle.std.specs.Prelude.{◌≡◌, ◌⊎◌, ℕ, List, [], ◌∷◌, ◌++◌, codes, length, Option, Some, None, true, false, Result, Ok, Err}
+use Rattle.std.specs.Prelude.{◌≡◌, ◌⊎◌, ℕ, List, [], ◌∷◌, ◌++◌, codes, Option, Some, None, Result, Ok, Err}
 use Rattle.std.specs.Fmt.{decimal}
 use Rattle.std.specs.List.{AllZip, flat_map}
-use Rattle.std.specs.Io.KnownBytes.{Appends}
 use Rattle.hex.specs.Hex.{encode_lower}
 use Rattle.s39_words.specs.declared.ShareFields.{ShareFields}
-use Rattle.s39_tool.specs.declared.fault.Refusal.{Refusal}
-use Rattle.s39_tool.specs.declared.fault.Refusal.TheVariants.{ReadFailed}
-use Rattle.s39_tool.specs.declared.fault.Fault.{Fault}
 use Rattle.s39_words.specs.Share.{flag_bit}
+use Rattle.s39_tool.specs.declared.fault.LineRefusal.{LineRefusal}
+use Rattle.s39_tool.specs.declared.fault.Stop.{Stop}
+use Rattle.s39_tool.specs.declared.fault.Stop.TheVariants.{AtLine, ReadFailed}
+use Rattle.s39_tool.specs.declared.fault.RefusedLine.{RefusedLine}
+use Rattle.s39_tool.specs.declared.fault.DeviceFailure.TheVariants.{Write}
+use Rattle.s39_tool.specs.declared.fault.Refusal.TheVariants.{Device}
+use Rattle.s39_tool.specs.declared.fault.Fault.{Fault}
+use Rattle.s39_tool.specs.declared.show.ShowRefusal.{ShowRefusal}
+use Rattle.s39_tool.specs.declared.show.ShowRefusal.TheVariants.{Line, WriteFailed}
 use Rattle.s39_tool.specs.Device.{Counted}
-use Rattle.s39_tool.specs.Output.{WritesLine}
-use Rattle.s39_tool.specs.Input.{Input, lines_of}
-use Rattle.s39_tool.specs.Fault.{fault_after}
-use Rattle.s39_tool.specs.Lines.{Holds, IsRefusedBy}
+use Rattle.s39_tool.specs.Output.{WritesWhole, WritesPart}
+use Rattle.s39_tool.specs.Input.{Input}
+use Rattle.s39_tool.specs.Fault.{fault_of, fault_of_stop, answer_of}
+use Rattle.s39_tool.specs.Lines.{Holds, IsRefusedBy, LeadTo}
 
 -- the fields but the value, numbers in decimal
 abbrev pub header_text : ShareFields → List ℕ
@@ -40,41 +45,32 @@ line_text (Some share) = show_line share
 abbrev pub show_text : List (Option ShareFields) → List ℕ
 show_text held = flat_map line_text held
 
--- the lines before the first that is refused hold these
-pub record IsRefusedAfter (input : Input) (held : List (Option ShareFields)) (fault : Fault) : Type 0 where
-  pub before : List (List ℕ)
-  pub line : List ℕ
-  pub after : List (List ℕ)
-  pub parts : lines_of input ≡ before ++ line ∷ after
-  pub holds : AllZip Holds before held
-  pub refused : IsRefusedBy line fault.refusal
-  pub fault_is : fault ≡ fault_after (length before) fault.refusal
-
--- all lines hold these, and then the input failed
-pub record IsCutOffAfter (input : Input) (held : List (Option ShareFields)) (fault : Fault) : Type 0 where
-  pub failed : input.ended ≡ false
-  pub holds : AllZip Holds (lines_of input) held
-  pub fault_is : fault ≡ record { line = None; refusal = ReadFailed }
-
--- the answer, where the lines up to the first that is refused, or else all of them, hold these
-abbrev pub IsShowAnswer : Input → List (Option ShareFields) → Result (Unit {0}) Fault → Type 0
-IsShowAnswer input held (Ok _) = (input.ended ≡ true) × AllZip Holds (lines_of input) held
-IsShowAnswer input held (Err fault) = IsRefusedAfter input held fault ⊎ IsCutOffAfter input held fault
+-- the input's lines hold these, up to where they stop: each line by itself
+abbrev pub HoldEach : Input → List (Option ShareFields) → Result (Unit {0}) (Stop LineRefusal) → Type 0
+HoldEach = LeadTo (AllZip Holds) (λ held line refusal. IsRefusedBy line refusal)
 
 -- `show` writes this text for the input, and answers so
 pub record IsShowOutput (input : Input) (text : List ℕ) (answer : Result (Unit {0}) Fault) : Type 0 where
   pub held : List (Option ShareFields)
+  pub stop : Result (Unit {0}) (Stop LineRefusal)
+  pub holds : HoldEach input held stop
   pub text_is : text ≡ show_text held
-  pub answer_is : IsShowAnswer input held answer
+  pub answer_is : answer ≡ answer_of stop
 
--- What a writer does.
+-- Within a run; no public contract cites this.
 module _ {W : Type 0} (contents : W → Option (List ℕ)) where
-  -- the writer's bytes grow by what `show` writes for the input, with this answer
-  pub record Shows (old new : W) (input : Input) (answer : Result (Unit {0}) Fault) : Type 0 where
-    pub text : List ℕ
-    pub appends : Appends (contents old) (contents new) text
-    pub output : IsShowOutput input text answer
+  -- what is written for a line, or why it isn't
+  abbrev pub ShowsLine : Counted W → List ℕ → Result (Unit {0}) ShowRefusal → Counted W → Type 0
+  ShowsLine old line (Ok _) new = (held : Option ShareFields) × Holds line held × WritesWhole contents old (line_text held) new
+  ShowsLine old line (Err (Line refusal)) new = IsRefusedBy line refusal × (old ≡ new)
+  ShowsLine old line (Err WriteFailed) new = (share : ShareFields) × Holds line (Some share) × WritesPart contents old (show_line share) new
 
-  -- a share is taken by writing its line; no public contract cites this
-  abbrev pub ShowsShare : Counted W → ShareFields → Result (Unit {0}) Refusal → Counted W → Type 0
-  ShowsShare old share answer new = WritesLine contents old (show_line share) answer new
+-- the fault of a line that isn't shown
+abbrev pub fault_of_line : ℕ → ShowRefusal → Fault
+fault_of_line number (Line refusal) = fault_of_stop (AtLine (record { number = number; refusal = refusal }))
+fault_of_line number WriteFailed = fault_of (Device Write)
+
+-- the fault of a run that stopped so
+abbrev pub fault_of_show : Stop ShowRefusal → Fault
+fault_of_show (AtLine refused) = fault_of_line refused.number refused.refusal
+fault_of_show ReadFailed = fault_of_stop ReadFailed

@@ -1,19 +1,23 @@
 //! What the commands of the program `shamir` do, over readers and writers: counted devices, faults, the lines of
-//! an input, what a quorum recovers, and the runs `show` and `recover`.
+//! an input, and the runs `show`, `create` and `recover`.
 #![tactic(auto)]
 
 mod collect;
+mod creating;
 mod device;
 mod fault;
 pub mod laws;
 mod lines;
-mod outcome;
 mod output;
 mod recover;
 mod show;
 
+pub use creating::run_create;
 pub use device::Counting;
-pub use fault::{Fault, Refusal};
-pub use outcome::{RecoverError, recover_by};
-pub use recover::run_recover;
+pub use fault::{DeviceFailure, Fault, LineRefusal, Refusal, RefusedLine, Stop};
+pub use recover::{Unrecovered, run_recover};
+pub use s39_backup::{
+    CreateError, Created, Members, Mismatch, Options, Plan, PlanError, RecoverError, create,
+    recover_by,
+};
 pub use show::run_show;

@@ -2,24 +2,28 @@
 ghost use Rattle.std.specs.Prelude.{◌≡◌, ◌+◌, ◌*◌, ◌<◌, ◌≤◌, ◌++◌, length};
 ghost use Rattle.std.specs.Fmt.{decimal};
 ghost use Rattle.hex.specs.Hex.{encode_lower};
-ghost use Rattle.s39_tool.specs.Output.{WritesLine};
+ghost use Rattle.s39_kdf.specs.Limits.{longest_secret};
+ghost use Rattle.s39_tool.specs.declared.output.TheConstants.{LINE_BYTES};
+ghost use Rattle.s39_tool.specs.Output.{WritesText};
 
 use crate::device::Counting;
-use crate::fault::Refusal;
+use crate::fault::{DeviceFailure, Fault, Refusal};
 use arrayvec::ArrayVec;
+use s39_kdf::MAX_SECRET_BYTES;
+use s39_set::MAX_NAMES;
 use std::io::Write;
 
-/// The longest value of a share, in bytes.
-const VALUE_BYTES: usize = 64;
+/// The most bytes of a name in a list of names: two numbers of two digits, a point, and a sign between names.
+const NAME_BYTES: usize = 6;
 
-/// Room for any line.
-const LINE_BYTES: usize = 512;
+/// The most bytes of a line: all names that there are, a space, a secret in hexadecimal, and a line feed.
+const LINE_BYTES: usize = NAME_BYTES * MAX_NAMES + 2 * MAX_SECRET_BYTES + 2;
 
 /// A line of an output, as it is made.
 pub(crate) type Line = ArrayVec<u8, LINE_BYTES>;
 
 pub(crate) fn push_text(line: &mut Line, text: &[u8])
-    requires { length line.old.items + length text.now ≤ 512 }
+    requires { length line.old.items + length text.now ≤ LINE_BYTES }
     ensures { line.new.items ≡ line.old.items ++ text.now }
 {
     let Ok(()) = line.try_extend_from_slice(text) else {
@@ -28,7 +32,7 @@ pub(crate) fn push_text(line: &mut Line, text: &[u8])
 }
 
 fn push_number(line: &mut Line, number: u16)
-    requires { length line.old.items + length (decimal number) ≤ 512 }
+    requires { length line.old.items + length (decimal number) ≤ LINE_BYTES }
     ensures { line.new.items ≡ line.old.items ++ decimal number }
 {
     if number >= 10 {
@@ -38,7 +42,7 @@ fn push_number(line: &mut Line, number: u16)
 }
 
 pub(crate) fn push_field(line: &mut Line, name: &[u8], number: u16)
-    requires { length line.old.items + length name.now + 5 ≤ 512 }
+    requires { length line.old.items + length name.now + 5 ≤ LINE_BYTES }
     ensures text { line.new.items ≡ line.old.items ++ name.now ++ decimal number }
     ensures room { length line.new.items ≤ length line.old.items + length name.now + 5 }
 {
@@ -47,11 +51,11 @@ pub(crate) fn push_field(line: &mut Line, name: &[u8], number: u16)
 }
 
 pub(crate) fn push_hex(line: &mut Line, bytes: &[u8])
-    requires short { length bytes.now ≤ 64 }
-    requires room { length line.old.items + 2 * length bytes.now ≤ 512 }
+    requires short { length bytes.now ≤ longest_secret }
+    requires room { length line.old.items + 2 * length bytes.now ≤ LINE_BYTES }
     ensures { line.new.items ≡ line.old.items ++ encode_lower bytes.now }
 {
-    let mut digits = [0; 2 * VALUE_BYTES];
+    let mut digits = [0; 2 * MAX_SECRET_BYTES];
     let digits = &mut digits[..2 * bytes.len()];
     let Ok(()) = hex::encode_to_slice(bytes, digits) else {
         unreachable!();
@@ -59,17 +63,33 @@ pub(crate) fn push_hex(line: &mut Line, bytes: &[u8])
     push_text(line, digits);
 }
 
-/// Writes a line whole, by as many writes as the device takes for it, or up to the first that fails.
-pub(crate) fn write_line<W: Write>(output: &mut Counting<W>, line: &[u8]) -> Result<(), Refusal>
+/// A write failed, or took no byte.
+#[derive(Clone, Copy, Debug, PartialEq, Eq)]
+pub(crate) struct WriteFailed;
+
+impl From<WriteFailed> for Fault {
+    ghost use Rattle.s39_tool.specs.Fault.{fault_of};
+    ghost use Rattle.s39_tool.specs.declared.fault.Refusal.TheVariants.{Device};
+    ghost use Rattle.s39_tool.specs.declared.fault.DeviceFailure.TheVariants.{Write as WriteFails};
+
+    ghost from_gives = { λ failed fault. fault ≡ fault_of (Device WriteFails) };
+
+    fn from(_failed: WriteFailed) -> Fault {
+        Fault::from(Refusal::Device(DeviceFailure::Write))
+    }
+}
+
+/// Writes a text whole, by as many writes as the device takes for it, or up to the first that fails.
+pub(crate) fn write_text<W: Write>(output: &mut Counting<W>, text: &[u8]) -> Result<(), WriteFailed>
     requires { output.old.failures < u64.MAX }
-    ensures { WritesLine W.contents output.old line.now result output.new }
+    ensures { WritesText W.contents output.old text.now result output.new }
 {
-    let mut rest = line;
+    let mut rest = text;
     while !rest.is_empty() {
-        match output.write(rest) {
-            Ok(count) => rest = &rest[count..],
-            Err(_) => return Err(Refusal::WriteFailed),
-        }
+        let Ok(count) = output.write(rest) else {
+            return Err(WriteFailed);
+        };
+        rest = &rest[count..];
     }
     Ok(())
 }

@@ -1,20 +1,24 @@
 //! The command `show`: the fields of each mnemonic of an input, a line for each.
-ghost use Rattle.std.specs.Prelude.{◌≡◌, ◌≢◌, ℕ, ◌+◌, ◌*◌, ◌<◌, ◌≤◌, List, [], ◌++◌, length, true, false, IfSome};
-ghost use Rattle.std.specs.Io.KnownBytes.{Consumes};
-ghost use Rattle.s39_tool.specs.Show.{header_text, show_line, Shows};
-ghost use Rattle.s39_tool.specs.Fault.{read_failures, write_failures};
+ghost use Rattle.std.specs.Prelude.{◌≡◌, ◌+◌, ◌*◌, ◌<◌, ◌≤◌, [], ◌++◌, length};
+ghost use Rattle.s39_tool.specs.declared.show.TheConstants.{HEADER_BYTES};
+ghost use Rattle.s39_tool.specs.Runs.{Runs};
+ghost use Rattle.s39_tool.specs.Show.{IsShowOutput, header_text, show_line, fault_of_show};
 
 use crate::device::Counting;
-use crate::fault::{Fault, Refusal};
-use crate::lines::{TakeShare, take_shares};
-use crate::output::{Line, push_field, push_hex, push_text, write_line};
+use crate::fault::{DeviceFailure, Fault, LineRefusal, Refusal, Stop};
+use crate::lines::{TakeLine, share_in, take_lines};
+use crate::output::{Line, WriteFailed, push_field, push_hex, push_text, write_text};
 use s39_words::Share;
+use s39_words::laws::every_text_has_a_reading;
 use std::io::{Read, Write};
+
+/// Room for the fields before the value: their names, and eight numbers of at most five digits.
+const HEADER_BYTES: usize = 256;
 
 fn push_header(line: &mut Line, share: &Share)
     requires { line.old.items ≡ [] }
     ensures text { line.new.items ≡ header_text share.now }
-    ensures room { length line.new.items ≤ 256 }
+    ensures room { length line.new.items ≤ HEADER_BYTES }
 {
     push_field(line, b"identifier ", share.id());
     push_field(line, b" extendable ", u16::from(share.extendable()));
@@ -46,17 +50,61 @@ fn line_of(share: &Share) -> Line
     line
 }
 
-/// An output takes a share by writing the line that shows it.
-impl<W: Write> TakeShare for Counting<W> {
-    ghost use Rattle.std.specs.Prelude.{◌<◌, ◌-◌, ◌^◌};
-    ghost use Rattle.s39_tool.specs.Show.{ShowsShare};
+/// Why a line isn't shown.
+#[derive(Clone, Copy, PartialEq, Eq)]
+pub(crate) enum ShowRefusal {
+    /// The line is refused.
+    Line(LineRefusal),
+    /// A write of it failed.
+    WriteFailed,
+}
+
+/// An output takes a line by writing the fields of the share that it holds.
+impl<W: Write> TakeLine for Counting<W> {
+    ghost use Rattle.std.specs.Prelude.{◌<◌, ◌-◌, ◌^◌, refl};
+    ghost use Rattle.s39_tool.specs.Show.{ShowsLine};
+    ghost use Rattle.s39_tool.specs.declared.fault.LineRefusal.TheVariants.{TooLong};
+    ghost use Rattle.s39_tool.specs.declared.show.ShowRefusal.TheVariants.{Line as AtLine};
+
+    type Refusal = ShowRefusal;
 
     ghost can_take = { λ output. output.failures < 2 ^ 64 - 1 };
 
-    ghost takes = { ShowsShare W.contents };
+    ghost takes = { ShowsLine W.contents };
 
-    fn take_share(&mut self, share: Share) -> Result<(), Refusal> {
-        write_line(self, line_of(&share).as_slice())
+    ghost length_refusal = { AtLine TooLong };
+
+    fn take_line(&mut self, line: &[u8]) -> Result<(), ShowRefusal> {
+        match share_in(line) {
+            Ok(Some(share)) => match write_text(self, line_of(&share).as_slice()) {
+                Ok(()) => Ok(()),
+                Err(WriteFailed) => Err(ShowRefusal::WriteFailed),
+            },
+            Ok(None) => Ok(()),
+            Err(refusal) => Err(ShowRefusal::Line(refusal)),
+        }
+    }
+
+    fn too_long() -> ShowRefusal {
+        ShowRefusal::Line(LineRefusal::TooLong)
+    }
+
+    ghost refuses_long = { λ output line long. (long, refl) };
+}
+
+/// The fault of a run that stopped so.
+fn fault_of_show(stop: Stop<ShowRefusal>) -> Fault
+    ensures { result ≡ fault_of_show stop }
+{
+    match stop {
+        Stop::AtLine(refused) => match refused.refusal {
+            ShowRefusal::Line(refusal) => Fault {
+                line: Some(refused.number),
+                refusal: Refusal::Line(refusal),
+            },
+            ShowRefusal::WriteFailed => Fault::from(Refusal::Device(DeviceFailure::Write)),
+        },
+        Stop::ReadFailed => Fault::from(Refusal::Device(DeviceFailure::Read)),
     }
 }
 
@@ -64,31 +112,18 @@ impl<W: Write> TakeShare for Counting<W> {
 ///
 /// A line with no byte but separators, or whose first other byte is `#`, is skipped. The first line that is refused
 /// ends the run: the lines for those before it are written, and the answer is its number with the cause, a word error
-/// or `LineTooLong` (more than 1,024 bytes). Where a read fails, the lines that ended before are shown and the answer is
-/// `ReadFailed`. Where a write fails or takes no byte, the answer is `WriteFailed`. The caller keeps both `failures()`
-/// below `u64::MAX`.
+/// or `TooLong` (more than 1,024 bytes). Where a read fails, the lines that ended before are shown and the answer is
+/// that the reader failed. Where a write fails or takes no byte, a beginning of the output is written and the answer is
+/// that the writer failed. The caller keeps both `failures()` below `u64::MAX`.
 pub fn run_show<R: Read, W: Write>(
     input: &mut Counting<R>,
     output: &mut Counting<W>,
 ) -> Result<(), Fault>
     requires readable { input.old.failures < u64.MAX }
     requires writable { output.old.failures < u64.MAX }
-
-    // Of a reader that tells its bytes, where no device fails, all of them are shown.
-    ensures shown { input.new.failures ≡ input.old.failures
-        → output.new.failures ≡ output.old.failures
-        → IfSome (R.remaining input.old.device) (λ bytes.
-        Shows W.contents output.old.device output.new.device
-        (record { bytes = bytes; ended = true }) result) }
-    // Where a read fails, the bytes that came before it are shown.
-    ensures cut_off { input.new.failures ≢ input.old.failures → (came : List ℕ)
-        × Consumes (R.remaining input.old.device) (R.remaining input.new.device) came
-        × Shows W.contents output.old.device output.new.device
-        (record { bytes = came; ended = false }) result }
-
-    // A failed read or write ends the run, which says which it was.
-    ensures read_failures { input.new.failures ≡ input.old.failures + read_failures result }
-    ensures write_failures { output.new.failures ≡ output.old.failures + write_failures result }
+    ensures { Runs R.remaining W.contents IsShowOutput input.old input.new output.old output.new
+        result }
 {
-    take_shares(input, output)
+    every_text_has_a_reading();
+    take_lines(input, output).map_err(fault_of_show)
 }

@@ -1,4 +1,4 @@
-use Rattle.s39_tool.proofs.OneRecover.{recover_once}
+use Rattle.s39_tool.proofs.Runs.OneRecover.{recover_once}
 use Rattle.s39_tool.proofs.laws.one_recover_output.Goals as goal
 
 pub returns : goal.returns

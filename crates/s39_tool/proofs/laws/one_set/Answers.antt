@@ -1,4 +1,4 @@
-use Rattle.s39_tool.proofs.OneSet.{read_once}
+use Rattle.s39_tool.proofs.Sets.OneSet.{read_once}
 use Rattle.s39_tool.proofs.laws.one_set.Goals as goal
 
 pub returns : goal.returns

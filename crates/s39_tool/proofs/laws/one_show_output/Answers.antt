@@ -1,4 +1,4 @@
-use Rattle.s39_tool.proofs.OneOutput.{output_once}
+use Rattle.s39_tool.proofs.Runs.ShowOutput.{output_once}
 use Rattle.s39_tool.proofs.laws.one_show_output.Goals as goal
 
 pub returns : goal.returns

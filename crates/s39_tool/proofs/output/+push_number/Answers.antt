@@ -1,7 +1,8 @@
 use Rattle.std.proofs.Common.{◌≡◌, ◌+◌, ◌/◌, ◌%◌, ◌<◌, ◌++◌, ◌∷◌, [], length, arith, refl, ap}
+use Rattle.s39_tool.specs.declared.output.TheConstants.{LINE_BYTES}
 use Rattle.std.specs.Fmt.{decimal}
 use Rattle.std.proofs.lemmas.List.{length-append, append_assoc}
-use Rattle.s39_tool.proofs.Decimals.{decimal-digit, decimal-digits}
+use Rattle.s39_tool.proofs.Texts.Decimals.{decimal-digit, decimal-digits}
 use Rattle.s39_tool.proofs.output.+push_number.Goals as goal
 use Rattle.s39_tool.proofs.output.+push_number.Goals.{then-number-ge10, else-number-ge10}
 
@@ -18,7 +19,7 @@ pub push-requires : goal.push-requires
 push-requires t c =
     let n = c.args.number in
     let room = c.requires in
-    let fits : length c.if-number-ge10.line.items < 512 =
+    let fits : length c.if-number-ge10.line.items < LINE_BYTES =
     elim c.if-number-ge10.branch [
       | then-number-ge10 w ↦
           let whole : length (decimal n) ≡ length (decimal (n / 10) ++ (48 + n % 10) ∷ []) = ap length (decimal-digits n w.if-number-ge10.true (omega arith)) in

@@ -1,6 +1,6 @@
 use Rattle.std.proofs.Common.{arith}
 use Rattle.std.proofs.lemmas.List.{length-append}
-use Rattle.s39_tool.proofs.Decimals.{length-decimal-u16}
+use Rattle.s39_tool.proofs.Texts.Decimals.{length-decimal-u16}
 use Rattle.s39_tool.proofs.output.push_field.Goals as goal
 
 pub push_number-requires : goal.push_number-requires

@@ -1,24 +1,19 @@
-use Rattle.std.proofs.Common.{◌≡◌, true, false, arith}
-use Rattle.std.proofs.lemmas.Option.{IfSome_then}
-use Rattle.s39_tool.specs.Fault.{write_failures}
-use Rattle.s39_tool.proofs.Shown.{one_failure, runs_shown, runs_write_failures}
+use Rattle.std.proofs.Common.{subst, sym, ◌∙◌, ap, ◌+◌}
+use Rattle.s39_tool.specs.Show.{IsShowOutput}
+use Rattle.s39_tool.specs.Runs.{Runs}
+use Rattle.s39_tool.proofs.Runs.Devices.{OfInput-map}
+use Rattle.s39_tool.proofs.Runs.Shown.{answer_of_show, answered, answers_read_failures, runs_shown, shown_failures}
 use Rattle.s39_tool.proofs.show.run_show.Goals as goal
 
-pub returns-clause-shown : goal.returns-clause-shown
-returns-clause-shown g c =
-    λ read written. IfSome_then (g.R.Read.remaining c.args.input.now.device) (c.take_shares.ensures.whole read) (λ bytes runs. runs_shown g.W.Write.contents (record { bytes = bytes; ended = true }) c.args.output.now c.take_shares.new.taker c.take_shares.result runs written)
-
-pub returns-clause-cut_off : goal.returns-clause-cut_off
-returns-clause-cut_off g c =
-    λ failed.
-    let cut = c.take_shares.ensures.cut_off failed in
-    let reads = c.take_shares.ensures.failures in
-    let runs = runs_write_failures g.W.Write.contents (record { bytes = cut.0; ended = false }) c.args.output.now c.take_shares.new.taker c.take_shares.result cut.2 in
-    let one : write_failures c.take_shares.result ≡ 0 = one_failure c.take_shares.result (λ none. failed (omega (arith, none))) in
-    let same : c.take_shares.new.taker.failures ≡ c.args.output.now.failures = omega (arith, runs, one) in
-    (cut.0, cut.1, runs_shown g.W.Write.contents (record { bytes = cut.0; ended = false }) c.args.output.now c.take_shares.new.taker c.take_shares.result cut.2 same)
-
-pub returns-clause-write_failures : goal.returns-clause-write_failures
-returns-clause-write_failures g c =
-    let came = c.take_shares.ensures.came in
-    runs_write_failures g.W.Write.contents (record { bytes = came.0; ended = came.1 }) c.args.output.now c.take_shares.new.taker c.take_shares.result came.3
+pub returns : goal.returns
+returns g c =
+    let every = c.every_text_has_a_reading.ensures in
+    let run = c.take_lines.ensures in
+    let (came, ended, over) = run.came in
+    subst (Runs g.R.Read.remaining g.W.Write.contents IsShowOutput c.args.input.now c.take_lines.new.input c.args.output.now c.take_lines.new.taker)
+    (sym (answered c.take_lines.result c.map_err.result c.map_err.ensures.cases)) (record {
+      output = OfInput-map g.R.Read.remaining c.args.input.now c.take_lines.new.input _ _ run.runs
+          (λ input. runs_shown g.W.Write.contents every input c.args.output.now c.take_lines.new.taker c.take_lines.result);
+      read_failures_are = run.failures ∙ ap (λ n. c.args.input.now.failures + n) (sym (answers_read_failures c.take_lines.result));
+      write_failures_are = shown_failures g.W.Write.contents every (record { bytes = came; ended = ended }) c.args.output.now c.take_lines.new.taker c.take_lines.result over;
+    })

@@ -1,0 +1,8 @@
+-- The runs of the commands.
+pub mod Devices
+pub mod Writing
+pub mod ShowOutput
+pub mod Shown
+pub mod Recovering
+pub mod OneRecover
+pub mod Creating

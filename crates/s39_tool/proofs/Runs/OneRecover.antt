@@ -1,0 +1,200 @@
+-- An input has one output of `recover` with a passphrase.
+use Rattle.std.proofs.Common.{◌≡◌, ◌≢◌, ℕ, ◌-◌, ◌<◌, List, [], ◌∷◌, length, get_or, take, All, refl, sym, ap, ap₂, ◌∙◌, subst, ◌⊎◌, inl, inr, arith, Some, None, Result, Ok, Err, Ordering, Less, Equal, Greater}
+use Rattle.std.specs.Prelude.{slice_index}
+use Rattle.std.specs.Ordering.{ordering_then, ordering_reverse, nat_cmp}
+use Rattle.std.proofs.lemmas.Bool.{cases_order}
+use Rattle.std.proofs.lemmas.Bool.Decides.{nat_tests}
+use Rattle.std.proofs.lemmas.Cmp.{lists_total}
+use Rattle.std.proofs.lemmas.List.{get_or-take, length-take}
+use Rattle.s39_kdf.specs.Limits.{IsPrintable, IsFirstUnprintable}
+use Rattle.s39_words.specs.declared.ShareFields.{ShareFields}
+use Rattle.s39_set.specs.declared.set_lack.SetLack.{SetLack}
+use Rattle.s39_set.specs.declared.set_lack.SetLack.TheVariants.{NoShares, Incomplete}
+use Rattle.s39_set.specs.Names.{name_cmp, names_cmp}
+use Rattle.s39_set.specs.ShareSet.{IsShareSet}
+use Rattle.s39_set.specs.Quorums.{group_threshold_of, IsQuorum, IsLeastQuorum}
+use Rattle.s39_set.specs.Lack.{IsLack}
+use Rattle.s39_set.proofs.Ascending.{name_cmp_total}
+use Rattle.s39_set.proofs.SetQuorums.{no_lack-from_meets}
+use Rattle.s39_tool.specs.declared.fault.LineRefusal.{LineRefusal}
+use Rattle.s39_tool.specs.declared.fault.Stop.{Stop}
+use Rattle.s39_tool.specs.declared.fault.Refusal.TheVariants.{Passphrase}
+use Rattle.s39_tool.specs.declared.recover.Unrecovered.{Unrecovered}
+use Rattle.s39_tool.specs.declared.recover.Unrecovered.TheVariants.{Lack, DigestMismatch}
+use Rattle.s39_tool.specs.declared.fault.Fault.{Fault}
+use Rattle.s39_tool.specs.Input.{Input}
+use Rattle.s39_tool.specs.Fault.{fault_of, fault_of_stop}
+use Rattle.s39_tool.specs.Accepted.{IsReadAs}
+use Rattle.s39_backup.specs.declared.combination.Mismatch.{Mismatch}
+use Rattle.s39_backup.specs.Outcome.{IsOutcome}
+use Rattle.s39_tool.specs.Recover.{secret_line, fault_of_unrecovered, HasOutcome, IsUnrecovered, RefusesPassphrase, RefusesSet, RecoversSecret, IsRecoverOutput}
+use Rattle.s39_tool.proofs.Sets.AcceptedSets.{accepted_is_share_set}
+
+-- ---- a set has one least quorum
+
+then-equal : (o p : Ordering) → ordering_then o p ≡ Equal → (o ≡ Equal) × (p ≡ Equal)
+then-equal Less p e = absurd (let bad : Less ≡ Equal = e in cc)
+then-equal Equal p e = (refl, e)
+then-equal Greater p e = absurd (let bad : Greater ≡ Equal = e in cc)
+
+nat_cmp-equal : (m n : ℕ) → nat_cmp m n ≡ Equal → m ≡ n
+nat_cmp-equal m n e = grind (arith, nat_tests)
+
+name_cmp-equal : (a b : ℕ × ℕ) → name_cmp a b ≡ Equal → a ≡ b
+name_cmp-equal a b e =
+    let parts = then-equal (nat_cmp a.0 b.0) (nat_cmp a.1 b.1) e in
+    ap₂ (λ (g m : ℕ). (g, m)) (nat_cmp-equal a.0 b.0 parts.0) (nat_cmp-equal a.1 b.1 parts.1)
+
+names_cmp-equal : (xs ys : List (ℕ × ℕ)) → names_cmp xs ys ≡ Equal → xs ≡ ys
+names_cmp-equal [] [] e = refl
+names_cmp-equal [] (y ∷ ys) e = absurd (let bad : Less ≡ Equal = e in cc)
+names_cmp-equal (x ∷ xs) [] e = absurd (let bad : Greater ≡ Equal = e in cc)
+names_cmp-equal (x ∷ xs) (y ∷ ys) e =
+    let parts = then-equal (name_cmp x y) (names_cmp xs ys) e in
+    ap₂ (λ (z : ℕ × ℕ) (zs : List (ℕ × ℕ)). z ∷ zs) (name_cmp-equal x y parts.0) (names_cmp-equal xs ys parts.1)
+
+equal_both_ways : (o p : Ordering) → p ≡ ordering_reverse o → o ≢ Greater → p ≢ Greater → o ≡ Equal
+equal_both_ways Less p e h k = absurd (k e)
+equal_both_ways Equal p e h k = refl
+equal_both_ways Greater p e h k = absurd (h refl)
+
+-- a set has one least quorum
+pub least_quorum_once : (set : List ShareFields) (names others : List (ℕ × ℕ)) → IsLeastQuorum set names → IsLeastQuorum set others → names ≡ others
+least_quorum_once set names others p q =
+    names_cmp-equal names others
+    (equal_both_ways (names_cmp names others) (names_cmp others names) ((lists_total name_cmp_total).antisymm others names)
+    (p.least others q.quorum tt) (q.least names p.quorum tt))
+
+-- ---- a set has one lack
+
+-- a set has one lack
+pub lack_once : (set : List ShareFields) (lack other : SetLack) → IsLack set lack → IsLack set other → lack ≡ other
+lack_once set NoShares NoShares p q = refl
+lack_once set NoShares (Incomplete complete required) p q =
+    let bad : None ≡ Some required = sym (ap group_threshold_of p) ∙ q.required_is in
+    absurd (cc)
+lack_once set (Incomplete complete required) NoShares p q =
+    let bad : None ≡ Some required = sym (ap group_threshold_of q) ∙ p.required_is in
+    absurd (cc)
+lack_once set (Incomplete complete required) (Incomplete complete' required') p q =
+    let same : complete ≡ complete' = p.complete_is ∙ sym q.complete_is in
+    let thresholds : Some required ≡ Some required' = sym p.required_is ∙ q.required_is in
+    cc
+
+-- ---- a passphrase has one first byte that isn't printable
+
+not_before : (bytes : List ℕ) (p q : ℕ) → IsFirstUnprintable bytes p → IsFirstUnprintable bytes q → p < q → ⊥
+not_before bytes p q first other before =
+    let from_1 = first.counted_from_1 in
+    let within = first.within in
+    let long = length-take (q - 1) bytes in
+    let below : p - 1 < length (take (q - 1) bytes) = omega arith in
+    let same : get_or (take (q - 1) bytes) (p - 1) 0 ≡ slice_index bytes (p - 1) = get_or-take (q - 1) bytes (p - 1) 0 (omega arith) in
+    first.unprintable (subst IsPrintable same (other.printable_before (p - 1) 0 below))
+
+-- a passphrase has one first byte that isn't printable
+pub first_unprintable_once : (bytes : List ℕ) (p q : ℕ) → IsFirstUnprintable bytes p → IsFirstUnprintable bytes q → p ≡ q
+first_unprintable_once bytes p q first other =
+    elim (cases_order p q) [
+      | inl same ↦ same
+      | inr (inl before) ↦ absurd (not_before bytes p q first other before)
+      | inr (inr after) ↦ absurd (not_before bytes q p other first after)
+    ]
+
+-- and none where all are
+none_unprintable : (bytes : List ℕ) (p : ℕ) → All IsPrintable bytes → IsFirstUnprintable bytes p → ⊥
+none_unprintable bytes p all first =
+    let from_1 = first.counted_from_1 in
+    let within = first.within in
+    first.unprintable (all (p - 1) 0 (omega arith))
+
+refusal_of_passphrase_once : (passphrase : List ℕ) (f g : Fault) → RefusesPassphrase passphrase f → RefusesPassphrase passphrase g → f ≡ g
+refusal_of_passphrase_once passphrase f g p q =
+    let place = first_unprintable_once passphrase p.bad.position q.bad.position p.first q.first in
+    p.fault_is ∙ ap (λ (n : ℕ). fault_of (Passphrase (record { position = n }))) place ∙ sym q.fault_is
+
+-- ---- a set gives one secret, or none for one cause
+
+-- why an input gives no secret
+abbrev Refuses : List ℕ → Input → Fault → Type 0
+Refuses passphrase input fault =
+    RefusesPassphrase passphrase fault
+    ⊎ ((stop : Stop LineRefusal) × All IsPrintable passphrase × IsReadAs input (Err stop) × (fault ≡ fault_of_stop stop))
+    ⊎ RefusesSet passphrase input fault
+
+-- each input is read as one thing, and each quorum has one outcome
+module _ (one_set : (input : Input) (answer another : Result (List ShareFields) (Stop LineRefusal)) → IsReadAs input answer → IsReadAs input another → answer ≡ another)
+    (one_outcome : (set : List ShareFields) (names : List (ℕ × ℕ)) (passphrase : List ℕ) (outcome other : Result (List ℕ) Mismatch) → IsShareSet set → IsQuorum set names
+    → IsOutcome set names passphrase outcome → IsOutcome set names passphrase other → outcome ≡ other) where
+  -- the least quorum of a set has one outcome
+  outcome_once : (set : List ShareFields) (passphrase : List ℕ) (outcome other : Result (List ℕ) Mismatch) → IsShareSet set
+      → HasOutcome set passphrase outcome → HasOutcome set passphrase other → outcome ≡ other
+  outcome_once set passphrase outcome other is p q =
+      let names = least_quorum_once set q.names p.names q.least p.least in
+      one_outcome set p.names passphrase outcome other is p.least.quorum p.outcome_is
+      (subst (λ n. IsOutcome set n passphrase other) names q.outcome_is)
+
+  -- a set with a secret gives no refusal
+  recovered_not_refused : (set : List ShareFields) (passphrase secret : List ℕ) (cause : Unrecovered) → IsShareSet set
+      → HasOutcome set passphrase (Ok secret) → IsUnrecovered set passphrase cause → ⊥
+  recovered_not_refused set passphrase secret (Lack lack) is p q = no_lack-from_meets set p.names p.least.quorum.meets lack q
+  recovered_not_refused set passphrase secret (DigestMismatch mismatch) is p q =
+      let both = outcome_once set passphrase (Ok secret) (Err mismatch) is p q in cc
+
+  unrecovered_once : (set : List ShareFields) (passphrase : List ℕ) (c d : Unrecovered) → IsShareSet set → IsUnrecovered set passphrase c → IsUnrecovered set passphrase d → c ≡ d
+  unrecovered_once set passphrase (Lack lack) (Lack other) is p q = ap Lack (lack_once set lack other p q)
+  unrecovered_once set passphrase (Lack lack) (DigestMismatch mismatch) is p q = absurd (no_lack-from_meets set q.names q.least.quorum.meets lack p)
+  unrecovered_once set passphrase (DigestMismatch mismatch) (Lack lack) is p q = absurd (no_lack-from_meets set p.names p.least.quorum.meets lack q)
+  unrecovered_once set passphrase (DigestMismatch mismatch) (DigestMismatch other) is p q =
+      let both = outcome_once set passphrase (Err mismatch) (Err other) is p q in cc
+
+  -- ---- an input has one output
+
+  same_set : (input : Input) (set other : List ShareFields) → IsReadAs input (Ok set) → IsReadAs input (Ok other) → other ≡ set
+  same_set input set other p q = let both = one_set input (Ok set) (Ok other) p q in cc
+
+  not_accepted_and_refused : (input : Input) (set : List ShareFields) (stop : Stop LineRefusal) → IsReadAs input (Ok set) → IsReadAs input (Err stop) → ⊥
+  not_accepted_and_refused input set stop p q = let both = one_set input (Ok set) (Err stop) p q in cc
+
+  secret_once : (passphrase : List ℕ) (input : Input) (text other : List ℕ) → RecoversSecret passphrase input text → RecoversSecret passphrase input other → text ≡ other
+  secret_once passphrase input text other p q =
+      let set = same_set input p.set q.set p.read q.read in
+      let outcome = outcome_once p.set passphrase (Ok p.secret) (Ok q.secret) (accepted_is_share_set input p.set p.read) p.outcome
+      (subst (λ s. HasOutcome s passphrase (Ok q.secret)) set q.outcome) in
+      let secret : p.secret ≡ q.secret = cc in
+      p.text_is ∙ ap secret_line secret ∙ sym q.text_is
+
+  set_refused_once : (passphrase : List ℕ) (input : Input) (f g : Fault) → RefusesSet passphrase input f → RefusesSet passphrase input g → f ≡ g
+  set_refused_once passphrase input f g p q =
+      let set = same_set input p.set q.set p.read q.read in
+      let cause = unrecovered_once p.set passphrase p.cause q.cause (accepted_is_share_set input p.set p.read) p.refused
+      (subst (λ s. IsUnrecovered s passphrase q.cause) set q.refused) in
+      p.fault_is ∙ ap fault_of_unrecovered cause ∙ sym q.fault_is
+
+  not_both : (passphrase : List ℕ) (input : Input) (text : List ℕ) (fault : Fault) → RecoversSecret passphrase input text → Refuses passphrase input fault → ⊥
+  not_both passphrase input text fault p (inl q) = none_unprintable passphrase q.bad.position p.printable q.first
+  not_both passphrase input text fault p (inr (inl (stop, printable, q, is))) = not_accepted_and_refused input p.set stop p.read q
+  not_both passphrase input text fault p (inr (inr q)) =
+      let set = same_set input p.set q.set p.read q.read in
+      recovered_not_refused p.set passphrase p.secret q.cause (accepted_is_share_set input p.set p.read) p.outcome
+      (subst (λ s. IsUnrecovered s passphrase q.cause) set q.refused)
+
+  fault_once : (passphrase : List ℕ) (input : Input) (f g : Fault) → Refuses passphrase input f → Refuses passphrase input g → f ≡ g
+  fault_once passphrase input f g (inl p) (inl q) = refusal_of_passphrase_once passphrase f g p q
+  fault_once passphrase input f g (inl p) (inr (inl (stop, printable, q, is))) = absurd (none_unprintable passphrase p.bad.position printable p.first)
+  fault_once passphrase input f g (inl p) (inr (inr q)) = absurd (none_unprintable passphrase p.bad.position q.printable p.first)
+  fault_once passphrase input f g (inr (inl (stop, printable, p, is))) (inl q) = absurd (none_unprintable passphrase q.bad.position printable q.first)
+  fault_once passphrase input f g (inr (inl (stop, printable, p, is))) (inr (inl (other, printable', q, is'))) =
+      let both = one_set input (Err stop) (Err other) p q in let same : stop ≡ other = cc in is ∙ ap fault_of_stop same ∙ sym is'
+  fault_once passphrase input f g (inr (inl (stop, printable, p, is))) (inr (inr q)) = absurd (not_accepted_and_refused input q.set stop q.read p)
+  fault_once passphrase input f g (inr (inr p)) (inl q) = absurd (none_unprintable passphrase q.bad.position p.printable q.first)
+  fault_once passphrase input f g (inr (inr p)) (inr (inl (stop, printable, q, is))) = absurd (not_accepted_and_refused input p.set stop p.read q)
+  fault_once passphrase input f g (inr (inr p)) (inr (inr q)) = set_refused_once passphrase input f g p q
+
+  -- an input has one text and one answer
+  pub recover_once : (passphrase : List ℕ) (input : Input) (text other : List ℕ) (answer another : Result (Unit {0}) Fault)
+      → IsRecoverOutput passphrase input text answer → IsRecoverOutput passphrase input other another → (text ≡ other) × (answer ≡ another)
+  recover_once passphrase input text other (Ok _) (Ok _) p q = (secret_once passphrase input text other p q, refl)
+  recover_once passphrase input text other (Ok _) (Err g) p q = absurd (not_both passphrase input text g p q.1)
+  recover_once passphrase input text other (Err f) (Ok _) p q = absurd (not_both passphrase input other f q p.1)
+  recover_once passphrase input text other (Err f) (Err g) p q = (p.0 ∙ sym q.0, ap Err (fault_once passphrase input f g p.1 q.1))

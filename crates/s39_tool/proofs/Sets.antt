@@ -1,0 +1,4 @@
+-- The set of an input.
+pub mod Collected
+pub mod OneSet
+pub mod AcceptedSets

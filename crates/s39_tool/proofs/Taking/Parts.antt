@@ -1,0 +1,69 @@
+-- The parts of bytes between line feeds, as bytes come.
+use Rattle.std.proofs.Common.{◌≡◌, ℕ, ◌<◌, ◌≤◌, Bool, true, false, cond, ltb, List, [], ◌∷◌, ◌++◌, length, refl, ap, ◌⊎◌, inl, inr, arith}
+use Rattle.std.proofs.lemmas.Bool.Decides.{nat_tests}
+use Rattle.std.specs.List.{onto_first}
+use Rattle.s39_tool.specs.Input.{longest_line, is_line_feed, parts_of, finished_parts}
+
+-- the parts of two texts put together: the last part of the first goes on as the first part of the second
+seam : List (List ℕ) → List (List ℕ) → List (List ℕ)
+seam [] qs = qs
+seam (u ∷ []) [] = u ∷ []
+seam (u ∷ []) (f ∷ qs) = (u ++ f) ∷ qs
+seam (u ∷ v ∷ us) qs = u ∷ seam (v ∷ us) qs
+
+-- a text has a first part
+pub first_part : (xs : List ℕ) → (f : List ℕ) × (fs : List (List ℕ)) × (parts_of xs ≡ f ∷ fs)
+first_part [] = ([], [], refl)
+first_part (x ∷ xs) =
+    let rest = first_part xs in
+    let by : (b : Bool) → (f : List ℕ) × (fs : List (List ℕ)) × (cond b ([] ∷ parts_of xs) (onto_first x (parts_of xs)) ≡ f ∷ fs) =
+    elim [ true ↦ ([], parts_of xs, refl) | false ↦ (x ∷ rest.0, rest.1, ap (onto_first x) rest.2) ] in
+    by (is_line_feed x)
+
+-- a byte that is no line feed goes onto the first part
+pub parts_of-other : (b : ℕ) (rest f : List ℕ) (fs : List (List ℕ)) → (b ≡ 10 → ⊥) → parts_of rest ≡ f ∷ fs → parts_of (b ∷ rest) ≡ (b ∷ f) ∷ fs
+parts_of-other b rest f fs other e = let no : is_line_feed b ≡ false = grind (arith, nat_tests) in rw (no, e) refl
+
+onto_first-seam : (x : ℕ) (f : List ℕ) (fs qs : List (List ℕ)) → onto_first x (seam (f ∷ fs) qs) ≡ seam (onto_first x (f ∷ fs)) qs
+unfolding seam
+onto_first-seam x f [] [] = refl
+onto_first-seam x f [] (g ∷ qs) = refl
+onto_first-seam x f (h ∷ fs) qs = refl
+
+seam_step : (b : Bool) (x : ℕ) (f : List ℕ) (fs s t qs : List (List ℕ)) → s ≡ f ∷ fs → t ≡ seam s qs
+    → cond b ([] ∷ t) (onto_first x t) ≡ seam (cond b ([] ∷ s) (onto_first x s)) qs
+unfolding seam
+seam_step true x f fs s t qs e h = rw (h, e) refl
+seam_step false x f fs s t qs e h = rw (h, e) (onto_first-seam x f fs qs)
+
+parts_of-append : (xs ys : List ℕ) → parts_of (xs ++ ys) ≡ seam (parts_of xs) (parts_of ys)
+unfolding seam
+parts_of-append [] ys = let first = first_part ys in rw first.2 refl
+parts_of-append (x ∷ xs) ys =
+    let first = first_part xs in
+    seam_step (is_line_feed x) x first.0 first.1 (parts_of xs) (parts_of (xs ++ ys)) (parts_of ys) first.2 (parts_of-append xs ys)
+
+seam-last : (xs : List (List ℕ)) (u f : List ℕ) (qs : List (List ℕ)) → seam (xs ++ u ∷ []) (f ∷ qs) ≡ xs ++ (u ++ f) ∷ qs
+unfolding seam
+seam-last [] u f qs = refl
+seam-last (x ∷ []) u f qs = refl
+seam-last (x ∷ y ∷ xs) u f qs = ap (λ (l : List (List ℕ)). x ∷ l) (seam-last (y ∷ xs) u f qs)
+
+-- the unfinished part goes on as the first part of what comes
+pub parts_of-more : (came more : List ℕ) (lines : List (List ℕ)) (u f : List ℕ) (qs : List (List ℕ)) → parts_of came ≡ lines ++ u ∷ [] → parts_of more ≡ f ∷ qs
+    → parts_of (came ++ more) ≡ lines ++ (u ++ f) ∷ qs
+parts_of-more came more lines u f qs e h = rw (parts_of-append came more, e, h) (seam-last lines u f qs)
+
+-- a part that a line feed ended, or that is too long, stays
+pub finished_parts-keeps : (xs : List (List ℕ)) (y : List ℕ) (ys : List (List ℕ)) → (0 < length ys) ⊎ (longest_line < length y) → (zs : List (List ℕ)) × (finished_parts (xs ++ y ∷ ys) ≡ xs ++ y ∷ zs)
+finished_parts-keeps [] y [] (inl h) = absurd (omega arith)
+finished_parts-keeps [] y [] (inr h) = let long : ltb longest_line (length y) ≡ true = grind (arith, nat_tests) in ([], rw long refl)
+finished_parts-keeps [] y (z ∷ zs) h = (finished_parts (z ∷ zs), refl)
+finished_parts-keeps (x ∷ []) y ys h = let rest = finished_parts-keeps [] y ys h in (rest.0, ap (λ (l : List (List ℕ)). x ∷ l) rest.1)
+finished_parts-keeps (x ∷ w ∷ xs) y ys h = let rest = finished_parts-keeps (w ∷ xs) y ys h in (rest.0, ap (λ (l : List (List ℕ)). x ∷ l) rest.1)
+
+-- the part that no line feed ended is dropped
+pub finished_parts-drops : (xs : List (List ℕ)) (u : List ℕ) → length u ≤ longest_line → finished_parts (xs ++ u ∷ []) ≡ xs
+finished_parts-drops [] u h = let short : ltb longest_line (length u) ≡ false = grind (arith, nat_tests) in rw short refl
+finished_parts-drops (x ∷ []) u h = ap (λ (l : List (List ℕ)). x ∷ l) (finished_parts-drops [] u h)
+finished_parts-drops (x ∷ w ∷ xs) u h = ap (λ (l : List (List ℕ)). x ∷ l) (finished_parts-drops (w ∷ xs) u h)

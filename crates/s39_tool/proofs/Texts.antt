@@ -1,0 +1,3 @@
+-- The texts that are written.
+pub mod Decimals
+pub mod Write

@@ -1,5 +1,0 @@
-use Rattle.s39_tool.specs.GroupShares.{groups_below, AreGroupShares, indexed_bytes}
-use Rattle.s39_tool.proofs.outcome.group_shares.Given as goal
-
-abbrev pub invariant-loop-group : goal.invariant-loop-group
-invariant-loop-group l = AreGroupShares l.set l.names (groups_below l.names l.group) (indexed_bytes l.shares.items)

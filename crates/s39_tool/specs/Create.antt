@@ -1,0 +1,86 @@
+-- The output of `create`.
+use Rattle.std.specs.Prelude.{◌≡◌, ◌⊎◌, ℕ, ◌+◌, ◌<◌, ◌≤◌, List, [], ◌∷◌, ◌++◌, All, Option, take, length, true, false, Result, Ok, Err}
+use Rattle.std.specs.List.{AllZip, flat_map}
+use Rattle.arrayvec.specs.ArrayVec.{ArrayVec}
+use Rattle.s39_kdf.specs.Limits.{IsPrintable, IsSecretLength}
+use Rattle.s39_words.specs.declared.ShareFields.{ShareFields}
+use Rattle.s39_words.specs.Printing.{IsPrinted}
+use Rattle.s39_backup.specs.declared.plan.Members.{Members}
+use Rattle.s39_backup.specs.declared.options.Options.{Options}
+use Rattle.s39_backup.specs.declared.create_error.CreateError.{CreateError}
+use Rattle.s39_backup.specs.declared.create_error.CreateError.TheVariants.{Passphrase, SecretLength, BadRandomLength}
+use Rattle.s39_backup.specs.Created.{random_needed, IsCreation}
+use Rattle.s39_tool.specs.declared.fault.DeviceFailure.TheVariants.{Read}
+use Rattle.s39_tool.specs.declared.fault.Refusal.TheVariants.{Device, Passphrase as PassphraseRefusal, SecretLength as SecretRefusal, RandomLength}
+use Rattle.s39_tool.specs.declared.fault.Fault.{Fault}
+use Rattle.s39_tool.specs.Device.{Counted}
+use Rattle.s39_tool.specs.Fault.{fault_of}
+use Rattle.s39_tool.specs.Input.{Input}
+use Rattle.s39_tool.specs.Output.{WritesWhole, WritesPart}
+
+-- what a backup is created from, but for the random bytes
+pub record Asked : Type 0 where
+  pub secret : List ℕ
+  pub passphrase : List ℕ
+  pub group_threshold : ℕ
+  pub groups : List Members
+  pub options : Options
+
+-- how many random bytes it takes
+abbrev pub needed_by : Asked → ℕ
+needed_by asked = random_needed asked.group_threshold asked.groups (length asked.secret)
+
+-- the creation with these random bytes gives this
+abbrev pub Creates : Asked → List ℕ → Result (List ShareFields) CreateError → Type 0
+Creates asked random result = IsCreation asked.secret asked.passphrase asked.group_threshold asked.groups asked.options random result
+
+-- a line, and its line feed
+abbrev pub ended_line : List ℕ → List ℕ
+ended_line line = line ++ 10 ∷ []
+
+-- the text has the printed form of each of these shares, one a line
+pub record ArePrintedLines (shares : List ShareFields) (text : List ℕ) : Type 0 where
+  pub lines : List (List ℕ)
+  pub printed : AllZip IsPrinted lines shares
+  pub text_is : text ≡ flat_map ended_line lines
+
+-- the fault of a creation that is refused
+abbrev pub fault_of_creation : CreateError → Fault
+fault_of_creation (Passphrase bad) = fault_of (PassphraseRefusal bad)
+fault_of_creation (SecretLength bad) = fault_of (SecretRefusal bad)
+fault_of_creation (BadRandomLength needed) = fault_of (RandomLength needed)
+
+-- The refusal applies: that there aren't as many random bytes as needed only where the input ended, or where more than
+-- these came.
+abbrev pub Applies : Input → CreateError → Type 0
+Applies input (Passphrase _) = Unit {0}
+Applies input (SecretLength _) = Unit {0}
+Applies input (BadRandomLength needed) = (input.ended ≡ true) ⊎ (needed < length input.bytes)
+
+-- passphrase and secret are accepted, and the input failed before more bytes came than are needed
+pub record FailsBefore (asked : Asked) (input : Input) : Type 0 where
+  pub failed : input.ended ≡ false
+  pub printable : All IsPrintable asked.passphrase
+  pub secret_length : IsSecretLength (length asked.secret)
+  pub few : length input.bytes ≤ needed_by asked
+
+-- `create` writes this text for the input, whose bytes are the random ones, and answers so
+abbrev pub IsCreateOutput : Asked → Input → List ℕ → Result (Unit {0}) Fault → Type 0
+IsCreateOutput asked input text (Ok _) =
+    (shares : List ShareFields) × (input.ended ≡ true) × Creates asked input.bytes (Ok shares) × ArePrintedLines shares text
+IsCreateOutput asked input text (Err fault) =
+    (text ≡ [])
+    × (((error : CreateError) × Creates asked input.bytes (Err error) × Applies input error × (fault ≡ fault_of_creation error))
+    ⊎ (FailsBefore asked input × (fault ≡ fault_of (Device Read))))
+
+-- Within a run; no public contract cites this.
+
+-- as many bytes as the limit came, or the input ended before, or it failed before
+abbrev pub HasRead : {E : Type 0} → ℕ → Input → Result (ArrayVec ℕ) E → Type 0
+HasRead limit input (Ok random) = (random.items ≡ take limit input.bytes) × (length input.bytes < limit → input.ended ≡ true)
+HasRead limit input (Err _) = (input.ended ≡ false) × (length input.bytes < limit)
+
+-- the printed forms of these shares are written, or a write fails
+abbrev pub WritesPrinted : {W E : Type 0} → (W → Option (List ℕ)) → Counted W → List ShareFields → Result (Unit {0}) E → Counted W → Type 0
+WritesPrinted contents old shares (Ok _) new = (text : List ℕ) × ArePrintedLines shares text × WritesWhole contents old text new
+WritesPrinted contents old shares (Err _) new = (text : List ℕ) × ArePrintedLines shares text × WritesPart contents old text new

@@ -1,0 +1,148 @@
+//! The command `create`: the mnemonics of a backup that is created from a secret and the random bytes of an input.
+ghost use Rattle.std.specs.Prelude.{◌≡◌, ◌≢◌, ◌+◌, ◌<◌, ◌≤◌, ◌++◌, ◌∷◌, [], All, ℕ, List, Ok, Err, IfOk, IfErr, length};
+ghost use Rattle.s39_words.specs.Printing.{IsPrinted};
+ghost use Rattle.s39_words.specs.Share.{IsShare};
+ghost use Rattle.s39_tool.specs.declared.creating.TheConstants.{ROOM};
+ghost use Rattle.s39_tool.specs.Create.{IsCreateOutput, HasRead, WritesPrinted};
+ghost use Rattle.s39_tool.specs.Device.{failure_of};
+ghost use Rattle.s39_tool.specs.Runs.{OfInput, Runs};
+
+use crate::device::Counting;
+use crate::fault::{DeviceFailure, Fault, Refusal};
+use crate::output::{Line, WriteFailed, push_text, write_text};
+use arrayvec::ArrayVec;
+use s39_backup::{Created, Options, Plan, create};
+use s39_kdf::{check_passphrase, check_secret};
+use s39_words::laws::every_share_has_a_printed_form;
+use s39_words::{Share, print};
+use std::io::{Read, Write};
+
+/// The most random bytes that a backup takes.
+pub(crate) const MAX_RANDOM_BYTES: usize = 32_574;
+
+/// How many bytes a read asks for at most.
+const PIECE: usize = 4096;
+
+/// How many bytes of an input are kept: one more than a backup takes at most.
+const ROOM: usize = MAX_RANDOM_BYTES + 1;
+
+type Random = ArrayVec<u8, ROOM>;
+
+/// A read failed.
+#[derive(Clone, Copy, Debug, PartialEq, Eq)]
+struct ReadFailed;
+
+impl From<ReadFailed> for Fault {
+    ghost use Rattle.s39_tool.specs.Fault.{fault_of};
+    ghost use Rattle.s39_tool.specs.declared.fault.Refusal.TheVariants.{Device};
+    ghost use Rattle.s39_tool.specs.declared.fault.DeviceFailure.TheVariants.{Read as ReadFails};
+
+    ghost from_gives = { λ failed fault. fault ≡ fault_of (Device ReadFails) };
+
+    fn from(_failed: ReadFailed) -> Fault {
+        Fault::from(Refusal::Device(DeviceFailure::Read))
+    }
+}
+
+/// Creates a backup of a secret, and writes its mnemonics, one a line, by group and member. The bytes of the input are
+/// the random ones: as many as `Plan::random_needed` says, which `s39_backup::create` consumes in its order.
+///
+/// The first that applies is answered, and then nothing is written:
+///
+/// - `Passphrase` where a byte of it isn't printable, and `SecretLength` where a secret may not have as many bytes, before
+///   anything is read;
+/// - `RandomLength` where more bytes came than needed;
+/// - that the reader failed, where a read did before so many came;
+/// - `RandomLength` where the input ended with fewer.
+///
+/// Where a write fails or takes no byte, the answer is that the writer failed, and a beginning of the mnemonics is
+/// written. The caller keeps both `failures()` below `u64::MAX`.
+pub fn run_create<R: Read, W: Write>(
+    plan: &Plan,
+    secret: &[u8],
+    passphrase: &[u8],
+    options: Options,
+    input: &mut Counting<R>,
+    output: &mut Counting<W>,
+) -> Result<(), Fault>
+    requires readable { input.old.failures < u64.MAX }
+    requires writable { output.old.failures < u64.MAX }
+    ensures runs { Runs R.remaining W.contents (IsCreateOutput (record {
+      secret = secret.now;
+      passphrase = passphrase.now;
+      group_threshold = plan.now.group_threshold;
+      groups = plan.now.groups.items;
+      options = options;
+    })) input.old input.new output.old output.new result }
+    // Of any devices.
+    ensures untouched { IfErr result (λ fault.
+        fault.refusal ≢ Refusal.Device DeviceFailure.Write → output.new ≡ output.old) }
+{
+    check_passphrase(passphrase)?;
+    check_secret(secret)?;
+    let needed = plan.random_needed(secret.len());
+    let random = read_up_to(input, needed + 1)?;
+    let mut created = Created::new();
+    create(plan, secret, passphrase, options, &random, &mut created)?;
+    let shares = created.shares();
+    are_shares(shares);
+    write_mnemonics(output, shares)?;
+    Ok(())
+}
+
+/// Tells a proof that shares have their fields in range; it does nothing.
+fn are_shares(shares: &[Share])
+    ensures { All IsShare shares.now }
+{
+    for share in shares {
+        let _ = share.fields();
+    }
+}
+
+/// The first bytes of an input, at most so many, by as few reads as the device gives them in.
+fn read_up_to<R: Read>(input: &mut Counting<R>, limit: usize) -> Result<Random, ReadFailed>
+    requires readable { input.old.failures < u64.MAX }
+    requires room { limit ≤ ROOM }
+    ensures read { OfInput R.remaining input.old input.new
+        (λ input. HasRead limit input result) }
+    ensures failures { input.new.failures ≡ input.old.failures + failure_of result }
+{
+    let mut random = Random::new();
+    let mut piece = [0; PIECE];
+    'reads: while random.len() < limit {
+        let asked = PIECE.min(limit - random.len());
+        match input.read(&mut piece[..asked]) {
+            Ok(0) => return Ok(random),
+            Ok(count) => {
+                let Ok(()) = random.try_extend_from_slice(&piece[..count]) else {
+                    unreachable!();
+                };
+            }
+            Err(_) => return Err(ReadFailed),
+        }
+    }
+    Ok(random)
+}
+
+/// Writes the mnemonics of shares, one a line.
+fn write_mnemonics<W: Write>(output: &mut Counting<W>, shares: &[Share]) -> Result<(), WriteFailed>
+    requires writable { output.old.failures < u64.MAX }
+    requires each { All IsShare shares.now }
+    ensures { WritesPrinted W.contents output.old shares.now result output.new }
+{
+    every_share_has_a_printed_form();
+    for share in shares {
+        write_text(output, mnemonic_line(share).as_slice())?;
+    }
+    Ok(())
+}
+
+/// The line of a share's mnemonic.
+fn mnemonic_line(share: &Share) -> Line
+    ensures { (text : List ℕ) × IsPrinted text share.now × (result.items ≡ text ++ 10 ∷ []) }
+{
+    let mut line = Line::new();
+    push_text(&mut line, &print(share));
+    line.push(b'\n');
+    line
+}
