@@ -1,0 +1,4 @@
+pub mod Agreement
+pub mod Filled
+pub mod Entered
+pub mod Values

@@ -1,0 +1,5 @@
+//! What `clap`'s definition of a simple command gives its callers, as laws: which words are refused and how, which
+//! subcommand they name, and which values its arguments have.
+#![tactic(auto)]
+
+pub mod laws;
