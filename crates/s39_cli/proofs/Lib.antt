@@ -1,4 +1,1 @@
-pub mod FaultKinds
-pub mod FaultTakes
-pub mod Refusals
-pub mod Subcommands
+pub mod Jobs

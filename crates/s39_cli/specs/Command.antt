@@ -1,6 +1,6 @@
 -- The command line.
-use Rattle.std.specs.Prelude.{◌≡◌, ◌≢◌, ◌⊎◌, true, false, List, [], ◌∷◌, codes, Option, Some, option_and_then, option_map, unwrap_or}
-use Rattle.clap.specs.Words.{App, Rule, Shape, Text, fault_of, first_of, new_app, new_rule, subcommand_of, takes, with_rule, with_subcommand}
+use Rattle.std.specs.Prelude.{◌≡◌, ◌≢◌, ◌⊎◌, true, false, List, [], ◌∷◌, codes, Some, unwrap_or}
+use Rattle.clap.specs.Words.{App, Row, Rule, Shape, Text, built, fault_of, first_of, new_app, new_rule, subcommand_of, takes, with_rule, with_subcommand}
 use Rattle.clap.specs.declared.error.kind.ErrorKind.{ErrorKind}
 use Rattle.clap.specs.declared.error.kind.ErrorKind.TheVariants.{DisplayHelp, DisplayVersion, OutOfMemory}
 use Rattle.s39_cli.specs.declared.command.Job.{Job}
@@ -23,49 +23,54 @@ passphrase_rule = record (new_rule (codes "passphrase")) {
 abbrev pub recover_app : App
 recover_app = with_rule (new_app (codes "recover")) passphrase_rule
 
--- the program, which has to be given a command
+-- the program, which has a version and has to be given a command
 abbrev pub shamir_top : Shape
-shamir_top = record (new_app (codes "shamir")).top { subcommand_required = true; disable_help_subcommand = true }
+shamir_top = record (new_app (codes "shamir")).top {
+  has_version = true;
+  subcommand_required = true;
+  disable_help_subcommand = true;
+}
 
--- the program with its two commands
-abbrev pub shamir_app : App
+-- the program with its commands
+unfoldable pub shamir_app : App
 shamir_app = with_subcommand
     (with_subcommand (record { top = shamir_top; subs = [] }) show_app.top) recover_app.top
 
--- the name of the command that the words give, by the definition of a simple command
-abbrev pub command_named : List Text → Option Text
-command_named words = option_map (λ found. found.0) (subcommand_of shamir_app words)
+-- its commands, built
+abbrev pub commands : List Shape
+commands = (built shamir_app).subs
 
--- the text that the words give that command's option `--passphrase`, and the empty text where they
--- don't give the option
-abbrev pub passphrase_given : List Text → Text
-passphrase_given words = unwrap_or (option_and_then (λ found. first_of (codes "passphrase") found.1)
-    (subcommand_of shamir_app words)) []
+-- the text that is found for an id, and the empty text where none is
+abbrev pub text_or_empty : Text → List Row → Text
+text_or_empty id rows = unwrap_or (first_of id rows) []
 
--- the name of a job's command
-abbrev pub name_of : Job → Text
-name_of Show = codes "show"
-name_of (Recover passphrase) = codes "recover"
+-- the command of this name, with what is found for its arguments, gives the job
+abbrev pub Gives : Text → List Row → Job → Type 0
+Gives name rows Show = name ≡ codes "show"
+Gives name rows (Recover passphrase) =
+    (name ≡ codes "recover") × (passphrase.now ≡ text_or_empty (codes "passphrase") rows)
 
--- the job takes no passphrase, or takes this one
-abbrev pub TakesPassphrase : Job → Text → Type 0
-TakesPassphrase Show text = Unit {0}
-TakesPassphrase (Recover passphrase) text = passphrase.now ≡ text
+-- the words give the job, by the definition of a simple command
+abbrev pub GivesJob : List Text → Job → Type 0
+GivesJob words job = (name : Text) × (rows : List Row)
+    × (subcommand_of shamir_app words ≡ Some (name, rows)) × Gives name rows job
 
--- the words ask for help, and nothing before that is wrong with them
-abbrev pub AsksForHelp : List Text → Type 0
-AsksForHelp words = fault_of shamir_app words ≡ DisplayHelp ∷ []
+-- the words ask for help or for the version, and nothing before that is wrong with them
+abbrev pub AsksForText : List Text → Type 0
+AsksForText words = (fault_of shamir_app words ≡ DisplayHelp ∷ [])
+    ⊎ (fault_of shamir_app words ≡ DisplayVersion ∷ [])
 
--- help goes to words that ask for it, and a refusal to words that don't and that the definition
--- doesn't take
+-- help and the version go to words that ask for them, and a refusal to words that don't and that the
+-- definition doesn't take
 abbrev pub AnswersWords : NoJob → List Text → Type 0
-AnswersWords (Help text) words = AsksForHelp words
-AnswersWords (Refused text) words = (takes shamir_app words ≡ false) × (AsksForHelp words → ⊥)
+AnswersWords (Help text) words = AsksForText words
+AnswersWords (Refused text) words = (takes shamir_app words ≡ false) × (AsksForText words → ⊥)
 AnswersWords Memory words = Unit {0}
 
--- help goes to an error that shows help or the version, and a refusal neither to one that shows help
--- nor to want of memory
+-- a text goes to an error that shows help or the version, and a refusal neither to one of these nor to
+-- want of memory
 abbrev pub AnswersKind : NoJob → ErrorKind → Type 0
 AnswersKind (Help text) kind = (kind ≡ DisplayHelp) ⊎ (kind ≡ DisplayVersion)
-AnswersKind (Refused text) kind = (kind ≢ DisplayHelp) × (kind ≢ OutOfMemory)
+AnswersKind (Refused text) kind =
+    (kind ≢ DisplayHelp) × (kind ≢ DisplayVersion) × (kind ≢ OutOfMemory)
 AnswersKind Memory kind = Unit {0}

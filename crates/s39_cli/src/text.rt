@@ -2,7 +2,7 @@
 
 use s39_kdf::BadPassphrase;
 use s39_set::{SetError, SetLack};
-use s39_tool::{Fault, Refusal};
+use s39_tool::{DeviceFailure, Fault, LineRefusal, Mismatch, Refusal};
 use s39_words::WordError;
 use thiserror::Error;
 
@@ -19,8 +19,6 @@ pub enum RefusalText {
     BadPadding,
     #[error("group threshold above group count")]
     GroupThreshold,
-    #[error("extendable share")]
-    Extendable,
     #[error("other identifier")]
     OtherIdentifier,
     #[error("other extendable flag")]
@@ -43,6 +41,10 @@ pub enum RefusalText {
     Incomplete { complete: u8, required: u8 },
     #[error("passphrase byte {0} not printable")]
     Passphrase(usize),
+    #[error("secret of {0} bytes")]
+    SecretLength(usize),
+    #[error("random bytes: {0} needed")]
+    RandomLength(usize),
     #[error("digest mismatch in group {0}")]
     DigestMismatchInGroup(u8),
     #[error("digest mismatch of groups")]
@@ -63,7 +65,6 @@ impl From<WordError> for RefusalText {
             WordError::BadChecksum => RefusalText::BadChecksum,
             WordError::BadPadding => RefusalText::BadPadding,
             WordError::GroupThreshold => RefusalText::GroupThreshold,
-            WordError::Extendable => RefusalText::Extendable,
         }
     }
 }
@@ -105,17 +106,19 @@ impl From<BadPassphrase> for RefusalText {
 impl From<Refusal> for RefusalText {
     fn from(refusal: Refusal) -> RefusalText {
         match refusal {
-            Refusal::Word(error) => RefusalText::from(error),
-            Refusal::Set(error) => RefusalText::from(error),
+            Refusal::Line(LineRefusal::Word(error)) => RefusalText::from(error),
+            Refusal::Line(LineRefusal::Set(error)) => RefusalText::from(error),
+            Refusal::Line(LineRefusal::TooLong) => RefusalText::LineTooLong,
             Refusal::Lack(lack) => RefusalText::from(lack),
             Refusal::Passphrase(bad) => RefusalText::from(bad),
-            Refusal::DigestMismatch { group: Some(group) } => {
+            Refusal::SecretLength(bad) => RefusalText::SecretLength(bad.bytes),
+            Refusal::RandomLength { needed } => RefusalText::RandomLength(needed),
+            Refusal::DigestMismatch(Mismatch::InGroup { group }) => {
                 RefusalText::DigestMismatchInGroup(group)
             }
-            Refusal::DigestMismatch { group: None } => RefusalText::DigestMismatchOfGroups,
-            Refusal::LineTooLong => RefusalText::LineTooLong,
-            Refusal::ReadFailed => RefusalText::ReadFailed,
-            Refusal::WriteFailed => RefusalText::WriteFailed,
+            Refusal::DigestMismatch(Mismatch::OfGroups) => RefusalText::DigestMismatchOfGroups,
+            Refusal::Device(DeviceFailure::Read) => RefusalText::ReadFailed,
+            Refusal::Device(DeviceFailure::Write) => RefusalText::WriteFailed,
         }
     }
 }

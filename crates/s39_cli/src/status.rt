@@ -2,9 +2,10 @@
 
 use crate::command::{Job, NoJob, read_words};
 use crate::text::FaultText;
-use s39_tool::{Counting, Fault, Refusal, run_recover, run_show};
+use s39_tool::{Counting, DeviceFailure, Fault, Refusal, run_recover, run_show};
 use std::alloc::Global;
-use std::io::{BufWriter, Read, Write};
+use std::io;
+use std::io::{BufWriter, ErrorKind, Read, Write};
 
 const DONE: u8 = 0;
 
@@ -77,7 +78,7 @@ fn flushed<W: Write + Drop>(answer: Result<(), Fault>, output: BufWriter<W>) -> 
     let has_failed = matches!(
         answer,
         Err(Fault {
-            refusal: Refusal::WriteFailed,
+            refusal: Refusal::Device(DeviceFailure::Write),
             ..
         })
     );
@@ -93,10 +94,7 @@ fn flushed<W: Write + Drop>(answer: Result<(), Fault>, output: BufWriter<W>) -> 
 }
 
 fn write_failed() -> Fault {
-    Fault {
-        line: None,
-        refusal: Refusal::WriteFailed,
-    }
+    Fault::from(Refusal::Device(DeviceFailure::Write))
 }
 
 fn show_help<W: Write + Drop, E: Write>(text: &str, output: W, errors: &mut E) -> u8 {
@@ -109,15 +107,20 @@ fn show_help<W: Write + Drop, E: Write>(text: &str, output: W, errors: &mut E) -
 
 fn report<E: Write>(fault: Fault, errors: &mut E) -> u8 {
     let _ = writeln!(errors, "{}", FaultText::from(fault));
-    match fault.refusal {
-        Refusal::ReadFailed | Refusal::WriteFailed => DEVICE_FAILED,
-        Refusal::Word(_)
-        | Refusal::Set(_)
-        | Refusal::Lack(_)
-        | Refusal::Passphrase(_)
-        | Refusal::DigestMismatch { .. }
-        | Refusal::LineTooLong => REFUSED,
+    if matches!(fault.refusal, Refusal::Device(_)) {
+        DEVICE_FAILED
+    } else {
+        REFUSED
     }
+}
+
+/// Says why the arguments are no words, and gives the exit status: there is no memory for them, or they aren't UTF-8.
+pub fn no_words<E: Write>(error: &io::Error, errors: &mut E) -> u8 {
+    if error.kind() == ErrorKind::OutOfMemory {
+        return no_memory(errors);
+    }
+    let _ = errors.write_all(b"shamir: the arguments aren't UTF-8\n");
+    NO_JOB
 }
 
 /// Says that there is no memory, without taking any.

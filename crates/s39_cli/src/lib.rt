@@ -1,0 +1,11 @@
+//! The program `shamir` but for its `main`: the command line, the commands over any reader and writers, the texts of
+//! faults, and the exit status.
+#![tactic(auto)]
+
+mod command;
+mod status;
+mod text;
+
+pub use command::{Job, NoJob, read_words};
+pub use status::{no_memory, no_words, program};
+pub use text::{FaultText, RefusalText};
