@@ -1,0 +1,111 @@
+//! The worked examples of `recover`, from the command line to the secret or the message, and the status.
+
+use crate::vectors::{
+    LONGEST_ONE_OF_ONE, LONGEST_ONE_OF_ONE_SECRET, ONE_OF_ONE, ONE_OF_ONE_256_BITS,
+    ONE_OF_ONE_SECRET, RECOVER, TWO_NEEDED_MEMBER_0, TWO_NEEDED_MEMBER_2, expect_run,
+};
+use arrayvec::ArrayVec;
+use s39_cli::program;
+use s39_kdf::check_secret;
+use s39_words::{MAX_TEXT_BYTES, Share, ShareFields, parse, print};
+use std::test::Fail;
+
+#[test]
+fn recovers_secrets(rt: HostRuntime) -> Result<(), Fail> {
+    let alloc = rt.alloc();
+    let two = format!(in alloc;
+        "{TWO_NEEDED_MEMBER_2}\n{TWO_NEEDED_MEMBER_0}\n{TWO_NEEDED_MEMBER_2}\n"
+    )?;
+    for (input, secret) in [
+        (ONE_OF_ONE, ONE_OF_ONE_SECRET),
+        (
+            ONE_OF_ONE_256_BITS,
+            "989baf9dcaad5b10ca33dfd8cc75e42477025dce88ae83e75a230086a0e00e92\n",
+        ),
+        (two.as_str(), "b43ceb7e57a0ea8766221624d01b0864\n"),
+        (LONGEST_ONE_OF_ONE, LONGEST_ONE_OF_ONE_SECRET),
+    ] {
+        expect_run(&rt, &RECOVER, input, alloc, (secret, "", 0));
+    }
+    Ok(())
+}
+
+#[test]
+fn names_why_there_is_no_secret(rt: HostRuntime) -> Result<(), Fail> {
+    let alloc = rt.alloc();
+    let one = format!(in alloc; "{TWO_NEEDED_MEMBER_2}\n{TWO_NEEDED_MEMBER_2}")?;
+    let other = format!(in alloc; "{ONE_OF_ONE}\n{TWO_NEEDED_MEMBER_2}\n")?;
+    for (input, message) in [
+        ("", "shamir: 29 no shares\n"),
+        ("# comment", "shamir: 29 no shares\n"),
+        (one.as_str(), "shamir: 30 incomplete: 0 of 1 groups\n"),
+        (other.as_str(), "shamir: line 2: 21 other identifier\n"),
+    ] {
+        expect_run(&rt, &RECOVER, input, alloc, ("", message, 1));
+    }
+    Ok(())
+}
+
+/// A mnemonic of the fields of another, with the bits of `flip` changed in the first byte of its value.
+fn forged(text: &str, flip: u8) -> Result<ArrayVec<u8, MAX_TEXT_BYTES>, Fail> {
+    let share = parse(text.as_bytes())?;
+    let mut value = check_secret(share.value())?;
+    if let Some(first) = value.first_mut() {
+        *first ^= flip;
+    }
+    let fields = ShareFields {
+        id: share.id(),
+        extendable: share.extendable(),
+        exponent: share.exponent(),
+        group_index: share.group_index(),
+        group_threshold: share.group_threshold(),
+        group_count: share.group_count(),
+        member_index: share.member_index(),
+        member_threshold: share.member_threshold(),
+        value,
+    };
+    match Share::new(fields) {
+        Some(share) => Ok(print(&share)),
+        None => Err(Fail::new("no share has these fields")),
+    }
+}
+
+#[test]
+fn refuses_a_digest_that_differs(rt: HostRuntime) -> Result<(), Fail> {
+    let alloc = rt.alloc();
+    let mut input = Vec::new(alloc);
+    input.extend_from_slice(forged(TWO_NEEDED_MEMBER_0, 0xFF)?.as_slice())?;
+    input.push(b'\n')?;
+    input.extend_from_slice(forged(TWO_NEEDED_MEMBER_2, 0xFD)?.as_slice())?;
+    let mut written = Vec::new(alloc);
+    let mut told = Vec::new(alloc);
+    let status = program(alloc, &RECOVER, input.as_slice(), &mut written, &mut told);
+    assert_eq!(rt; status, 1);
+    assert!(rt; written.is_empty());
+    assert_eq!(rt;
+        told.as_slice(),
+        b"shamir: 51 digest mismatch in group 0\n".as_slice()
+    );
+    Ok(())
+}
+
+#[test]
+fn takes_a_passphrase(rt: HostRuntime) {
+    let alloc = rt.alloc();
+    let unprintable = ["shamir", "recover", "--passphrase", "a\x07"];
+    let message = "shamir: 41 passphrase byte 2 not printable\n";
+    expect_run(&rt, &unprintable, ONE_OF_ONE, alloc, ("", message, 1));
+    for words in [
+        ["shamir", "recover", "--passphrase", "trezor"].as_slice(),
+        ["shamir", "recover"].as_slice(),
+    ] {
+        let mut written = Vec::new(alloc);
+        let mut told = Vec::new(alloc);
+        let input = ONE_OF_ONE.as_bytes();
+        let status = program(alloc, words, input, &mut written, &mut told);
+        assert_eq!(rt; status, 0);
+        assert_eq!(rt; written.len(), ONE_OF_ONE_SECRET.len());
+        assert!(rt; written.as_slice() != ONE_OF_ONE_SECRET.as_bytes());
+        assert!(rt; told.is_empty());
+    }
+}

@@ -1,0 +1,127 @@
+//! The worked examples of `show`.
+
+use crate::devices::Slow;
+use crate::vectors::{
+    EXTENDABLE_TWO_WORDS_EXCHANGED, LONGEST_ONE_OF_ONE, LONGEST_ONE_OF_ONE_SHOWN, ONE_OF_ONE,
+    ONE_OF_ONE_256_BITS, ONE_OF_ONE_256_BITS_SHOWN, ONE_OF_ONE_BAD_CHECKSUM,
+    ONE_OF_ONE_BAD_PADDING, SHOW, SHOWN, TWO_NEEDED_MEMBER_2, expect_run,
+};
+use s39_cli::program;
+use std::test::Fail;
+
+#[test]
+fn shows_mnemonics(rt: HostRuntime) -> Result<(), Fail> {
+    let alloc = rt.alloc();
+    expect_run(&rt, &SHOW, ONE_OF_ONE, alloc, (SHOWN, "", 0));
+    let capitals =
+        "\tDUCKLING  enlarge ACADEMIC academic agency\t\tRESULT length solution fridge kidney coal piece deal husband erode duke ajar critical decision keyboard \r\n";
+    expect_run(&rt, &SHOW, capitals, alloc, (SHOWN, "", 0));
+    let between = format!(in alloc; "# first\n\n{ONE_OF_ONE}\n \t\r\n  # second\n{ONE_OF_ONE}")?;
+    let twice = format!(in alloc; "{SHOWN}{SHOWN}")?;
+    expect_run(&rt, &SHOW, between.as_str(), alloc, (twice.as_str(), "", 0));
+    expect_run(&rt, &SHOW, "", alloc, ("", "", 0));
+    expect_run(&rt, &SHOW, "# only\n\n  \t\n#comments", alloc, ("", "", 0));
+    Ok(())
+}
+
+#[test]
+fn shows_thresholds(rt: HostRuntime) {
+    let alloc = rt.alloc();
+    let mut written = Vec::new(alloc);
+    let mut told = Vec::new(alloc);
+    let input = TWO_NEEDED_MEMBER_2.as_bytes();
+    let answer = program(alloc, &SHOW, input, &mut written, &mut told);
+    let fields =
+        b"identifier 25653 extendable 0 exponent 2 group 0 group-threshold 1 group-count 1 member 2 member-threshold 2 value ";
+    assert_eq!(rt; answer, 0);
+    assert!(rt; written.as_slice().starts_with(fields));
+    assert!(rt; told.is_empty());
+}
+
+#[test]
+fn refuses_the_first_bad_line(rt: HostRuntime) -> Result<(), Fail> {
+    let alloc = rt.alloc();
+    let cases = [
+        (ONE_OF_ONE_BAD_CHECKSUM, "13 bad checksum"),
+        (ONE_OF_ONE_BAD_PADDING, "14 bad padding"),
+        (EXTENDABLE_TWO_WORDS_EXCHANGED, "13 bad checksum"),
+        (
+            "duckling enlarge academic academic agency result length solution fridge kidney coal piece deal husband erode duke ajar critical decision",
+            "12 19 words make no share",
+        ),
+        (
+            "duckling enlarge academic academic agency result length solution fridge kidney coal piece deal husband erode duke ajar critical decision keyboard academic",
+            "12 21 words make no share",
+        ),
+        (
+            "ducklin enlarge academic academic agency result length solution fridge kidney coal piece deal husband erode duke ajar critical decision keyboard",
+            "11 unknown word 1",
+        ),
+        (
+            "duckling enlarge\x0cacademic academic agency result length solution fridge kidney coal piece deal husband erode duke ajar critical decision keyboard",
+            "11 unknown word 2",
+        ),
+    ];
+    for (line, refusal) in cases {
+        let message = format!(in alloc; "shamir: line 1: {refusal}\n")?;
+        expect_run(&rt, &SHOW, line, alloc, ("", message.as_str(), 1));
+        let after = format!(in alloc; "{ONE_OF_ONE}\n{line}\n{ONE_OF_ONE}\n")?;
+        let message = format!(in alloc; "shamir: line 2: {refusal}\n")?;
+        expect_run(
+            &rt,
+            &SHOW,
+            after.as_str(),
+            alloc,
+            (SHOWN, message.as_str(), 1),
+        );
+    }
+    Ok(())
+}
+
+#[test]
+fn refuses_long_lines(rt: HostRuntime) -> Result<(), Fail> {
+    let alloc = rt.alloc();
+    let mut line = String::new(alloc);
+    for _ in 0..1024 {
+        line.push('a')?;
+    }
+    let unknown = "shamir: line 1: 11 unknown word 1\n";
+    expect_run(&rt, &SHOW, line.as_str(), alloc, ("", unknown, 1));
+    line.push('a')?;
+    let too_long = "shamir: line 1: 71 line too long\n";
+    expect_run(&rt, &SHOW, line.as_str(), alloc, ("", too_long, 1));
+    let comment = format!(in alloc; "{ONE_OF_ONE}\n#{line}\n")?;
+    let too_long = "shamir: line 2: 71 line too long\n";
+    expect_run(&rt, &SHOW, comment.as_str(), alloc, (SHOWN, too_long, 1));
+    Ok(())
+}
+
+#[test]
+fn shows_long_mnemonics(rt: HostRuntime) -> Result<(), Fail> {
+    let alloc = rt.alloc();
+    let long = format!(in alloc; "{ONE_OF_ONE_256_BITS}\n{LONGEST_ONE_OF_ONE}\n")?;
+    let shown = format!(in alloc; "{ONE_OF_ONE_256_BITS_SHOWN}{LONGEST_ONE_OF_ONE_SHOWN}")?;
+    expect_run(&rt, &SHOW, long.as_str(), alloc, (shown.as_str(), "", 0));
+    Ok(())
+}
+
+#[test]
+fn shows_many_lines_read_by_single_bytes(rt: HostRuntime) -> Result<(), Fail> {
+    let alloc = rt.alloc();
+    let mut input = String::new(alloc);
+    let mut shown = String::new(alloc);
+    for _ in 0..40 {
+        input.push_str(LONGEST_ONE_OF_ONE)?;
+        input.push_str("\n# a comment\r\n")?;
+        shown.push_str(LONGEST_ONE_OF_ONE_SHOWN)?;
+    }
+    let mut written = Vec::new(alloc);
+    let mut told = Vec::new(alloc);
+    let slow = Slow {
+        bytes: input.as_bytes(),
+    };
+    assert_eq!(rt; program(alloc, &SHOW, slow, &mut written, &mut told), 0);
+    assert_eq!(rt; written.as_slice(), shown.as_bytes());
+    assert!(rt; told.is_empty());
+    Ok(())
+}

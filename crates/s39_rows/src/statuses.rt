@@ -1,0 +1,138 @@
+//! Exit statuses: help, the version, refused command lines, flushing, a failing standard error, and no memory.
+
+use crate::devices::{Flushing, Full};
+use crate::vectors::{ONE_OF_ONE, ONE_OF_ONE_BAD_CHECKSUM, SHOW, SHOWN, expect_run};
+use s39_cli::{no_memory, no_words, program};
+use std::io;
+use std::io::ErrorKind;
+
+const HELP: &str = "SLIP-0039 backups of a secret
+
+Usage: shamir <COMMAND>
+
+Commands:
+  show     Shows the fields of the mnemonics on standard input, a line for each
+  recover  Recovers the secret from the mnemonics on standard input
+
+Options:
+  -h, --help     Print help
+  -V, --version  Print version
+";
+
+const HELP_OF_RECOVER: &str = "Recovers the secret from the mnemonics on standard input
+
+Usage: shamir recover [OPTIONS]
+
+Options:
+      --passphrase <TEXT>  The passphrase of the backup, by default empty
+  -h, --help               Print help
+";
+
+#[test]
+fn answers_help_and_the_version(rt: HostRuntime) {
+    let alloc = rt.alloc();
+    let cases: [(&[&str], &str); 5] = [
+        (&["shamir", "--help"], HELP),
+        (&["shamir", "-h"], HELP),
+        (&["shamir", "recover", "--help"], HELP_OF_RECOVER),
+        (&["shamir", "--version"], "shamir 1.0.0\n"),
+        (&["shamir", "-V"], "shamir 1.0.0\n"),
+    ];
+    for (words, text) in cases {
+        expect_run(&rt, words, "", alloc, (text, "", 0));
+        let mut output = Flushing::new(alloc, false);
+        let status = program(alloc, words, b"".as_slice(), &mut output, Vec::new(alloc));
+        assert_eq!(rt; (status, output.flushes), (0, 1));
+        let mut told = Vec::new(alloc);
+        let output = Flushing::new(alloc, true);
+        assert_eq!(rt; program(alloc, words, b"".as_slice(), output, &mut told), 3);
+        assert_eq!(rt; told.as_slice(), b"shamir: 73 write failed\n".as_slice());
+    }
+}
+
+#[test]
+fn says_why_words_are_refused(rt: HostRuntime) {
+    let alloc = rt.alloc();
+    let cases: [(&[&str], &str); 4] = [
+        (
+            &["shamir"],
+            "error: 'shamir' requires a subcommand but one was not provided\n  [subcommands: show, recover]\n\nUsage: shamir <COMMAND>\n\nFor more information, try '--help'.\n",
+        ),
+        (
+            &["shamir", "list"],
+            "error: unrecognized subcommand 'list'\n\nUsage: shamir <COMMAND>\n\nFor more information, try '--help'.\n",
+        ),
+        (
+            &["shamir", "show", "file"],
+            "error: unexpected argument 'file' found\n\nUsage: shamir show\n\nFor more information, try '--help'.\n",
+        ),
+        (
+            &["shamir", "recover", "--passphrase"],
+            "error: a value is required for '--passphrase <TEXT>' but none was supplied\n\nFor more information, try '--help'.\n",
+        ),
+    ];
+    for (words, text) in cases {
+        expect_run(&rt, words, ONE_OF_ONE, alloc, ("", text, 2));
+    }
+}
+
+#[test]
+fn flushes_what_it_wrote(rt: HostRuntime) {
+    let alloc = rt.alloc();
+    let mut output = Flushing::new(alloc, false);
+    let mut told = Vec::new(alloc);
+    let status = program(alloc, &SHOW, ONE_OF_ONE.as_bytes(), &mut output, &mut told);
+    assert_eq!(rt; (status, output.flushes), (0, 1));
+    assert_eq!(rt; output.bytes.as_slice(), SHOWN.as_bytes());
+    // A flush that fails after a run without a fault is a failed write.
+    let output = Flushing::new(alloc, true);
+    assert_eq!(rt;
+        program(alloc, &SHOW, ONE_OF_ONE.as_bytes(), output, &mut told),
+        3
+    );
+    assert_eq!(rt; told.as_slice(), b"shamir: 73 write failed\n".as_slice());
+    // After a fault it changes nothing.
+    let mut told = Vec::new(alloc);
+    let output = Flushing::new(alloc, true);
+    let input = ONE_OF_ONE_BAD_CHECKSUM.as_bytes();
+    assert_eq!(rt; program(alloc, &SHOW, input, output, &mut told), 1);
+    assert_eq!(rt;
+        told.as_slice(),
+        b"shamir: line 1: 13 bad checksum\n".as_slice()
+    );
+}
+
+#[test]
+fn keeps_its_status_where_the_errors_fail(rt: HostRuntime) {
+    let alloc = rt.alloc();
+    let refused = ["shamir", "reveal"];
+    assert_eq!(rt;
+        program(alloc, &refused, b"".as_slice(), Vec::new(alloc), Full),
+        2
+    );
+    let input = ONE_OF_ONE_BAD_CHECKSUM.as_bytes();
+    assert_eq!(rt; program(alloc, &SHOW, input, Vec::new(alloc), Full), 1);
+    let input = ONE_OF_ONE.as_bytes();
+    assert_eq!(rt; program(alloc, &SHOW, input, Full, Full), 3);
+}
+
+#[test]
+fn says_why_there_are_no_words(rt: HostRuntime) {
+    let alloc = rt.alloc();
+    let mut told = Vec::new(alloc);
+    assert_eq!(rt; no_memory(&mut told), 4);
+    assert_eq!(rt; told.as_slice(), b"shamir: out of memory\n".as_slice());
+    let cases: [(ErrorKind, u8, &[u8]); 2] = [
+        (ErrorKind::OutOfMemory, 4, b"shamir: out of memory\n"),
+        (
+            ErrorKind::InvalidData,
+            2,
+            b"shamir: the arguments aren't UTF-8\n",
+        ),
+    ];
+    for (kind, status, message) in cases {
+        let mut told = Vec::new(alloc);
+        assert_eq!(rt; no_words(&io::Error::from(kind), &mut told), status);
+        assert_eq!(rt; told.as_slice(), message);
+    }
+}

@@ -1,0 +1,75 @@
+//! The texts of faults.
+
+use s39_cli::FaultText;
+use s39_kdf::BadPassphrase;
+use s39_set::{SetError, SetLack};
+use s39_tool::{Fault, LineRefusal, Mismatch, Refusal};
+use std::test::Fail;
+
+#[test]
+fn names_refusals_of_shares(rt: HostRuntime) -> Result<(), Fail> {
+    let alloc = rt.alloc();
+    let conflicting = SetError::ConflictingShare {
+        group: 3,
+        member: 12,
+    };
+    let incomplete = SetLack::Incomplete {
+        complete: 1,
+        required: 2,
+    };
+    let cases = [
+        (
+            Refusal::Line(LineRefusal::Set(SetError::OtherIdentifier)),
+            "line 7: 21 other identifier",
+        ),
+        (
+            Refusal::Line(LineRefusal::Set(SetError::OtherExtendable)),
+            "line 7: 22 other extendable flag",
+        ),
+        (
+            Refusal::Line(LineRefusal::Set(SetError::OtherExponent)),
+            "line 7: 23 other exponent",
+        ),
+        (
+            Refusal::Line(LineRefusal::Set(SetError::OtherGroupThreshold)),
+            "line 7: 24 other group threshold",
+        ),
+        (
+            Refusal::Line(LineRefusal::Set(SetError::OtherGroupCount)),
+            "line 7: 25 other group count",
+        ),
+        (
+            Refusal::Line(LineRefusal::Set(SetError::OtherLength)),
+            "line 7: 26 other length",
+        ),
+        (
+            Refusal::Line(LineRefusal::Set(SetError::OtherMemberThreshold { group: 15 })),
+            "line 7: 27 other member threshold in group 15",
+        ),
+        (
+            Refusal::Line(LineRefusal::Set(conflicting)),
+            "line 7: 28 conflicting share 3.12",
+        ),
+        (Refusal::Lack(SetLack::NoShares), "29 no shares"),
+        (Refusal::Lack(incomplete), "30 incomplete: 1 of 2 groups"),
+        (
+            Refusal::Passphrase(BadPassphrase { position: 5 }),
+            "41 passphrase byte 5 not printable",
+        ),
+        (
+            Refusal::DigestMismatch(Mismatch::InGroup { group: 2 }),
+            "51 digest mismatch in group 2",
+        ),
+        (
+            Refusal::DigestMismatch(Mismatch::OfGroups),
+            "51 digest mismatch of groups",
+        ),
+    ];
+    for (refusal, text) in cases {
+        let line = if refusal.has_line() { Some(7) } else { None };
+        let told = format!(in alloc; "{}", FaultText::from(Fault { line, refusal }))?;
+        let wanted = format!(in alloc; "shamir: {text}")?;
+        assert_eq!(rt; told.as_str(), wanted.as_str());
+    }
+    Ok(())
+}
