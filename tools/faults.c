@@ -1,0 +1,173 @@
+/* Preloaded into the program by tools/faults. It counts the growths of memory, the reads of standard input and the writes
+   that the program itself makes, lets those fail that the environment names, and logs each.
+
+   FAULT_LOG             the descriptor of the log: a line 'KIND SIZE RESULT' for each call, of which kinds are growth,
+                         read, write (of standard output) and error (a write of standard error)
+   FAULT_GROWTH          the number, from 1, of the growth that is refused
+   FAULT_GROWTHS_FROM    all from this one on are refused
+   FAULT_READ            the number of the read that fails, and
+   FAULT_READ_BYTES      the number of bytes that come before a read fails
+   FAULT_WRITE           the number of the write of standard output that fails, and
+   FAULT_WRITE_BYTES     the number of bytes that are taken before a write fails
+   FAULT_WRITE_NONE      the number of the write of standard output that takes no byte
+   FAULT_ERRORS          each write of standard error fails
+   FAULT_SINGLE          a read gives, and a write takes, one byte at most
+   FAULT_ERRNO           the error of a failing read or write, by default EIO */
+#define _GNU_SOURCE
+#include <dlfcn.h>
+#include <errno.h>
+#include <link.h>
+#include <stdint.h>
+#include <stdio.h>
+#include <stdlib.h>
+#include <string.h>
+#include <sys/syscall.h>
+#include <unistd.h>
+
+static uintptr_t first_address, last_address;
+static long log_to, growth, growths_from, read_at, read_bytes, write_at, write_bytes, write_none, errors, single, failure;
+static long growths, reads, read_sum, writes, write_sum;
+
+static long setting(const char *name, long otherwise)
+{
+    const char *text = getenv(name);
+    return text ? atol(text) : otherwise;
+}
+
+static int find_program(struct dl_phdr_info *info, size_t size, void *data)
+{
+    (void)size, (void)data;
+    for (int i = 0; i < info->dlpi_phnum; i++) {
+        const ElfW(Phdr) *part = &info->dlpi_phdr[i];
+        if (part->p_type == PT_LOAD && part->p_flags & PF_X) {
+            first_address = info->dlpi_addr + part->p_vaddr;
+            last_address = first_address + part->p_memsz;
+        }
+    }
+    return 1; /* the first object is the program */
+}
+
+__attribute__((constructor)) static void begin(void)
+{
+    log_to = setting("FAULT_LOG", 2);
+    growth = setting("FAULT_GROWTH", -1);
+    growths_from = setting("FAULT_GROWTHS_FROM", -1);
+    read_at = setting("FAULT_READ", -1);
+    read_bytes = setting("FAULT_READ_BYTES", -1);
+    write_at = setting("FAULT_WRITE", -1);
+    write_bytes = setting("FAULT_WRITE_BYTES", -1);
+    write_none = setting("FAULT_WRITE_NONE", -1);
+    errors = setting("FAULT_ERRORS", 0);
+    single = setting("FAULT_SINGLE", 0);
+    failure = setting("FAULT_ERRNO", EIO);
+    dl_iterate_phdr(find_program, NULL);
+}
+
+static int is_program(void *caller)
+{
+    return (uintptr_t)caller >= first_address && (uintptr_t)caller < last_address;
+}
+
+static void tell(const char *kind, size_t size, long result)
+{
+    char line[80];
+    int length = snprintf(line, sizeof line, "%s %zu %ld\n", kind, size, result);
+    syscall(SYS_write, (int)log_to, line, (size_t)length);
+}
+
+static int is_refused(void *caller, size_t size)
+{
+    if (!is_program(caller))
+        return 0;
+    growths++;
+    int refused = growths == growth || (growths_from > 0 && growths >= growths_from);
+    tell("growth", size, refused ? -1 : 0);
+    return refused;
+}
+
+void *malloc(size_t size)
+{
+    static void *(*next)(size_t);
+    if (!next)
+        next = (void *(*)(size_t))dlsym(RTLD_NEXT, "malloc");
+    if (is_refused(__builtin_return_address(0), size)) {
+        errno = ENOMEM;
+        return NULL;
+    }
+    return next(size);
+}
+
+void *realloc(void *old, size_t size)
+{
+    static void *(*next)(void *, size_t);
+    if (!next)
+        next = (void *(*)(void *, size_t))dlsym(RTLD_NEXT, "realloc");
+    if (is_refused(__builtin_return_address(0), size)) {
+        errno = ENOMEM;
+        return NULL;
+    }
+    return next(old, size);
+}
+
+static long fail(void)
+{
+    errno = (int)failure;
+    return -1;
+}
+
+static size_t least(size_t a, size_t b)
+{
+    return a < b ? a : b;
+}
+
+ssize_t read(int from, void *to, size_t size)
+{
+    size_t wanted = single ? least(size, 1) : size;
+    if (from != 0)
+        return syscall(SYS_read, from, to, wanted);
+    reads++;
+    if (read_bytes >= 0)
+        wanted = least(wanted, (size_t)(read_bytes - read_sum));
+    long result;
+    if (reads == read_at || (read_bytes >= 0 && read_sum >= read_bytes))
+        result = fail();
+    else
+        result = syscall(SYS_read, from, to, wanted);
+    if (result > 0)
+        read_sum += result;
+    int kept = errno;
+    tell("read", size, result);
+    errno = kept;
+    return result;
+}
+
+ssize_t write(int to, const void *from, size_t size)
+{
+    size_t wanted = single ? least(size, 1) : size;
+    long result;
+    if (to == 1) {
+        writes++;
+        if (write_bytes >= 0)
+            wanted = least(wanted, (size_t)(write_bytes - write_sum));
+        if (writes == write_at || (write_bytes >= 0 && write_sum >= write_bytes))
+            result = fail();
+        else if (writes == write_none)
+            result = 0;
+        else
+            result = syscall(SYS_write, to, from, wanted);
+        if (result > 0)
+            write_sum += result;
+    } else if (errors)
+        result = fail();
+    else
+        result = syscall(SYS_write, to, from, wanted);
+    int kept = errno;
+    tell(to == 1 ? "write" : "error", size, result);
+    errno = kept;
+    return result;
+}
+
+ssize_t __write(int to, const void *from, size_t size)
+{
+    return write(to, from, size);
+}
