@@ -1,26 +1,60 @@
-# shamir: `make` proves and builds, `make test` is the merge gate, `make bench` measures.
+# shamir: `make` proves and builds, `make test` is the merge gate.
+#
+#   make check       the fast checks: commands and tables of the documents
+#   make faults      lets each growth, read and write of the program fail in turn
+#   make compare     compares made cases with a plain reading of the standard in Python
+#   make bench       measures
+#   make install     into PREFIX (by default /usr/local), below DESTDIR; make uninstall takes it out again
+#   make dist        an archive of the committed sources, the same bytes each time
 RT ?= rt
 PREFIX ?= /usr/local
+VERSION = 1.0.0
+# The crate of the program: the one that has a main, but for the bench.
+PROGRAM = $(filter-out s39_bench,$(patsubst crates/%/src/main.rt,%,$(wildcard crates/*/src/main.rt)))
+BIN = $(DESTDIR)$(PREFIX)/bin
+DOCUMENTS = $(DESTDIR)$(PREFIX)/share/doc/shamir
 
-.PHONY: all test bench install clean
+.PHONY: all test check bench faults compare install uninstall dist clean
 
 all: shamir
 
 # Proves every crate that the program stands on, builds it, and runs it once on its stored input.
 shamir: $(shell find crates -path '*/out' -prune -o -type f -print) crates.txt
-	cd crates/s39_cli && $(RT) run -- show < stdin > /dev/null
-	cp crates/s39_cli/out/s39_cli $@
+	cd crates/$(PROGRAM) && $(RT) run -- show < stdin > /dev/null
+	cp crates/$(PROGRAM)/out/$(PROGRAM) $@
 
-test:
+# The line that the gate ends with comes last.
+test: check
 	@$(RT) ci
+
+check: shamir
+	@test "$$(./shamir --version)" = "shamir $(VERSION)"
+	@tools/recipes
+	@tools/texts
+
+faults: shamir
+	@tools/faults
+
+compare: shamir
+	@tools/compare --kinds show,recover
 
 bench: shamir
 	cd crates/s39_bench && $(RT) run > /dev/null
 	@python3 tools/bench
 
 install: shamir
-	install -d $(DESTDIR)$(PREFIX)/bin
-	install -m 755 shamir $(DESTDIR)$(PREFIX)/bin/shamir
+	install -d $(BIN) $(DOCUMENTS)/docs
+	install -m 755 shamir $(BIN)/shamir
+	install -m 644 README.md SECURITY.md NOTICE $(DOCUMENTS)
+	install -m 644 docs/*.md $(DOCUMENTS)/docs
+
+uninstall:
+	rm -f $(BIN)/shamir
+	rm -rf $(DOCUMENTS)
+
+dist:
+	git -c tar.umask=0022 archive --format=tar --prefix=shamir-$(VERSION)/ HEAD | gzip -9n > shamir-$(VERSION).tar.gz
+	sha256sum shamir-$(VERSION).tar.gz
 
 clean:
-	rm -rf shamir crates/*/out
+	rm -rf shamir shamir-$(VERSION).tar.gz crates/*/out
