@@ -8,7 +8,7 @@ use crate::size::WORD_BITS;
 
 /// The lower coefficients of the generator, each times 2^i in the field of 1,024 elements, for i from 0 to 9:
 /// ten bits for each coefficient, that of x^2 highest.
-pub(crate) const GENERATOR_TIMES: [u32; WORD_BITS] = [
+pub(crate) const GENERATOR_TIMES: [u32; 10] = [
     0x00E0_E040,
     0x01C1_C080,
     0x0383_8100,
