@@ -1,5 +1,5 @@
 -- The shares of a group of a quorum, and those of its groups.
-use Rattle.std.proofs.Common.{◌≡◌, ◌≢◌, ℕ, ◌+◌, ◌-◌, ◌<◌, ◌≤◌, ◌==◌, Bool, false, List, [], ◌∷◌, ◌++◌, length, get_or, take, filter, map, All, AllPairs, Contains, Option, Some, None, Less, nat_lt, nat_le, cond, inl, inr, refl, sym, ap, subst, ◌∙◌, arith}
+use Rattle.std.proofs.Common.{◌≡◌, ◌≢◌, ℕ, ◌+◌, ◌-◌, ◌%◌, ◌<◌, ◌≤◌, ◌==◌, Bool, false, List, [], ◌∷◌, ◌++◌, length, get_or, take, filter, map, All, AllPairs, Contains, Option, Some, None, Less, nat_lt, nat_le, cond, inl, inr, refl, sym, ap, subst, ◌∙◌, arith}
 use Rattle.std.specs.Prelude.{IsSomeAnd}
 use Rattle.std.specs.List.{range_with_len, zip}
 use Rattle.std.specs.Option.{option_map_or}
@@ -11,6 +11,7 @@ use Rattle.std.proofs.lemmas.List.Sums.{length-filter, count_by-le-length, count
 use Rattle.std.proofs.lemmas.List.FromFn.{length-range_with_len}
 use Rattle.std.proofs.lemmas.List.Kept.{AllPairs-filter}
 use Rattle.s39_words.specs.declared.share.ShareFields.{ShareFields}
+use Rattle.s39_words.specs.Share.{IsShare}
 use Rattle.s39_set.specs.Names.{most_groups, most_members, name_cmp, names_in_group}
 use Rattle.s39_set.specs.Groups.{is_complete}
 use Rattle.s39_set.specs.ShareSet.{name_of}
@@ -26,7 +27,7 @@ use Rattle.s39_backup.proofs.Images.{AllPairs-map, filter_same, zip-parts, AllZi
 use Rattle.s39_set.proofs.CompleteGroups.{range-below}
 use Rattle.s39_set.proofs.Ranges.{filter-range_more_yes, filter-range_more_no}
 use Rattle.s39_backup.proofs.Ranges.{range-distinct, filter-range_parts}
-use Rattle.s39_backup.proofs.Values.{has_share, value_bytes-long, length-value_of, member_threshold-positive, group_threshold-positive}
+use Rattle.s39_backup.proofs.Values.{has_share, values_agree, value_bytes-long, length-value_of, member_threshold-positive, group_threshold-positive}
 
 -- a set with a group threshold has a share
 pub some_share : (set : List ShareFields) (threshold : ℕ) → group_threshold_of set ≡ Some threshold → (share : ShareFields) × Contains set share
@@ -152,6 +153,13 @@ module _ (set : List ShareFields) (names : List (ℕ × ℕ)) (quorum : IsExactQ
       quorum.exact.just.groups
       ∙ ap (λ groups. Some (length groups))
       (filter_same (is_complete (member_threshold_of set) names) (λ group. nat_lt 0 (length (names_in_group group names))) (range_with_len 0 most_groups) complete_here)
+
+  -- the values have an even length
+  pub value_bytes-even : value_bytes_of set % 2 ≡ 0
+  value_bytes-even =
+      let (share, among) = some_share set (length (groups_of names)) group_threshold_is in
+      ap (λ n. n % 2) (sym (All-contains (λ s. length s.value.items ≡ value_bytes_of set) set share (values_agree set quorum.is_set) among))
+      ∙ (All-contains IsShare set share quorum.is_set.each among).value.even
 
   -- there is a group
   pub some_group : 0 < length (groups_of names)

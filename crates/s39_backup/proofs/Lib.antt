@@ -9,3 +9,4 @@ pub mod Creating
 pub mod Memos
 pub mod Plans
 pub mod Promise
+pub mod EveryOutcome

@@ -27,7 +27,7 @@ use Rattle.s39_backup.proofs.Levels.{member_threshold_is, members_of_one_level, 
 -- ---- parameters
 
 -- parameters of these fields
-abbrev of_fields : (id : ℕ) (extendable : Bool) (exponent : ℕ) → id < 2 ^ 15 → exponent < 16 → Params
+abbrev pub of_fields : (id : ℕ) (extendable : Bool) (exponent : ℕ) → id < 2 ^ 15 → exponent < 16 → Params
 of_fields id extendable exponent r t = record { id = id; extendable = extendable; exponent = exponent; id_in_range = r; exponent_in_range = t }
 
 -- parameters are known by their fields

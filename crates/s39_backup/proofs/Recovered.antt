@@ -26,13 +26,6 @@ module _ (set : List ShareFields) (names : List (ℕ × ℕ)) (quorum : IsExactQ
   pub shares_can : AreOfOneLevel (value_bytes_of set) (indexed_bytes items)
   shares_can = groups_of_one_level set names quorum (indexed_bytes items) is
 
-  -- the values have an even length
-  pub value_bytes-even : value_bytes_of set % 2 ≡ 0
-  value_bytes-even =
-      let (share, among) = some_share set (length (groups_of names)) (group_threshold_is set names quorum) in
-      ap (λ n. n % 2) (sym (All-contains (λ s. length s.value.items ≡ value_bytes_of set) set share (values_agree set quorum.is_set) among))
-      ∙ (All-contains IsShare set share quorum.is_set.each among).value.even
-
   -- where they are refused, the groups mismatch
   pub groups_mismatch : Combines (length (indexed_bytes items)) (indexed_bytes items) None → MismatchesOfGroups set names
   groups_mismatch refused = record {

@@ -1,11 +1,12 @@
 -- The values of a share set's shares.
-use Rattle.std.proofs.Common.{◌≡◌, ℕ, zero, suc, ◌≤◌, Bool, true, List, [], ◌∷◌, length, find, map, All, Contains, Option, Some, None, inl, inr, refl, sym, ap, ◌∙◌, arith}
+use Rattle.std.proofs.Common.{◌≡◌, ℕ, zero, suc, ◌≤◌, Bool, true, List, [], ◌∷◌, length, find, map, All, Contains, Option, Some, None, inl, inr, refl, sym, ap, subst, ◌∙◌, arith}
 use Rattle.std.specs.Prelude.{◌==◌}
 use Rattle.std.specs.Option.{option_map, option_map_or}
 use Rattle.std.proofs.lemmas.Bool.{cases_Bool, cond-true, cond-false, and_from, eq-eqb}
 use Rattle.std.proofs.lemmas.List.Elements.{All-head, All-contains}
 use Rattle.s39_words.specs.declared.share.ShareFields.{ShareFields}
 use Rattle.s39_words.specs.Share.{IsShare}
+use Rattle.s39_kdf.specs.Bytes.{AreBytes}
 use Rattle.s39_kdf.specs.Limits.{shortest_secret}
 use Rattle.s39_set.specs.Names.{most_members}
 use Rattle.s39_set.specs.ShareSet.{IsShareSet, name_of, is_in_group, has_name}
@@ -70,6 +71,11 @@ value_bytes-long set share is among =
     omega arith
 
 -- the value of a name
+pub bytes-value_of : (set : List ShareFields) (name : ℕ × ℕ) → IsShareSet set → Contains (map name_of set) name → AreBytes (value_of set name)
+bytes-value_of set name is among =
+    let has = has_share set name among in
+    subst AreBytes (sym (ap (λ found. option_map_or (λ s. s.value.items) found []) has.found)) (All-contains IsShare set has.share is.each has.among).value.bytes
+
 pub length-value_of : (set : List ShareFields) (name : ℕ × ℕ) → IsShareSet set → Contains (map name_of set) name
     → length (value_of set name) ≡ value_bytes_of set
 length-value_of set name is among =

@@ -11,9 +11,11 @@ ghost use Rattle.s39_backup.specs.Combination.{IsCombination};
 ghost use Rattle.s39_backup.specs.Outcome.{IsOutcome};
 
 use crate::creation::ID_BYTES;
-use s39_kdf::laws::encrypts_one_secret;
+use s39_kdf::laws::{encrypts_one_secret, one_encryption};
 use s39_set::laws::quorums_are_exact;
-use s39_split::laws::{any_shares_combine, shares_combine_once};
+use s39_split::laws::{
+    any_shares_combine, secrets_are_like_their_shares, shares_combine, shares_combine_once,
+};
 
 /// The program's constant is the number by which the definitions go, and the plan of sixteen groups of sixteen members,
 /// all of them needed, takes the most random bytes.
@@ -46,6 +48,28 @@ pub fn one_outcome()
 {
     one_combination();
     encrypts_one_secret();
+}
+
+/// Every quorum of a share set combines to an encrypted secret or a mismatch.
+pub fn every_quorum_has_a_combination()
+    ensures { (set : List ShareFields) (names : List (ℕ × ℕ)) → IsShareSet set → IsQuorum set names
+        → (combination : Result (List ℕ) Mismatch) × IsCombination set names combination }
+{
+    quorums_are_exact();
+    shares_combine();
+    secrets_are_like_their_shares();
+}
+
+/// Every quorum of a share set has an outcome with any passphrase.
+pub fn every_quorum_has_an_outcome()
+    ensures { (set : List ShareFields) (names : List (ℕ × ℕ)) (passphrase : List ℕ)
+        → IsShareSet set → IsQuorum set names
+        → (outcome : Result (List ℕ) Mismatch) × IsOutcome set names passphrase outcome }
+{
+    quorums_are_exact();
+    shares_combine();
+    secrets_are_like_their_shares();
+    one_encryption();
 }
 
 /// Every quorum of shares of a created backup combines to its encrypted secret.

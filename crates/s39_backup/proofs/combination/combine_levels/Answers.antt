@@ -4,7 +4,8 @@ use Rattle.s39_split.specs.Recovery.{Combines}
 use Rattle.s39_backup.specs.Combination.{CombinesTo, MismatchesOfGroups}
 use Rattle.s39_backup.specs.GroupShares.{value_bytes_of, IsExactQuorum, AreOfOneLevel}
 use Rattle.s39_backup.proofs.Values.{values_agree}
-use Rattle.s39_backup.proofs.Recovered.{value_bytes-even, shares_can, groups_mismatch, combines_to}
+use Rattle.s39_backup.proofs.Levels.{value_bytes-even}
+use Rattle.s39_backup.proofs.Recovered.{shares_can, groups_mismatch, combines_to}
 use Rattle.s39_backup.proofs.combination.combine_levels.Goals as goal
 use Rattle.s39_backup.proofs.combination.combine_levels.Goals.{After-lend}
 
@@ -45,7 +46,7 @@ pub returns-in-Ok-clause-even : goal.returns-in-Ok-clause-even
 returns-in-Ok-clause-even c =
     let d = (goal.at.returns-in-Ok-clause-even c).After-lend in
     ap (λ n. n % 2) (c.in-Ok.ensures.length (value_bytes_of c.args.set.now) (can d).lengths)
-    ∙ value_bytes-even c.args.set.now c.pairs.result.now (exact d) c.in_ok-shares.shares.items c.in_ok-shares.ensures.shares
+    ∙ value_bytes-even c.args.set.now c.pairs.result.now (exact d)
 
 pub returns-in-Ok-clause-long : goal.returns-in-Ok-clause-long
 returns-in-Ok-clause-long c =
