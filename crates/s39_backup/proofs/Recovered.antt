@@ -1,17 +1,15 @@
 -- What the group shares of a quorum combine to, and the parameters of its set.
-use Rattle.std.proofs.Common.{◌≡◌, ℕ, ◌%◌, List, [], ◌∷◌, length, map, All, Contains, Some, None, sym, ap, ◌∙◌, arith}
+use Rattle.std.proofs.Common.{◌≡◌, ℕ, List, [], ◌∷◌, length, map, All, Contains, Some, None, ◌∙◌, arith}
 use Rattle.std.proofs.lemmas.List.Elements.{All-contains}
 use Rattle.arrayvec.specs.ArrayVec.{ArrayVec}
 use Rattle.s39_kdf.specs.declared.params.Params.{Params}
 use Rattle.s39_words.specs.declared.share.ShareFields.{ShareFields}
-use Rattle.s39_words.specs.Share.{IsShare}
 use Rattle.s39_set.specs.ShareSet.{Agrees, IsShareSet}
 use Rattle.s39_split.specs.Recovery.{Combines}
 use Rattle.s39_backup.specs.Combination.{groups_of, CombinesTo, MismatchesOfGroups}
 use Rattle.s39_backup.specs.Outcome.{AreParams}
 use Rattle.s39_backup.specs.GroupShares.{indexed_bytes, value_bytes_of, IsExactQuorum, AreOfOneLevel, AreGroupShares}
-use Rattle.s39_backup.proofs.Values.{values_agree}
-use Rattle.s39_backup.proofs.Levels.{some_share, group_threshold_is, groups_of_one_level, all_combine, groups_combine}
+use Rattle.s39_backup.proofs.Levels.{groups_of_one_level, all_combine, groups_combine}
 
 -- the parameters of one share are those of all
 pub params_from_share : (set : List ShareFields) (share : ShareFields) (params : Params) → IsShareSet set → Contains set share
