@@ -10,3 +10,4 @@ pub mod Memos
 pub mod Plans
 pub mod Promise
 pub mod EveryOutcome
+pub mod Agreeing

@@ -1,10 +1,10 @@
 //! Facts about the definitions, each the contract of a function that does nothing.
-ghost use Rattle.std.specs.Prelude.{◌≡◌, ℕ, List, Result, Ok, replicate};
+ghost use Rattle.std.specs.Prelude.{◌≡◌, ℕ, List, All, Contains, Result, Ok, None, replicate};
 ghost use Rattle.s39_kdf.specs.Limits.{longest_secret};
 ghost use Rattle.s39_set.specs.Names.{most_groups, most_members};
 ghost use Rattle.s39_backup.specs.Created.{AreOfBackup, identifier_length, random_needed, most_random};
 ghost use Rattle.s39_words.specs.declared.ShareFields.{ShareFields};
-ghost use Rattle.s39_set.specs.ShareSet.{IsShareSet};
+ghost use Rattle.s39_set.specs.ShareSet.{IsShareSet, refusal_of};
 ghost use Rattle.s39_set.specs.Quorums.{IsQuorum};
 ghost use Rattle.s39_backup.specs.declared.combination.Mismatch.{Mismatch};
 ghost use Rattle.s39_backup.specs.Combination.{IsCombination};
@@ -12,9 +12,10 @@ ghost use Rattle.s39_backup.specs.Outcome.{IsOutcome};
 
 use crate::creation::ID_BYTES;
 use s39_kdf::laws::{encrypts_one_secret, one_encryption};
-use s39_set::laws::quorums_are_exact;
+use s39_set::laws::{quorums_are_exact, shares_that_agree_join};
 use s39_split::laws::{
     any_shares_combine, secrets_are_like_their_shares, shares_combine, shares_combine_once,
+    shares_of_a_split,
 };
 
 /// The program's constant is the number by which the definitions go, and the plan of sixteen groups of sixteen members,
@@ -90,4 +91,14 @@ pub fn every_quorum_recovers()
 {
     quorums_are_exact();
     any_shares_combine();
+}
+
+/// Shares of a created backup never refuse one another.
+pub fn shares_of_a_backup_agree()
+    ensures { (set earlier : List ShareFields) (share : ShareFields) (passphrase secret : List ℕ)
+        → AreOfBackup set passphrase secret → All (Contains set) earlier → Contains set share
+        → refusal_of earlier share ≡ None }
+{
+    shares_that_agree_join();
+    shares_of_a_split();
 }

@@ -1,18 +1,26 @@
--- A share that isn't refused agrees with all shares of the set.
-use Rattle.std.proofs.Common.{◌≡◌, ℕ, Bool, true, false, List, [], ◌∷◌, length, find, Contains, Option, Some, None, not, refl, sym, ap, ◌∙◌, subst, arith}
+-- A share is refused by none exactly where it can join.
+use Rattle.std.proofs.Common.{◌≡◌, ℕ, Bool, true, false, List, length, get_or, filter, All, Contains, None, not, inl, inr, refl, sym, ap, ◌∙◌, subst, arith}
 use Rattle.std.specs.Prelude.{◌==◌, bytes_eq}
+use Rattle.std.specs.List.{list_any}
 use Rattle.std.specs.Cmp.Lexicographic.{bytes_decides}
-use Rattle.std.proofs.lemmas.Bool.{false≢true, eqb-true, eq-eqb, not-false, not_from_true}
-use Rattle.std.proofs.lemmas.List.Elements.{All-contains}
+use Rattle.std.proofs.lemmas.Bool.{cases_Bool, false≢true, eqb-true, eq-eqb, not-false, not_from_true}
+use Rattle.std.proofs.lemmas.List.Elements.{All-contains, Contains-get_or, filter_passes}
+use Rattle.std.proofs.lemmas.List.Folds.{list_any_none, list_any_at}
 use Rattle.s39_words.specs.declared.share.ShareFields.{ShareFields}
 use Rattle.s39_words.specs.Share.{flag_bit}
-use Rattle.s39_set.specs.ShareSet.{Agrees, IsShareSet, name_of, has_name, refusal_of}
-use Rattle.s39_set.specs.Quorums.{member_threshold_of}
+use Rattle.s39_set.specs.ShareSet.{Agrees, IsShareSet, CanJoin, name_of, is_in_group, has_name, some_differs, refusal_of}
 use Rattle.s39_set.specs.Places.{last_refusal_of}
-use Rattle.s39_set.proofs.Finds.{find-passes, Contains-find, none-passes}
-use Rattle.s39_set.proofs.Sublists.{Contains-head, Contains-nil}
-use Rattle.s39_set.proofs.Sets.{agree, threshold_is, one_share}
-use Rattle.s39_set.proofs.Refusals.{FailAll, from_none, from_failures, last_from_none, last_from_failures, refusal-as_first_of, has_name-is, has_name-own, threshold_test, value_test}
+use Rattle.s39_set.proofs.Sublists.{Contains-filter}
+use Rattle.s39_set.proofs.Sets.{Contains-from_filter, agree, one_share}
+use Rattle.s39_set.proofs.Refusals.{from_none, from_failures, last_from_none, last_from_failures, has_name-is, has_name-own}
+
+-- where a test of some fails, it fails at each
+none_pass : {X : Type 0} (test : X → Bool) (xs : List X) → list_any test xs ≡ false → All (λ x. test x ≡ false) xs
+none_pass test xs fails k d below =
+    elim (cases_Bool (test (get_or xs k d))) [
+      | inl passes ↦ absurd (false≢true (sym fails ∙ list_any_at test xs k d below passes))
+      | inr stays ↦ stays
+    ]
 
 pub agrees-itself : (s : ShareFields) → Agrees s s
 agrees-itself s = record { id = refl; extendable = refl; exponent = refl; group_threshold = refl; group_count = refl; value_length = refl; member_threshold = λ _. refl }
@@ -42,11 +50,6 @@ same_from_test m n h = eqb-true m n (not-false (m == n) h)
 test_from_same : (m n : ℕ) → m ≡ n → not (m == n) ≡ false
 test_from_same m n h = not_from_true (m == n) (eq-eqb m n h)
 
--- the share may join these shares, of which one of its name has its value
-pub record Joins (shares : List ShareFields) (share : ShareFields) : Type 0 where
-  pub agrees : (s : ShareFields) → Contains shares s → Agrees s share
-  pub same_value : (s : ShareFields) → Contains shares s → name_of s ≡ name_of share → s.value.items ≡ share.value.items
-
 unfoldable fields : ℕ → Bool → ℕ → ℕ → ℕ → ℕ → ℕ → ℕ → List ℕ → ShareFields
 fields id extendable exponent group_index group_threshold group_count member_index member_threshold value = record {
   id = id;
@@ -65,7 +68,7 @@ unfolding fields
 fields-of s = refl
 
 -- shares of one name that agree and have one value are the same
-pub same_share : (s t : ShareFields) → Agrees s t → name_of s ≡ name_of t → s.value.items ≡ t.value.items → s ≡ t
+same_share : (s t : ShareFields) → Agrees s t → name_of s ≡ name_of t → s.value.items ≡ t.value.items → s ≡ t
 same_share s t h names values =
     let group : s.group_index ≡ t.group_index = ap (λ (n : ℕ × ℕ). n.0) names in
     let member : s.member_index ≡ t.member_index = ap (λ (n : ℕ × ℕ). n.1) names in
@@ -76,77 +79,97 @@ same_share s t h names values =
     ≡ fields t.id t.extendable t.exponent t.group_index t.group_threshold t.group_count t.member_index t.member_threshold t.value.items = cc in
     sym of_s ∙ same ∙ of_t
 
-module _ (shares : List ShareFields) (is : IsShareSet shares) (share : ShareFields) where
-  -- the share of a name, where the set has one
-  found_from_name : (s : ShareFields) → Contains shares s → name_of s ≡ name_of share → find (has_name share.group_index share.member_index) shares ≡ Some s
-  found_from_name s has_s names = by (find (has_name share.group_index share.member_index) shares) refl
-    where
-      test : ShareFields → Bool
-      test = has_name share.group_index share.member_index
+-- a share that can join is the one of its name, where there is one
+pub same_from_joins : (shares : List ShareFields) (s share : ShareFields) → CanJoin shares share → Contains shares s → name_of s ≡ name_of share → s ≡ share
+same_from_joins shares s share joins has_s names =
+    same_share s share (All-contains (λ t. Agrees t share) shares s joins.agrees has_s) names
+    (All-contains (λ t. name_of t ≡ name_of share → t.value.items ≡ share.value.items) shares s joins.same_value has_s names)
 
-      passes : has_name share.group_index share.member_index s ≡ true
-      passes = subst (λ (n : ℕ × ℕ). has_name n.0 n.1 s ≡ true) names (has_name-own s)
+module _ (shares : List ShareFields) (share : ShareFields) where
+  -- the shares of its group, and of its name
+  abbrev of_group : List ShareFields
+  of_group = filter (is_in_group share.group_index) shares
 
-      by : (found : Option ShareFields) → find (has_name share.group_index share.member_index) shares ≡ found → find (has_name share.group_index share.member_index) shares ≡ Some s
-      by None f = absurd (false≢true (sym (All-contains (λ t. has_name share.group_index share.member_index t ≡ false) shares s (none-passes (has_name share.group_index share.member_index) shares f) has_s) ∙ passes))
-      by (Some t) f =
-          let names_t = has_name-is share.group_index share.member_index t (find-passes (has_name share.group_index share.member_index) shares t f) in
-          f ∙ ap Some (one_share shares is t s (Contains-find (has_name share.group_index share.member_index) shares t f) has_s (names_t ∙ sym names))
+  abbrev of_name : List ShareFields
+  of_name = filter (has_name share.group_index share.member_index) shares
 
--- a share that isn't refused joins
-pub joins_from_none : (shares : List ShareFields) → IsShareSet shares → (share : ShareFields) → refusal_of shares share ≡ None → Joins shares share
-joins_from_none [] is share h = record {
-  agrees = λ s has_s. absurd (Contains-nil s has_s);
-  same_value = λ s has_s. absurd (Contains-nil s has_s);
-}
-joins_from_none (first ∷ others) is share h =
-    let parts = from_none (not (first.id == share.id)) (not (flag_bit first.extendable == flag_bit share.extendable)) (not (first.exponent == share.exponent))
-    (not (first.group_threshold == share.group_threshold)) (not (first.group_count == share.group_count)) (not (length first.value.items == length share.value.items))
-    (last_refusal_of (first ∷ others) share) (sym (refusal-as_first_of first others is share) ∙ h) in
-    let fails = parts.0 in
-    let last = last_from_none (first ∷ others) share parts.1 in
-    let with_first : (s : ShareFields) → Contains (first ∷ others) s → Agrees first s =
-    λ s has_s. agree (first ∷ others) is first s (Contains-head first others) has_s in
-    record {
-      agrees = λ s has_s.
-          let same = with_first s has_s in
-          record {
-            id = sym same.id ∙ same_from_test first.id share.id fails.first;
-            extendable = sym same.extendable ∙ flag-from_bit first.extendable share.extendable (same_from_test (flag_bit first.extendable) (flag_bit share.extendable) fails.second);
-            exponent = sym same.exponent ∙ same_from_test first.exponent share.exponent fails.third;
-            group_threshold = sym same.group_threshold ∙ same_from_test first.group_threshold share.group_threshold fails.fourth;
-            group_count = sym same.group_count ∙ same_from_test first.group_count share.group_count fails.fifth;
-            value_length = sym same.value_length ∙ same_from_test (length first.value.items) (length share.value.items) fails.sixth;
-            member_threshold = λ group.
-                let known : member_threshold_of (first ∷ others) share.group_index ≡ Some s.member_threshold =
-                subst (λ g. member_threshold_of (first ∷ others) g ≡ Some s.member_threshold) group (threshold_is (first ∷ others) is s has_s) in
-                same_from_test s.member_threshold share.member_threshold (sym (threshold_test (first ∷ others) is share s.member_threshold known) ∙ last.0);
-          };
-      same_value = λ s has_s names.
-          let found = found_from_name (first ∷ others) is share s has_s names in
-          (bytes_decides s.value.items share.value.items).0 (not-false (bytes_eq s.value.items share.value.items) (sym (value_test (first ∷ others) is share s found) ∙ last.1));
-    }
+  -- what the test for another number says of each
+  none_differs : (number : ShareFields → ℕ) (some : List ShareFields) → some_differs number some share ≡ false → (s : ShareFields) → Contains some s → number s ≡ number share
+  none_differs number some fails s has_s =
+      same_from_test (number s) (number share) (All-contains (λ t. not (number t == number share) ≡ false) some s (none_pass (λ t. not (number t == number share)) some fails) has_s)
+
+  differs_none : (number : ShareFields → ℕ) (some : List ShareFields) → All (λ s. number s ≡ number share) some → some_differs number some share ≡ false
+  differs_none number some same =
+      list_any_none (λ s. not (number s == number share)) some (λ k d below. test_from_same (number (get_or some k d)) (number share) (same k d below))
+
+  -- a share that isn't refused can join
+  pub joins_from_none : refusal_of shares share ≡ None → CanJoin shares share
+  joins_from_none h =
+      let (fails, rest) =
+      from_none (some_differs (λ s. s.id) shares share) (some_differs (λ s. flag_bit s.extendable) shares share) (some_differs (λ s. s.exponent) shares share)
+      (some_differs (λ s. s.group_threshold) shares share) (some_differs (λ s. s.group_count) shares share) (some_differs (λ s. length s.value.items) shares share)
+      (last_refusal_of shares share) h in
+      let last = last_from_none shares share rest in
+      record {
+        agrees = λ k d below.
+            let s = get_or shares k d in
+            let has_s = Contains-get_or shares k d below in
+            record {
+              id = none_differs (λ t. t.id) shares fails.first s has_s;
+              extendable = flag-from_bit s.extendable share.extendable (none_differs (λ t. flag_bit t.extendable) shares fails.second s has_s);
+              exponent = none_differs (λ t. t.exponent) shares fails.third s has_s;
+              group_threshold = none_differs (λ t. t.group_threshold) shares fails.fourth s has_s;
+              group_count = none_differs (λ t. t.group_count) shares fails.fifth s has_s;
+              value_length = none_differs (λ t. length t.value.items) shares fails.sixth s has_s;
+              member_threshold = λ group.
+                  none_differs (λ t. t.member_threshold) of_group last.0 s
+                  (Contains-filter (is_in_group share.group_index) shares s has_s (eq-eqb s.group_index share.group_index group));
+            };
+        same_value = λ k d below names.
+            let s = get_or shares k d in
+            let passes : has_name share.group_index share.member_index s ≡ true = subst (λ (n : ℕ × ℕ). has_name n.0 n.1 s ≡ true) names (has_name-own s) in
+            let among = Contains-filter (has_name share.group_index share.member_index) shares s (Contains-get_or shares k d below) passes in
+            (bytes_decides s.value.items share.value.items).0
+            (not-false (bytes_eq s.value.items share.value.items)
+            (All-contains (λ t. not (bytes_eq t.value.items share.value.items) ≡ false) of_name s (none_pass (λ t. not (bytes_eq t.value.items share.value.items)) of_name last.1) among));
+      }
+
+  -- and a share that can join isn't refused
+  pub none_from_joins : CanJoin shares share → refusal_of shares share ≡ None
+  none_from_joins joins =
+      let same : (number : ShareFields → ℕ) → ((s : ShareFields) → Agrees s share → number s ≡ number share) → some_differs number shares share ≡ false =
+      λ number agrees. differs_none number shares (λ k d below. agrees (get_or shares k d) (joins.agrees k d below)) in
+      from_failures (some_differs (λ s. s.id) shares share) (some_differs (λ s. flag_bit s.extendable) shares share) (some_differs (λ s. s.exponent) shares share)
+      (some_differs (λ s. s.group_threshold) shares share) (some_differs (λ s. s.group_count) shares share) (some_differs (λ s. length s.value.items) shares share)
+      (last_refusal_of shares share)
+      (record {
+        first = same (λ s. s.id) (λ s agrees. agrees.id);
+        second = same (λ s. flag_bit s.extendable) (λ s agrees. ap flag_bit agrees.extendable);
+        third = same (λ s. s.exponent) (λ s agrees. agrees.exponent);
+        fourth = same (λ s. s.group_threshold) (λ s agrees. agrees.group_threshold);
+        fifth = same (λ s. s.group_count) (λ s agrees. agrees.group_count);
+        sixth = same (λ s. length s.value.items) (λ s agrees. agrees.value_length);
+      })
+      ∙ last_from_failures shares share
+      (differs_none (λ s. s.member_threshold) of_group
+      (λ k d below.
+      let s = get_or of_group k d in
+      let has_s = Contains-from_filter (is_in_group share.group_index) shares k d below in
+      (All-contains (λ t. Agrees t share) shares s joins.agrees has_s).member_threshold
+      (eqb-true s.group_index share.group_index (filter_passes (is_in_group share.group_index) shares k d below))))
+      (list_any_none (λ s. not (bytes_eq s.value.items share.value.items)) of_name
+      (λ k d below.
+      let s = get_or of_name k d in
+      let has_s = Contains-from_filter (has_name share.group_index share.member_index) shares k d below in
+      let names = has_name-is share.group_index share.member_index s (filter_passes (has_name share.group_index share.member_index) shares k d below) in
+      not_from_true (bytes_eq s.value.items share.value.items)
+      ((bytes_decides s.value.items share.value.items).1
+      (All-contains (λ t. name_of t ≡ name_of share → t.value.items ≡ share.value.items) shares s joins.same_value has_s names))))
 
 -- a share of the set isn't refused
 pub not_refused : (shares : List ShareFields) → IsShareSet shares → (share : ShareFields) → Contains shares share → refusal_of shares share ≡ None
-not_refused [] is share has_share = absurd (Contains-nil share has_share)
-not_refused (first ∷ others) is share has_share =
-    let same = agree (first ∷ others) is first share (Contains-head first others) has_share in
-    let fails : FailAll (not (first.id == share.id)) (not (flag_bit first.extendable == flag_bit share.extendable)) (not (first.exponent == share.exponent))
-    (not (first.group_threshold == share.group_threshold)) (not (first.group_count == share.group_count)) (not (length first.value.items == length share.value.items)) =
-    record {
-      first = test_from_same first.id share.id same.id;
-      second = test_from_same (flag_bit first.extendable) (flag_bit share.extendable) (ap flag_bit same.extendable);
-      third = test_from_same first.exponent share.exponent same.exponent;
-      fourth = test_from_same first.group_threshold share.group_threshold same.group_threshold;
-      fifth = test_from_same first.group_count share.group_count same.group_count;
-      sixth = test_from_same (length first.value.items) (length share.value.items) same.value_length;
-    } in
-    let found = found_from_name (first ∷ others) is share share has_share refl in
-    refusal-as_first_of first others is share
-    ∙ from_failures (not (first.id == share.id)) (not (flag_bit first.extendable == flag_bit share.extendable)) (not (first.exponent == share.exponent))
-    (not (first.group_threshold == share.group_threshold)) (not (first.group_count == share.group_count)) (not (length first.value.items == length share.value.items))
-    (last_refusal_of (first ∷ others) share) fails
-    ∙ last_from_failures (first ∷ others) share
-    (threshold_test (first ∷ others) is share share.member_threshold (threshold_is (first ∷ others) is share has_share) ∙ test_from_same share.member_threshold share.member_threshold refl)
-    (value_test (first ∷ others) is share share found ∙ not_from_true (bytes_eq share.value.items share.value.items) ((bytes_decides share.value.items share.value.items).1 refl))
+not_refused shares is share has_share =
+    none_from_joins shares share (record {
+      agrees = λ k d below. agree shares is (get_or shares k d) share (Contains-get_or shares k d below) has_share;
+      same_value = λ k d below names. ap (λ (s : ShareFields). s.value.items) (one_share shares is (get_or shares k d) share (Contains-get_or shares k d below) has_share names);
+    })

@@ -12,14 +12,14 @@ use Rattle.s39_words.specs.declared.share.ShareFields.{ShareFields}
 use Rattle.s39_words.specs.Share.{IsShare}
 use Rattle.s39_set.specs.declared.common.Common.{Common}
 use Rattle.s39_set.specs.Names.{name_cmp, IsAscending}
-use Rattle.s39_set.specs.ShareSet.{Agrees, IsShareSet, HasOneMore, name_of, is_in_group, has_name, refusal_of}
+use Rattle.s39_set.specs.ShareSet.{Agrees, IsShareSet, CanJoin, HasOneMore, name_of, is_in_group, has_name, refusal_of}
 use Rattle.s39_set.specs.Quorums.{member_threshold_of}
 use Rattle.s39_set.specs.Places.{shares_at, place_of, common_of, common_of_all, IsKept}
 use Rattle.s39_set.proofs.Finds.{IfSome-map, find-none, find-passes, Contains-find, none-passes, find-insert_other}
 use Rattle.s39_set.proofs.Places.{OwnPlaces, places-at_least, own_places-tail, find-place}
 use Rattle.s39_set.proofs.Sublists.{Contains-head, Contains-cases, Contains-nil, AllPairs-nil}
 use Rattle.s39_set.proofs.Sets.{agree, threshold_is}
-use Rattle.s39_set.proofs.Joins.{Joins, joins_from_none, agrees-itself, agrees-back, same_share}
+use Rattle.s39_set.proofs.Joins.{joins_from_none, agrees-itself, agrees-back, same_from_joins}
 use Rattle.s39_set.proofs.Refusals.{has_name-is, has_name-own}
 
 -- ---- names in the order of their places
@@ -81,7 +81,7 @@ module _ (old : List ShareFields) (share : ShareFields) (new : List ShareFields)
   Contains-more : Contains new share
   Contains-more = subst (λ l. Contains l share) (sym more.new_is) (Contains-append_right more.before (share ∷ more.after) share (Contains-head share more.after))
 
-  All-more : (P : ShareFields → Type 0) → All P old → P share → All P new
+  pub All-more : (P : ShareFields → Type 0) → All P old → P share → All P new
   All-more P each here k d below =
       let s = get_or new k d in
       ⊎_elim
@@ -89,7 +89,7 @@ module _ (old : List ShareFields) (share : ShareFields) (new : List ShareFields)
       (λ (same : share ≡ s). subst P same here)
       (Contains-more_cases s (Contains-get_or new k d below))
 
-  agree-more : IsShareSet old → Joins old share → All (λ s. All (Agrees s) new) new
+  pub agree-more : IsShareSet old → CanJoin old share → All (λ s. All (Agrees s) new) new
   agree-more is joins k d below i e within =
       let s = get_or new k d in
       let t = get_or new i e in
@@ -97,12 +97,12 @@ module _ (old : List ShareFields) (share : ShareFields) (new : List ShareFields)
       (λ (has_s : Contains old s).
       ⊎_elim
       (λ (has_t : Contains old t). agree old is s t has_s has_t)
-      (λ (same : share ≡ t). subst (Agrees s) same (joins.agrees s has_s))
+      (λ (same : share ≡ t). subst (Agrees s) same (All-contains (λ x. Agrees x share) old s joins.agrees has_s))
       (Contains-more_cases t (Contains-get_or new i e within)))
       (λ (same : share ≡ s).
       subst (λ x. Agrees x t) same
       (⊎_elim
-      (λ (has_t : Contains old t). agrees-back t share (joins.agrees t has_t))
+      (λ (has_t : Contains old t). agrees-back t share (All-contains (λ x. Agrees x share) old t joins.agrees has_t))
       (λ (also : share ≡ t). subst (Agrees share) also (agrees-itself share))
       (Contains-more_cases t (Contains-get_or new i e within))))
       (Contains-more_cases s (Contains-get_or new k d below))
@@ -187,7 +187,7 @@ module _ (common : Option Common) (thresholds : List (Option ℕ)) (places : Lis
         let old = shares_at places in
         let shares = shares_at (set places k (Some share)) in
         let more = has_one_more places k share below empty in
-        let joins = joins_from_none old kept.is_set share allowed in
+        let joins = joins_from_none old share allowed in
         let each : All IsShare shares = All-more old share shares more IsShare kept.is_set.each is in
         let own : OwnPlaces 0 (set places k (Some share)) =
         λ j. IfSome-map (λ s. place_of (name_of s) ≡ j) (λ s. place_of (name_of s) ≡ 0 + j) (get_or (set places k (Some share)) j None) (λ s here. omega arith) (own_more j) in
@@ -223,9 +223,9 @@ module _ (common : Option Common) (thresholds : List (Option ℕ)) (places : Lis
         by (Some held) e h =
             let found : find (has_name share.group_index share.member_index) (shares_at places) ≡ Some held = share_in_place share.group_index share.member_index is.member_index ∙ e in
             let has_held = Contains-find (has_name share.group_index share.member_index) (shares_at places) held found in
-            let joins = joins_from_none (shares_at places) kept.is_set share allowed in
+            let joins = joins_from_none (shares_at places) share allowed in
             let names = has_name-is share.group_index share.member_index held (find-passes (has_name share.group_index share.member_index) (shares_at places) held found) in
-            subst (Contains (shares_at places)) (same_share held share (joins.agrees held has_held) names (joins.same_value held has_held names)) has_held
+            subst (Contains (shares_at places)) (same_from_joins (shares_at places) held share joins has_held names) has_held
 
     -- where none stands there, the set doesn't have it
     pub new_from_place : get_or places (place_of (name_of share)) None ≡ None → Contains (shares_at places) share → ⊥

@@ -25,6 +25,7 @@ pub mod NameText
 pub mod WrittenNames
 pub mod Bits
 pub mod NamesOrder
+pub mod Inserting
 pub mod Listings
 pub mod AllQuorums
 pub mod Exact

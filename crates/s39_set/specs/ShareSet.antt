@@ -1,5 +1,5 @@
 -- Share sets: the shares of one backup that are at hand.
-use Rattle.std.specs.Prelude.{◌≡◌, ℕ, List, ◌∷◌, ◌++◌, length, map, All, Option, Some, None, Bool, not, ◌==◌, ◌&&◌, bytes_eq, filter, if◌then◌else◌}
+use Rattle.std.specs.Prelude.{◌≡◌, ◌↔◌, ◌⊎◌, ℕ, List, ◌∷◌, ◌++◌, length, map, All, Contains, Option, Some, None, Bool, not, ◌==◌, ◌&&◌, bytes_eq, filter, if◌then◌else◌}
 use Rattle.std.specs.List.{list_any}
 use Rattle.s39_words.specs.declared.share.ShareFields.{ShareFields}
 use Rattle.s39_words.specs.Share.{IsShare, flag_bit}
@@ -55,12 +55,29 @@ refusal_of shares share =
     then Some (ConflictingShare share.group_index share.member_index)
     else None
 
+-- the share agrees with each of these, and has the value of each that has its name
+pub record CanJoin (shares : List ShareFields) (share : ShareFields) : Type 0 where
+  pub agrees : All (λ s. Agrees s share) shares
+  pub same_value : All (λ s. name_of s ≡ name_of share → s.value.items ≡ share.value.items) shares
+
 -- the new list has this share more, and the others in their order
 pub record HasOneMore (old : List ShareFields) (share : ShareFields) (new : List ShareFields) : Type 0 where
   pub before : List ShareFields
   pub after : List ShareFields
   pub old_is : old ≡ before ++ after
   pub new_is : new ≡ before ++ share ∷ after
+
+-- shares refuse no share but one that can't join them
+abbrev pub SharesThatAgreeJoin : Type 0
+SharesThatAgreeJoin = (shares : List ShareFields) (share : ShareFields) → (refusal_of shares share ≡ None ↔ CanJoin shares share)
+
+-- a share that a set doesn't refuse is one of the set, or there is the set with that share more
+abbrev pub SetsTakeShares : Type 0
+SetsTakeShares = (set : List ShareFields) (share : ShareFields)
+    → IsShareSet set
+    → IsShare share
+    → refusal_of set share ≡ None
+    → Contains set share ⊎ ((more : List ShareFields) × HasOneMore set share more × IsShareSet more)
 
 -- the code of a cause
 abbrev pub code_of : SetError → ℕ

@@ -1,7 +1,7 @@
 //! Facts about the definitions, each the contract of a function that does nothing.
 ghost use Rattle.std.specs.Prelude.{◌≡◌, ◌↔◌, ◌⊎◌, ◌+◌, ◌++◌, ◌∷◌, [], ℕ, suc, List, Option, Some, None};
 ghost use Rattle.s39_words.specs.declared.share.ShareFields.{ShareFields};
-ghost use Rattle.s39_set.specs.ShareSet.{IsShareSet};
+ghost use Rattle.s39_set.specs.ShareSet.{IsShareSet, SharesThatAgreeJoin, SetsTakeShares};
 ghost use Rattle.s39_set.specs.Names.{most_groups, most_members, most_names};
 ghost use Rattle.s39_set.specs.Quorums.{IsQuorum, IsFirstQuorumAfter, HasNoQuorumAfter, HasJustTheGroups};
 ghost use Rattle.s39_set.specs.Listing.{AreAllQuorumsAfter, IsListing, IsWalk};
@@ -73,4 +73,15 @@ pub fn listings_join()
         (before : List (List (ℕ × ℕ))) (last : List (ℕ × ℕ)) (others : List (List (ℕ × ℕ)))
         → IsListing set given limit (before ++ last ∷ []) → IsListing set (Some last) more others
         → IsListing set given (limit + more) ((before ++ last ∷ []) ++ others) }
+{}
+
+/// Shares refuse no share but one that differs from one of them in what all shares of a backup, or those of a group,
+/// have in common, or in the value of its name.
+pub fn shares_that_agree_join()
+    ensures { SharesThatAgreeJoin }
+{}
+
+/// A share that a set doesn't refuse is one of the set, or there is the set with that share more.
+pub fn sets_take_shares()
+    ensures { SetsTakeShares }
 {}
