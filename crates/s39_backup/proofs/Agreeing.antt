@@ -1,5 +1,5 @@
 -- Shares of one created backup never refuse one another.
-use Rattle.std.proofs.Common.{◌≡◌, ℕ, ◌+◌, List, length, get_or, All, Contains, Option, Some, sym, ap, ◌∙◌, subst, arith}
+use Rattle.std.proofs.Common.{◌≡◌, ℕ, ◌+◌, List, length, get_or, All, Contains, Some, sym, ap, ◌∙◌, subst, arith}
 use Rattle.std.specs.List.{slice_get}
 use Rattle.std.proofs.lemmas.List.Elements.{All-contains}
 use Rattle.std.proofs.lemmas.Option.{slice_get_within, get_or_from_slice_get}
@@ -33,7 +33,8 @@ module _ (set : List ShareFields) (passphrase secret : List ℕ) (backup : AreOf
   -- values are as long as the encrypted secret
   long : (share : ShareFields) → IsOne share → length share.value.items ≡ length created.encrypted
   long share is =
-      let at = split_at_place backup.groups created.group_shares created.pieces created.values is.place is.members is.others created.members_split is.group_is is.values_are in
+      let at = split_at_place backup.groups created.group_shares created.pieces created.values is.place is.members is.others created.members_split
+      is.group_is is.values_are in
       ap (λ (s : ShareFields). length s.value.items) is.share_is
       ∙ All-at (λ value. length value ≡ length at.share) is.others is.member is.value
       (as_long is.members.threshold is.members.count at.share at.piece is.others at.split) is.value_is
@@ -69,7 +70,8 @@ module _ (set : List ShareFields) (passphrase secret : List ℕ) (backup : AreOf
       let members : is.member ≡ it.member =
       sym (ap (λ (x : ShareFields). x.member_index) is.share_is) ∙ ap (λ (n : ℕ × ℕ). n.1) names ∙ ap (λ (x : ShareFields). x.member_index) it.share_is in
       let others : is.others ≡ it.others = some_same is.others it.others (sym is.values_are ∙ ap (slice_get created.values) places ∙ it.values_are) in
-      let values : Some is.value ≡ Some it.value = sym is.value_is ∙ ap (λ vs. slice_get vs is.member) others ∙ ap (slice_get it.others) members ∙ it.value_is in
+      let values : Some is.value ≡ Some it.value = sym is.value_is ∙ ap (λ vs. slice_get vs is.member) others ∙ ap (slice_get it.others) members
+      ∙ it.value_is in
       ap (λ (x : ShareFields). x.value.items) is.share_is ∙ some_same is.value it.value values ∙ sym (ap (λ (x : ShareFields). x.value.items) it.share_is)
 
   pub can_join : (earlier : List ShareFields) (share : ShareFields) → All (Contains set) earlier → Contains set share → CanJoin earlier share

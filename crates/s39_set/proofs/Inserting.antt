@@ -1,5 +1,6 @@
 -- A share that isn't refused has its place in a set.
-use Rattle.std.proofs.Common.{◌≡◌, ◌⊎◌, ℕ, List, [], ◌∷◌, get_or, map, All, Contains, Ordering, Less, Equal, Greater, None, inl, inr, refl, ap, ◌∙◌, subst, arith}
+use Rattle.std.proofs.Common.{◌≡◌, ◌⊎◌, ℕ, List, [], ◌∷◌, get_or, map, All, Contains, Ordering, Less, Equal, Greater, None, inl, inr, refl, ap, ◌∙◌, subst}
+use Rattle.std.proofs.Common.{arith}
 use Rattle.std.specs.Ordering.{ordering_reverse}
 use Rattle.std.proofs.lemmas.List.{length-map, get_or-map}
 use Rattle.std.proofs.lemmas.List.Elements.{All-nil, All-cons, All-map}
@@ -27,15 +28,18 @@ record IsInserted (set : List ShareFields) (share : ShareFields) (more : List Sh
 names_after : (s : ShareFields) (ss : List ShareFields) → IsAscending (map name_of (s ∷ ss)) → All (λ t. name_cmp (name_of s) (name_of t) ≡ Less) ss
 names_after s ss ascending k d below =
     let after : All (λ n. name_cmp (name_of s) n ≡ Less) (map name_of ss) = AllPairs-head (λ a b. name_cmp a b ≡ Less) (name_of s) (map name_of ss) ascending in
-    subst (λ (n : ℕ × ℕ). name_cmp (name_of s) n ≡ Less) (get_or-map name_of ss k d (name_of d) below) (after k (name_of d) (omega (arith, length-map ss name_of)))
+    subst (λ (n : ℕ × ℕ). name_cmp (name_of s) n ≡ Less) (get_or-map name_of ss k d (name_of d) below)
+    (after k (name_of d) (omega (arith, length-map ss name_of)))
 
-inserted : (set : List ShareFields) (share : ShareFields) → IsAscending (map name_of set) → HasNameOf set share ⊎ ((more : List ShareFields) × IsInserted set share more)
+inserted : (set : List ShareFields) (share : ShareFields) → IsAscending (map name_of set)
+    → HasNameOf set share ⊎ ((more : List ShareFields) × IsInserted set share more)
 inserted [] share ascending =
     inr (
       share ∷ [],
       record {
         one_more = record { before = []; after = []; old_is = refl; new_is = refl };
-        ascending = AllPairs-cons (λ a b. name_cmp a b ≡ Less) (name_of share) [] (All-nil (λ n. name_cmp (name_of share) n ≡ Less)) (AllPairs-nil (λ a b. name_cmp a b ≡ Less));
+        ascending = AllPairs-cons (λ a b. name_cmp a b ≡ Less) (name_of share) [] (All-nil (λ n. name_cmp (name_of share) n ≡ Less))
+            (AllPairs-nil (λ a b. name_cmp a b ≡ Less));
       },
     )
 inserted (s ∷ ss) share ascending =

@@ -23,7 +23,15 @@ none_pass test xs fails k d below =
     ]
 
 pub agrees-itself : (s : ShareFields) → Agrees s s
-agrees-itself s = record { id = refl; extendable = refl; exponent = refl; group_threshold = refl; group_count = refl; value_length = refl; member_threshold = λ _. refl }
+agrees-itself s = record {
+  id = refl;
+  extendable = refl;
+  exponent = refl;
+  group_threshold = refl;
+  group_count = refl;
+  value_length = refl;
+  member_threshold = λ _. refl;
+}
 
 pub agrees-back : (s t : ShareFields) → Agrees s t → Agrees t s
 agrees-back s t h = record {
@@ -63,7 +71,8 @@ fields id extendable exponent group_index group_threshold group_count member_ind
   value = record { items = value };
 }
 
-fields-of : (s : ShareFields) → fields s.id s.extendable s.exponent s.group_index s.group_threshold s.group_count s.member_index s.member_threshold s.value.items ≡ s
+fields-of : (s : ShareFields) → fields s.id s.extendable s.exponent s.group_index s.group_threshold s.group_count s.member_index s.member_threshold
+    s.value.items ≡ s
 unfolding fields
 fields-of s = refl
 
@@ -94,9 +103,11 @@ module _ (shares : List ShareFields) (share : ShareFields) where
   of_name = filter (has_name share.group_index share.member_index) shares
 
   -- what the test for another number says of each
-  none_differs : (number : ShareFields → ℕ) (some : List ShareFields) → some_differs number some share ≡ false → (s : ShareFields) → Contains some s → number s ≡ number share
+  none_differs : (number : ShareFields → ℕ) (some : List ShareFields) → some_differs number some share ≡ false → (s : ShareFields) → Contains some s
+      → number s ≡ number share
   none_differs number some fails s has_s =
-      same_from_test (number s) (number share) (All-contains (λ t. not (number t == number share) ≡ false) some s (none_pass (λ t. not (number t == number share)) some fails) has_s)
+      same_from_test (number s) (number share) (All-contains (λ t. not (number t == number share) ≡ false) some s
+      (none_pass (λ t. not (number t == number share)) some fails) has_s)
 
   differs_none : (number : ShareFields → ℕ) (some : List ShareFields) → All (λ s. number s ≡ number share) some → some_differs number some share ≡ false
   differs_none number some same =
@@ -107,7 +118,8 @@ module _ (shares : List ShareFields) (share : ShareFields) where
   joins_from_none h =
       let (fails, rest) =
       from_none (some_differs (λ s. s.id) shares share) (some_differs (λ s. flag_bit s.extendable) shares share) (some_differs (λ s. s.exponent) shares share)
-      (some_differs (λ s. s.group_threshold) shares share) (some_differs (λ s. s.group_count) shares share) (some_differs (λ s. length s.value.items) shares share)
+      (some_differs (λ s. s.group_threshold) shares share) (some_differs (λ s. s.group_count) shares share)
+      (some_differs (λ s. length s.value.items) shares share)
       (last_refusal_of shares share) h in
       let last = last_from_none shares share rest in
       record {
@@ -131,7 +143,8 @@ module _ (shares : List ShareFields) (share : ShareFields) where
             let among = Contains-filter (has_name share.group_index share.member_index) shares s (Contains-get_or shares k d below) passes in
             (bytes_decides s.value.items share.value.items).0
             (not-false (bytes_eq s.value.items share.value.items)
-            (All-contains (λ t. not (bytes_eq t.value.items share.value.items) ≡ false) of_name s (none_pass (λ t. not (bytes_eq t.value.items share.value.items)) of_name last.1) among));
+            (All-contains (λ t. not (bytes_eq t.value.items share.value.items) ≡ false) of_name s
+            (none_pass (λ t. not (bytes_eq t.value.items share.value.items)) of_name last.1) among));
       }
 
   -- and a share that can join isn't refused
@@ -139,8 +152,10 @@ module _ (shares : List ShareFields) (share : ShareFields) where
   none_from_joins joins =
       let same : (number : ShareFields → ℕ) → ((s : ShareFields) → Agrees s share → number s ≡ number share) → some_differs number shares share ≡ false =
       λ number agrees. differs_none number shares (λ k d below. agrees (get_or shares k d) (joins.agrees k d below)) in
-      from_failures (some_differs (λ s. s.id) shares share) (some_differs (λ s. flag_bit s.extendable) shares share) (some_differs (λ s. s.exponent) shares share)
-      (some_differs (λ s. s.group_threshold) shares share) (some_differs (λ s. s.group_count) shares share) (some_differs (λ s. length s.value.items) shares share)
+      from_failures (some_differs (λ s. s.id) shares share) (some_differs (λ s. flag_bit s.extendable) shares share)
+      (some_differs (λ s. s.exponent) shares share)
+      (some_differs (λ s. s.group_threshold) shares share) (some_differs (λ s. s.group_count) shares share)
+      (some_differs (λ s. length s.value.items) shares share)
       (last_refusal_of shares share)
       (record {
         first = same (λ s. s.id) (λ s agrees. agrees.id);
@@ -171,5 +186,6 @@ pub not_refused : (shares : List ShareFields) → IsShareSet shares → (share :
 not_refused shares is share has_share =
     none_from_joins shares share (record {
       agrees = λ k d below. agree shares is (get_or shares k d) share (Contains-get_or shares k d below) has_share;
-      same_value = λ k d below names. ap (λ (s : ShareFields). s.value.items) (one_share shares is (get_or shares k d) share (Contains-get_or shares k d below) has_share names);
+      same_value = λ k d below names. ap (λ (s : ShareFields). s.value.items)
+          (one_share shares is (get_or shares k d) share (Contains-get_or shares k d below) has_share names);
     })
