@@ -1,18 +1,21 @@
 -- What a set keeps, and one share more.
 use Rattle.std.proofs.Common.{◌≡◌, ◌≢◌, ◌⊎◌, ℕ, suc, ◌+◌, ◌<◌, ◌≤◌, Bool, true, false, List, [], ◌∷◌, ◌++◌, length, get_or, set, take, drop, find, map, All, Contains, Option, Some, None, inl, inr, ⊎_elim, refl, sym, ap, ap₂, ◌∙◌, subst, arith, add-one}
-use Rattle.std.specs.Prelude.{IfSome, ◌==◌, ◌&&◌}
+use Rattle.std.specs.Prelude.{IfSome, ◌==◌, ◌&&◌, ◌||◌}
 use Rattle.std.specs.Option.{option_map, is_some}
 use Rattle.std.specs.declared.cmp.Ordering.TheVariants.{Less}
-use Rattle.std.proofs.lemmas.Bool.{cases_eq, false≢true, ne_eqb, and_right}
+use Rattle.std.proofs.lemmas.Bool.{cases_eq, false≢true, false_from_ne_true, eqb-true, eq-eqb, ne_eqb, and_parts, and_right}
 use Rattle.std.proofs.lemmas.Bool.Decides.{nat_tests}
+use Rattle.std.proofs.Math.Bool.{or-false, or-true}
 use Rattle.std.proofs.lemmas.List.{set_split, take-append-drop, drop_more, get_or-set_same, get_or-set_other, get_or_default}
 use Rattle.std.proofs.lemmas.List.Elements.{All-nil, All-head, All-tail, All-map, All-weaker, All-contains, Contains-get_or, Contains-append_left, Contains-append_right, Contains-append_cases, filter_map-append}
 use Rattle.std.proofs.lemmas.List.Kept.{AllPairs-cons}
 use Rattle.s39_words.specs.declared.share.ShareFields.{ShareFields}
 use Rattle.s39_words.specs.Share.{IsShare}
 use Rattle.s39_set.specs.declared.common.Common.{Common}
+use Rattle.s39_set.specs.declared.masks.Masks.{Masks}
 use Rattle.s39_set.specs.Names.{name_cmp, IsAscending}
 use Rattle.s39_set.specs.ShareSet.{Agrees, IsShareSet, CanJoin, HasOneMore, name_of, is_in_group, has_name, refusal_of}
+use Rattle.s39_set.specs.Masks.{is_in}
 use Rattle.s39_set.specs.Quorums.{member_threshold_of}
 use Rattle.s39_set.specs.Places.{shares_at, place_of, common_of, common_of_all, IsKept}
 use Rattle.s39_set.proofs.Finds.{IfSome-map, find-none, find-passes, Contains-find, none-passes, find-insert_other}
@@ -140,7 +143,11 @@ common_of_all-is (first ∷ others) share is has_share =
 
 -- ---- what is kept
 
-module _ (common : Option Common) (thresholds : List (Option ℕ)) (places : List (Option ShareFields)) (kept : IsKept common thresholds places) where
+-- the masks have this name more
+abbrev pub AddsName : Masks → Masks → ℕ × ℕ → Type 0
+AddsName old new name = (g m : ℕ) → is_in new g m ≡ (is_in old g m || ((g == name.0) && (m == name.1)))
+
+module _ (common : Option Common) (masks : Masks) (thresholds : List (Option ℕ)) (places : List (Option ShareFields)) (kept : IsKept common masks thresholds places) where
   pub own_places : OwnPlaces 0 places
   own_places k =
       IfSome-map (λ share. place_of (name_of share) ≡ k) (λ share. place_of (name_of share) ≡ 0 + k) (get_or places k None)
@@ -181,9 +188,34 @@ module _ (common : Option Common) (thresholds : List (Option ℕ)) (places : Lis
         (λ (apart : j ≡ k → ⊥). subst (λ (o : Option ShareFields). IfSome o (λ s. place_of (name_of s) ≡ j)) (sym (get_or-set_other places k j (Some share) None apart)) (kept.own_place j))
         (cases_eq j k)
 
+    -- a mask with the share's name more says which places have a share
+    at_hand_more : (masks' : Masks) → AddsName masks masks' (name_of share) → (group member : ℕ) → group < 16 → member < 16
+        → is_in masks' group member ≡ is_some (get_or (set places k (Some share)) (place_of (group, member)) None)
+    at_hand_more masks' adds group member low also_low =
+        elim (cases_eq (place_of (group, member)) k) [
+          | inl here ↦ (
+              let lower = is.member_index in
+              let same_group : (group == share.group_index) ≡ true = eq-eqb group share.group_index (omega arith) in
+              let same_member : (member == share.member_index) ≡ true = eq-eqb member share.member_index (omega arith) in
+              let there : get_or (set places k (Some share)) (place_of (group, member)) None ≡ Some share =
+              ap (λ n. get_or (set places k (Some share)) n None) here ∙ get_or-set_same places k (Some share) None below in
+              adds group member ∙ ap₂ (λ a b. is_in masks group member || (a && b)) same_group same_member
+              ∙ or-true (is_in masks group member) ∙ sym (ap is_some there))
+          | inr apart ↦ (
+              let there : get_or (set places k (Some share)) (place_of (group, member)) None ≡ get_or places (place_of (group, member)) None =
+              get_or-set_other places k (place_of (group, member)) (Some share) None apart in
+              let other : ((group == share.group_index) && (member == share.member_index)) ≡ false =
+              false_from_ne_true ((group == share.group_index) && (member == share.member_index))
+              (λ same. let parts = and_parts (group == share.group_index) (member == share.member_index) same in
+              apart (ap₂ (λ (g m : ℕ). place_of (g, m)) (eqb-true group share.group_index parts.0) (eqb-true member share.member_index parts.1) ∙ sym at)) in
+              adds group member ∙ ap (λ b. is_in masks group member || b) other
+              ∙ or-false (is_in masks group member) ∙ kept.at_hand_are group member low also_low ∙ sym (ap is_some there))
+        ]
+
     -- the fields after the share is put in its place
-    pub kept_more : IsKept (Some (common_of share)) (set thresholds share.group_index (Some share.member_threshold)) (set places k (Some share))
-    kept_more =
+    pub kept_more : (masks' : Masks) → AddsName masks masks' (name_of share)
+        → IsKept (Some (common_of share)) masks' (set thresholds share.group_index (Some share.member_threshold)) (set places k (Some share))
+    kept_more masks' adds =
         let old = shares_at places in
         let shares = shares_at (set places k (Some share)) in
         let more = has_one_more places k share below empty in
@@ -200,6 +232,7 @@ module _ (common : Option Common) (thresholds : List (Option ℕ)) (places : Lis
           is_set = is_set;
           own_place = own_more;
           common_is = common_of_all-is shares share is_set (Contains-more old share shares more);
+          at_hand_are = at_hand_more masks' adds;
           thresholds_are = λ group low.
               ⊎_elim
               (λ (same : group ≡ share.group_index).
@@ -214,29 +247,38 @@ module _ (common : Option Common) (thresholds : List (Option ℕ)) (places : Lis
         }
 
   module _ (share : ShareFields) (is : IsShare share) where
-    -- where a share stands at its place, and the share isn't refused, it is that share
-    pub repeat_from_place : refusal_of (shares_at places) share ≡ None → is_some (get_or places (place_of (name_of share)) None) ≡ true → Contains (shares_at places) share
-    repeat_from_place allowed some = by (get_or places (place_of (name_of share)) None) refl some
+    -- whether the masks have a share's name says whether a share stands at its place
+    from_masks : (b : Bool) → is_in masks share.group_index share.member_index ≡ b → is_some (get_or places (place_of (name_of share)) None) ≡ b
+    from_masks b held = sym (kept.at_hand_are share.group_index share.member_index is.group_index is.member_index) ∙ held
+
+    -- where none stands there, the place is empty
+    pub empty_place : is_in masks share.group_index share.member_index ≡ false → get_or places (place_of (name_of share)) None ≡ None
+    empty_place not_held = by (get_or places (place_of (name_of share)) None) (from_masks false not_held)
+      where
+        by : (o : Option ShareFields) → is_some o ≡ false → o ≡ None
+        by None h = refl
+        by (Some s) h = absurd (false≢true (sym h))
+
+    -- where one stands there, and the share isn't refused, it is that share
+    pub repeat_from_masks : refusal_of (shares_at places) share ≡ None → is_in masks share.group_index share.member_index ≡ true → Contains (shares_at places) share
+    repeat_from_masks allowed held = by (get_or places (place_of (name_of share)) None) refl (from_masks true held)
       where
         by : (o : Option ShareFields) → get_or places (place_of (name_of share)) None ≡ o → is_some o ≡ true → Contains (shares_at places) share
         by None e h = absurd (false≢true h)
-        by (Some held) e h =
-            let found : find (has_name share.group_index share.member_index) (shares_at places) ≡ Some held = share_in_place share.group_index share.member_index is.member_index ∙ e in
-            let has_held = Contains-find (has_name share.group_index share.member_index) (shares_at places) held found in
+        by (Some other) e h =
+            let test = has_name share.group_index share.member_index in
+            let found : find test (shares_at places) ≡ Some other = share_in_place share.group_index share.member_index is.member_index ∙ e in
+            let has_other = Contains-find test (shares_at places) other found in
             let joins = joins_from_none (shares_at places) share allowed in
-            let names = has_name-is share.group_index share.member_index held (find-passes (has_name share.group_index share.member_index) (shares_at places) held found) in
-            subst (Contains (shares_at places)) (same_from_joins (shares_at places) held share joins has_held names) has_held
+            let names = has_name-is share.group_index share.member_index other (find-passes test (shares_at places) other found) in
+            subst (Contains (shares_at places)) (same_from_joins (shares_at places) other share joins has_other names) has_other
 
     -- where none stands there, the set doesn't have it
-    pub new_from_place : get_or places (place_of (name_of share)) None ≡ None → Contains (shares_at places) share → ⊥
-    new_from_place none has_share =
-        let found : find (has_name share.group_index share.member_index) (shares_at places) ≡ None = share_in_place share.group_index share.member_index is.member_index ∙ none in
-        false≢true (sym (All-contains (λ s. has_name share.group_index share.member_index s ≡ false) (shares_at places) share (none-passes (has_name share.group_index share.member_index) (shares_at places) found) has_share) ∙ has_name-own share)
-
--- a place that fails the test is empty
-pub empty_from_test : (o : Option ShareFields) → is_some o ≡ false → o ≡ None
-empty_from_test None h = refl
-empty_from_test (Some s) h = absurd (false≢true (sym h))
+    pub new_from_masks : is_in masks share.group_index share.member_index ≡ false → Contains (shares_at places) share → ⊥
+    new_from_masks not_held has_share =
+        let test = has_name share.group_index share.member_index in
+        let found : find test (shares_at places) ≡ None = share_in_place share.group_index share.member_index is.member_index ∙ empty_place not_held in
+        false≢true (sym (All-contains (λ s. test s ≡ false) (shares_at places) share (none-passes test (shares_at places) found) has_share) ∙ has_name-own share)
 
 -- ---- no share
 
@@ -253,12 +295,15 @@ is_set-none = record {
 }
 
 -- the fields of a set with no share
-pub kept-none : (thresholds : List (Option ℕ)) (places : List (Option ShareFields)) → ((k : ℕ) → get_or places k None ≡ None) → ((group : ℕ) → group < 16 → get_or thresholds group None ≡ None) → IsKept None thresholds places
-kept-none thresholds places none no_threshold =
+pub kept-none : (masks : Masks) (thresholds : List (Option ℕ)) (places : List (Option ShareFields))
+    → ((g m : ℕ) → is_in masks g m ≡ false) → ((k : ℕ) → get_or places k None ≡ None)
+    → ((group : ℕ) → group < 16 → get_or thresholds group None ≡ None) → IsKept None masks thresholds places
+kept-none masks thresholds places no_name none no_threshold =
     let empty : shares_at places ≡ [] = shares_at-none places (λ k d below. get_or_default places k d None below ∙ none k) in
     record {
       is_set = subst IsShareSet (sym empty) is_set-none;
       own_place = λ k. subst (λ (o : Option ShareFields). IfSome o (λ share. place_of (name_of share) ≡ k)) (sym (none k)) tt;
       common_is = ap common_of_all (sym empty);
+      at_hand_are = λ g m low also_low. no_name g m ∙ ap is_some (sym (none (place_of (g, m))));
       thresholds_are = λ group low. no_threshold group low ∙ ap (λ l. member_threshold_of l group) (sym empty);
     }

@@ -1,11 +1,11 @@
 pub mod Names
 pub mod Groups
+pub mod Masks
 pub mod ShareSet
 pub mod Quorums
 pub mod Listing
 pub mod Looks
 pub mod Written
 pub mod Lack
-pub mod Masks
 pub mod Steps
 pub mod Places

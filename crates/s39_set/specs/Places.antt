@@ -1,12 +1,15 @@
 -- How a set keeps its shares. No public contract cites this.
 use Rattle.std.specs.Prelude.{◌≡◌, ℕ, ◌+◌, ◌*◌, ◌<◌, List, [], ◌∷◌, length, filter, filter_map, Option, Some, None, not, ◌==◌, bytes_eq, IfSome, slice_index_or, if◌then◌else◌}
 use Rattle.std.specs.List.{list_any}
+use Rattle.std.specs.Option.{is_some}
 use Rattle.s39_words.specs.declared.share.ShareFields.{ShareFields}
 use Rattle.s39_words.specs.Share.{flag_bit}
 use Rattle.s39_set.specs.declared.common.Common.{Common}
+use Rattle.s39_set.specs.declared.masks.Masks.{Masks}
 use Rattle.s39_set.specs.declared.set_error.SetError.{SetError}
 use Rattle.s39_set.specs.declared.set_error.SetError.TheVariants.{OtherIdentifier, OtherExtendable, OtherExponent, OtherGroupThreshold, OtherGroupCount, OtherLength, OtherMemberThreshold, ConflictingShare}
 use Rattle.s39_set.specs.Names.{most_groups, most_members}
+use Rattle.s39_set.specs.Masks.{is_in}
 use Rattle.s39_set.specs.ShareSet.{IsShareSet, name_of, is_in_group, has_name, some_differs}
 use Rattle.s39_set.specs.Quorums.{member_threshold_of}
 
@@ -54,9 +57,11 @@ last_refusal_of shares share =
     else None
 
 -- the fields of a share set
-pub record IsKept (common : Option Common) (member_thresholds : List (Option ℕ)) (places : List (Option ShareFields)) : Type 0 where
+pub record IsKept (common : Option Common) (at_hand : Masks) (member_thresholds : List (Option ℕ)) (places : List (Option ShareFields)) : Type 0 where
   pub is_set : IsShareSet (shares_at places)
   pub own_place : (k : ℕ) → IfSome (slice_index_or places k None) (λ share. place_of (name_of share) ≡ k)
   pub common_is : common ≡ common_of_all (shares_at places)
+  pub at_hand_are : (group member : ℕ) → group < most_groups → member < most_members
+      → is_in at_hand group member ≡ is_some (slice_index_or places (place_of (group, member)) None)
   pub thresholds_are : (group : ℕ) → group < most_groups
       → slice_index_or member_thresholds group None ≡ member_threshold_of (shares_at places) group

@@ -1,8 +1,8 @@
 //! The first quorum of a set.
-ghost use Rattle.std.specs.Prelude.{◌≡◌, ◌<◌, ◌++◌, length, map, find, take, All, is_some, None, IfOk, IfErr, Err};
+ghost use Rattle.std.specs.Prelude.{◌≡◌, ◌<◌, ◌++◌, length, map, take, All, None, IfOk, IfErr, Err};
 ghost use Rattle.s39_set.specs.Names.{most_groups, names_in_group};
 ghost use Rattle.s39_set.specs.Groups.{is_complete, complete_groups, first_members, members_of};
-ghost use Rattle.s39_set.specs.ShareSet.{IsShareSet, name_of, has_name};
+ghost use Rattle.s39_set.specs.ShareSet.{IsShareSet, name_of};
 ghost use Rattle.s39_set.specs.Quorums.{IsFirstQuorumAfter, member_threshold_of};
 ghost use Rattle.s39_set.specs.Lack.{IsLack};
 ghost use Rattle.s39_set.specs.declared.set_lack.SetLack.{SetLack as Lack};
@@ -10,7 +10,7 @@ ghost use Rattle.s39_set.specs.declared.set_lack.SetLack.{SetLack as Lack};
 use crate::limits::{MAX_GROUPS, MAX_MEMBERS};
 use crate::quorum::Quorum;
 use crate::set_lack::SetLack;
-use crate::share_set::{ShareSet, share_at};
+use crate::share_set::ShareSet;
 
 /// The quorum of a set whose list of names is least: lists are compared name by name, and names by group and then
 /// by member index.
@@ -63,19 +63,11 @@ fn members_at_hand(set: &ShareSet, group: u8) -> u8
 {
     let mut members = 0;
     for member in 0..MAX_MEMBERS {
-        if is_at_hand(set, group, member) {
+        if set.is_at_hand(group, member) {
             members += 1;
         }
     }
     members
-}
-
-/// Whether a set has the share of this group and member index.
-fn is_at_hand(set: &ShareSet, group: u8, member: u8) -> bool
-    ensures at_hand { result ≡ is_some (find (has_name group member) set.now) }
-    ensures is_set { IsShareSet set.now }
-{
-    share_at(set, group, member).is_some()
 }
 
 /// The first members, as many as the member threshold asks, of the first `required` complete groups.
@@ -104,7 +96,7 @@ fn push_first_members(set: &ShareSet, group: u8, quorum: &mut Quorum)
     let threshold = set.member_threshold(group).unwrap_or(0);
     let mut members = 0;
     for member in 0..MAX_MEMBERS {
-        if is_at_hand(set, group, member) && members < threshold {
+        if set.is_at_hand(group, member) && members < threshold {
             quorum.push(group, member);
             members += 1;
         }

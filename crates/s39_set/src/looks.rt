@@ -2,7 +2,7 @@
 ghost use Rattle.std.specs.Prelude.{◌≡◌, ◌+◌, ◌<◌, ◌↔◌, map, Contains, IsTrue};
 ghost use Rattle.s39_set.specs.ShareSet.{name_of};
 
-use crate::share_set::{ShareSet, share_at};
+use crate::share_set::ShareSet;
 use std::marker::Model;
 
 /// A count of looks. A look is one question whether a set has a share.
@@ -43,6 +43,14 @@ impl Looks {
     }
 }
 
+impl Default for Looks {
+    ghost is_default = { λ looks. looks ≡ 0 };
+
+    fn default() -> Looks {
+        Looks::new()
+    }
+}
+
 /// Whether a set has the share of this group and member index, `false` for an index over 15. It adds one to the
 /// looks, whose count the caller keeps below `u64::MAX`.
 pub fn has(set: &ShareSet, group: u8, member: u8, looks: &mut Looks) -> bool
@@ -51,5 +59,5 @@ pub fn has(set: &ShareSet, group: u8, member: u8, looks: &mut Looks) -> bool
     ensures look { looks.new ≡ looks.old + 1 }
 {
     looks.turn();
-    share_at(set, group, member).is_some()
+    set.is_at_hand(group, member)
 }

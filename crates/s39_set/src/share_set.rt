@@ -1,6 +1,6 @@
 //! Share sets.
 ghost use Rattle.std.specs.Prelude.{◌≡◌, ◌<◌, ◌↔◌, [], find, Contains, Some, None, Ok, OnOk, OnErr, IfErr};
-ghost use Rattle.std.specs.Option.{option_copied};
+ghost use Rattle.std.specs.Option.{is_some, option_copied};
 ghost use Rattle.s39_set.specs.Names.{most_groups, most_members};
 ghost use Rattle.s39_set.specs.Places.{place_of, last_refusal_of};
 ghost use Rattle.s39_set.specs.Quorums.{group_threshold_of, member_threshold_of};
@@ -8,16 +8,19 @@ ghost use Rattle.s39_set.specs.ShareSet.{IsShareSet, HasOneMore, refusal_of, has
 
 use crate::common::Common;
 use crate::limits::{GROUPS, MAX_GROUPS, MAX_MEMBERS, MAX_NAMES};
+use crate::masks::Masks;
 use crate::set_error::{Added, SetError};
 use s39_words::Share;
 use std::array;
 use std::marker::Model;
 
 /// The shares of one backup that are at hand, each once, in the order of their group and member indices:
-/// `MAX_NAMES` at most. A set keeps a place for each of them and takes no memory.
+/// `MAX_NAMES` at most. A set keeps the names as masks, a member threshold for each group, and a place for each
+/// share, and takes no memory.
 #[derive(Drop)]
 pub struct ShareSet {
     common: Option<Common>,
+    at_hand: Masks,
     member_thresholds: [Option<u8>; GROUPS],
     places: [Option<Share>; MAX_NAMES],
 }
@@ -32,7 +35,7 @@ impl Model for ShareSet {
 
     ghost view = { λ set. shares_at set.places };
 
-    ghost invariant = { λ set. IsKept set.common set.member_thresholds set.places };
+    ghost invariant = { λ set. IsKept set.common set.at_hand set.member_thresholds set.places };
 }
 
 impl ShareSet {
@@ -42,6 +45,7 @@ impl ShareSet {
     {
         ShareSet {
             common: None,
+            at_hand: Masks::new(),
             member_thresholds: [None; GROUPS],
             places: array::from_fn(|_| None),
         }
@@ -66,13 +70,14 @@ impl ShareSet {
         }
         // `fields` tells a proof the ranges of the indices.
         let group = share.fields().group_index;
-        let place = place_of(group, share.member_index());
-        if self.places[place].is_some() {
+        let member = share.member_index();
+        if self.at_hand.has(group, member) {
             return Ok(Added::Repeat);
         }
         self.common = Some(Common::of(&share));
+        self.at_hand.insert(group, member);
         self.member_thresholds[usize::from(group)] = Some(share.member_threshold());
-        self.places[place] = Some(share);
+        self.places[place_of(group, member)] = Some(share);
         Ok(Added::New)
     }
 
@@ -111,6 +116,18 @@ impl ShareSet {
         None
     }
 
+    /// Whether the set has the share of this group and member index, `false` for an index over 15.
+    pub(crate) fn is_at_hand(&self, group: u8, member: u8) -> bool
+        ensures at_hand { result ≡ is_some (find (has_name group member) self.now) }
+        ensures is_set { IsShareSet self.now }
+    {
+        if group < MAX_GROUPS && member < MAX_MEMBERS {
+            self.at_hand.has(group, member)
+        } else {
+            false
+        }
+    }
+
     /// The member threshold of the shares of a group, where the set has one.
     pub(crate) fn member_threshold(&self, group: u8) -> Option<u8>
         requires { group < most_groups }
@@ -125,6 +142,14 @@ impl ShareSet {
         ensures is_set { IsShareSet self.now }
     {
         Some(self.common?.group_threshold)
+    }
+}
+
+impl Default for ShareSet {
+    ghost is_default = { λ set. set ≡ [] };
+
+    fn default() -> ShareSet {
+        ShareSet::new()
     }
 }
 

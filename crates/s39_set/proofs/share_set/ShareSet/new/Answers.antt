@@ -13,7 +13,7 @@ none_at c i =
     ⊎_elim (λ (h : i < 256). none_below c i h) (λ (h : 256 ≤ i). get_or_past c.from_fn.result i None (omega arith)) (cases_lt i 256)
 
 pub invariant_of-result : goal.invariant_of-result
-invariant_of-result c = kept-none _ c.from_fn.result (none_at c) (λ group low. get_or-replicate 16 group None None low)
+invariant_of-result c = kept-none c.new.result _ c.from_fn.result c.new.ensures (none_at c) (λ group low. get_or-replicate 16 group None None low)
 
 pub returns : goal.returns
 returns c = shares_at-none c.from_fn.result (λ k d below. get_or_default c.from_fn.result k d None below ∙ none_at c k)
