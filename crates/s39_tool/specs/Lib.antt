@@ -10,3 +10,4 @@ pub mod Accepted
 pub mod Collecting
 pub mod Recover
 pub mod Create
+pub mod OfBackup
