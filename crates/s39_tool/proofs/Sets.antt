@@ -2,3 +2,5 @@
 pub mod Collected
 pub mod OneSet
 pub mod AcceptedSets
+pub mod SomeSet
+pub mod BackupSets

@@ -1,5 +1,5 @@
 -- The output of `create`.
-use Rattle.std.specs.Prelude.{◌≡◌, ◌⊎◌, ℕ, ◌+◌, ◌<◌, ◌≤◌, List, [], ◌∷◌, ◌++◌, All, Option, take, length, true, false, Result, Ok, Err}
+use Rattle.std.specs.Prelude.{◌≡◌, ◌⊎◌, ℕ, ◌<◌, ◌≤◌, List, [], ◌∷◌, ◌++◌, All, Option, take, length, true, false, Result, Ok, Err}
 use Rattle.std.specs.List.{AllZip, flat_map}
 use Rattle.arrayvec.specs.ArrayVec.{ArrayVec}
 use Rattle.s39_kdf.specs.Limits.{IsPrintable, IsSecretLength}

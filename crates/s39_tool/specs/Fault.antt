@@ -2,7 +2,6 @@
 use Rattle.std.specs.Prelude.{ℕ, suc, ◌-◌, ◌^◌, min, Some, None, Bool, true, false, Result, Ok, Err}
 use Rattle.s39_tool.specs.declared.fault.LineRefusal.{LineRefusal}
 use Rattle.s39_tool.specs.declared.fault.LineRefusal.TheVariants.{Word, Set, TooLong}
-use Rattle.s39_tool.specs.declared.fault.RefusedLine.{RefusedLine}
 use Rattle.s39_tool.specs.declared.fault.Stop.{Stop}
 use Rattle.s39_tool.specs.declared.fault.Stop.TheVariants.{AtLine, ReadFailed}
 use Rattle.s39_tool.specs.declared.fault.DeviceFailure.{DeviceFailure}

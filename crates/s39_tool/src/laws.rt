@@ -1,18 +1,20 @@
 //! Facts about the definitions, each the contract of a function that does nothing.
-ghost use Rattle.std.specs.Prelude.{◌≡◌, ℕ, List, Result};
+ghost use Rattle.std.specs.Prelude.{◌≡◌, ℕ, List, Result, Ok};
 ghost use Rattle.s39_words.specs.declared.ShareFields.{ShareFields};
 ghost use Rattle.s39_tool.specs.declared.fault.Fault.{Fault};
 ghost use Rattle.s39_tool.specs.declared.fault.LineRefusal.{LineRefusal};
 ghost use Rattle.s39_tool.specs.declared.fault.Stop.{Stop};
-ghost use Rattle.s39_backup.specs.Created.{most_random};
 ghost use Rattle.s39_tool.specs.declared.creating.TheConstants.{MAX_RANDOM_BYTES};
 ghost use Rattle.s39_tool.specs.declared.lines.TheConstants.{MAX_LINE_BYTES};
 ghost use Rattle.s39_tool.specs.Input.{Input, longest_line};
 ghost use Rattle.s39_tool.specs.Accepted.{IsReadAs};
 ghost use Rattle.s39_tool.specs.Show.{IsShowOutput};
 ghost use Rattle.s39_tool.specs.Recover.{IsRecoverOutput};
+ghost use Rattle.s39_tool.specs.OfBackup.{HoldsMnemonicsOf};
+ghost use Rattle.s39_backup.specs.Created.{AreOfBackup, most_random};
 
-use s39_backup::laws::one_outcome;
+use s39_backup::laws::{one_outcome, shares_of_a_backup_agree};
+use s39_set::laws::sets_take_shares;
 use s39_words::laws::{every_text_has_a_reading, one_reading};
 
 /// The code's limits are those of the definitions.
@@ -56,4 +58,24 @@ pub fn one_recover_output()
 {
     one_set();
     one_outcome();
+}
+
+/// An input is read as something: a set of shares, or a refusal.
+pub fn every_input_is_read()
+    ensures { (input : Input)
+        → (answer : Result (List ShareFields) (Stop LineRefusal)) × IsReadAs input answer }
+{
+    every_text_has_a_reading();
+    sets_take_shares();
+}
+
+/// Mnemonics of a created backup, in any order and with repeats, are read as the set of their shares.
+pub fn mnemonics_of_a_backup_are_a_set()
+    ensures { (passphrase secret : List ℕ) (input : Input)
+        → HoldsMnemonicsOf passphrase secret input
+        → (set : List ShareFields) × IsReadAs input (Ok set) × AreOfBackup set passphrase secret }
+{
+    one_reading();
+    every_input_is_read();
+    shares_of_a_backup_agree();
 }

@@ -1,5 +1,5 @@
 -- A run that recovers a secret.
-use Rattle.std.proofs.Common.{◌≡◌, ℕ, List, [], inl, inr, refl, All, Result, Ok, Err}
+use Rattle.std.proofs.Common.{◌≡◌, ℕ, List, [], inl, inr, refl, All, Ok, Err}
 use Rattle.s39_kdf.specs.Limits.{IsPrintable}
 use Rattle.s39_words.specs.declared.ShareFields.{ShareFields}
 use Rattle.s39_tool.specs.declared.fault.LineRefusal.{LineRefusal}

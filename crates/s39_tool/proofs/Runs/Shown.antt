@@ -6,7 +6,6 @@ use Rattle.std.proofs.lemmas.List.Concat.{flat_map-append}
 use Rattle.s39_words.specs.declared.ShareFields.{ShareFields}
 use Rattle.s39_words.specs.declared.WordError.{WordError}
 use Rattle.s39_words.specs.Reading.{Reads}
-use Rattle.s39_tool.specs.declared.fault.LineRefusal.{LineRefusal}
 use Rattle.s39_tool.specs.declared.fault.RefusedLine.{RefusedLine}
 use Rattle.s39_tool.specs.declared.fault.Stop.{Stop}
 use Rattle.s39_tool.specs.declared.fault.Stop.TheVariants.{AtLine, ReadFailed}
@@ -16,11 +15,11 @@ use Rattle.s39_tool.specs.declared.show.ShowRefusal.TheVariants.{Line, WriteFail
 use Rattle.s39_tool.specs.Device.{Counted}
 use Rattle.s39_tool.specs.Input.{Input, lines_of}
 use Rattle.s39_tool.specs.Fault.{answer_of, read_failures, write_failures, stop_failures}
-use Rattle.s39_tool.specs.Lines.{Holds, IsRefusedLine}
+use Rattle.s39_tool.specs.Lines.{Holds}
 use Rattle.s39_tool.specs.Midway.{TakesLines, StopsAtLine, RunsOver}
-use Rattle.s39_tool.specs.Output.{WritesWhole, WritesPart}
+use Rattle.s39_tool.specs.Output.{WritesWhole}
 use Rattle.s39_tool.specs.Runs.{Writes}
-use Rattle.s39_tool.specs.Show.{show_line, line_text, show_text, ShowsLine, HoldEach, IsShowOutput, fault_of_show}
+use Rattle.s39_tool.specs.Show.{show_line, line_text, show_text, ShowsLine, IsShowOutput, fault_of_show}
 use Rattle.s39_tool.proofs.Runs.Writing.{nothing_written, both_written, part_after, writes_whole, writes_part}
 use Rattle.s39_tool.proofs.Runs.ShowOutput.{holds_from}
 use Rattle.s39_tool.proofs.Taking.Held.{AllZip-one_more}

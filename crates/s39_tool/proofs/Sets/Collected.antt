@@ -175,7 +175,7 @@ pub record IsCollectedOf (lines : List (List ℕ)) (set : List ShareFields) : Ty
   pub together : HoldTogether lines shares
   pub collected : IsCollected shares set
 
-collected_none_of : IsCollectedOf [] []
+pub collected_none_of : IsCollectedOf [] []
 collected_none_of = record {
   shares = [];
   together = record { held = []; holds = tt; shares_are = refl; join = collected_none.join };
@@ -183,7 +183,7 @@ collected_none_of = record {
 }
 
 -- what a line holds is added
-collected_held : (lines : List (List ℕ)) (line : List ℕ) (held : Option ShareFields) (old new : List ShareFields) → IsCollectedOf lines old → Holds line held → AddsHeld old held new
+pub collected_held : (lines : List (List ℕ)) (line : List ℕ) (held : Option ShareFields) (old new : List ShareFields) → IsCollectedOf lines old → Holds line held → AddsHeld old held new
     → IsCollectedOf (lines ++ line ∷ []) new
 collected_held lines line None old new c holds adds = record {
   shares = c.shares;
@@ -217,7 +217,7 @@ collected_all : (lines : List (List ℕ)) (old set : List ShareFields) → old �
 collected_all lines old set none t = collected_lines [] lines old set (subst (IsCollectedOf []) (sym none) collected_none_of) t
 
 -- what the set refuses, its shares refuse
-refused_among : (shares set : List ShareFields) (line : List ℕ) (refusal : LineRefusal) → IsCollected shares set → IsRefusedAmong set line refusal → IsRefusedAmong shares line refusal
+pub refused_among : (shares set : List ShareFields) (line : List ℕ) (refusal : LineRefusal) → IsCollected shares set → IsRefusedAmong set line refusal → IsRefusedAmong shares line refusal
 refused_among shares set line refusal c (inl refused) = inl refused
 refused_among shares set line refusal c (inr (share, error, holds, cause, is)) =
     inr (share, error, holds, refusal-same_elements shares set share (record { first = c.set_is.only; second = c.set_is.all }) ∙ cause, is)

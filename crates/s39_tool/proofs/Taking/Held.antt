@@ -1,5 +1,5 @@
 -- What a line holds, or why it is refused: one thing, and something, as a line has one reading.
-use Rattle.std.proofs.Common.{◌≡◌, ℕ, ◌≤◌, ◌<◌, true, false, List, [], ◌∷◌, ◌++◌, refl, ap, inl, inr, ◌⊎◌, length, arith, Option, Some, None, Result, Ok, Err}
+use Rattle.std.proofs.Common.{◌≡◌, ℕ, ◌≤◌, false, List, [], ◌∷◌, ◌++◌, refl, ap, inl, inr, ◌⊎◌, length, arith, Option, Some, None, Result, Ok, Err}
 use Rattle.std.proofs.lemmas.Bool.{cases_Bool, cases_lt}
 use Rattle.std.specs.List.{AllZip}
 use Rattle.s39_words.specs.declared.ShareFields.{ShareFields}

@@ -4,7 +4,6 @@ use Rattle.std.proofs.lemmas.List.{append-nil, length-append, take-append-drop}
 use Rattle.std.proofs.Math.Seq.{drop-cons}
 use Rattle.std.specs.Io.KnownBytes.{Consumes}
 use Rattle.s39_tool.specs.declared.fault.RefusedLine.{RefusedLine}
-use Rattle.s39_tool.specs.declared.fault.Stop.{Stop}
 use Rattle.s39_tool.specs.declared.fault.Stop.TheVariants.{AtLine, ReadFailed}
 use Rattle.s39_tool.specs.Device.{Counted}
 use Rattle.s39_tool.specs.Input.{longest_line, parts_of, lines_of}

@@ -1,7 +1,7 @@
-use Rattle.std.proofs.Common.{◌≡◌, ◌∙◌, ◌+◌, [], inl, inr, refl, ap, sym, subst, arith, Ok, Err}
+use Rattle.std.proofs.Common.{◌∙◌, ◌+◌, [], inl, inr, refl, ap, sym, subst, arith, Ok}
 use Rattle.std.proofs.lemmas.Result.{err_from_is_err_and}
 use Rattle.s39_backup.specs.declared.create_error.CreateError.TheVariants.{Passphrase, SecretLength}
-use Rattle.s39_tool.specs.Create.{Asked, needed_by, ArePrintedLines, IsCreateOutput}
+use Rattle.s39_tool.specs.Create.{ArePrintedLines}
 use Rattle.s39_tool.proofs.Runs.Devices.{OfInput-map, of_nothing}
 use Rattle.s39_tool.proofs.Runs.Writing.{nothing_written, run_whole, run_part}
 use Rattle.s39_tool.proofs.Runs.Creating.{creation_reads, creation_writes, created_of_all, refused_of_all}

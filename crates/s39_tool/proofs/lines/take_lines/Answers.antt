@@ -1,8 +1,8 @@
-use Rattle.std.proofs.Common.{◌≡◌, ◌<◌, [], ◌++◌, true, false, length, take, arith}
+use Rattle.std.proofs.Common.{◌<◌, [], ◌++◌, true, false, length, take, arith}
 use Rattle.std.proofs.lemmas.List.{length-append, length-take}
 use Rattle.std.proofs.KnownBytes.{Consumes-nil, Consumes-trans, Consumes-kept}
 use Rattle.std.proofs.lemmas.Result.{err_from_is_err_and}
-use Rattle.s39_tool.proofs.Taking.Reading.{midway_at_start, runs_to_end, runs_to_last, runs_to_failure}
+use Rattle.s39_tool.proofs.Taking.Reading.{midway_at_start, runs_to_end, runs_to_failure}
 use Rattle.s39_tool.proofs.Runs.Devices.{consumed_nothing, of_end, of_beginning, of_failure}
 use Rattle.s39_tool.proofs.lines.take_lines.Goals as goal
 

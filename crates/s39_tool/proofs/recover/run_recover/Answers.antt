@@ -1,4 +1,4 @@
-use Rattle.std.proofs.Common.{◌≡◌, ◌∙◌, [], inl, refl, ap, ◌+◌, sym, arith, Ok}
+use Rattle.std.proofs.Common.{◌∙◌, [], inl, refl, ap, ◌+◌, sym, arith, Ok}
 use Rattle.std.proofs.lemmas.Result.{err_from_is_err_and}
 use Rattle.s39_tool.specs.Recover.{IsRecoverOutput}
 use Rattle.s39_tool.proofs.Runs.Devices.{OfInput-map, of_nothing}

@@ -2,7 +2,7 @@ use Rattle.std.proofs.Common.{subst, sym, ◌∙◌, ap, ◌+◌}
 use Rattle.s39_tool.specs.Show.{IsShowOutput}
 use Rattle.s39_tool.specs.Runs.{Runs}
 use Rattle.s39_tool.proofs.Runs.Devices.{OfInput-map}
-use Rattle.s39_tool.proofs.Runs.Shown.{answer_of_show, answered, answers_read_failures, runs_shown, shown_failures}
+use Rattle.s39_tool.proofs.Runs.Shown.{answered, answers_read_failures, runs_shown, shown_failures}
 use Rattle.s39_tool.proofs.show.run_show.Goals as goal
 
 pub returns : goal.returns
