@@ -1,9 +1,11 @@
 -- What a run does with its devices.
 use Rattle.std.specs.Prelude.{◌≡◌, ◌≢◌, ℕ, ◌+◌, ◌≤◌, List, [], ◌++◌, length, Option, IfSome, true, false, Result}
 use Rattle.std.specs.Io.KnownBytes.{Appends, Consumes}
+use Rattle.s39_tool.specs.declared.fault.DeviceFailure.TheVariants.{Write}
+use Rattle.s39_tool.specs.declared.fault.Refusal.TheVariants.{Device}
 use Rattle.s39_tool.specs.declared.fault.Fault.{Fault}
 use Rattle.s39_tool.specs.Device.{Counted}
-use Rattle.s39_tool.specs.Fault.{read_failures, write_failures}
+use Rattle.s39_tool.specs.Fault.{fault_of, read_failures, write_failures}
 use Rattle.s39_tool.specs.Input.{Input}
 
 module _ {R : Type 0} (remaining : R → Option (List ℕ)) where
@@ -17,7 +19,7 @@ module _ {R : Type 0} (remaining : R → Option (List ℕ)) where
 
 module _ {W T : Type 0} (contents : W → Option (List ℕ)) where
   -- The writer's bytes grow by the text that has this answer. Where a write fails, they grow by a beginning of
-  -- what would have been written.
+  -- what would have been written, and the answer says so, at no line.
   pub record Writes (IsOutput : List ℕ → Result T Fault → Type 0) (old new : Counted W) (answer : Result T Fault) : Type 0 where
     pub text : List ℕ
     pub full_answer : Result T Fault
@@ -27,6 +29,7 @@ module _ {W T : Type 0} (contents : W → Option (List ℕ)) where
     pub parts : text ≡ written ++ unwritten
     pub appends : Appends (contents old.device) (contents new.device) written
     pub whole : new.failures ≡ old.failures → (unwritten ≡ []) × (answer ≡ full_answer)
+    pub cut_short : new.failures ≢ old.failures → answer ≡ Err (fault_of (Device Write))
 
 module _ {R W T : Type 0} (remaining : R → Option (List ℕ)) (contents : W → Option (List ℕ)) (IsOutput : Input → List ℕ → Result T Fault → Type 0) where
   -- A run writes and answers the output of its input. A device's failed call ends it, and the answer says which device

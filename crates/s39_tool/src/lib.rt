@@ -17,7 +17,7 @@ pub use device::Counting;
 pub use fault::{DeviceFailure, Fault, LineRefusal, Refusal, RefusedLine, Stop};
 pub use recover::{Unrecovered, run_recover};
 pub use s39_backup::{
-    CreateError, Created, Members, Mismatch, Options, Plan, PlanError, RecoverError, create,
+    CreateError, Created, Members, Memo, Mismatch, Options, Plan, PlanError, RecoverError, create,
     recover_by,
 };
 pub use show::run_show;

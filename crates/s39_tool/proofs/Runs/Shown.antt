@@ -92,7 +92,7 @@ module _ {W : Type 0} (contents : W → Option (List ℕ)) where
           let text_is : show_text (held ++ more) ≡ show_text shown.held ++ (show_line share ++ show_text more) =
           ap show_text (append_assoc shown.held (Some share ∷ []) more) ∙ flat_map-append line_text shown.held (Some share ∷ more) in
           rw is record {
-            writes = writes_part contents (IsShowOutput input) old new (show_text shown.held ++ (show_line share ++ show_text more)) _ (answer_of stop)
+            writes = writes_part contents (IsShowOutput input) old new (show_text shown.held ++ (show_line share ++ show_text more)) (answer_of stop)
                 (part_after contents old reached new (show_text shown.held) (show_line share) (show_text more) shown.written part)
                 (record { held = held ++ more; stop = stop; holds = all; text_is = sym text_is; answer_is = refl });
             failures = let none = shown.written.no_failure in let one = part.failure in omega arith;

@@ -46,12 +46,13 @@ module _ {W : Type 0} (contents : W → Option (List ℕ)) where
       parts = sym (append-nil text);
       appends = written.appends;
       whole = λ _. (refl, refl);
+      cut_short = λ other. absurd (other written.no_failure);
     }
 
     -- a part of the output is written, and then a write failed
-    pub writes_part : (old new : Counted W) (text : List ℕ) (answer full_answer : Result T Fault) → WritesPart contents old text new → IsOutput text full_answer
-        → Writes contents IsOutput old new answer
-    writes_part old new text answer full_answer part output = record {
+    pub writes_part : (old new : Counted W) (text : List ℕ) (full_answer : Result T Fault) → WritesPart contents old text new → IsOutput text full_answer
+        → Writes contents IsOutput old new (Err (fault_of (Device Write)))
+    writes_part old new text full_answer part output = record {
       text = text;
       full_answer = full_answer;
       output = output;
@@ -60,6 +61,7 @@ module _ {W : Type 0} (contents : W → Option (List ℕ)) where
       parts = part.parts;
       appends = part.appends;
       whole = λ same. (let more = part.failure in absurd (omega arith));
+      cut_short = λ _. refl;
     }
 
 -- Of a run that writes one text at its end.
@@ -77,7 +79,7 @@ module _ {R W T : Type 0} (remaining : R → Option (List ℕ)) (contents : W �
   pub run_part : WritesPart contents writer text written_to → read_to.failures ≡ reader.failures
       → Runs remaining contents IsOutput reader read_to writer written_to (Err (fault_of (Device Write)))
   run_part part reads = record {
-    output = OfInput-map remaining reader read_to _ _ output (λ input is. writes_part contents (IsOutput input) writer written_to text _ answer part is);
+    output = OfInput-map remaining reader read_to _ _ output (λ input is. writes_part contents (IsOutput input) writer written_to text answer part is);
     read_failures_are = omega arith;
     write_failures_are = part.failure;
   }
