@@ -1,5 +1,5 @@
 -- What a run does with its devices.
-use Rattle.std.specs.Prelude.{◌≡◌, ◌≢◌, ℕ, ◌+◌, ◌≤◌, List, [], ◌++◌, length, Option, IfSome, true, false, Result}
+use Rattle.std.specs.Prelude.{◌≡◌, ◌≢◌, ℕ, ◌+◌, ◌≤◌, List, [], ◌++◌, length, Option, IfSome, true, false, Result, Err}
 use Rattle.std.specs.Io.KnownBytes.{Appends, Consumes}
 use Rattle.s39_tool.specs.declared.fault.DeviceFailure.TheVariants.{Write}
 use Rattle.s39_tool.specs.declared.fault.Refusal.TheVariants.{Device}
