@@ -1,8 +1,9 @@
 //! The worked examples of `recover`, from the command line to the secret or the message, and the status.
 
 use crate::vectors::{
-    LONGEST_ONE_OF_ONE, LONGEST_ONE_OF_ONE_SECRET, ONE_OF_ONE, ONE_OF_ONE_256_BITS,
-    ONE_OF_ONE_SECRET, RECOVER, TWO_NEEDED_MEMBER_0, TWO_NEEDED_MEMBER_2, expect_run,
+    EXTENDABLE_ONE_OF_ONE, LONGEST_ONE_OF_ONE, LONGEST_ONE_OF_ONE_SECRET, ONE_OF_ONE,
+    ONE_OF_ONE_256_BITS, ONE_OF_ONE_EXTENDABLE_MEMBER_1, ONE_OF_ONE_SECRET, RECOVER,
+    TWO_NEEDED_MEMBER_0, TWO_NEEDED_MEMBER_2, expect_run,
 };
 use arrayvec::ArrayVec;
 use s39_cli::program;
@@ -31,15 +32,34 @@ fn recovers_secrets(rt: HostRuntime) -> Result<(), Fail> {
 }
 
 #[test]
+fn recovers_from_an_extendable_mnemonic(rt: HostRuntime) {
+    let secret = "1679b4516e0ee5954351d288a838f45e\n";
+    expect_run(
+        &rt,
+        &RECOVER,
+        EXTENDABLE_ONE_OF_ONE,
+        rt.alloc(),
+        (secret, "", 0),
+    );
+}
+
+#[test]
 fn names_why_there_is_no_secret(rt: HostRuntime) -> Result<(), Fail> {
     let alloc = rt.alloc();
     let one = format!(in alloc; "{TWO_NEEDED_MEMBER_2}\n{TWO_NEEDED_MEMBER_2}")?;
     let other = format!(in alloc; "{ONE_OF_ONE}\n{TWO_NEEDED_MEMBER_2}\n")?;
+    let flags = format!(in alloc; "{ONE_OF_ONE}\n{ONE_OF_ONE_EXTENDABLE_MEMBER_1}\n")?;
+    let identifiers = format!(in alloc; "{ONE_OF_ONE}\n{EXTENDABLE_ONE_OF_ONE}\n")?;
     for (input, message) in [
         ("", "shamir: 29 no shares\n"),
         ("# comment", "shamir: 29 no shares\n"),
         (one.as_str(), "shamir: 30 incomplete: 0 of 1 groups\n"),
         (other.as_str(), "shamir: line 2: 21 other identifier\n"),
+        (flags.as_str(), "shamir: line 2: 22 other extendable flag\n"),
+        (
+            identifiers.as_str(),
+            "shamir: line 2: 21 other identifier\n",
+        ),
     ] {
         expect_run(&rt, &RECOVER, input, alloc, ("", message, 1));
     }

@@ -2,9 +2,10 @@
 
 use crate::devices::Slow;
 use crate::vectors::{
-    EXTENDABLE_TWO_WORDS_EXCHANGED, LONGEST_ONE_OF_ONE, LONGEST_ONE_OF_ONE_SHOWN, ONE_OF_ONE,
-    ONE_OF_ONE_256_BITS, ONE_OF_ONE_256_BITS_SHOWN, ONE_OF_ONE_BAD_CHECKSUM,
-    ONE_OF_ONE_BAD_PADDING, SHOW, SHOWN, TWO_NEEDED_MEMBER_2, expect_run,
+    EXTENDABLE_ONE_OF_ONE, EXTENDABLE_ONE_OF_ONE_SHOWN, EXTENDABLE_TWO_WORDS_EXCHANGED,
+    LONGEST_ONE_OF_ONE, LONGEST_ONE_OF_ONE_SHOWN, ONE_OF_ONE, ONE_OF_ONE_256_BITS,
+    ONE_OF_ONE_256_BITS_SHOWN, ONE_OF_ONE_BAD_CHECKSUM, ONE_OF_ONE_BAD_PADDING, SHOW, SHOWN,
+    TWO_NEEDED_MEMBER_2, expect_run,
 };
 use s39_cli::program;
 use std::test::Fail;
@@ -16,6 +17,14 @@ fn shows_mnemonics(rt: HostRuntime) -> Result<(), Fail> {
     let capitals =
         "\tDUCKLING  enlarge ACADEMIC academic agency\t\tRESULT length solution fridge kidney coal piece deal husband erode duke ajar critical decision keyboard \r\n";
     expect_run(&rt, &SHOW, capitals, alloc, (SHOWN, "", 0));
+    let extendable = EXTENDABLE_ONE_OF_ONE_SHOWN;
+    expect_run(
+        &rt,
+        &SHOW,
+        EXTENDABLE_ONE_OF_ONE,
+        alloc,
+        (extendable, "", 0),
+    );
     let between = format!(in alloc; "# first\n\n{ONE_OF_ONE}\n \t\r\n  # second\n{ONE_OF_ONE}")?;
     let twice = format!(in alloc; "{SHOWN}{SHOWN}")?;
     expect_run(&rt, &SHOW, between.as_str(), alloc, (twice.as_str(), "", 0));

@@ -14,6 +14,16 @@ pub const ONE_OF_ONE_BAD_CHECKSUM: &str =
 pub const ONE_OF_ONE_BAD_PADDING: &str =
     "duckling enlarge academic academic email result length solution fridge kidney coal piece deal husband erode duke ajar music cargo fitness";
 
+pub const EXTENDABLE_ONE_OF_ONE: &str =
+    "testify swimming academic academic column loyalty smear include exotic bedroom exotic wrist lobe cover grief golden smart junior estimate learn";
+
+pub const EXTENDABLE_ONE_OF_ONE_SHOWN: &str =
+    "identifier 29019 extendable 1 exponent 3 group 0 group-threshold 1 group-count 1 member 0 member-threshold 1 value 9e8773c7313b11d3bfe219291976433b\n";
+
+// The fields of `ONE_OF_ONE`, but extendable and member 1; another program computes its words.
+pub const ONE_OF_ONE_EXTENDABLE_MEMBER_1: &str =
+    "duckling evil academic again agency result length solution fridge kidney coal piece deal husband erode duke ajar primary flash threaten";
+
 pub const EXTENDABLE_TWO_WORDS_EXCHANGED: &str =
     "learn swimming academic academic column loyalty smear include exotic bedroom exotic wrist lobe cover grief golden smart junior estimate testify";
 
