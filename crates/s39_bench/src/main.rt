@@ -2,11 +2,15 @@
 //!
 //! `kdf E` encrypts a secret at the iteration exponent `E` and prints it in hexadecimal: four rounds of PBKDF2, which take
 //! `10000 * 2^E` iterations. `split N` splits a secret of 32 bytes N times at threshold 8 of 16, and `combine N` combines
-//! eight of its shares N times; both print how often it succeeded. With no argument it does `kdf 0`.
+//! eight of its shares N times; both print how often it succeeded. `next G N` takes N steps through the quorums of a
+//! set of G groups of `8of16`, all of which are needed, and prints how many looks they took. With no argument it does
+//! `kdf 0`.
 #![tactic(auto)]
 
 ghost use Rattle.std.specs.Prelude.{◌≡◌, All};
 ghost use Rattle.arrayvec.specs.ArrayVec.{array_vec_len};
+
+mod steps;
 
 use s39_kdf::{Bytes, Params, check_secret, encrypt};
 use s39_split::{combine, split};
@@ -93,14 +97,18 @@ fn combine_often(times: u32) -> u32 {
     agreed
 }
 
+/// The number that a word of the command line is, 0 where it isn't there.
+fn number_of(word: Option<String>) -> u32 {
+    match &word {
+        Some(text) => text.parse::<u32>().unwrap_or(u32::MAX),
+        None => 0,
+    }
+}
+
 fn main(rt: HostRuntime) -> io::Result<()> {
     let mut words = env::args(&rt)?;
     let work = words.nth(1);
-    let number = words.next();
-    let number = match &number {
-        Some(text) => text.parse::<u32>().unwrap_or(u32::MAX),
-        None => 0,
-    };
+    let number = number_of(words.next());
     match &work {
         Some(work) if work.as_str() == "split" => {
             let whole = split_often(number);
@@ -109,6 +117,11 @@ fn main(rt: HostRuntime) -> io::Result<()> {
         Some(work) if work.as_str() == "combine" => {
             let agreed = combine_often(number);
             println!(rt; "{agreed}")
+        }
+        Some(work) if work.as_str() == "next" => {
+            let groups = u8::try_from(number).unwrap_or(u8::MAX);
+            let looks = steps::looks_of_steps(groups, number_of(words.next())).unwrap_or(0);
+            println!(rt; "{looks}")
         }
         _ => derive_keys(&rt, u8::try_from(number).unwrap_or(u8::MAX)),
     }
