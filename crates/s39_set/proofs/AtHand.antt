@@ -8,7 +8,7 @@ use Rattle.std.proofs.lemmas.List.{length-map, get_or-map}
 use Rattle.std.proofs.lemmas.List.Elements.{All-contains, All-map, filter_passes}
 use Rattle.std.proofs.lemmas.List.Kept.{AllPairs-cons, AllPairs-filter}
 use Rattle.s39_words.specs.declared.share.ShareFields.{ShareFields}
-use Rattle.s39_set.specs.Names.{name_cmp, names_in_group}
+use Rattle.s39_set.specs.Names.{name_cmp, names_in_group, most_members}
 use Rattle.s39_set.specs.ShareSet.{IsShareSet, name_of, has_name}
 use Rattle.s39_set.proofs.Finds.{find-passes, Contains-find, none-passes}
 use Rattle.s39_set.proofs.Sublists.{AllPairs-nil, AllPairs-head, AllPairs-tail, Contains-filter, Contains-sublist, filter_kept}
@@ -86,28 +86,28 @@ module _ (set : List ShareFields) where
       (λ e. false≢true (sym (All-contains (λ s. has_name group member s ≡ false) set share (none-passes (has_name group member) set e) inside) ∙ passes))
 
   -- the names of a group's shares are those of its members at hand
-  pub names_in_group-members : IsShareSet set → (group : ℕ) → names_in_group group (map name_of set) ≡ names_of group (members_below set group 16)
+  pub names_in_group-members : IsShareSet set → (group : ℕ) → names_in_group group (map name_of set) ≡ names_of group (members_below set group most_members)
   names_in_group-members is group =
       let N = map name_of set in
-      let members = members_below set group 16 in
+      let members = members_below set group most_members in
       same_names (names_in_group group N) (names_of group members)
       (AllPairs-filter (λ a b. name_cmp a b ≡ Less) (λ name. name.0 == group) N is.ascending)
       (AllPairs-map (λ a b. name_cmp a b ≡ Less) (λ member. (group, member)) members
       (λ i j d before below.
       member-less group (get_or members i d) (get_or members j d)
-      (AllPairs-filter (λ a b. a < b) (is_at_hand set group) (range_with_len 0 16) (range-ascending 16) i j d before below)))
+      (AllPairs-filter (λ a b. a < b) (is_at_hand set group) (range_with_len 0 most_members) (range-ascending most_members) i j d before below)))
       (All-map (Contains (names_in_group group N)) (λ member. (group, member)) members
       (λ k d below.
       let member = get_or members k d in
       Contains-filter (λ name. name.0 == group) N (group, member)
-      (Contains-at_hand group member (filter_passes (is_at_hand set group) (range_with_len 0 16) k d below))
+      (Contains-at_hand group member (filter_passes (is_at_hand set group) (range_with_len 0 most_members) k d below))
       (eq-eqb group group refl)))
       (λ k d below.
       let name = get_or (names_in_group group N) k d in
       let here : name.0 ≡ group = names_in_group-group group N k d below in
       let among : Contains N name = Contains-sublist (filter_kept (λ n. n.0 == group) N) k d below in
-      let low : name.1 < 16 = All-contains (λ n. n.1 < 16) N name (members-below set is) among in
+      let low : name.1 < most_members = All-contains (λ n. n.1 < most_members) N name (members-below set is) among in
       let same : (group, name.1) ≡ name = ap (λ g. (g, name.1)) (sym here) in
       let held = at_hand-from_contains group name.1 (subst (Contains N) (sym same) among) in
       subst (Contains (names_of group members)) same
-      (Contains-map (λ member. (group, member)) members name.1 (Contains-filter (is_at_hand set group) (range_with_len 0 16) name.1 (Contains-range 16 name.1 low) held)))
+      (Contains-map (λ member. (group, member)) members name.1 (Contains-filter (is_at_hand set group) (range_with_len 0 most_members) name.1 (Contains-range most_members name.1 low) held)))

@@ -5,6 +5,7 @@ use Rattle.std.specs.Int.{bit_at}
 use Rattle.std.proofs.lemmas.Bool.{cases_eq, eq-eqb, ne_eqb}
 use Rattle.std.proofs.lemmas.List.{get_or-set_same, get_or-set_other}
 use Rattle.std.proofs.lemmas.Nat.Bits.{bit_at_set_same, bit_at_set_other}
+use Rattle.s39_set.specs.Names.{most_members}
 
 -- the bit of a member in the mask of a group
 abbrev pub has_bit : List ℕ → ℕ → ℕ → Bool
@@ -19,10 +20,10 @@ or_true true = refl
 or_true false = refl
 
 -- a bit that is set is one more
-pub has_bit-insert : (masks : List ℕ) (group member : ℕ) → group < length masks → member < 16 → (g m : ℕ)
-    → has_bit (set masks group (bit_or (get_or masks group 0) (1 * 2 ^ member % 65536))) g m ≡ (has_bit masks g m || ((g == group) && (m == member)))
+pub has_bit-insert : (masks : List ℕ) (group member : ℕ) → group < length masks → member < most_members → (g m : ℕ)
+    → has_bit (set masks group (bit_or (get_or masks group 0) (1 * 2 ^ member % 2 ^ most_members))) g m ≡ (has_bit masks g m || ((g == group) && (m == member)))
 has_bit-insert masks group member inside low g m =
-    let new = bit_or (get_or masks group 0) (1 * 2 ^ member % 65536) in
+    let new = bit_or (get_or masks group 0) (1 * 2 ^ member % 2 ^ most_members) in
     elim (cases_eq g group) [
       | inl here ↦ (
           let at : get_or (set masks group new) g 0 ≡ new = ap (λ k. get_or (set masks group new) k 0) here ∙ get_or-set_same masks group new 0 inside in

@@ -7,7 +7,7 @@ use Rattle.std.proofs.lemmas.Bool.{leb-true, le-leb, false≢true}
 use Rattle.std.proofs.lemmas.List.Elements.{All-contains, All-filter, filter_passes}
 use Rattle.std.proofs.lemmas.List.FromFn.{get_or-range_with_len, length-range_with_len}
 use Rattle.std.proofs.lemmas.List.Kept.{AllPairs-filter}
-use Rattle.s39_set.specs.Names.{names_in_group}
+use Rattle.s39_set.specs.Names.{names_in_group, most_groups}
 use Rattle.s39_set.specs.Groups.{is_complete, complete_groups}
 use Rattle.s39_set.proofs.Sublists.{IsSublist, length-sublist, filter_weaker, filter-sublist, Contains-filter, same_from_part, same_from_elements}
 
@@ -63,23 +63,23 @@ module _ (T : ℕ → Option ℕ) (names : List (ℕ × ℕ)) where
 
   -- the complete groups ascend
   pub complete_groups-ascending : AllPairs (λ a b. a < b) (complete_groups T names)
-  complete_groups-ascending = AllPairs-filter (λ a b. a < b) (is_complete T names) (range_with_len 0 16) (range-ascending 16)
+  complete_groups-ascending = AllPairs-filter (λ a b. a < b) (is_complete T names) (range_with_len 0 most_groups) (range-ascending most_groups)
 
-  -- they are below 16
-  pub complete_groups-below : (g : ℕ) → Contains (complete_groups T names) g → g < 16
+  -- they are below most_groups
+  pub complete_groups-below : (g : ℕ) → Contains (complete_groups T names) g → g < most_groups
   complete_groups-below g among =
-      All-contains (λ h. h < 16) (complete_groups T names) g (All-filter (is_complete T names) (λ h. h < 16) (range_with_len 0 16) (range-below 16)) among
+      All-contains (λ h. h < most_groups) (complete_groups T names) g (All-filter (is_complete T names) (λ h. h < most_groups) (range_with_len 0 most_groups) (range-below most_groups)) among
 
   -- they are complete
   pub complete_groups-threshold : (g : ℕ) → Contains (complete_groups T names) g → HasThreshold T names g
   complete_groups-threshold g among =
       threshold_from_complete g
-      (All-contains (λ h. is_complete T names h ≡ true) (complete_groups T names) g (filter_passes (is_complete T names) (range_with_len 0 16)) among)
+      (All-contains (λ h. is_complete T names h ≡ true) (complete_groups T names) g (filter_passes (is_complete T names) (range_with_len 0 most_groups)) among)
 
   -- each complete group is among them
-  pub Contains-complete_groups : (g t : ℕ) → g < 16 → T g ≡ Some t → t ≤ length (names_in_group g names) → Contains (complete_groups T names) g
+  pub Contains-complete_groups : (g t : ℕ) → g < most_groups → T g ≡ Some t → t ≤ length (names_in_group g names) → Contains (complete_groups T names) g
   Contains-complete_groups g t below e enough =
-      Contains-filter (is_complete T names) (range_with_len 0 16) g (Contains-range 16 g below) (is_complete_from g t e enough)
+      Contains-filter (is_complete T names) (range_with_len 0 most_groups) g (Contains-range most_groups g below) (is_complete_from g t e enough)
 
 -- some of the names have some of the members of a group
 pub names_in_group-sublist : (g : ℕ) {fewer names : List (ℕ × ℕ)} → IsSublist fewer names → IsSublist (names_in_group g fewer) (names_in_group g names)
@@ -93,4 +93,4 @@ complete_groups-sublist T {fewer} {names} part =
     let has = threshold_from_complete T fewer g complete in
     let more = length-sublist (names_in_group-sublist g part) in
     is_complete_from T names g has.threshold has.is (omega arith))
-    (range_with_len 0 16)
+    (range_with_len 0 most_groups)

@@ -4,8 +4,8 @@ use Rattle.std.specs.List.{range_with_len}
 use Rattle.std.proofs.lemmas.Bool.{cases_lt, lt-ltb, le-ltb, ne_eqb}
 use Rattle.std.proofs.lemmas.List.{nil_from_length}
 use Rattle.std.proofs.lemmas.List.Elements.{All-contains_itself, filter-append}
-use Rattle.s39_set.specs.Names.{IsAscending, names_in_group}
-use Rattle.s39_set.specs.Groups.{is_complete}
+use Rattle.s39_set.specs.Names.{IsAscending, names_in_group, most_groups}
+use Rattle.s39_set.specs.Groups.{is_complete, groups_above}
 use Rattle.s39_set.proofs.Sublists.{filter-none}
 use Rattle.s39_set.proofs.Thresholds.{HasJust}
 use Rattle.s39_set.proofs.CompleteGroups.{is_complete_from}
@@ -24,12 +24,16 @@ AreExact T names = (g : ℕ) → 0 < count names g → T g ≡ Some (count names
 abbrev pub passing : (ℕ → Bool) → ℕ → ℕ → ℕ
 passing p a k = length (filter p (range_with_len a k))
 
+-- how many groups above one pass
+abbrev pub passing_above : (ℕ → Bool) → ℕ → ℕ
+passing_above p h = passing p (h + 1) (most_groups - (h + 1))
+
 -- names at hand, exact, of G groups
 pub record IsExact (T : ℕ → Option ℕ) (N : List (ℕ × ℕ)) (G : ℕ) (names : List (ℕ × ℕ)) : Type 0 where
   pub ascending : IsAscending names
   pub at_hand : All (Contains N) names
   pub exact : AreExact T names
-  pub groups : G ≡ passing (has_members names) 0 16
+  pub groups : G ≡ passing (has_members names) 0 most_groups
 
 module _ (T : ℕ → Option ℕ) (positive : (g t : ℕ) → T g ≡ Some t → 1 ≤ t) where
   -- of exact names the complete groups are those that have names
@@ -55,14 +59,14 @@ module _ (T : ℕ → Option ℕ) (positive : (g t : ℕ) → T g ≡ Some t →
         ascending = just.ascending;
         at_hand = just.at_hand;
         exact = exact;
-        groups = just.groups ∙ ap length (filter-range_agree (is_complete T names) (has_members names) 0 16 (λ g _. complete_is_members names exact g));
+        groups = just.groups ∙ ap length (filter-range_agree (is_complete T names) (has_members names) 0 most_groups (λ g _. complete_is_members names exact g));
       }
 
   pub just_from_exact : (N : List (ℕ × ℕ)) (G : ℕ) (names : List (ℕ × ℕ)) → IsExact T N G names → HasJust T N G names
   just_from_exact N G names is = record {
     ascending = is.ascending;
     at_hand = is.at_hand;
-    groups = is.groups ∙ sym (ap length (filter-range_agree (is_complete T names) (has_members names) 0 16 (λ g _. complete_is_members names is.exact g)));
+    groups = is.groups ∙ sym (ap length (filter-range_agree (is_complete T names) (has_members names) 0 most_groups (λ g _. complete_is_members names is.exact g)));
     members = members_from_exact names is.exact;
   }
 
@@ -99,17 +103,17 @@ passing-none p a k h = passing-agree p (λ _. false) a k h ∙ all_fail a k
     all_fail b (suc n) = all_fail (b + 1) n
 
 -- of all groups those below one, that one, and those above it
-pub passing-split : (p : ℕ → Bool) (h : ℕ) → h < 16 → passing p 0 16 ≡ passing p 0 h + (cond (p h) 1 0 + passing p (h + 1) (15 - h))
+pub passing-split : (p : ℕ → Bool) (h : ℕ) → h < most_groups → passing p 0 most_groups ≡ passing p 0 h + (cond (p h) 1 0 + passing_above p h)
 passing-split p h low =
-    let whole : h + suc (15 - h) ≡ 16 = omega arith in
+    let whole : h + suc (most_groups - (h + 1)) ≡ most_groups = omega arith in
     let none : 0 + h ≡ h = omega arith in
     let front = filter p (range_with_len 0 h) in
-    let back = filter p (range_with_len (h + 1) (15 - h)) in
+    let back = filter p (groups_above h) in
     ap (λ n. passing p 0 n) (sym whole)
-    ∙ ap (λ l. length (filter p l)) (range-split 0 h (suc (15 - h)))
-    ∙ ap length (filter-append p (range_with_len 0 h) (range_with_len (0 + h) (suc (15 - h))))
-    ∙ length-append front (filter p (range_with_len (0 + h) (suc (15 - h))))
-    ∙ ap (λ b. length front + length (filter p (range_with_len b (suc (15 - h))))) none
+    ∙ ap (λ l. length (filter p l)) (range-split 0 h (suc (most_groups - (h + 1))))
+    ∙ ap length (filter-append p (range_with_len 0 h) (range_with_len (0 + h) (suc (most_groups - (h + 1)))))
+    ∙ length-append front (filter p (range_with_len (0 + h) (suc (most_groups - (h + 1)))))
+    ∙ ap (λ b. length front + length (filter p (range_with_len b (suc (most_groups - (h + 1)))))) none
     ∙ ap (λ n. length front + n) (by (p h) back)
   where
     by : (b : Bool) (l : List ℕ) → length (cond b (h ∷ l) l) ≡ cond b 1 0 + length l

@@ -3,7 +3,7 @@ use Rattle.std.proofs.Common.{◌≡◌, ℕ, ◌+◌, ◌<◌, ◌≤◌, true,
 use Rattle.std.proofs.lemmas.List.{length-map, take-map, map_push}
 use Rattle.std.proofs.lemmas.List.Elements.{All-map, All-weaker, All-append}
 use Rattle.s39_words.specs.declared.share.ShareFields.{ShareFields}
-use Rattle.s39_set.specs.Names.{name_cmp, names_in_group}
+use Rattle.s39_set.specs.Names.{name_cmp, names_in_group, most_members}
 use Rattle.s39_set.specs.ShareSet.{IsShareSet, name_of}
 use Rattle.s39_set.proofs.Ascending.{name_cmp_groups}
 use Rattle.s39_set.proofs.Ranges.{first_passing, first_passing_more, first_passing_without, first_passing_full, first_passing-below}
@@ -47,7 +47,7 @@ module _ (set : List ShareFields) (group threshold : ℕ) where
       (All-weaker (λ name. name.0 < group) (λ name. name_cmp name (group, n) ≡ Less) (λ name less. name_cmp_groups name (group, n) less) names earlier)
       (first_below-before n)
 
-  -- below 16 they are the group's first names
-  pub first_below-all : IsShareSet set → first_below set group threshold 16 ≡ take threshold (names_in_group group (map name_of set))
+  -- below most_members they are the group's first names
+  pub first_below-all : IsShareSet set → first_below set group threshold most_members ≡ take threshold (names_in_group group (map name_of set))
   first_below-all is =
-      sym (take-map (λ member. (group, member)) threshold (members_below set group 16)) ∙ ap (take threshold) (sym (names_in_group-members set is group))
+      sym (take-map (λ member. (group, member)) threshold (members_below set group most_members)) ∙ ap (take threshold) (sym (names_in_group-members set is group))

@@ -5,7 +5,7 @@ use Rattle.std.proofs.lemmas.Bool.{cases_Bool, le-leb, eq-eqb}
 use Rattle.std.proofs.lemmas.List.{length-take-le}
 use Rattle.std.proofs.lemmas.List.Elements.{All-nil, All-head, All-take}
 use Rattle.std.proofs.lemmas.List.Kept.{AllPairs-filter}
-use Rattle.s39_set.specs.Names.{name_cmp, names_cmp, IsAscending, names_in_group}
+use Rattle.s39_set.specs.Names.{name_cmp, names_cmp, IsAscending, names_in_group, most_groups}
 use Rattle.s39_set.specs.Groups.{is_complete, complete_groups, first_members, members_of}
 use Rattle.s39_set.proofs.Thresholds.{HasJust}
 use Rattle.s39_set.proofs.Sublists.{Contains-filter, filter-none}
@@ -135,9 +135,9 @@ module _ (T : ℕ → Option ℕ) (N : List (ℕ × ℕ)) (positive : (g t : ℕ
       (λ m behind. least_from ascending (a + 1) k m back behind))
 
 -- of all names at hand that have just the groups and members that the thresholds ask, the first members of the first complete groups come first
-pub first_members_are_least : (T : ℕ → Option ℕ) (N : List (ℕ × ℕ)) (G : ℕ) → ((g t : ℕ) → T g ≡ Some t → 1 ≤ t) → All (λ name. name.0 < 16) N → IsAscending N → (other : List (ℕ × ℕ)) → HasJust T N G other → names_cmp (members_of T N (take G (complete_groups T N))) other ≢ Greater
+pub first_members_are_least : (T : ℕ → Option ℕ) (N : List (ℕ × ℕ)) (G : ℕ) → ((g t : ℕ) → T g ≡ Some t → 1 ≤ t) → All (λ name. name.0 < most_groups) N → IsAscending N → (other : List (ℕ × ℕ)) → HasJust T N G other → names_cmp (members_of T N (take G (complete_groups T N))) other ≢ Greater
 first_members_are_least T N G positive _ ascending other h =
-    least_from T N positive ascending 0 16 G other (record {
+    least_from T N positive ascending 0 most_groups G other (record {
       ascending = h.ascending;
       at_hand = h.at_hand;
       from = λ i d within. omega arith;

@@ -5,7 +5,7 @@ use Rattle.std.proofs.lemmas.Bool.{cases_lt, ne_eqb, eq-eqb, false≢true}
 use Rattle.std.proofs.lemmas.List.{length-take-le, get_or-take, get_or_default}
 use Rattle.std.proofs.lemmas.List.Elements.{All-append, All-map, All-take}
 use Rattle.s39_set.specs.declared.masks.Masks.{Masks}
-use Rattle.s39_set.specs.Names.{name_cmp, IsAscending, names_in_group}
+use Rattle.s39_set.specs.Names.{name_cmp, IsAscending, names_in_group, most_members}
 use Rattle.s39_set.specs.Masks.{is_in}
 use Rattle.s39_set.specs.Steps.{members_from}
 use Rattle.s39_set.proofs.Sublists.{filter-none}
@@ -37,7 +37,7 @@ module _ (names : List (ℕ × ℕ)) (i : ℕ) (ascending : IsAscending names) (
       let group = (get_or names i (0, 0)).0 in
       All-append (λ n. n.0 < group + 1) (take i names) (take many (members_from masks group a)) front-groups
       (All-take (λ n. n.0 < group + 1) many (members_from masks group a)
-      (All-map (λ n. n.0 < group + 1) (λ member. (group, member)) (filter (is_in masks group) (range_with_len a (16 - a))) (λ k d within. let next : group < group + 1 = omega arith in next)))
+      (All-map (λ n. n.0 < group + 1) (λ member. (group, member)) (filter (is_in masks group) (range_with_len a (most_members - a))) (λ k d within. let next : group < group + 1 = omega arith in next)))
 
   -- where the name before it is of another group, none is of its group
   pub none_of_group : 0 < i → (get_or names (i - 1) (0, 0)).0 ≢ (get_or names i (0, 0)).0 → length (names_in_group (get_or names i (0, 0)).0 (take i names)) ≡ 0

@@ -2,13 +2,14 @@
 use Rattle.std.proofs.Common.{◌≡◌, ℕ, zero, suc, ◌+◌, ◌-◌, ◌<◌, ◌≤◌, List, [], ◌∷◌, length, get_or, refl, sym, ap, ap₂, ◌∙◌, inl, inr, arith}
 use Rattle.std.proofs.lemmas.Bool.{cases_lt}
 use Rattle.std.specs.Fmt.{decimal, digits}
+use Rattle.s39_set.specs.Names.{most_groups}
 
--- the text of a number below ten is one digit, and of another below 16 a 1 and a digit
+-- the text of a number below ten is one digit, and of another below the number of groups a 1 and a digit
 pub record IsIndexText (text : List ℕ) (n : ℕ) : Type 0 where
   pub one : n < 10 → text ≡ (48 + n) ∷ []
   pub two : 10 ≤ n → text ≡ 49 ∷ (38 + n) ∷ []
 
-pub decimal-index : (n : ℕ) → n < 16 → IsIndexText (decimal n) n
+pub decimal-index : (n : ℕ) → n < most_groups → IsIndexText (decimal n) n
 unfolding digits
 decimal-index zero low = record { one = λ _. refl; two = λ high. absurd (omega arith) }
 decimal-index (suc zero) low = record { one = λ _. refl; two = λ high. absurd (omega arith) }
@@ -35,7 +36,7 @@ pub record Looks (text : List ℕ) (n : ℕ) : Type 0 where
   pub one : length text < 2 → (get_or text 0 0 ≡ 48 + n) × (n < 10)
   pub two : 2 ≤ length text → (get_or text 0 0 ≡ 49) × (get_or text 1 0 ≡ 38 + n) × (10 ≤ n)
 
-pub no_text : (text : List ℕ) (n : ℕ) → n < 16 → text ≡ decimal n → Looks text n
+pub no_text : (text : List ℕ) (n : ℕ) → n < most_groups → text ≡ decimal n → Looks text n
 no_text text n low e =
     let of = decimal-index n low in
     elim (cases_lt n 10) [
@@ -50,10 +51,10 @@ no_text text n low e =
           record { shortest = omega arith; longest = omega arith; one = λ short. absurd (omega arith); two = λ _. (first, second, high) })
     ]
 
-pub one_from_text : (text : List ℕ) (n : ℕ) → n < 16 → text ≡ decimal n → length text < 2 → n ≡ get_or text 0 0 - 48
+pub one_from_text : (text : List ℕ) (n : ℕ) → n < most_groups → text ≡ decimal n → length text < 2 → n ≡ get_or text 0 0 - 48
 one_from_text text n low e short = let first = (no_text text n low e).one short in omega arith
 
-pub two_from_text : (text : List ℕ) (n : ℕ) → n < 16 → text ≡ decimal n → 2 ≤ length text → get_or text 1 0 ≡ 38 + n
+pub two_from_text : (text : List ℕ) (n : ℕ) → n < most_groups → text ≡ decimal n → 2 ≤ length text → get_or text 1 0 ≡ 38 + n
 two_from_text text n low e long = ((no_text text n low e).two long).1
 
 pub text_from_one : (text : List ℕ) → length text ≡ 1 → 48 ≤ get_or text 0 0 → get_or text 0 0 < 58 → text ≡ decimal (get_or text 0 0 - 48)
@@ -72,7 +73,7 @@ text_from_two (x ∷ y ∷ []) l first from below =
 text_from_two (x ∷ y ∷ z ∷ zs) l first from below = absurd (omega arith)
 
 -- numbers with one decimal form are the same
-pub decimal-same : (m n : ℕ) → m < 16 → n < 16 → decimal m ≡ decimal n → m ≡ n
+pub decimal-same : (m n : ℕ) → m < most_groups → n < most_groups → decimal m ≡ decimal n → m ≡ n
 decimal-same m n low_m low_n e =
     let of_m = no_text (decimal m) m low_m refl in
     let of_n = no_text (decimal m) n low_n e in

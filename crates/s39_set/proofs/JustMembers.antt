@@ -5,7 +5,7 @@ use Rattle.std.proofs.lemmas.Bool.{cases_lt, lt-ltb, le-ltb, eq-eqb}
 use Rattle.std.proofs.lemmas.List.{nil_from_length}
 use Rattle.std.proofs.lemmas.List.Elements.{All-head, All-tail, All-contains, All-contains_itself}
 use Rattle.s39_words.specs.declared.share.ShareFields.{ShareFields}
-use Rattle.s39_set.specs.Names.{names_in_group}
+use Rattle.s39_set.specs.Names.{names_in_group, most_groups}
 use Rattle.s39_set.specs.Groups.{is_complete, complete_groups}
 use Rattle.s39_set.specs.ShareSet.{IsShareSet}
 use Rattle.s39_set.specs.Quorums.{group_threshold_of, member_threshold_of, HasJustTheMembers}
@@ -47,12 +47,12 @@ at_group P names h g some =
 
 module _ (T : ℕ → Option ℕ) (positive : (g t : ℕ) → T g ≡ Some t → 1 ≤ t) (names : List (ℕ × ℕ)) where
   -- where each group that has names has just as many as its threshold, the complete groups are those that have names
-  complete_groups-exact : AreExactBelow T names 16 → complete_groups T names ≡ filter (has_members names) (range_with_len 0 16)
+  complete_groups-exact : AreExactBelow T names most_groups → complete_groups T names ≡ filter (has_members names) (range_with_len 0 most_groups)
   complete_groups-exact exact =
-      filter_same (is_complete T names) (has_members names) (range_with_len 0 16)
+      filter_same (is_complete T names) (has_members names) (range_with_len 0 most_groups)
       (λ k d within.
-      let g = get_or (range_with_len 0 16) k d in
-      let low : g < 16 = range-below 16 k d within in
+      let g = get_or (range_with_len 0 most_groups) k d in
+      let low : g < most_groups = range-below most_groups k d within in
       elim (cases_lt 0 (length (names_in_group g names))) [
         | inl some ↦ is_complete_from T names g (length (names_in_group g names)) (exact g low some) (omega arith) ∙ sym (lt-ltb 0 (length (names_in_group g names)) some)
         | inr none ↦ is_complete-none T names g (positive g) (nil_from_length (names_in_group g names) (omega arith)) ∙ sym (le-ltb 0 (length (names_in_group g names)) none)
@@ -60,12 +60,12 @@ module _ (T : ℕ → Option ℕ) (positive : (g t : ℕ) → T g ≡ Some t →
 
 module _ (set : List ShareFields) (names : List (ℕ × ℕ)) where
   -- names with just the members of their groups are exact
-  pub exact_from_just : HasJustTheMembers set names → AreExactBelow (member_threshold_of set) names 16
+  pub exact_from_just : HasJustTheMembers set names → AreExactBelow (member_threshold_of set) names most_groups
   exact_from_just has g below some =
       at_group (λ h. member_threshold_of set h ≡ Some (length (names_in_group h names))) names has.members g some
 
   -- exact names have just the members, where as many groups have names as the group threshold asks
-  pub just_from_exact : IsShareSet set → All (λ name. name.0 < 16) names → AreExactBelow (member_threshold_of set) names 16 → group_threshold_of set ≡ Some (length (filter (has_members names) (range_with_len 0 16))) → HasJustTheMembers set names
+  pub just_from_exact : IsShareSet set → All (λ name. name.0 < most_groups) names → AreExactBelow (member_threshold_of set) names most_groups → group_threshold_of set ≡ Some (length (filter (has_members names) (range_with_len 0 most_groups))) → HasJustTheMembers set names
   just_from_exact is below exact groups = record {
     groups = groups ∙ ap (λ gs. Some (length gs)) (sym (complete_groups-exact (member_threshold_of set) (member_threshold-positive set is) names exact));
     members = λ k d within.
@@ -74,6 +74,6 @@ module _ (set : List ShareFields) (names : List (ℕ × ℕ)) where
   }
 
   -- and no others do
-  pub groups_from_just : IsShareSet set → HasJustTheMembers set names → group_threshold_of set ≡ Some (length (filter (has_members names) (range_with_len 0 16)))
+  pub groups_from_just : IsShareSet set → HasJustTheMembers set names → group_threshold_of set ≡ Some (length (filter (has_members names) (range_with_len 0 most_groups)))
   groups_from_just is has =
       has.groups ∙ ap (λ gs. Some (length gs)) (complete_groups-exact (member_threshold_of set) (member_threshold-positive set is) names (exact_from_just has))

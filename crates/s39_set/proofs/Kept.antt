@@ -13,9 +13,9 @@ use Rattle.s39_words.specs.declared.share.ShareFields.{ShareFields}
 use Rattle.s39_words.specs.Share.{IsShare}
 use Rattle.s39_set.specs.declared.common.Common.{Common}
 use Rattle.s39_set.specs.declared.masks.Masks.{Masks}
-use Rattle.s39_set.specs.Names.{name_cmp, IsAscending}
+use Rattle.s39_set.specs.Names.{name_cmp, IsAscending, most_groups, most_members}
 use Rattle.s39_set.specs.ShareSet.{Agrees, IsShareSet, CanJoin, HasOneMore, name_of, is_in_group, has_name, refusal_of}
-use Rattle.s39_set.specs.Masks.{is_in}
+use Rattle.s39_set.specs.Masks.{is_in, AddsName}
 use Rattle.s39_set.specs.Quorums.{member_threshold_of}
 use Rattle.s39_set.specs.Places.{shares_at, place_of, common_of, common_of_all, IsKept}
 use Rattle.s39_set.proofs.Finds.{IfSome-map, find-none, find-passes, Contains-find, none-passes, find-insert_other}
@@ -27,17 +27,17 @@ use Rattle.s39_set.proofs.Refusals.{has_name-is, has_name-own}
 
 -- ---- names in the order of their places
 
-name_cmp-from_places : (a b : ℕ × ℕ) → a.1 < 16 → b.1 < 16 → place_of a < place_of b → name_cmp a b ≡ Less
+name_cmp-from_places : (a b : ℕ × ℕ) → a.1 < most_members → b.1 < most_members → place_of a < place_of b → name_cmp a b ≡ Less
 name_cmp-from_places (g, m) (h, n) low also_low before = grind (arith, nat_tests)
 
-pub ascending-places : (b : ℕ) (places : List (Option ShareFields)) → OwnPlaces b places → All (λ share. share.member_index < 16) (shares_at places) → IsAscending (map name_of (shares_at places))
+pub ascending-places : (b : ℕ) (places : List (Option ShareFields)) → OwnPlaces b places → All (λ share. share.member_index < most_members) (shares_at places) → IsAscending (map name_of (shares_at places))
 ascending-places b [] own low = AllPairs-nil (λ x y. name_cmp x y ≡ Less)
 ascending-places b (None ∷ places) own low = ascending-places (suc b) places (own_places-tail b None places own) low
 ascending-places b (Some share ∷ places) own low =
     let rest = own_places-tail b (Some share) places own in
     let here : place_of (name_of share) ≡ b + 0 = own 0 in
-    let lower = All-head (λ s. s.member_index < 16) share (shares_at places) low in
-    let others = All-tail (λ s. s.member_index < 16) share (shares_at places) low in
+    let lower = All-head (λ s. s.member_index < most_members) share (shares_at places) low in
+    let others = All-tail (λ s. s.member_index < most_members) share (shares_at places) low in
     AllPairs-cons (λ x y. name_cmp x y ≡ Less) (name_of share) (map name_of (shares_at places))
     (All-map (λ y. name_cmp (name_of share) y ≡ Less) name_of (shares_at places)
     (λ k d below.
@@ -143,25 +143,21 @@ common_of_all-is (first ∷ others) share is has_share =
 
 -- ---- what is kept
 
--- the masks have this name more
-abbrev pub AddsName : Masks → Masks → ℕ × ℕ → Type 0
-AddsName old new name = (g m : ℕ) → is_in new g m ≡ (is_in old g m || ((g == name.0) && (m == name.1)))
-
 module _ (common : Option Common) (masks : Masks) (thresholds : List (Option ℕ)) (places : List (Option ShareFields)) (kept : IsKept common masks thresholds places) where
   pub own_places : OwnPlaces 0 places
   own_places k =
       IfSome-map (λ share. place_of (name_of share) ≡ k) (λ share. place_of (name_of share) ≡ 0 + k) (get_or places k None)
       (λ share at. omega arith) (kept.own_place k)
 
-  low_members : All (λ share. share.member_index < 16) (shares_at places)
-  low_members = All-weaker IsShare (λ share. share.member_index < 16) (λ s h. h.member_index) (shares_at places) kept.is_set.each
+  low_members : All (λ share. share.member_index < most_members) (shares_at places)
+  low_members = All-weaker IsShare (λ share. share.member_index < most_members) (λ s h. h.member_index) (shares_at places) kept.is_set.each
 
   -- a name's share stands at its place
-  pub share_in_place : (group member : ℕ) → member < 16 → find (has_name group member) (shares_at places) ≡ get_or places (place_of (group, member)) None
+  pub share_in_place : (group member : ℕ) → member < most_members → find (has_name group member) (shares_at places) ≡ get_or places (place_of (group, member)) None
   share_in_place group member low = find-place 0 places group member own_places low_members low (place_of (group, member)) (let e : place_of (group, member) ≡ 0 + place_of (group, member) = omega arith in e)
 
-  -- no share has an index of 16 or more
-  pub no_share_past : (group member : ℕ) → (16 ≤ group) ⊎ (16 ≤ member) → find (has_name group member) (shares_at places) ≡ None
+  -- no share has an index past the most
+  pub no_share_past : (group member : ℕ) → (most_groups ≤ group) ⊎ (most_members ≤ member) → find (has_name group member) (shares_at places) ≡ None
   no_share_past group member past =
       find-none (has_name group member) (shares_at places)
       (λ k d below.
@@ -170,14 +166,14 @@ module _ (common : Option Common) (masks : Masks) (thresholds : List (Option ℕ
       let low_group = is.group_index in
       let low_member = is.member_index in
       ⊎_elim
-      (λ (high : 16 ≤ group). rw (ne_eqb s.group_index group (λ e. absurd (omega arith))) refl)
-      (λ (high : 16 ≤ member). by (s.group_index) s.member_index (ne_eqb s.member_index member (λ e. absurd (omega arith))))
+      (λ (high : most_groups ≤ group). rw (ne_eqb s.group_index group (λ e. absurd (omega arith))) refl)
+      (λ (high : most_members ≤ member). by (s.group_index) s.member_index (ne_eqb s.member_index member (λ e. absurd (omega arith))))
       past)
     where
       by : (g m : ℕ) → (m == member) ≡ false → ((g == group) && (m == member)) ≡ false
       by g m h = and_right (g == group) (m == member) h
 
-  module _ (share : ShareFields) (is : IsShare share) (allowed : refusal_of (shares_at places) share ≡ None) (k : ℕ) (at : k ≡ place_of (name_of share)) (below : k < length places) (empty : get_or places k None ≡ None) (groups : length thresholds ≡ 16) where
+  module _ (share : ShareFields) (is : IsShare share) (allowed : refusal_of (shares_at places) share ≡ None) (k : ℕ) (at : k ≡ place_of (name_of share)) (below : k < length places) (empty : get_or places k None ≡ None) (groups : length thresholds ≡ most_groups) where
     new : List (Option ShareFields)
     new = set places k (Some share)
 
@@ -189,7 +185,7 @@ module _ (common : Option Common) (masks : Masks) (thresholds : List (Option ℕ
         (cases_eq j k)
 
     -- a mask with the share's name more says which places have a share
-    at_hand_more : (masks' : Masks) → AddsName masks masks' (name_of share) → (group member : ℕ) → group < 16 → member < 16
+    at_hand_more : (masks' : Masks) → AddsName masks masks' (name_of share) → (group member : ℕ) → group < most_groups → member < most_members
         → is_in masks' group member ≡ is_some (get_or (set places k (Some share)) (place_of (group, member)) None)
     at_hand_more masks' adds group member low also_low =
         elim (cases_eq (place_of (group, member)) k) [
@@ -225,7 +221,7 @@ module _ (common : Option Common) (masks : Masks) (thresholds : List (Option ℕ
         λ j. IfSome-map (λ s. place_of (name_of s) ≡ j) (λ s. place_of (name_of s) ≡ 0 + j) (get_or (set places k (Some share)) j None) (λ s here. omega arith) (own_more j) in
         let is_set : IsShareSet shares = record {
           each = each;
-          ascending = ascending-places 0 (set places k (Some share)) own (All-weaker IsShare (λ s. s.member_index < 16) (λ s h. h.member_index) shares each);
+          ascending = ascending-places 0 (set places k (Some share)) own (All-weaker IsShare (λ s. s.member_index < most_members) (λ s h. h.member_index) shares each);
           agree = agree-more old share shares more kept.is_set joins;
         } in
         record {
@@ -297,7 +293,7 @@ is_set-none = record {
 -- the fields of a set with no share
 pub kept-none : (masks : Masks) (thresholds : List (Option ℕ)) (places : List (Option ShareFields))
     → ((g m : ℕ) → is_in masks g m ≡ false) → ((k : ℕ) → get_or places k None ≡ None)
-    → ((group : ℕ) → group < 16 → get_or thresholds group None ≡ None) → IsKept None masks thresholds places
+    → ((group : ℕ) → group < most_groups → get_or thresholds group None ≡ None) → IsKept None masks thresholds places
 kept-none masks thresholds places no_name none no_threshold =
     let empty : shares_at places ≡ [] = shares_at-none places (λ k d below. get_or_default places k d None below ∙ none k) in
     record {

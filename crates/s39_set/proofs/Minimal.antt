@@ -5,7 +5,7 @@ use Rattle.std.specs.List.{All, Contains}
 use Rattle.std.proofs.lemmas.Bool.{cases_lt, eq-eqb}
 use Rattle.std.proofs.lemmas.List.{length-take-le}
 use Rattle.std.proofs.lemmas.List.Elements.{All-contains, All-contains_itself}
-use Rattle.s39_set.specs.Names.{IsAscending, names_in_group}
+use Rattle.s39_set.specs.Names.{IsAscending, names_in_group, most_groups}
 use Rattle.s39_set.specs.Groups.{complete_groups, members_of}
 use Rattle.s39_set.proofs.Sublists.{IsSublist, length-sublist, same_from_length, take-sublist, filter_kept, AllPairs-sublist, Contains-sublist, Contains-filter}
 use Rattle.s39_set.proofs.Ascending.{names-sublist, same_names, same_names_from_length}
@@ -64,7 +64,7 @@ just_from_minimal T positive N G names meets minimal =
     }
 
 -- of names with just what the thresholds ask, no fewer meet them
-pub minimal_from_just : (T : ℕ → Option ℕ) (N : List (ℕ × ℕ)) → All (λ name. name.0 < 16) N → (G : ℕ) (names : List (ℕ × ℕ)) → HasJust T N G names → (fewer : List (ℕ × ℕ)) → All (Contains names) fewer → fewer ≢ names → Meets T N G fewer → ⊥
+pub minimal_from_just : (T : ℕ → Option ℕ) (N : List (ℕ × ℕ)) → All (λ name. name.0 < most_groups) N → (G : ℕ) (names : List (ℕ × ℕ)) → HasJust T N G names → (fewer : List (ℕ × ℕ)) → All (Contains names) fewer → fewer ≢ names → Meets T N G fewer → ⊥
 minimal_from_just T N below G names just fewer inside other meets =
     let part : IsSublist fewer names = names-sublist names fewer just.ascending meets.ascending inside in
     let same_complete : complete_groups T fewer ≡ complete_groups T names =
@@ -75,7 +75,7 @@ minimal_from_just T N below G names just fewer inside other meets =
     let g : ℕ = name.0 in
     let t : ℕ = length (names_in_group g names) in
     let e : T g ≡ Some t = just.members k d within in
-    let low : g < 16 = All-contains (λ n. n.0 < 16) N name below (just.at_hand k d within) in
+    let low : g < most_groups = All-contains (λ n. n.0 < most_groups) N name below (just.at_hand k d within) in
     let complete : Contains (complete_groups T fewer) g =
     subst (λ groups. Contains groups g) (sym same_complete) (Contains-complete_groups T names g t low e (omega arith)) in
     let has = complete_groups-threshold T fewer g complete in

@@ -8,6 +8,7 @@ use Rattle.std.proofs.lemmas.List.Elements.{All-nil, All-cons, All-head, All-tai
 use Rattle.std.proofs.lemmas.List.Quantifiers.{position-Some}
 use Rattle.s39_set.specs.Written.{IsNameText}
 use Rattle.s39_set.proofs.IndexText.{decimal-index}
+use Rattle.s39_set.specs.Names.{most_groups, most_members}
 
 -- where the first element that passes stands behind these, the elements before it are as many as they
 position_or_len-first : {X : Type 0} (p : X → Bool) (xs : List X) (x : X) (ys : List X) → All (λ y. p y ≡ false) xs → p x ≡ true → position_or_len p (xs ++ x ∷ ys) ≡ length xs
@@ -30,7 +31,7 @@ abbrev pub is_stop : ℕ → Bool
 is_stop byte = byte == 46
 
 -- the decimal form of an index has no full stop and no plus sign
-pub decimal-without : (n byte : ℕ) → n < 16 → byte < 48 → All (λ b. (b == byte) ≡ false) (decimal n)
+pub decimal-without : (n byte : ℕ) → n < most_groups → byte < 48 → All (λ b. (b == byte) ≡ false) (decimal n)
 decimal-without n byte low small =
     let of = decimal-index n low in
     let none : All (λ b. (b == byte) ≡ false) [] = All-nil (λ b. (b == byte) ≡ false) in
@@ -73,7 +74,7 @@ parts_of_name text stop name is found =
     }
 
 -- a text with those parts is the name's written form
-pub name_of_parts : (text : List ℕ) (stop : ℕ) (name : ℕ × ℕ) → name.0 < 16 → name.1 < 16 → HasParts text stop name → Some stop ≡ position is_stop text → IsNameText text name
+pub name_of_parts : (text : List ℕ) (stop : ℕ) (name : ℕ × ℕ) → name.0 < most_groups → name.1 < most_members → HasParts text stop name → Some stop ≡ position is_stop text → IsNameText text name
 name_of_parts text stop name group member parts found =
     let at = position-Some is_stop text stop 0 (sym found) in
     let dot : get_or text stop 0 ≡ 46 = eqb-true (get_or text stop 0) 46 at.1 in

@@ -5,27 +5,27 @@ use Rattle.std.proofs.lemmas.List.{get_or_default}
 use Rattle.std.proofs.lemmas.Bool.Decides.{nat_tests}
 use Rattle.std.proofs.lemmas.List.Elements.{All-head, All-tail, All-push}
 use Rattle.std.proofs.lemmas.List.Quantifiers.{all_pairs_push}
-use Rattle.s39_set.specs.Names.{name_cmp, IsAscending, AreNames}
+use Rattle.s39_set.specs.Names.{name_cmp, IsAscending, AreNames, most_groups, most_members}
 use Rattle.s39_set.specs.Places.{place_of}
 use Rattle.s39_set.proofs.Sublists.{AllPairs-head, AllPairs-tail}
 
-less_places : (a b c d : ℕ) → b < 16 → name_cmp (a, b) (c, d) ≡ Less → 16 * a + b < 16 * c + d
+less_places : (a b c d : ℕ) → b < most_members → name_cmp (a, b) (c, d) ≡ Less → most_members * a + b < most_members * c + d
 less_places a b c d low h = grind (arith, nat_tests)
 
 -- the earlier of two names has the lower place
-place_of-less : (x y : ℕ × ℕ) → x.1 < 16 → name_cmp x y ≡ Less → place_of x < place_of y
+place_of-less : (x y : ℕ × ℕ) → x.1 < most_members → name_cmp x y ≡ Less → place_of x < place_of y
 place_of-less x y low h = less_places x.0 x.1 y.0 y.1 low h
 
-length_from_place : (name : ℕ × ℕ) (b : ℕ) (names : List (ℕ × ℕ)) → IsAscending names → All (λ x. x.1 < 16) names → All (λ x. b ≤ place_of x) names → All (λ x. name_cmp x name ≡ Less) names → b ≤ place_of name → b + length names ≤ place_of name
+length_from_place : (name : ℕ × ℕ) (b : ℕ) (names : List (ℕ × ℕ)) → IsAscending names → All (λ x. x.1 < most_members) names → All (λ x. b ≤ place_of x) names → All (λ x. name_cmp x name ≡ Less) names → b ≤ place_of name → b + length names ≤ place_of name
 length_from_place name b [] ascending low from earlier first = omega arith
 length_from_place name b (x ∷ xs) ascending low from earlier first =
     let here : b ≤ place_of x = All-head (λ y. b ≤ place_of y) x xs from in
-    let low_x : x.1 < 16 = All-head (λ y. y.1 < 16) x xs low in
+    let low_x : x.1 < most_members = All-head (λ y. y.1 < most_members) x xs low in
     let before : place_of x < place_of name = place_of-less x name low_x (All-head (λ y. name_cmp y name ≡ Less) x xs earlier) in
     let rest : suc (place_of x) + length xs ≤ place_of name =
     length_from_place name (suc (place_of x)) xs
     (AllPairs-tail (λ a b. name_cmp a b ≡ Less) x xs ascending)
-    (All-tail (λ y. y.1 < 16) x xs low)
+    (All-tail (λ y. y.1 < most_members) x xs low)
     (λ k d below. let less = place_of-less x (get_or xs k d) low_x (AllPairs-head (λ a b. name_cmp a b ≡ Less) x xs ascending k d below) in omega arith)
     (All-tail (λ y. name_cmp y name ≡ Less) x xs earlier)
     before in
@@ -38,11 +38,11 @@ length-before names name are earlier =
     omega arith
 
 -- with it behind them they are still names in order
-pub AreNames-push : (names : List (ℕ × ℕ)) (name : ℕ × ℕ) → AreNames names → name.0 < 16 → name.1 < 16 → All (λ x. name_cmp x name ≡ Less) names → AreNames (names ++ name ∷ [])
+pub AreNames-push : (names : List (ℕ × ℕ)) (name : ℕ × ℕ) → AreNames names → name.0 < most_groups → name.1 < most_members → All (λ x. name_cmp x name ≡ Less) names → AreNames (names ++ name ∷ [])
 AreNames-push names name are group member earlier = record {
   ascending = all_pairs_push (λ a b. name_cmp a b ≡ Less) names name are.ascending earlier;
-  groups = All-push (λ x. x.0 < 16) names name are.groups group;
-  members = All-push (λ x. x.1 < 16) names name are.members member;
+  groups = All-push (λ x. x.0 < most_groups) names name are.groups group;
+  members = All-push (λ x. x.1 < most_members) names name are.members member;
 }
 
 less_names : (a b c d e f : ℕ) → name_cmp (a, b) (c, d) ≡ Less → name_cmp (c, d) (e, f) ≡ Less → name_cmp (a, b) (e, f) ≡ Less

@@ -3,7 +3,7 @@ use Rattle.std.proofs.Common.{◌≡◌, ◌≢◌, ℕ, ◌<◌, List, [], ◌�
 use Rattle.std.specs.Ordering.{ordering_then}
 use Rattle.std.proofs.lemmas.Cmp.{tied_itself}
 use Rattle.std.proofs.lemmas.List.Elements.{All-contains_itself, Contains-append_left}
-use Rattle.s39_set.specs.Names.{name_cmp, names_cmp}
+use Rattle.s39_set.specs.Names.{name_cmp, names_cmp, most_groups}
 use Rattle.s39_set.proofs.Thresholds.{HasJust}
 use Rattle.s39_set.proofs.Minimal.{minimal_from_just, meets_from_just}
 use Rattle.s39_set.proofs.Ascending.{name_cmp_total}
@@ -35,7 +35,7 @@ front_cases (p ∷ P) xs ys (o ∷ os) less = by (name_cmp p o) refl less (λ h.
         (rest h)
     by Greater e h rest = absurd (let bad : Greater ≡ Less = h in cc)
 
-module _ (T : ℕ → Option ℕ) (N : List (ℕ × ℕ)) (G : ℕ) (below : All (λ name. name.0 < 16) N) (Q : List (ℕ × ℕ)) (just : HasJust T N G Q) where
+module _ (T : ℕ → Option ℕ) (N : List (ℕ × ℕ)) (G : ℕ) (below : All (λ name. name.0 < most_groups) N) (Q : List (ℕ × ℕ)) (just : HasJust T N G Q) where
   -- no quorum with this front comes after Q
   abbrev pub NoneWith : List (ℕ × ℕ) → Type 0
   NoneWith P = (Z : List (ℕ × ℕ)) → HasJust T N G (P ++ Z) → names_cmp Q (P ++ Z) ≢ Less

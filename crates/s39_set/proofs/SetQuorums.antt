@@ -18,6 +18,7 @@ use Rattle.s39_set.proofs.Sublists.{Contains-head}
 use Rattle.s39_set.proofs.Thresholds.{Meets, HasJust}
 use Rattle.s39_set.proofs.Minimal.{just_from_minimal, minimal_from_just, meets_from_just, groups_at_hand, first_members_have_just}
 use Rattle.s39_set.proofs.FirstMembers.{none_complete, first_members_are_least}
+use Rattle.s39_set.specs.Names.{most_groups, most_members}
 
 -- what meets the set's thresholds meets them as plain numbers
 pub meets_from_set : (set : List ShareFields) (names : List (ℕ × ℕ)) (required : ℕ) → group_threshold_of set ≡ Some required → MeetsThresholds set names → Meets (member_threshold_of set) (map name_of set) required names
@@ -93,17 +94,17 @@ module _ (set : List ShareFields) (is : IsShareSet set) where
           let some : 1 ≤ share.group_threshold = valid.group_threshold in
           omega arith
 
-  -- its groups are below 16
-  pub groups-below : All (λ name. name.0 < 16) (map name_of set)
+  -- its groups are below most_groups
+  pub groups-below : All (λ name. name.0 < most_groups) (map name_of set)
   groups-below =
-      All-map (λ name. name.0 < 16) name_of set
-      (All-weaker IsShare (λ share. share.group_index < 16) (λ share valid. valid.group_index) set is.each)
+      All-map (λ name. name.0 < most_groups) name_of set
+      (All-weaker IsShare (λ share. share.group_index < most_groups) (λ share valid. valid.group_index) set is.each)
 
   -- and its members
-  pub members-below : All (λ name. name.1 < 16) (map name_of set)
+  pub members-below : All (λ name. name.1 < most_members) (map name_of set)
   members-below =
-      All-map (λ name. name.1 < 16) name_of set
-      (All-weaker IsShare (λ share. share.member_index < 16) (λ share valid. valid.member_index) set is.each)
+      All-map (λ name. name.1 < most_members) name_of set
+      (All-weaker IsShare (λ share. share.member_index < most_members) (λ share valid. valid.member_index) set is.each)
 
   -- a quorum has just the groups and members that the thresholds ask
   pub just_from_quorum : (names : List (ℕ × ℕ)) → IsQuorum set names → HasJustTheGroups set names
@@ -170,13 +171,13 @@ written_of_quorum set is names quorum = record {
       let meets = meets_from_set set names required e quorum.meets in
       let some = group_threshold-positive set is required e in
       let no_groups : length (complete_groups (member_threshold_of set) names) ≡ 0 =
-      ap (λ ns. length (complete_groups (member_threshold_of set) ns)) none ∙ ap length (none_complete (member_threshold_of set) (map name_of set) (member_threshold-positive set is) 0 16) in
+      ap (λ ns. length (complete_groups (member_threshold_of set) ns)) none ∙ ap length (none_complete (member_threshold_of set) (map name_of set) (member_threshold-positive set is) 0 most_groups) in
       let enough = meets.groups in
       absurd (omega arith);
   are_names = record {
     ascending = quorum.meets.at_hand.ascending;
-    groups = λ k d below. All-contains (λ name. name.0 < 16) (map name_of set) (get_or names k d) (groups-below set is) (quorum.meets.at_hand.at_hand k d below);
-    members = λ k d below. All-contains (λ name. name.1 < 16) (map name_of set) (get_or names k d) (members-below set is) (quorum.meets.at_hand.at_hand k d below);
+    groups = λ k d below. All-contains (λ name. name.0 < most_groups) (map name_of set) (get_or names k d) (groups-below set is) (quorum.meets.at_hand.at_hand k d below);
+    members = λ k d below. All-contains (λ name. name.1 < most_members) (map name_of set) (get_or names k d) (members-below set is) (quorum.meets.at_hand.at_hand k d below);
   };
   text_is = refl;
 }

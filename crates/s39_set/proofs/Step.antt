@@ -6,8 +6,8 @@ use Rattle.std.proofs.lemmas.List.{length-take-le}
 use Rattle.std.proofs.lemmas.List.FromFn.{get_or-range_with_len, length-range_with_len}
 use Rattle.std.proofs.lemmas.List.Elements.{All-nil, All-cons, All-head, All-append, All-contains, All-weaker, All-filter, All-take, All-contains_itself, filter_passes, Contains-append_left, Contains-append_right, Contains-append_cases}
 use Rattle.std.proofs.lemmas.List.Kept.{AllPairs-filter, AllPairs-cons}
-use Rattle.s39_set.specs.Names.{name_cmp, names_cmp, IsAscending}
-use Rattle.s39_set.specs.Groups.{is_complete, complete_groups, members_of}
+use Rattle.s39_set.specs.Names.{name_cmp, names_cmp, IsAscending, most_groups}
+use Rattle.s39_set.specs.Groups.{is_complete, complete_groups, members_of, groups_above}
 use Rattle.s39_set.proofs.Thresholds.{HasJust}
 use Rattle.s39_set.proofs.Sublists.{length-sublist, same_from_length, take-sublist, filter_weaker, AllPairs-sublist, AllPairs-append, AllPairs-nil, AllPairs-head, AllPairs-tail, Contains-sublist, Contains-head, Contains-cons, Contains-cases, Contains-filter}
 use Rattle.s39_set.proofs.Orders.{All-append_left, All-append_right, AllPairs-append_left, AllPairs-append_right, slice_cmp-append_not_greater, first_elements_are_least}
@@ -18,7 +18,7 @@ use Rattle.s39_set.proofs.GroupSplit.{groups-in_order, split_at_group}
 use Rattle.s39_set.proofs.FirstMembers.{HasJustFrom, least_from, before_later}
 use Rattle.s39_set.proofs.JustMembers.{has_members}
 use Rattle.s39_set.proofs.NamesBefore.{less_than}
-use Rattle.s39_set.proofs.Exact.{count, AreExact, passing, IsExact, complete_is_members, members_from_exact, exact_from_just, just_from_exact, passing-agree, passing-none, passing-split, count-earlier, count-here, count-later, count-behind}
+use Rattle.s39_set.proofs.Exact.{count, AreExact, passing, IsExact, complete_is_members, members_from_exact, exact_from_just, just_from_exact, passing-agree, passing-none, passing-split, count-earlier, count-here, count-later, count-behind, passing_above}
 
 -- the names of a list that are of the group of a name and above it
 pub record AreAbove (names : List (ℕ × ℕ)) (x : ℕ × ℕ) (above : List (ℕ × ℕ)) : Type 0 where
@@ -41,7 +41,7 @@ passing-more p q weaker a k g among yes' no' =
           absurd (false≢true (sym no' ∙ also)))
     ]
 
-module _ (T : ℕ → Option ℕ) (N : List (ℕ × ℕ)) (G : ℕ) (positive : (g t : ℕ) → T g ≡ Some t → 1 ≤ t) (below : All (λ name. name.0 < 16) N) (sorted : IsAscending N) where
+module _ (T : ℕ → Option ℕ) (N : List (ℕ × ℕ)) (G : ℕ) (positive : (g t : ℕ) → T g ≡ Some t → 1 ≤ t) (below : All (λ name. name.0 < most_groups) N) (sorted : IsAscending N) where
   -- what stands behind a part of a quorum, of a group and of later ones
   record IsTail (P : List (ℕ × ℕ)) (h : ℕ) (O F B : List (ℕ × ℕ)) : Type 0 where
     joined : O ≡ P ++ (F ++ B)
@@ -70,7 +70,7 @@ module _ (T : ℕ → Option ℕ) (N : List (ℕ × ℕ)) (G : ℕ) (positive : 
         },
       )
 
-  module _ (P O F B : List (ℕ × ℕ)) (h : ℕ) (low : h < 16) (is : IsTail P h O F B) where
+  module _ (P O F B : List (ℕ × ℕ)) (h : ℕ) (low : h < most_groups) (is : IsTail P h O F B) where
     at_earlier : (g : ℕ) → g < h → count O g ≡ count P g
     at_earlier g less = ap (λ l. count l g) is.joined ∙ count-earlier P F B h is.upto is.in_group is.later g less
 
@@ -88,23 +88,23 @@ module _ (T : ℕ → Option ℕ) (N : List (ℕ × ℕ)) (G : ℕ) (positive : 
         ]
 
     -- how many groups behind it has
-    groups_behind : passing (has_members O) (h + 1) (15 - h) ≡ passing (has_members B) (h + 1) (15 - h)
-    groups_behind = passing-agree (has_members O) (has_members B) (h + 1) (15 - h) (λ g from upto. ap (λ n. nat_lt 0 n) (at_later g (omega arith)))
+    groups_behind : passing_above (has_members O) h ≡ passing_above (has_members B) h
+    groups_behind = passing-agree (has_members O) (has_members B) (h + 1) (most_groups - (h + 1)) (λ g from upto. ap (λ n. nat_lt 0 n) (at_later g (omega arith)))
 
     -- the names behind have just what the thresholds ask
-    back_just : (needed : ℕ) → needed ≡ passing (has_members O) (h + 1) (15 - h) → HasJustFrom T N (h + 1) (15 - h) needed B
+    back_just : (needed : ℕ) → needed ≡ passing_above (has_members O) h → HasJustFrom T N (h + 1) (most_groups - (h + 1)) needed B
     back_just needed e = record {
       ascending = AllPairs-append_right (λ a b. name_cmp a b ≡ Less) F B (AllPairs-append_right (λ a b. name_cmp a b ≡ Less) P (F ++ B) (subst IsAscending is.joined is.exact.ascending));
       at_hand = All-append_right (Contains N) F B (All-append_right (Contains N) P (F ++ B) (subst (All (Contains N)) is.joined is.exact.at_hand));
       from = λ k d within. let past : h < (get_or B k d).0 = is.later k d within in omega arith;
-      groups = e ∙ groups_behind ∙ sym (passing-agree (is_complete T B) (has_members B) (h + 1) (15 - h) (λ g _ _. complete_is_members T positive B back_exact g));
+      groups = e ∙ groups_behind ∙ sym (passing-agree (is_complete T B) (has_members B) (h + 1) (most_groups - (h + 1)) (λ g _ _. complete_is_members T positive B back_exact g));
       members = members_from_exact T positive B back_exact;
     }
 
-    groups_split : G ≡ passing (has_members P) 0 h + (cond (has_members O h) 1 0 + passing (has_members O) (h + 1) (15 - h))
+    groups_split : G ≡ passing (has_members P) 0 h + (cond (has_members O h) 1 0 + passing_above (has_members O) h)
     groups_split =
         is.exact.groups ∙ passing-split (has_members O) h low
-        ∙ ap (λ n. n + (cond (has_members O h) 1 0 + passing (has_members O) (h + 1) (15 - h)))
+        ∙ ap (λ n. n + (cond (has_members O h) 1 0 + passing_above (has_members O) h))
         (passing-agree (has_members O) (has_members P) 0 h (λ g _ upto. ap (λ n. nat_lt 0 n) (at_earlier g (omega arith))))
 
   -- what stands in the place of x, and behind it
@@ -112,8 +112,8 @@ module _ (T : ℕ → Option ℕ) (N : List (ℕ × ℕ)) (G : ℕ) (positive : 
     Q : List (ℕ × ℕ)
     Q = P ++ x ∷ S
 
-    low : x.0 < 16
-    low = All-contains (λ n. n.0 < 16) N x below (All-head (Contains N) x S (All-append_right (Contains N) P (x ∷ S) just.at_hand))
+    low : x.0 < most_groups
+    low = All-contains (λ n. n.0 < most_groups) N x below (All-head (Contains N) x S (All-append_right (Contains N) P (x ∷ S) just.at_hand))
 
     ascending-back : IsAscending (x ∷ S)
     ascending-back = AllPairs-append_right (λ a b. name_cmp a b ≡ Less) P (x ∷ S) just.ascending
@@ -137,7 +137,7 @@ module _ (T : ℕ → Option ℕ) (N : List (ℕ × ℕ)) (G : ℕ) (positive : 
 
     -- how many groups after x's have names
     abbrev pub groups_after : ℕ
-    groups_after = passing (has_members (P ++ x ∷ S)) (x.0 + 1) (15 - x.0)
+    groups_after = passing_above (has_members (P ++ x ∷ S)) x.0
 
     here : AllPairs (λ a b. name_cmp a b ≡ Less) (x ∷ C)
     here = AllPairs-cons (λ a b. name_cmp a b ≡ Less) x C chosen.higher chosen.ascending
@@ -193,7 +193,7 @@ module _ (T : ℕ → Option ℕ) (N : List (ℕ × ℕ)) (G : ℕ) (positive : 
     -- another quorum with these names before, a greater one in x's place, and more of x's group behind
     record IsOfGroup (O F B : List (ℕ × ℕ)) : Type 0 where
       as_many : length F ≡ suc (length C)
-      behind : groups_after ≡ passing (has_members O) (x.0 + 1) (15 - x.0)
+      behind : groups_after ≡ passing_above (has_members O) x.0
 
     of_group : (O B : List (ℕ × ℕ)) (f : ℕ × ℕ) (fs : List (ℕ × ℕ)) → IsTail P x.0 O (f ∷ fs) B → IsOfGroup O (f ∷ fs) B
     of_group O B f fs tail =
@@ -201,14 +201,14 @@ module _ (T : ℕ → Option ℕ) (N : List (ℕ × ℕ)) (G : ℕ) (positive : 
         let same : Some (count O x.0) ≡ Some (count P x.0 + suc (length C)) = sym (tail.exact.exact x.0 (omega arith)) ∙ threshold_is in
         let equal : count O x.0 ≡ count P x.0 + suc (length C) = cc in
         let some : has_members O x.0 ≡ true = lt-ltb 0 (count O x.0) (omega arith) in
-        let groups : G ≡ passing (has_members P) 0 x.0 + (1 + passing (has_members O) (x.0 + 1) (15 - x.0)) =
-        groups_split P O (f ∷ fs) B x.0 low tail ∙ ap (λ b. passing (has_members P) 0 x.0 + (cond b 1 0 + passing (has_members O) (x.0 + 1) (15 - x.0))) some in
+        let groups : G ≡ passing (has_members P) 0 x.0 + (1 + passing_above (has_members O) x.0) =
+        groups_split P O (f ∷ fs) B x.0 low tail ∙ ap (λ b. passing (has_members P) 0 x.0 + (cond b 1 0 + passing_above (has_members O) x.0)) some in
         record { as_many = omega arith; behind = omega (arith, own_groups, groups) }
 
     -- one that has no more of x's group
     record IsOfLater (O : List (ℕ × ℕ)) : Type 0 where
       first : count P x.0 ≡ 0
-      behind : suc groups_after ≡ passing (has_members O) (x.0 + 1) (15 - x.0)
+      behind : suc groups_after ≡ passing_above (has_members O) x.0
 
     of_later : (O B : List (ℕ × ℕ)) → IsTail P x.0 O [] B → IsOfLater O
     of_later O B tail =
@@ -220,8 +220,8 @@ module _ (T : ℕ → Option ℕ) (N : List (ℕ × ℕ)) (G : ℕ) (positive : 
               absurd (omega arith))
           | inr none ↦ (
               let no : has_members O x.0 ≡ false = le-ltb 0 (count O x.0) none in
-              let groups : G ≡ passing (has_members P) 0 x.0 + (0 + passing (has_members O) (x.0 + 1) (15 - x.0)) =
-              groups_split P O [] B x.0 low tail ∙ ap (λ b. passing (has_members P) 0 x.0 + (cond b 1 0 + passing (has_members O) (x.0 + 1) (15 - x.0))) no in
+              let groups : G ≡ passing (has_members P) 0 x.0 + (0 + passing_above (has_members O) x.0) =
+              groups_split P O [] B x.0 low tail ∙ ap (λ b. passing (has_members P) 0 x.0 + (cond b 1 0 + passing_above (has_members O) x.0)) no in
               record { first = omega arith; behind = omega (arith, own_groups, groups) })
         ]
 
@@ -242,7 +242,7 @@ module _ (T : ℕ → Option ℕ) (N : List (ℕ × ℕ)) (G : ℕ) (positive : 
 
     -- the first so many complete groups after x's
     abbrev pub groups_taken : ℕ → List ℕ
-    groups_taken n = take n (filter (is_complete T N) (range_with_len (x.0 + 1) (15 - x.0)))
+    groups_taken n = take n (filter (is_complete T N) (groups_above x.0))
 
     range_from-ascending : (a n : ℕ) → AllPairs (λ i j. i < j) (range_with_len a n)
     range_from-ascending a n i j d less within =
@@ -255,39 +255,39 @@ module _ (T : ℕ → Option ℕ) (N : List (ℕ × ℕ)) (G : ℕ) (positive : 
         let at = get_or-range_with_len a n k d short in
         (omega (arith, at), omega (arith, at))
 
-    taken-bounds : (n : ℕ) → All (λ g. ((x.0 + 1) ≤ g) × (g < (x.0 + 1) + (15 - x.0))) (groups_taken n)
+    taken-bounds : (n : ℕ) → All (λ g. ((x.0 + 1) ≤ g) × (g < (x.0 + 1) + (most_groups - (x.0 + 1)))) (groups_taken n)
     taken-bounds n =
-        All-take (λ g. ((x.0 + 1) ≤ g) × (g < (x.0 + 1) + (15 - x.0))) n (filter (is_complete T N) (range_with_len (x.0 + 1) (15 - x.0)))
-        (All-filter (is_complete T N) (λ g. ((x.0 + 1) ≤ g) × (g < (x.0 + 1) + (15 - x.0))) (range_with_len (x.0 + 1) (15 - x.0)) (range_from-bounds (x.0 + 1) (15 - x.0)))
+        All-take (λ g. ((x.0 + 1) ≤ g) × (g < (x.0 + 1) + (most_groups - (x.0 + 1)))) n (filter (is_complete T N) (groups_above x.0))
+        (All-filter (is_complete T N) (λ g. ((x.0 + 1) ≤ g) × (g < (x.0 + 1) + (most_groups - (x.0 + 1)))) (groups_above x.0) (range_from-bounds (x.0 + 1) (most_groups - (x.0 + 1))))
 
     taken-complete : (n : ℕ) → All (Contains (complete_groups T N)) (groups_taken n)
     taken-complete n k d within =
-        let groups = filter (is_complete T N) (range_with_len (x.0 + 1) (15 - x.0)) in
+        let groups = filter (is_complete T N) (groups_above x.0) in
         let g = get_or (groups_taken n) k d in
         let bounds = taken-bounds n k d within in
-        let complete : is_complete T N g ≡ true = All-take (λ h. is_complete T N h ≡ true) n groups (filter_passes (is_complete T N) (range_with_len (x.0 + 1) (15 - x.0))) k d within in
+        let complete : is_complete T N g ≡ true = All-take (λ h. is_complete T N h ≡ true) n groups (filter_passes (is_complete T N) (groups_above x.0)) k d within in
         let has = threshold_from_complete T N g complete in
-        let below_sixteen = low in
-        let small : g < 16 = omega (arith, bounds.0, bounds.1, below_sixteen) in
+        let below_all = low in
+        let small : g < most_groups = omega (arith, bounds.0, bounds.1, below_all) in
         Contains-complete_groups T N g has.threshold small has.is has.enough
 
     -- their first members
     record IsBack (n : ℕ) (B : List (ℕ × ℕ)) : Type 0 where
       has_just : HasJust T N n B
       later : All (λ m. x.0 < m.0) B
-      groups : n ≡ passing (has_members B) (x.0 + 1) (15 - x.0)
+      groups : n ≡ passing_above (has_members B) x.0
 
-    back_of : (n : ℕ) → n ≤ passing (is_complete T N) (x.0 + 1) (15 - x.0) → IsBack n (members_of T N (groups_taken n))
+    back_of : (n : ℕ) → n ≤ passing_above (is_complete T N) x.0 → IsBack n (members_of T N (groups_taken n))
     back_of n enough =
-        let groups = filter (is_complete T N) (range_with_len (x.0 + 1) (15 - x.0)) in
+        let groups = filter (is_complete T N) (groups_above x.0) in
         let B = members_of T N (groups_taken n) in
         let l : length (take n groups) ≡ n = length-take-le n groups enough in
         let order : AllPairs (λ a b. a < b) (take n groups) =
-        AllPairs-sublist (λ a b. a < b) (take-sublist n groups) (AllPairs-filter (λ a b. a < b) (is_complete T N) (range_with_len (x.0 + 1) (15 - x.0)) (range_from-ascending (x.0 + 1) (15 - x.0))) in
+        AllPairs-sublist (λ a b. a < b) (take-sublist n groups) (AllPairs-filter (λ a b. a < b) (is_complete T N) (groups_above x.0) (range_from-ascending (x.0 + 1) (most_groups - (x.0 + 1)))) in
         let just : HasJust T N n B = subst (λ m. HasJust T N m B) l (members_of-has_just T positive N (take n groups) order (taken-complete n) sorted) in
         let later : All (λ m. x.0 < m.0) B =
         All-weaker (λ m. Contains (take n groups) m.0) (λ m. x.0 < m.0)
-        (λ m among. let bounds = All-contains (λ g. ((x.0 + 1) ≤ g) × (g < (x.0 + 1) + (15 - x.0))) (take n groups) m.0 (taken-bounds n) among in omega (arith, bounds.0))
+        (λ m among. let bounds = All-contains (λ g. ((x.0 + 1) ≤ g) × (g < (x.0 + 1) + (most_groups - (x.0 + 1)))) (take n groups) m.0 (taken-bounds n) among in omega (arith, bounds.0))
         B (members_of-groups T N (take n groups)) in
         let exact = exact_from_just T positive N n B just in
         let none : (g : ℕ) → g ≤ x.0 → has_members B g ≡ false =
@@ -346,9 +346,9 @@ module _ (T : ℕ → Option ℕ) (N : List (ℕ × ℕ)) (G : ℕ) (positive : 
               ];
           groups =
               let low_groups : passing (has_members O) 0 x.0 ≡ passing (has_members P) 0 x.0 = passing-agree (has_members O) (has_members P) 0 x.0 (λ g _ less. ap (λ m. nat_lt 0 m) (earlier g (omega arith))) in
-              let high_groups : passing (has_members O) (x.0 + 1) (15 - x.0) ≡ passing (has_members B) (x.0 + 1) (15 - x.0) = passing-agree (has_members O) (has_members B) (x.0 + 1) (15 - x.0) (λ g from _. ap (λ m. nat_lt 0 m) (later g (omega arith))) in
+              let high_groups : passing_above (has_members O) x.0 ≡ passing_above (has_members B) x.0 = passing-agree (has_members O) (has_members B) (x.0 + 1) (most_groups - (x.0 + 1)) (λ g from _. ap (λ m. nat_lt 0 m) (later g (omega arith))) in
               let own_group : has_members O x.0 ≡ nat_lt 0 (count P x.0 + length F) = ap (λ m. nat_lt 0 m) own_count in
-              let split = passing-split (has_members O) x.0 low ∙ ap (λ b. passing (has_members O) 0 x.0 + (cond b 1 0 + passing (has_members O) (x.0 + 1) (15 - x.0))) own_group in
+              let split = passing-split (has_members O) x.0 low ∙ ap (λ b. passing (has_members O) 0 x.0 + (cond b 1 0 + passing_above (has_members O) x.0)) own_group in
               omega (arith, split, low_groups, high_groups, groups, back.groups);
         })
 
@@ -372,8 +372,8 @@ module _ (T : ℕ → Option ℕ) (N : List (ℕ × ℕ)) (G : ℕ) (positive : 
         let more = length-sublist (names_in_group-sublist g (names-sublist N Q sorted just.ascending just.at_hand)) in
         is_complete_from T N g has.threshold has.is (omega arith)
 
-    enough : groups_after ≤ passing (is_complete T N) (x.0 + 1) (15 - x.0)
-    enough = length-sublist (filter_weaker (has_members (P ++ x ∷ S)) (is_complete T N) weaker (range_with_len (x.0 + 1) (15 - x.0)))
+    enough : groups_after ≤ passing_above (is_complete T N) x.0
+    enough = length-sublist (filter_weaker (has_members (P ++ x ∷ S)) (is_complete T N) weaker (groups_above x.0))
 
     -- a member of x's group above it that is at hand and not chosen
     record HasSpareMember : Type 0 where
@@ -438,7 +438,7 @@ module _ (T : ℕ → Option ℕ) (N : List (ℕ × ℕ)) (G : ℕ) (positive : 
             let ascending_front : IsAscending (f ∷ fs) = AllPairs-append_left (λ a b. name_cmp a b ≡ Less) (f ∷ fs) B' (subst IsAscending joined rest) in
             slice_cmp-append_not_greater name_cmp (take (suc (length C)) A) (f ∷ fs) (members_of T N (groups_taken groups_after)) B' (omega arith)
             (subst (λ m. names_cmp (take m A) (f ∷ fs) ≢ Greater) many (first_elements_are_least name_cmp name_cmp_total A (f ∷ fs) at_hand.ascending ascending_front inside))
-            (least_from T N positive sorted (x.0 + 1) (15 - x.0) groups_after B'
+            (least_from T N positive sorted (x.0 + 1) (most_groups - (x.0 + 1)) groups_after B'
             (back_just P (P ++ y ∷ Z) (f ∷ fs) B' x.0 low tail groups_after is.behind))
 
     -- where all members above are chosen, no other of the group can stand there
@@ -453,9 +453,9 @@ module _ (T : ℕ → Option ℕ) (N : List (ℕ × ℕ)) (G : ℕ) (positive : 
         absurd (omega arith)
 
     -- then, where x is the first of its group and another complete group has no chosen name, the least is of the groups behind
-    pub least_of_later : ((n : ℕ × ℕ) → Contains A n → Contains C n) → count P x.0 ≡ 0 → (g : ℕ) → Contains (range_with_len (x.0 + 1) (15 - x.0)) g → is_complete T N g ≡ true → has_members (P ++ x ∷ S) g ≡ false → IsLeastThere (members_of T N (groups_taken (suc groups_after)))
+    pub least_of_later : ((n : ℕ × ℕ) → Contains A n → Contains C n) → count P x.0 ≡ 0 → (g : ℕ) → Contains (groups_above x.0) g → is_complete T N g ≡ true → has_members (P ++ x ∷ S) g ≡ false → IsLeastThere (members_of T N (groups_taken (suc groups_after)))
     least_of_later all first g among complete free =
-        let more : groups_after < passing (is_complete T N) (x.0 + 1) (15 - x.0) = passing-more (has_members (P ++ x ∷ S)) (is_complete T N) weaker (x.0 + 1) (15 - x.0) g among complete free in
+        let more : groups_after < passing_above (is_complete T N) x.0 = passing-more (has_members (P ++ x ∷ S)) (is_complete T N) weaker (x.0 + 1) (most_groups - (x.0 + 1)) g among complete free in
         let B = members_of T N (groups_taken (suc groups_after)) in
         let back = back_of (suc groups_after) more in
         let none_here : nat_lt 0 (count P x.0 + 0) ≡ false = le-ltb 0 (count P x.0 + 0) (omega arith) in
@@ -472,7 +472,7 @@ module _ (T : ℕ → Option ℕ) (N : List (ℕ × ℕ)) (G : ℕ) (positive : 
       where
         some_names : (B : List (ℕ × ℕ)) (n : ℕ) → IsBack n B → 1 ≤ n → 1 ≤ length B
         some_names [] n back positive_n =
-            let none : passing (has_members []) (x.0 + 1) (15 - x.0) ≡ 0 = passing-none (has_members []) (x.0 + 1) (15 - x.0) (λ g _ _. refl) in
+            let none : passing_above (has_members []) x.0 ≡ 0 = passing-none (has_members []) (x.0 + 1) (most_groups - (x.0 + 1)) (λ g _ _. refl) in
             let groups = back.groups in
             absurd (omega arith)
         some_names (b ∷ bs) n back positive_n = omega arith
@@ -480,12 +480,12 @@ module _ (T : ℕ → Option ℕ) (N : List (ℕ × ℕ)) (G : ℕ) (positive : 
         by : (y : ℕ × ℕ) (Z : List (ℕ × ℕ)) → HasJust T N G (P ++ y ∷ Z) → name_cmp x y ≡ Less → (F' B' : List (ℕ × ℕ)) → y ∷ Z ≡ F' ++ B' → IsTail P x.0 (P ++ y ∷ Z) F' B' → names_cmp (members_of T N (groups_taken (suc groups_after))) (F' ++ B') ≢ Greater
         by y Z other less [] B' joined tail =
             let is = of_later (P ++ y ∷ Z) B' tail in
-            least_from T N positive sorted (x.0 + 1) (15 - x.0) (suc groups_after) B'
+            least_from T N positive sorted (x.0 + 1) (most_groups - (x.0 + 1)) (suc groups_after) B'
             (back_just P (P ++ y ∷ Z) [] B' x.0 low tail (suc groups_after) is.behind)
         by y Z other less (f ∷ fs) B' joined tail = absurd (none_of_group all y Z other less f fs B' joined tail)
 
     -- else nothing greater can stand there
-    pub nothing_greater : ((n : ℕ × ℕ) → Contains A n → Contains C n) → (count P x.0 ≡ 0 → (g : ℕ) → Contains (range_with_len (x.0 + 1) (15 - x.0)) g → is_complete T N g ≡ true → has_members (P ++ x ∷ S) g ≡ true) → (y : ℕ × ℕ) (Z : List (ℕ × ℕ)) → HasJust T N G (P ++ y ∷ Z) → name_cmp x y ≡ Less → ⊥
+    pub nothing_greater : ((n : ℕ × ℕ) → Contains A n → Contains C n) → (count P x.0 ≡ 0 → (g : ℕ) → Contains (groups_above x.0) g → is_complete T N g ≡ true → has_members (P ++ x ∷ S) g ≡ true) → (y : ℕ × ℕ) (Z : List (ℕ × ℕ)) → HasJust T N G (P ++ y ∷ Z) → name_cmp x y ≡ Less → ⊥
     nothing_greater all no_group y Z other less =
         let (F', B', joined, tail) = tail_of P x.0 y Z other upto (groups-in_order x y less) in
         by F' B' joined tail
@@ -494,9 +494,9 @@ module _ (T : ℕ → Option ℕ) (N : List (ℕ × ℕ)) (G : ℕ) (positive : 
         by [] B' joined tail =
             let is = of_later (P ++ y ∷ Z) B' tail in
             let O = P ++ y ∷ Z in
-            let fewer : passing (has_members O) (x.0 + 1) (15 - x.0) ≤ passing (is_complete T N) (x.0 + 1) (15 - x.0) =
-            length-sublist (filter_weaker (has_members O) (is_complete T N) (other_weaker O other tail.exact.exact) (range_with_len (x.0 + 1) (15 - x.0))) in
-            let all_used : passing (is_complete T N) (x.0 + 1) (15 - x.0) ≤ groups_after = used (no_group is.first) (x.0 + 1) (15 - x.0) (λ g among. among) in
+            let fewer : passing_above (has_members O) x.0 ≤ passing_above (is_complete T N) x.0 =
+            length-sublist (filter_weaker (has_members O) (is_complete T N) (other_weaker O other tail.exact.exact) (groups_above x.0)) in
+            let all_used : passing_above (is_complete T N) x.0 ≤ groups_after = used (no_group is.first) (x.0 + 1) (most_groups - (x.0 + 1)) (λ g among. among) in
             let behind = is.behind in
             absurd (omega arith)
           where
@@ -507,7 +507,7 @@ module _ (T : ℕ → Option ℕ) (N : List (ℕ × ℕ)) (G : ℕ) (positive : 
                 let more = length-sublist (names_in_group-sublist g (names-sublist N O sorted has.ascending has.at_hand)) in
                 is_complete_from T N g t.threshold t.is (omega arith)
 
-            used : ((g : ℕ) → Contains (range_with_len (x.0 + 1) (15 - x.0)) g → is_complete T N g ≡ true → has_members (P ++ x ∷ S) g ≡ true) → (a k : ℕ) → ((g : ℕ) → Contains (range_with_len a k) g → Contains (range_with_len (x.0 + 1) (15 - x.0)) g) → passing (is_complete T N) a k ≤ passing (has_members (P ++ x ∷ S)) a k
+            used : ((g : ℕ) → Contains (groups_above x.0) g → is_complete T N g ≡ true → has_members (P ++ x ∷ S) g ≡ true) → (a k : ℕ) → ((g : ℕ) → Contains (range_with_len a k) g → Contains (groups_above x.0) g) → passing (is_complete T N) a k ≤ passing (has_members (P ++ x ∷ S)) a k
             used h a zero inside = omega arith
             used h a (suc k) inside =
                 let rest = used h (a + 1) k (λ g among. inside g (Contains-cons a (range_with_len (a + 1) k) g among)) in

@@ -12,19 +12,19 @@ use Rattle.s39_set.specs.declared.masks.Masks.{Masks}
 use Rattle.s39_set.specs.declared.next.Choice.{Choice}
 use Rattle.s39_set.specs.declared.next.Tail.{Tail}
 use Rattle.s39_set.specs.declared.next.Tail.TheVariants.{Group, LaterGroups}
-use Rattle.s39_set.specs.Names.{name_cmp, names_cmp, names_in_group, AreNames}
-use Rattle.s39_set.specs.Groups.{is_complete, first_members, members_of}
+use Rattle.s39_set.specs.Names.{name_cmp, names_cmp, names_in_group, AreNames, most_groups, most_members}
+use Rattle.s39_set.specs.Groups.{is_complete, first_members, members_of, groups_above}
 use Rattle.s39_set.specs.ShareSet.{IsShareSet, name_of}
 use Rattle.s39_set.specs.Quorums.{group_threshold_of, member_threshold_of, IsQuorum, IsFirstQuorumAfter, HasNoQuorumAfter}
 use Rattle.s39_set.specs.Masks.{is_in}
-use Rattle.s39_set.specs.Steps.{AreMasksOf, Knows, members_from, members_taken, groups_from, IsTailFor, groups_used, tail_names}
+use Rattle.s39_set.specs.Steps.{AreMasksOf, Knows, members_from, members_taken, groups_from, groups_taken, IsTailFor, groups_used, tail_names}
 use Rattle.s39_set.proofs.Thresholds.{HasJust}
 use Rattle.s39_set.proofs.Sublists.{Contains-filter, Contains-head}
 use Rattle.s39_set.proofs.SetQuorums.{member_threshold-positive, groups-below, members-below, group_threshold-from_meets, just_from_quorum, quorum_from_just, just_from_set, set_from_just, written_of_quorum}
 use Rattle.s39_set.proofs.AtHand.{Contains-map, AllPairs-map, member-less}
 use Rattle.s39_set.proofs.JustMembers.{has_members}
 use Rattle.s39_set.proofs.CompleteAtHand.{names_in_group-masks}
-use Rattle.s39_set.proofs.Exact.{passing, passing-agree}
+use Rattle.s39_set.proofs.Exact.{passing-agree, passing_above}
 use Rattle.s39_set.proofs.Step.{AreAbove, least_of_group, least_of_later, nothing_greater}
 use Rattle.s39_set.proofs.NextQuorum.{none_at_end, none_before, first_there, comes_after}
 
@@ -51,31 +51,31 @@ higher_member : (g m h n : ℕ) → g ≡ h → name_cmp (h, m) (g, n) ≡ Less 
 higher_member g m h n same less = grind (arith, nat_tests)
 
 -- the members of a name's group above it, from masks of names
-above_from_masks : (masks : Masks) (names : List (ℕ × ℕ)) (x : ℕ × ℕ) → AreMasksOf masks names → All (λ n. n.1 < 16) names → x.0 < 16 → x.1 < 16 → AreAbove names x (members_from masks x.0 (x.1 + 1))
+above_from_masks : (masks : Masks) (names : List (ℕ × ℕ)) (x : ℕ × ℕ) → AreMasksOf masks names → All (λ n. n.1 < most_members) names → x.0 < most_groups → x.1 < most_members → AreAbove names x (members_from masks x.0 (x.1 + 1))
 above_from_masks masks names x masks_are low low_g low_m =
     let p = is_in masks x.0 in
-    let members = filter p (range_with_len (x.1 + 1) (16 - (x.1 + 1))) in
-    let bounds : All (λ m. ((x.1 + 1) ≤ m) × (m < (x.1 + 1) + (16 - (x.1 + 1)))) members = All-filter p (λ m. ((x.1 + 1) ≤ m) × (m < (x.1 + 1) + (16 - (x.1 + 1)))) (range_with_len (x.1 + 1) (16 - (x.1 + 1))) (range-bounds_from (x.1 + 1) (16 - (x.1 + 1))) in
+    let members = filter p (range_with_len (x.1 + 1) (most_members - (x.1 + 1))) in
+    let bounds : All (λ m. ((x.1 + 1) ≤ m) × (m < (x.1 + 1) + (most_members - (x.1 + 1)))) members = All-filter p (λ m. ((x.1 + 1) ≤ m) × (m < (x.1 + 1) + (most_members - (x.1 + 1)))) (range_with_len (x.1 + 1) (most_members - (x.1 + 1))) (range-bounds_from (x.1 + 1) (most_members - (x.1 + 1))) in
     record {
       ascending =
           AllPairs-map (λ a b. name_cmp a b ≡ Less) (λ m. (x.0, m)) members
-          (λ i j d before within. member-less x.0 (get_or members i d) (get_or members j d) (AllPairs-filter (λ a b. a < b) p (range_with_len (x.1 + 1) (16 - (x.1 + 1))) (range-ascending_from (x.1 + 1) (16 - (x.1 + 1))) i j d before within));
+          (λ i j d before within. member-less x.0 (get_or members i d) (get_or members j d) (AllPairs-filter (λ a b. a < b) p (range_with_len (x.1 + 1) (most_members - (x.1 + 1))) (range-ascending_from (x.1 + 1) (most_members - (x.1 + 1))) i j d before within));
       group = All-map (λ n. n.0 ≡ x.0) (λ m. (x.0, m)) members (λ k d within. refl);
       higher = All-map (λ n. name_cmp x n ≡ Less) (λ m. (x.0, m)) members (λ k d within. let b = bounds k d within in member-less x.0 x.1 (get_or members k d) (omega (arith, b.0)));
       among = All-map (Contains names) (λ m. (x.0, m)) members
           (λ k d within.
           let b = bounds k d within in
           let m = get_or members k d in
-          let small : m < 16 = omega (arith, b.1) in
-          (masks_are x.0 m low_g small).0 (filter_passes p (range_with_len (x.1 + 1) (16 - (x.1 + 1))) k d within));
+          let small : m < most_members = omega (arith, b.1) in
+          (masks_are x.0 m low_g small).0 (filter_passes p (range_with_len (x.1 + 1) (most_members - (x.1 + 1))) k d within));
       all = λ n among same less.
-          let small : n.1 < 16 = All-contains (λ m. m.1 < 16) names n low among in
+          let small : n.1 < most_members = All-contains (λ m. m.1 < most_members) names n low among in
           let more : x.1 < n.1 = higher_member n.0 x.1 x.0 n.1 same less in
           let as_pair : (x.0, n.1) ≡ n = ap (λ g. (g, n.1)) (sym same) in
           let set_bit : IsTrue (is_in masks x.0 n.1) = (masks_are x.0 n.1 low_g small).1 (subst (Contains names) (sym as_pair) among) in
           subst (Contains (members_from masks x.0 (x.1 + 1))) as_pair
           (Contains-map (λ m. (x.0, m)) members n.1
-          (Contains-filter p (range_with_len (x.1 + 1) (16 - (x.1 + 1))) n.1 (Contains-range_from (x.1 + 1) (16 - (x.1 + 1)) n.1 (omega arith) (omega arith)) set_bit));
+          (Contains-filter p (range_with_len (x.1 + 1) (most_members - (x.1 + 1))) n.1 (Contains-range_from (x.1 + 1) (most_members - (x.1 + 1)) n.1 (omega arith) (omega arith)) set_bit));
     }
 
 -- tests that agree on a range choose the same numbers
@@ -129,11 +129,11 @@ module _ (shares : List ShareFields) (is : IsShareSet shares) (Q : List (ℕ × 
     among : Contains Q x
     among = subst (λ q. Contains q x) (sym parts) (Contains-append_right P (x ∷ S) x (Contains-head x S))
 
-    low_g : x.0 < 16
-    low_g = All-contains (λ n. n.0 < 16) Q x names_are.groups among
+    low_g : x.0 < most_groups
+    low_g = All-contains (λ n. n.0 < most_groups) Q x names_are.groups among
 
-    low_m : x.1 < 16
-    low_m = All-contains (λ n. n.1 < 16) Q x names_are.members among
+    low_m : x.1 < most_members
+    low_m = All-contains (λ n. n.1 < most_members) Q x names_are.members among
 
     just_here : HasJust T N required.0 (P ++ x ∷ S)
     just_here = subst (HasJust T N required.0) parts (just Q quorum)
@@ -144,40 +144,39 @@ module _ (shares : List ShareFields) (is : IsShareSet shares) (Q : List (ℕ × 
     chosen_above : AreAbove (P ++ x ∷ S) x C
     chosen_above = subst (λ q. AreAbove q x C) parts (above_from_masks choice.chosen Q x knows.chosen names_are.members low_g low_m)
 
-    used : groups_used choice x ≡ passing (has_members (P ++ x ∷ S)) (x.0 + 1) (15 - x.0)
+    used : groups_used choice.members x.0 ≡ passing_above (has_members (P ++ x ∷ S)) x.0
     used =
         let low = low_g in
-        passing-agree (λ g. nat_lt 0 (get_or choice.members g 0)) (has_members (P ++ x ∷ S)) (x.0 + 1) (15 - x.0)
+        passing-agree (λ g. nat_lt 0 (get_or choice.members g 0)) (has_members (P ++ x ∷ S)) (x.0 + 1) (most_groups - (x.0 + 1))
         (λ g from below. ap (λ n. nat_lt 0 n) (knows.members g (omega arith) ∙ ap (λ q. length (names_in_group g q)) parts))
 
-    groups_same : groups_from choice.complete (x.0 + 1) ≡ filter (is_complete T N) (range_with_len (x.0 + 1) (15 - x.0))
+    groups_same : groups_from choice.complete (x.0 + 1) ≡ filter (is_complete T N) (groups_above x.0)
     groups_same =
         let low = low_g in
-        let long : 16 - (x.0 + 1) ≡ 15 - x.0 = omega arith in
-        ap (λ n. filter (λ g. get_or choice.complete g false) (range_with_len (x.0 + 1) n)) long
-        ∙ filter-range_within (λ g. get_or choice.complete g false) (is_complete T N) (x.0 + 1) (15 - x.0) (λ g from below. knows.complete g (omega arith))
+        filter-range_within (λ g. get_or choice.complete g false) (is_complete T N) (x.0 + 1) (most_groups - (x.0 + 1))
+        (λ g from below. knows.complete g (omega arith))
 
-    members_same : (n : ℕ) → flat_map (members_taken shares choice.at_hand) (take n (groups_from choice.complete (x.0 + 1))) ≡ members_of T N (take n (filter (is_complete T N) (range_with_len (x.0 + 1) (15 - x.0))))
+    members_same : (n : ℕ) → groups_taken shares choice (x.0 + 1) n ≡ members_of T N (take n (filter (is_complete T N) (groups_above x.0)))
     members_same n =
         let low = low_g in
-        let groups = take n (filter (is_complete T N) (range_with_len (x.0 + 1) (15 - x.0))) in
-        let bounds : All (λ g. ((x.0 + 1) ≤ g) × (g < (x.0 + 1) + (15 - x.0))) groups =
-        All-take (λ g. ((x.0 + 1) ≤ g) × (g < (x.0 + 1) + (15 - x.0))) n (filter (is_complete T N) (range_with_len (x.0 + 1) (15 - x.0)))
-        (All-filter (is_complete T N) (λ g. ((x.0 + 1) ≤ g) × (g < (x.0 + 1) + (15 - x.0))) (range_with_len (x.0 + 1) (15 - x.0)) (range-bounds_from (x.0 + 1) (15 - x.0))) in
+        let groups = take n (filter (is_complete T N) (groups_above x.0)) in
+        let bounds : All (λ g. ((x.0 + 1) ≤ g) × (g < (x.0 + 1) + (most_groups - (x.0 + 1)))) groups =
+        All-take (λ g. ((x.0 + 1) ≤ g) × (g < (x.0 + 1) + (most_groups - (x.0 + 1)))) n (filter (is_complete T N) (groups_above x.0))
+        (All-filter (is_complete T N) (λ g. ((x.0 + 1) ≤ g) × (g < (x.0 + 1) + (most_groups - (x.0 + 1)))) (groups_above x.0) (range-bounds_from (x.0 + 1) (most_groups - (x.0 + 1)))) in
         ap (λ gs. flat_map (members_taken shares choice.at_hand) (take n gs)) groups_same
         ∙ flat_map-same (members_taken shares choice.at_hand) (first_members T N) groups
         (λ k d within.
         let g = get_or groups k d in
         let b = bounds k d within in
-        let small : g < 16 = omega (arith, b.1) in
+        let small : g < most_groups = omega (arith, b.1) in
         ap (take (unwrap_or (T g) 0)) (sym (names_in_group-masks shares is choice.at_hand knows.at_hand g small)))
 
-    all_chosen : ((m : ℕ) → x.1 < m → m < 16 → IsTrue (is_in choice.at_hand x.0 m) → IsTrue (is_in choice.chosen x.0 m)) → (n : ℕ × ℕ) → Contains A n → Contains C n
+    all_chosen : ((m : ℕ) → x.1 < m → m < most_members → IsTrue (is_in choice.at_hand x.0 m) → IsTrue (is_in choice.chosen x.0 m)) → (n : ℕ × ℕ) → Contains A n → Contains C n
     all_chosen all n above =
         let same : n.0 ≡ x.0 = All-contains (λ m. m.0 ≡ x.0) A n at_hand_above.group above in
         let less : name_cmp x n ≡ Less = All-contains (λ m. name_cmp x m ≡ Less) A n at_hand_above.higher above in
         let in_set : Contains N n = All-contains (Contains N) A n at_hand_above.among above in
-        let small : n.1 < 16 = All-contains (λ m. m.1 < 16) N n (members-below shares is) in_set in
+        let small : n.1 < most_members = All-contains (λ m. m.1 < most_members) N n (members-below shares is) in_set in
         let more : x.1 < n.1 = higher_member n.0 x.1 x.0 n.1 same less in
         let as_pair : (x.0, n.1) ≡ n = ap (λ g. (g, n.1)) (sym same) in
         let low = low_g in
@@ -196,8 +195,8 @@ module _ (shares : List ShareFields) (is : IsShareSet shares) (Q : List (ℕ × 
         (all_chosen tail.0)
         (λ first g within complete.
         let low = low_g in
-        let b = All-contains (λ h. ((x.0 + 1) ≤ h) × (h < (x.0 + 1) + (15 - x.0))) (range_with_len (x.0 + 1) (15 - x.0)) g (range-bounds_from (x.0 + 1) (15 - x.0)) within in
-        let small : g < 16 = omega (arith, b.1) in
+        let b = All-contains (λ h. ((x.0 + 1) ≤ h) × (h < (x.0 + 1) + (most_groups - (x.0 + 1)))) (groups_above x.0) g (range-bounds_from (x.0 + 1) (most_groups - (x.0 + 1))) within in
+        let small : g < most_groups = omega (arith, b.1) in
         let more : x.0 < g = omega (arith, b.0) in
         let some = tail.1 first g more small (knows.complete g small ∙ complete) in
         ap (λ n. nat_lt 0 n) (sym (knows.members g small ∙ ap (λ q. length (names_in_group g q)) parts)) ∙ lt-ltb 0 (get_or choice.members g 0) some))
@@ -224,10 +223,10 @@ module _ (shares : List ShareFields) (is : IsShareSet shares) (Q : List (ℕ × 
         let in_quorum : Contains Q n = subst (λ q. Contains q n) (sym parts) (All-contains (Contains (P ++ x ∷ S)) C n chosen_above.among chosen) in
         false≢true (sym spare.3 ∙ (knows.chosen x.0 m low spare.1).1 in_quorum) in
         let l = least_of_group T N required.0 (member_threshold-positive shares is) (groups-below shares is) is.ascending P S x just_here A C at_hand_above chosen_above n above free in
-        let groups = passing (has_members (P ++ x ∷ S)) (x.0 + 1) (15 - x.0) in
-        let R = take (suc (length C)) A ++ members_of T N (take groups (filter (is_complete T N) (range_with_len (x.0 + 1) (15 - x.0)))) in
-        let back : flat_map (members_taken shares choice.at_hand) (take (groups_used choice x) (groups_from choice.complete (x.0 + 1))) ≡ members_of T N (take groups (filter (is_complete T N) (range_with_len (x.0 + 1) (15 - x.0)))) =
-        members_same (groups_used choice x) ∙ ap (λ k. members_of T N (take k (filter (is_complete T N) (range_with_len (x.0 + 1) (15 - x.0))))) used in
+        let groups = passing_above (has_members (P ++ x ∷ S)) x.0 in
+        let R = take (suc (length C)) A ++ members_of T N (take groups (filter (is_complete T N) (groups_above x.0))) in
+        let back : groups_taken shares choice (x.0 + 1) (groups_used choice.members x.0) ≡ members_of T N (take groups (filter (is_complete T N) (groups_above x.0))) =
+        members_same (groups_used choice.members x.0) ∙ ap (λ k. members_of T N (take k (filter (is_complete T N) (groups_above x.0)))) used in
         let front : take (length C + 1) A ≡ take (suc (length C)) A = ap (λ k. take k A) (add-one (length C)) in
         let same : tail_names shares choice x Group ≡ R = ap₂ ◌++◌ front back in
         subst (λ r. IsFirstQuorumAfter shares (Some Q) (P ++ r)) (sym same) (first_quorum R none l.has_just l.greater l.least)
@@ -238,17 +237,17 @@ module _ (shares : List ShareFields) (is : IsShareSet shares) (Q : List (ℕ × 
         let spare = tail.2 in
         let g = spare.0 in
         let facts = spare.1 in
-        let small : g < 16 = facts.1 in
+        let small : g < most_groups = facts.1 in
         let more : x.0 < g = facts.0 in
         let complete : is_complete T N g ≡ true = sym (knows.complete g small) ∙ facts.2 in
         let none_used : length (names_in_group g (P ++ x ∷ S)) ≡ 0 = ap (λ q. length (names_in_group g q)) (sym parts) ∙ sym (knows.members g small) ∙ facts.3 in
         let unused : has_members (P ++ x ∷ S) g ≡ false = ap (λ n. nat_lt 0 n) none_used in
-        let within : Contains (range_with_len (x.0 + 1) (15 - x.0)) g = Contains-range_from (x.0 + 1) (15 - x.0) g (omega arith) (omega arith) in
+        let within : Contains (groups_above x.0) g = Contains-range_from (x.0 + 1) (most_groups - (x.0 + 1)) g (omega arith) (omega arith) in
         let l = least_of_later T N required.0 (member_threshold-positive shares is) (groups-below shares is) is.ascending P S x just_here A C at_hand_above chosen_above (all_chosen tail.0) tail.1 g within complete unused in
-        let groups = passing (has_members (P ++ x ∷ S)) (x.0 + 1) (15 - x.0) in
-        let R = members_of T N (take (suc groups) (filter (is_complete T N) (range_with_len (x.0 + 1) (15 - x.0)))) in
+        let groups = passing_above (has_members (P ++ x ∷ S)) x.0 in
+        let R = members_of T N (take (suc groups) (filter (is_complete T N) (groups_above x.0))) in
         let same : tail_names shares choice x LaterGroups ≡ R =
-        members_same (groups_used choice x + 1) ∙ ap (λ k. members_of T N (take k (filter (is_complete T N) (range_with_len (x.0 + 1) (15 - x.0))))) (add-one (groups_used choice x) ∙ ap suc used) in
+        members_same (groups_used choice.members x.0 + 1) ∙ ap (λ k. members_of T N (take k (filter (is_complete T N) (groups_above x.0)))) (add-one (groups_used choice.members x.0) ∙ ap suc used) in
         subst (λ r. IsFirstQuorumAfter shares (Some Q) (P ++ r)) (sym same) (first_quorum R none l.has_just l.greater l.least)
 
     -- where something can, the least of it makes the first quorum after this one

@@ -5,7 +5,7 @@ use Rattle.std.specs.Fmt.{decimal}
 use Rattle.std.proofs.lemmas.List.{length-map, take-map, get_or-map, length-take-le, get_or-take, get_or_default}
 use Rattle.std.proofs.lemmas.List.Elements.{All-cons, All-head, All-tail, All-append, All-take}
 use Rattle.std.proofs.lemmas.List.Splits.{slice_split_none, slice_split_at, length-slice_split, join_with_byte-slice_split}
-use Rattle.s39_set.specs.Names.{name_cmp, AreNames}
+use Rattle.s39_set.specs.Names.{name_cmp, AreNames, most_groups, most_members}
 use Rattle.s39_set.specs.Written.{name_text, quorum_text, IsNameText, IsWrittenForm}
 use Rattle.s39_set.proofs.IndexText.{decimal-same}
 use Rattle.s39_set.proofs.NameText.{decimal-without, parts_of_name, stop_of_text}
@@ -16,7 +16,7 @@ is_plus byte = byte == 43
 
 -- a name of a group and a member that a backup may have
 abbrev InRange : ℕ × ℕ → Type 0
-InRange name = (name.0 < 16) × (name.1 < 16)
+InRange name = (name.0 < most_groups) × (name.1 < most_members)
 
 in_range : (names : List (ℕ × ℕ)) → AreNames names → All InRange names
 in_range names are k d below = (are.groups k d below, are.members k d below)

@@ -1,5 +1,5 @@
 -- Groups of which enough members are there.
-use Rattle.std.specs.Prelude.{ℕ, List, length, filter, take, Option, Bool, false, nat_le, unwrap_or}
+use Rattle.std.specs.Prelude.{ℕ, ◌+◌, ◌-◌, List, length, filter, take, Option, Bool, false, nat_le, unwrap_or}
 use Rattle.std.specs.List.{range_with_len, flat_map}
 use Rattle.std.specs.Option.{option_map_or}
 use Rattle.s39_set.specs.Names.{most_groups, names_in_group}
@@ -13,7 +13,7 @@ is_complete member_threshold names group =
 abbrev pub complete_groups : (ℕ → Option ℕ) → List (ℕ × ℕ) → List ℕ
 complete_groups member_threshold names = filter (is_complete member_threshold names) (range_with_len 0 most_groups)
 
--- The first quorum; no public contract cites these.
+-- The first and the next quorum; no public contract cites these.
 
 -- the first members of a group, as many as its threshold asks
 abbrev pub first_members : (ℕ → Option ℕ) → List (ℕ × ℕ) → ℕ → List (ℕ × ℕ)
@@ -23,3 +23,7 @@ first_members member_threshold names group =
 -- the first members of each of these groups
 abbrev pub members_of : (ℕ → Option ℕ) → List (ℕ × ℕ) → List ℕ → List (ℕ × ℕ)
 members_of member_threshold names groups = flat_map (first_members member_threshold names) groups
+
+-- the groups above one
+abbrev pub groups_above : ℕ → List ℕ
+groups_above group = range_with_len (group + 1) (most_groups - (group + 1))

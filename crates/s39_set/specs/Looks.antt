@@ -1,5 +1,6 @@
 -- How many looks a call may add.
-use Rattle.std.specs.Prelude.{ℕ}
+use Rattle.std.specs.Prelude.{ℕ, ◌+◌, ◌*◌}
+use Rattle.s39_set.specs.Names.{most_groups, most_members, most_names}
 
 -- the test whether names are a quorum
 abbrev pub most_test_looks : ℕ
@@ -8,3 +9,27 @@ most_test_looks = 1024
 -- the step to the next quorum
 abbrev pub most_step_looks : ℕ
 most_step_looks = 16384
+
+-- Parts of a step; no public contract cites these.
+
+-- for each name a turn and a look
+abbrev pub most_name_looks : ℕ
+most_name_looks = 2 * most_names
+
+-- for each group a turn, and one for each of its members
+abbrev pub most_group_looks : ℕ
+most_group_looks = most_groups * (1 + most_members)
+
+-- what a step knows: the names at hand, the masks of the quorum's names, the complete groups, and the numbers of
+-- the quorum's names in the groups
+abbrev pub most_choice_looks : ℕ
+most_choice_looks = most_name_looks + most_names + most_group_looks + most_names
+
+-- whether a greater name can stand in a place: the members above its own, and the groups above its own
+abbrev pub most_place_looks : ℕ
+most_place_looks = most_members + most_groups
+
+-- the next quorum: the names before a place, the groups above its own, the members above its own twice, and the
+-- members of the groups that follow
+abbrev pub most_tail_looks : ℕ
+most_tail_looks = most_names + most_groups + 2 * most_members + most_group_looks

@@ -7,10 +7,18 @@ use Rattle.s39_set.specs.declared.next.Choice.{Choice}
 use Rattle.s39_set.specs.declared.next.Tail.{Tail}
 use Rattle.s39_set.specs.declared.next.Tail.TheVariants.{Group, LaterGroups}
 use Rattle.s39_set.specs.Names.{most_groups, most_members, names_in_group}
-use Rattle.s39_set.specs.Groups.{is_complete}
+use Rattle.s39_set.specs.Groups.{is_complete, groups_above}
 use Rattle.s39_set.specs.ShareSet.{name_of}
 use Rattle.s39_set.specs.Quorums.{member_threshold_of}
 use Rattle.s39_set.specs.Masks.{is_in}
+
+-- the name at a place of a list
+abbrev pub name_at : List (ℕ × ℕ) → ℕ → ℕ × ℕ
+name_at names place = slice_index_or names place (0, 0)
+
+-- how many names before a place are of the group of the name there
+abbrev pub earlier_of_group : List (ℕ × ℕ) → ℕ → ℕ
+earlier_of_group names place = length (names_in_group (name_at names place).0 (take place names))
 
 -- the masks have just these names
 abbrev pub AreMasksOf : Masks → List (ℕ × ℕ) → Type 0
@@ -28,42 +36,61 @@ members_taken set masks group = take (unwrap_or (member_threshold_of set group) 
 abbrev pub groups_from : List Bool → ℕ → List ℕ
 groups_from complete a = filter (λ g. slice_index_or complete g false) (range_with_len a (most_groups - a))
 
+-- the first members of so many complete groups, from one on
+abbrev pub groups_taken : List ShareFields → Choice → ℕ → ℕ → List (ℕ × ℕ)
+groups_taken set choice a wanted = flat_map (members_taken set choice.at_hand) (take wanted (groups_from choice.complete a))
+
+-- the table says which groups of a set are complete
+abbrev pub AreCompleteGroups : List Bool → List ShareFields → Type 0
+AreCompleteGroups complete set = (g : ℕ) → g < most_groups
+    → slice_index_or complete g false ≡ is_complete (member_threshold_of set) (map name_of set) g
+
+-- the table says how many of the names each group has
+abbrev pub AreCounts : List ℕ → List (ℕ × ℕ) → Type 0
+AreCounts members names = (g : ℕ) → g < most_groups → slice_index_or members g 0 ≡ length (names_in_group g names)
+
 -- what is known of a set and of names
 pub record Knows (set : List ShareFields) (names : List (ℕ × ℕ)) (choice : Choice) : Type 0 where
   pub at_hand : AreMasksOf choice.at_hand (map name_of set)
   pub chosen : AreMasksOf choice.chosen names
-  pub complete : (g : ℕ) → g < most_groups → slice_index_or choice.complete g false ≡ is_complete (member_threshold_of set) (map name_of set) g
-  pub members : (g : ℕ) → g < most_groups → slice_index_or choice.members g 0 ≡ length (names_in_group g names)
+  pub complete : AreCompleteGroups choice.complete set
+  pub members : AreCounts choice.members names
 
 -- some member of a name's group above it is at hand and not chosen
-abbrev pub HasSpareMember : Choice → ℕ × ℕ → Type 0
-HasSpareMember choice x = (m : ℕ) × ((x.1 < m) × (m < most_members) × IsTrue (is_in choice.at_hand x.0 m) × (is_in choice.chosen x.0 m ≡ false))
+abbrev pub HasSpareMember : Masks → Masks → ℕ × ℕ → Type 0
+HasSpareMember at_hand chosen x =
+    (m : ℕ) × ((x.1 < m) × (m < most_members) × IsTrue (is_in at_hand x.0 m) × (is_in chosen x.0 m ≡ false))
 
 -- all that are at hand are chosen
-abbrev pub AllAreChosen : Choice → ℕ × ℕ → Type 0
-AllAreChosen choice x = (m : ℕ) → x.1 < m → m < most_members → IsTrue (is_in choice.at_hand x.0 m) → IsTrue (is_in choice.chosen x.0 m)
+abbrev pub AllAreChosen : Masks → Masks → ℕ × ℕ → Type 0
+AllAreChosen at_hand chosen x =
+    (m : ℕ) → x.1 < m → m < most_members → IsTrue (is_in at_hand x.0 m) → IsTrue (is_in chosen x.0 m)
 
--- some group above it is complete and has no chosen name
-abbrev pub HasSpareGroup : Choice → ℕ × ℕ → Type 0
-HasSpareGroup choice x = (g : ℕ) × ((x.0 < g) × (g < most_groups) × (slice_index_or choice.complete g false ≡ true) × (slice_index_or choice.members g 0 ≡ 0))
+-- some group above one is complete and has no chosen name
+abbrev pub HasSpareGroup : List Bool → List ℕ → ℕ → Type 0
+HasSpareGroup complete members group =
+    (g : ℕ) × ((group < g) × (g < most_groups) × (slice_index_or complete g false ≡ true) × (slice_index_or members g 0 ≡ 0))
 
 -- all that are complete have
-abbrev pub AllAreUsed : Choice → ℕ × ℕ → Type 0
-AllAreUsed choice x = (g : ℕ) → x.0 < g → g < most_groups → slice_index_or choice.complete g false ≡ true → 0 < slice_index_or choice.members g 0
+abbrev pub AllAreUsed : List Bool → List ℕ → ℕ → Type 0
+AllAreUsed complete members group =
+    (g : ℕ) → group < g → g < most_groups → slice_index_or complete g false ≡ true → 0 < slice_index_or members g 0
 
 -- what can stand in the place of x behind these names, and from where
 abbrev pub IsTailFor : Choice → List (ℕ × ℕ) → ℕ × ℕ → Option Tail → Type 0
-IsTailFor choice before x None = AllAreChosen choice x × (length (names_in_group x.0 before) ≡ 0 → AllAreUsed choice x)
-IsTailFor choice before x (Some Group) = HasSpareMember choice x
-IsTailFor choice before x (Some LaterGroups) = AllAreChosen choice x × (length (names_in_group x.0 before) ≡ 0) × HasSpareGroup choice x
+IsTailFor choice before x None = AllAreChosen choice.at_hand choice.chosen x
+    × (length (names_in_group x.0 before) ≡ 0 → AllAreUsed choice.complete choice.members x.0)
+IsTailFor choice before x (Some Group) = HasSpareMember choice.at_hand choice.chosen x
+IsTailFor choice before x (Some LaterGroups) = AllAreChosen choice.at_hand choice.chosen x
+    × (length (names_in_group x.0 before) ≡ 0) × HasSpareGroup choice.complete choice.members x.0
 
--- how many groups above a name's have chosen names
-abbrev pub groups_used : Choice → ℕ × ℕ → ℕ
-groups_used choice x = length (filter (λ g. nat_lt 0 (slice_index_or choice.members g 0)) (range_with_len (x.0 + 1) (15 - x.0)))
+-- how many groups above one have chosen names
+abbrev pub groups_used : List ℕ → ℕ → ℕ
+groups_used members group = length (filter (λ g. nat_lt 0 (slice_index_or members g 0)) (groups_above group))
 
 -- the names that stand there
 abbrev pub tail_names : List ShareFields → Choice → ℕ × ℕ → Tail → List (ℕ × ℕ)
 tail_names set choice x Group =
     take (length (members_from choice.chosen x.0 (x.1 + 1)) + 1) (members_from choice.at_hand x.0 (x.1 + 1))
-    ++ flat_map (members_taken set choice.at_hand) (take (groups_used choice x) (groups_from choice.complete (x.0 + 1)))
-tail_names set choice x LaterGroups = flat_map (members_taken set choice.at_hand) (take (groups_used choice x + 1) (groups_from choice.complete (x.0 + 1)))
+    ++ groups_taken set choice (x.0 + 1) (groups_used choice.members x.0)
+tail_names set choice x LaterGroups = groups_taken set choice (x.0 + 1) (groups_used choice.members x.0 + 1)

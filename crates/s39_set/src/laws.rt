@@ -3,13 +3,14 @@ ghost use Rattle.std.specs.Prelude.{◌≡◌, ◌↔◌, ◌⊎◌, ◌+◌, �
 ghost use Rattle.s39_words.specs.declared.share.ShareFields.{ShareFields};
 ghost use Rattle.s39_set.specs.ShareSet.{IsShareSet, SharesThatAgreeJoin, SetsTakeShares};
 ghost use Rattle.s39_set.specs.Names.{most_groups, most_members, most_names};
+ghost use Rattle.s39_set.specs.Looks.{most_test_looks, most_step_looks};
 ghost use Rattle.s39_set.specs.Quorums.{IsQuorum, IsFirstQuorumAfter, HasNoQuorumAfter, HasJustTheGroups};
 ghost use Rattle.s39_set.specs.Listing.{AreAllQuorumsAfter, IsListing, IsWalk};
 ghost use Rattle.s39_set.specs.Written.{quorum_text, IsWrittenForm};
 ghost use Rattle.s39_set.specs.Lack.{IsLack};
 ghost use Rattle.s39_set.specs.declared.set_lack.SetLack.{SetLack as Lack};
 
-use crate::limits::{GROUPS, MAX_GROUPS, MAX_MEMBERS, MAX_NAMES};
+use crate::limits::{GROUPS, MAX_GROUPS, MAX_MEMBERS, MAX_NAMES, MAX_STEP_LOOKS, MAX_TEST_LOOKS};
 
 /// The program's limits are the standard's.
 pub fn numbers()
@@ -17,6 +18,8 @@ pub fn numbers()
     ensures places { GROUPS ≡ most_groups }
     ensures members { MAX_MEMBERS ≡ most_members }
     ensures names { MAX_NAMES ≡ most_names }
+    ensures test_looks { MAX_TEST_LOOKS ≡ most_test_looks }
+    ensures step_looks { MAX_STEP_LOOKS ≡ most_step_looks }
 {}
 
 /// A quorum has names of just as many groups as the group threshold, of each just as many as its member
@@ -29,42 +32,48 @@ pub fn quorums_are_exact()
 /// Every set has a first quorum, or there is a cause for which it has none.
 pub fn quorum_or_lack()
     ensures { (set : List ShareFields) → IsShareSet set
-        → ((names : List (ℕ × ℕ)) × IsFirstQuorumAfter set None names) ⊎ ((lack : Lack) × IsLack set lack) }
+        → ((names : List (ℕ × ℕ)) × IsFirstQuorumAfter set None names)
+        ⊎ ((lack : Lack) × IsLack set lack) }
 {}
 
 /// The names of a quorum have a written form, and a text is the written form of one list of names.
 pub fn written_forms()
-    ensures quorums { (set : List ShareFields) (names : List (ℕ × ℕ)) → IsShareSet set → IsQuorum set names
-        → IsWrittenForm (quorum_text names) names }
+    ensures quorums { (set : List ShareFields) (names : List (ℕ × ℕ))
+        → IsShareSet set → IsQuorum set names → IsWrittenForm (quorum_text names) names }
     ensures once { (text : List ℕ) (names others : List (ℕ × ℕ))
         → IsWrittenForm text names → IsWrittenForm text others → names ≡ others }
 {}
 
 /// A set has at most one first quorum after a given list of names, or of all.
 pub fn one_first_quorum()
-    ensures { (set : List ShareFields) (given : Option (List (ℕ × ℕ))) (names others : List (ℕ × ℕ))
-        → IsFirstQuorumAfter set given names → IsFirstQuorumAfter set given others → names ≡ others }
+    ensures { (set : List ShareFields) (given : Option (List (ℕ × ℕ)))
+        (names others : List (ℕ × ℕ))
+        → IsFirstQuorumAfter set given names → IsFirstQuorumAfter set given others
+        → names ≡ others }
 {}
 
 /// A walk, from the first quorum to the first after it and so on until none comes after, is all quorums: in
 /// ascending order, each once, none left out.
 pub fn walks_list_all()
-    ensures { (set : List ShareFields) (given : Option (List (ℕ × ℕ))) (quorums : List (List (ℕ × ℕ)))
+    ensures { (set : List ShareFields) (given : Option (List (ℕ × ℕ)))
+        (quorums : List (List (ℕ × ℕ)))
         → (IsWalk set given quorums ↔ AreAllQuorumsAfter set given quorums) }
 {}
 
 /// There is one listing of a set's quorums, after each list of names and for each limit.
 pub fn one_listing()
-    ensures exists { (set : List ShareFields) (given : Option (List (ℕ × ℕ))) (limit : ℕ) → IsShareSet set
-        → (listed : List (List (ℕ × ℕ))) × IsListing set given limit listed }
-    ensures once { (set : List ShareFields) (given : Option (List (ℕ × ℕ))) (limit : ℕ) (listed others : List (List (ℕ × ℕ)))
+    ensures exists { (set : List ShareFields) (given : Option (List (ℕ × ℕ))) (limit : ℕ)
+        → IsShareSet set → (listed : List (List (ℕ × ℕ))) × IsListing set given limit listed }
+    ensures once { (set : List ShareFields) (given : Option (List (ℕ × ℕ))) (limit : ℕ)
+        (listed others : List (List (ℕ × ℕ)))
         → IsListing set given limit listed → IsListing set given limit others → listed ≡ others }
 {}
 
 /// A listing is the first quorum and the listing after it; it is empty where no quorum comes after. A listing and
 /// the one after its last quorum are one listing, of as many as both limits allow.
 pub fn listings_join()
-    ensures first { (set : List ShareFields) (given : Option (List (ℕ × ℕ))) (names : List (ℕ × ℕ)) (limit : ℕ) (others : List (List (ℕ × ℕ)))
+    ensures first { (set : List ShareFields) (given : Option (List (ℕ × ℕ)))
+        (names : List (ℕ × ℕ)) (limit : ℕ) (others : List (List (ℕ × ℕ)))
         → IsFirstQuorumAfter set given names → IsListing set (Some names) limit others
         → IsListing set given (suc limit) (names ∷ others) }
     ensures none { (set : List ShareFields) (given : Option (List (ℕ × ℕ))) (limit : ℕ)

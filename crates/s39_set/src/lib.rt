@@ -16,7 +16,7 @@ mod share_set;
 
 pub use cursor::{BadCursor, parse_quorum};
 pub use least::first;
-pub use limits::{MAX_GROUPS, MAX_MEMBERS, MAX_NAMES};
+pub use limits::{MAX_GROUPS, MAX_MEMBERS, MAX_NAMES, MAX_STEP_LOOKS, MAX_TEST_LOOKS};
 pub use looks::{Looks, has};
 pub use next::{NotAQuorum, next_after};
 pub use quorum::{Quorum, is_quorum};

@@ -1,4 +1,4 @@
-//! How many groups, members and names there may be, as the standard has them.
+//! How many groups, members and names there may be, as the standard has them, and how many looks a call may add.
 
 /// The most groups of a backup.
 pub const MAX_GROUPS: u8 = 16;
@@ -8,6 +8,12 @@ pub const MAX_MEMBERS: u8 = 16;
 
 /// The most names of shares.
 pub const MAX_NAMES: usize = 256;
+
+/// The most looks that the test whether names are a quorum adds.
+pub const MAX_TEST_LOOKS: u64 = 1_024;
+
+/// The most looks that the step to the next quorum adds, however many quorums there are.
+pub const MAX_STEP_LOOKS: u64 = 16_384;
 
 /// The most groups, as the length of an array.
 pub(crate) const GROUPS: usize = 16;

@@ -1,7 +1,7 @@
 //! Sets of names as masks.
-ghost use Rattle.std.specs.Prelude.{◌≡◌, ℕ, ◌<◌, ◌||◌, ◌&&◌, ◌==◌, false};
+ghost use Rattle.std.specs.Prelude.{◌≡◌, ℕ, ◌<◌, false};
 ghost use Rattle.s39_set.specs.Names.{most_groups, most_members};
-ghost use Rattle.s39_set.specs.Masks.{is_in};
+ghost use Rattle.s39_set.specs.Masks.{is_in, AddsName};
 
 use crate::limits::GROUPS;
 
@@ -34,8 +34,7 @@ impl Masks {
     pub(crate) fn insert(&mut self, group: u8, member: u8)
         requires group { group < most_groups }
         requires member { member < most_members }
-        ensures { (g m : ℕ) → is_in self.new g m
-            ≡ (is_in self.old g m || ((g == group) && (m == member))) }
+        ensures { AddsName self.old self.new (group, member) }
     {
         self.members[usize::from(group)] |= 1 << member;
     }

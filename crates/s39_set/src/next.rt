@@ -1,20 +1,17 @@
 //! The quorum that comes next.
-ghost use Rattle.std.specs.Prelude.{◌≡◌, ◌↔◌, ◌+◌, ◌-◌, ◌*◌, ◌<◌, ◌≤◌, ◌++◌, ℕ, List, Option, Some, None, true, false, length, map, take, filter, nat_lt, All, Contains, IsTrue, OnOk, OnErr, IfOk, IfSome, slice_index, slice_index_or, Ok};
-ghost use Rattle.std.specs.List.{flat_map, range_with_len};
+ghost use Rattle.std.specs.Prelude.{◌≡◌, ◌+◌, ◌-◌, ◌<◌, ◌≤◌, ◌++◌, Some, None, true, false, length, map, take, All, Contains, IsTrue, OnOk, OnErr, IfOk, IfSome, Ok};
 ghost use Rattle.std.specs.declared.cmp.Ordering.TheVariants.{Less};
-ghost use Rattle.s39_set.specs.Names.{most_groups, most_members, most_names, name_cmp, names_in_group, AreNames};
-ghost use Rattle.s39_set.specs.Groups.{is_complete};
-ghost use Rattle.s39_set.specs.Looks.{most_step_looks};
+ghost use Rattle.s39_set.specs.Names.{most_groups, most_members, most_names, name_cmp, AreNames};
+ghost use Rattle.s39_set.specs.Looks.{most_step_looks, most_name_looks, most_group_looks, most_choice_looks, most_place_looks, most_tail_looks};
 ghost use Rattle.s39_set.specs.ShareSet.{IsShareSet, name_of};
-ghost use Rattle.s39_set.specs.Quorums.{member_threshold_of, IsQuorum, IsFirstQuorumAfter, HasNoQuorumAfter};
-ghost use Rattle.s39_set.specs.Masks.{is_in};
-ghost use Rattle.s39_set.specs.Steps.{AreMasksOf, Knows, members_from, members_taken, groups_from, IsTailFor, tail_names};
+ghost use Rattle.s39_set.specs.Quorums.{IsQuorum, IsFirstQuorumAfter, HasNoQuorumAfter};
+ghost use Rattle.s39_set.specs.Steps.{name_at, earlier_of_group, AreMasksOf, members_from, groups_taken, AreCompleteGroups, Knows, HasSpareMember, AllAreChosen, HasSpareGroup, AllAreUsed, groups_used, IsTailFor, tail_names};
 
-use crate::limits::{GROUPS, MAX_GROUPS, MAX_MEMBERS};
+use crate::limits::{GROUPS, MAX_GROUPS, MAX_MEMBERS, MAX_NAMES};
 use crate::looks::{Looks, has};
 use crate::masks::Masks;
 use crate::quorum::{Quorum, is_quorum, members_of_groups};
-use crate::share_set::ShareSet;
+use crate::share_set::{ShareSet, indices_at};
 
 /// A list of names is no quorum of a set.
 #[derive(Clone, Copy, Debug, PartialEq, Eq)]
@@ -31,8 +28,8 @@ impl NotAQuorum {
 
 /// The first quorum of a set that comes after a given one, `None` where that is the last.
 ///
-/// The error is answered exactly where the given list isn't a quorum of the set. The call adds at most 16,384 to the
-/// looks, whose count the caller keeps at most `u64::MAX - 16384`.
+/// The error is answered exactly where the given list isn't a quorum of the set. The call adds at most
+/// `MAX_STEP_LOOKS` to the looks, whose count the caller keeps at most `u64::MAX - MAX_STEP_LOOKS`.
 pub fn next_after(
     set: &ShareSet,
     quorum: &Quorum,
@@ -94,8 +91,8 @@ fn has_spare_member(
     requires group { group < most_groups }
     requires member { member < most_members }
     requires looks { looks.old + most_members ≤ u64.MAX }
-    ensures spare { IsTrue result → (m : ℕ) × ((member < m) × (m < most_members) × IsTrue (is_in at_hand.now group m) × (is_in chosen.now group m ≡ false)) }
-    ensures all { result ≡ false → (m : ℕ) → member < m → m < most_members → IsTrue (is_in at_hand.now group m) → IsTrue (is_in chosen.now group m) }
+    ensures spare { IsTrue result → HasSpareMember at_hand.now chosen.now (group, member) }
+    ensures all { result ≡ false → AllAreChosen at_hand.now chosen.now (group, member) }
     ensures at_least { looks.old ≤ looks.new }
     ensures at_most { looks.new ≤ looks.old + most_members }
 {
@@ -117,8 +114,8 @@ fn has_spare_group(
 ) -> bool
     requires group { group < most_groups }
     requires looks { looks.old + most_groups ≤ u64.MAX }
-    ensures spare { IsTrue result → (g : ℕ) × ((group < g) × (g < most_groups) × (slice_index_or complete.now g false ≡ true) × (slice_index_or members.now g 0 ≡ 0)) }
-    ensures all { result ≡ false → (g : ℕ) → group < g → g < most_groups → slice_index_or complete.now g false ≡ true → 0 < slice_index_or members.now g 0 }
+    ensures spare { IsTrue result → HasSpareGroup complete.now members.now group }
+    ensures all { result ≡ false → AllAreUsed complete.now members.now group }
     ensures at_least { looks.old ≤ looks.new }
     ensures at_most { looks.new ≤ looks.old + most_groups }
 {
@@ -135,7 +132,7 @@ fn has_spare_group(
 fn groups_above(members: &[u16; GROUPS], group: u8, looks: &mut Looks) -> u8
     requires group { group < most_groups }
     requires looks { looks.old + most_groups ≤ u64.MAX }
-    ensures groups { result ≡ length (filter (λ g. nat_lt 0 (slice_index_or members.now g 0)) (range_with_len (group + 1) (15 - group))) }
+    ensures groups { result ≡ groups_used members.now group }
     ensures few { result ≤ most_groups }
     ensures at_least { looks.old ≤ looks.new }
     ensures at_most { looks.new ≤ looks.old + most_groups }
@@ -175,10 +172,10 @@ impl Choice {
         requires names { AreNames names.now }
         requires short { length names.now ≤ most_names }
         requires is_set { IsShareSet set.now }
-        requires looks { looks.old + 2048 ≤ u64.MAX }
+        requires looks { looks.old + most_choice_looks ≤ u64.MAX }
         ensures knows { Knows set.now names.now result }
         ensures at_least { looks.old ≤ looks.new }
-        ensures at_most { looks.new ≤ looks.old + 2048 }
+        ensures at_most { looks.new ≤ looks.old + most_choice_looks }
     {
         let at_hand = shares_at_hand(set, looks);
         Choice {
@@ -193,10 +190,10 @@ impl Choice {
     fn tail(&self, names: &[(u8, u8)], place: usize, looks: &mut Looks) -> Option<Tail>
         requires names { AreNames names.now }
         requires place { place < length names.now }
-        requires looks { looks.old + 32 ≤ u64.MAX }
-        ensures tail { IsTailFor self.now (take place names.now) (slice_index_or names.now place (0, 0)) result }
+        requires looks { looks.old + most_place_looks ≤ u64.MAX }
+        ensures tail { IsTailFor self.now (take place names.now) (name_at names.now place) result }
         ensures at_least { looks.old ≤ looks.new }
-        ensures at_most { looks.new ≤ looks.old + 32 }
+        ensures at_most { looks.new ≤ looks.old + most_place_looks }
     {
         let (group, member) = names[place];
         if has_spare_member(&self.at_hand, &self.chosen, group, member, looks) {
@@ -222,10 +219,11 @@ impl Choice {
         requires names { AreNames names.now }
         requires short { length names.now ≤ most_names }
         requires place { place < length names.now }
-        requires looks { looks.old + 1024 ≤ u64.MAX }
-        ensures names { result ≡ take place names.now ++ tail_names set.now self.now (slice_index_or names.now place (0, 0)) tail }
+        requires looks { looks.old + most_tail_looks ≤ u64.MAX }
+        ensures names { result
+            ≡ take place names.now ++ tail_names set.now self.now (name_at names.now place) tail }
         ensures at_least { looks.old ≤ looks.new }
-        ensures at_most { looks.new ≤ looks.old + 1024 }
+        ensures at_most { looks.new ≤ looks.old + most_tail_looks }
     {
         let (group, member) = names[place];
         let mut next = copied(&names[..place], looks);
@@ -255,10 +253,10 @@ impl Choice {
     )
         requires from { from ≤ most_groups }
         requires earlier { All (λ name. name.0 < from) quorum.old }
-        requires looks { looks.old + 512 ≤ u64.MAX }
-        ensures names { quorum.new ≡ quorum.old ++ flat_map (members_taken set.now self.now.at_hand) (take wanted (groups_from self.now.complete from)) }
+        requires looks { looks.old + most_group_looks ≤ u64.MAX }
+        ensures names { quorum.new ≡ quorum.old ++ groups_taken set.now self.now from wanted }
         ensures at_least { looks.old ≤ looks.new }
-        ensures at_most { looks.new ≤ looks.old + 512 }
+        ensures at_most { looks.new ≤ looks.old + most_group_looks }
     {
         let mut groups = 0;
         for group in from..MAX_GROUPS {
@@ -274,15 +272,15 @@ impl Choice {
 
 /// Which shares a set has.
 fn shares_at_hand(set: &ShareSet, looks: &mut Looks) -> Masks
-    requires looks { looks.old + 512 ≤ u64.MAX }
+    requires looks { looks.old + most_name_looks ≤ u64.MAX }
     ensures names { AreMasksOf result (map name_of set.now) }
     ensures at_least { looks.old ≤ looks.new }
-    ensures at_most { looks.new ≤ looks.old + 512 }
+    ensures at_most { looks.new ≤ looks.old + most_name_looks }
 {
     let mut at_hand = Masks::new();
-    for name in 0..256u16 {
+    for place in 0..MAX_NAMES {
         looks.turn();
-        let (group, member) = ((name / 16) as u8, (name % 16) as u8);
+        let (group, member) = indices_at(place);
         if has(set, group, member, looks) {
             at_hand.insert(group, member);
         }
@@ -309,11 +307,10 @@ fn masks_of(names: &[(u8, u8)], looks: &mut Looks) -> Masks
 fn groups_complete(set: &ShareSet, at_hand: &Masks, looks: &mut Looks) -> [bool; GROUPS]
     requires at_hand { AreMasksOf at_hand.now (map name_of set.now) }
     requires is_set { IsShareSet set.now }
-    requires looks { looks.old + 512 ≤ u64.MAX }
-    ensures complete { (g : ℕ) → g < most_groups
-        → slice_index_or result g false ≡ is_complete (member_threshold_of set.now) (map name_of set.now) g }
+    requires looks { looks.old + most_group_looks ≤ u64.MAX }
+    ensures complete { AreCompleteGroups result set.now }
     ensures at_least { looks.old ≤ looks.new }
-    ensures at_most { looks.new ≤ looks.old + 512 }
+    ensures at_most { looks.new ≤ looks.old + most_group_looks }
 {
     let mut complete = [false; GROUPS];
     for group in 0..MAX_GROUPS {
@@ -329,8 +326,8 @@ fn groups_complete(set: &ShareSet, at_hand: &Masks, looks: &mut Looks) -> [bool;
 fn is_first_of_group(names: &[(u8, u8)], place: usize) -> bool
     requires names { AreNames names.now }
     requires place { place < length names.now }
-    ensures first { IsTrue result → length (names_in_group (slice_index_or names.now place (0, 0)).0 (take place names.now)) ≡ 0 }
-    ensures other { result ≡ false → 0 < length (names_in_group (slice_index_or names.now place (0, 0)).0 (take place names.now)) }
+    ensures first { IsTrue result → earlier_of_group names.now place ≡ 0 }
+    ensures other { result ≡ false → 0 < earlier_of_group names.now place }
 {
     place == 0 || names[place - 1].0 != names[place].0
 }

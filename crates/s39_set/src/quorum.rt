@@ -85,8 +85,8 @@ fn is_earlier(name: (u8, u8), group: u8, member: u8) -> bool
 /// Whether a list of names is a quorum of a set: all are names of its shares, they meet the thresholds, and no
 /// proper subset of them does.
 ///
-/// It adds at most 1,024 to the looks, whose count the caller keeps at most `u64::MAX - 1024`; where it answers
-/// `true`, at least one for each name.
+/// It adds at most `MAX_TEST_LOOKS` to the looks, whose count the caller keeps at most `u64::MAX - MAX_TEST_LOOKS`;
+/// where it answers `true`, at least one for each name.
 pub fn is_quorum(set: &ShareSet, quorum: &Quorum, looks: &mut Looks) -> bool
     requires { looks.old ≤ u64.MAX - most_test_looks }
     ensures quorum { IsTrue result ↔ IsQuorum set.now quorum.now }

@@ -1,7 +1,7 @@
 //! Share sets.
 ghost use Rattle.std.specs.Prelude.{◌≡◌, ◌<◌, ◌↔◌, [], find, Contains, Some, None, Ok, OnOk, OnErr, IfErr};
 ghost use Rattle.std.specs.Option.{is_some, option_copied};
-ghost use Rattle.s39_set.specs.Names.{most_groups, most_members};
+ghost use Rattle.s39_set.specs.Names.{most_groups, most_members, most_names};
 ghost use Rattle.s39_set.specs.Places.{place_of, last_refusal_of};
 ghost use Rattle.s39_set.specs.Quorums.{group_threshold_of, member_threshold_of};
 ghost use Rattle.s39_set.specs.ShareSet.{IsShareSet, HasOneMore, refusal_of, has_name};
@@ -160,6 +160,17 @@ fn place_of(group: u8, member: u8) -> usize
     ensures { result ≡ place_of (group, member) }
 {
     usize::from(group) * usize::from(MAX_MEMBERS) + usize::from(member)
+}
+
+/// The group and the member index whose place this is.
+pub(crate) fn indices_at(place: usize) -> (u8, u8)
+    requires { place < most_names }
+    ensures place { place_of result ≡ place }
+    ensures group { result.0 < most_groups }
+    ensures member { result.1 < most_members }
+{
+    let members = usize::from(MAX_MEMBERS);
+    ((place / members) as u8, (place % members) as u8)
 }
 
 /// The share of this group and member index: `None` exactly where the set has none, as for an index over 15.

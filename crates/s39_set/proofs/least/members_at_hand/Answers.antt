@@ -4,6 +4,7 @@ use Rattle.s39_set.proofs.Ranges.{length-filter-range_more_yes, length-filter-ra
 use Rattle.s39_set.proofs.AtHand.{is_at_hand, members_below, names_in_group-members}
 use Rattle.s39_set.proofs.least.members_at_hand.Goals as goal
 use Rattle.s39_set.proofs.least.members_at_hand.Goals.{then-is_at_hand, else-is_at_hand}
+use Rattle.s39_set.specs.Names.{most_members}
 
 pub overflow_add-members : goal.overflow_add-members
 overflow_add-members c = omega (arith, length-filter-range-le (is_at_hand c.args.set.now c.args.group) c.loop-member.member)
@@ -27,9 +28,9 @@ pub returns : goal.returns
 returns c =
     let set = c.args.set.now in
     let group = c.args.group in
-    let all : c.loop-member.member ≡ 16 = omega arith in
+    let all : c.loop-member.member ≡ most_members = omega arith in
     let names = names_in_group-members set (c.loop-member.invariant.is_set (omega arith)) group in
     c.loop-member.invariant.members_are
     ∙ ap (λ n. length (members_below set group n)) all
-    ∙ sym (length-map (members_below set group 16) (λ member. (group, member)))
+    ∙ sym (length-map (members_below set group most_members) (λ member. (group, member)))
     ∙ ap length (sym names)

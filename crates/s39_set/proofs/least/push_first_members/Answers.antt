@@ -2,7 +2,7 @@ use Rattle.std.proofs.Common.{◌≡◌, ◌+◌, ◌++◌, [], ◌∷◌, lengt
 use Rattle.std.specs.Option.{unwrap_or}
 use Rattle.std.proofs.lemmas.List.{length_push}
 use Rattle.std.proofs.lemmas.List.Elements.{All-same}
-use Rattle.s39_set.specs.Names.{name_cmp, names_in_group}
+use Rattle.s39_set.specs.Names.{name_cmp, names_in_group, most_members}
 use Rattle.s39_set.specs.ShareSet.{name_of}
 use Rattle.s39_set.proofs.FirstAtHand.{first_below, first_below_more, first_below_without, first_below_full, first_below-all, earlier-before}
 use Rattle.s39_set.proofs.least.push_first_members.Goals as goal
@@ -56,7 +56,7 @@ returns c =
     let set = c.args.set.now in
     let group = c.args.group in
     let threshold = c.unwrap_or-threshold.result in
-    let all : c.loop-member.member ≡ 16 = omega arith in
+    let all : c.loop-member.member ≡ most_members = omega arith in
     c.loop-member.invariant.quorum_is
     ∙ ap (λ n. c.args.quorum.now ++ first_below set group threshold n) all
     ∙ ap (λ names. c.args.quorum.now ++ names) (first_below-all set group threshold (c.loop-member.invariant.is_set (omega arith)))

@@ -14,7 +14,7 @@ loop-group-preserved c =
     let test : ℕ → Bool = λ g. is_complete (member_threshold_of shares) (map name_of shares) g in
     let group = c.loop-group.group in
     let old = c.loop-group.complete in
-    let long = c.loop-group.invariant.sixteen in
+    let long = c.loop-group.invariant.all_groups in
     elim c.match-member_threshold.branch [
       | in-Some w ↦ (
           let value : Bool = nat_le w.in-Some.threshold w.count_members.result in
@@ -25,7 +25,7 @@ loop-group-preserved c =
           record {
             complete_are = λ g below. ap (λ l. get_or l g false) new ∙ set_more old test group value (omega arith) c.loop-group.invariant.complete_are here g below;
             rest = λ g from. ap (λ l. get_or l g false) new ∙ get_or-set_other old group g value false (omega arith) ∙ c.loop-group.invariant.rest g (omega arith);
-            sixteen = ap length new ∙ lengths ∙ long;
+            all_groups = ap length new ∙ lengths ∙ long;
             at_least = (let same = w.looks-is in omega (arith, w.count_members.ensures.at_least));
             at_most = (let same = w.looks-is in omega (arith, w.count_members.ensures.at_most));
           })
@@ -40,7 +40,7 @@ loop-group-preserved c =
                   | inr here ↦ (let this : g ≡ group = omega arith in ap (λ k. get_or old k false) this ∙ c.loop-group.invariant.rest group (omega arith) ∙ sym none ∙ ap test (sym this))
                 ];
             rest = λ g from. ap (λ l. get_or l g false) new ∙ c.loop-group.invariant.rest g (omega arith);
-            sixteen = ap length new ∙ long;
+            all_groups = ap length new ∙ long;
             at_least = (let same = w.looks-is in omega arith);
             at_most = (let same = w.looks-is in omega arith);
           })

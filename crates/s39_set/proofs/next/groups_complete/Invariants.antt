@@ -2,13 +2,14 @@ use Rattle.std.proofs.Common.{◌≡◌, ◌+◌, ◌*◌, ◌<◌, ◌≤◌, �
 use Rattle.s39_set.specs.Groups.{is_complete}
 use Rattle.s39_set.specs.ShareSet.{name_of}
 use Rattle.s39_set.specs.Quorums.{member_threshold_of}
+use Rattle.s39_set.specs.Names.{most_groups, most_members}
 use Rattle.s39_set.proofs.next.groups_complete.Given as goal
 
 abbrev pub invariant-loop-group : goal.invariant-loop-group
 invariant-loop-group l = record {
   complete_are : (g : ℕ) → g < l.group → get_or l.complete g false ≡ is_complete (member_threshold_of l.set) (map name_of l.set) g;
   rest : (g : ℕ) → l.group ≤ g → get_or l.complete g false ≡ false;
-  sixteen : length l.complete ≡ 16;
+  all_groups : length l.complete ≡ most_groups;
   at_least : l.fn.looks ≤ l.looks;
-  at_most : l.looks ≤ l.fn.looks + 17 * l.group;
+  at_most : l.looks ≤ l.fn.looks + (1 + most_members) * l.group;
 }

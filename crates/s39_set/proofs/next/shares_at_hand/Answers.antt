@@ -1,22 +1,29 @@
-use Rattle.std.proofs.Common.{◌+◌, ◌/◌, ◌%◌, map, refl, sym, subst, arith}
+use Rattle.std.proofs.Common.{◌+◌, map, refl, sym, subst, arith}
 use Rattle.std.proofs.lemmas.Bool.{false≢true}
 use Rattle.s39_set.specs.ShareSet.{name_of}
 use Rattle.s39_set.proofs.Inserted.{AreMasksBelow, below_more_yes, below_more_no}
 use Rattle.s39_set.proofs.next.shares_at_hand.Goals as goal
 use Rattle.s39_set.proofs.next.shares_at_hand.Goals.{then-has, else-has}
 
-pub loop-name-preserved : goal.loop-name-preserved
-loop-name-preserved c =
+pub loop-place-preserved : goal.loop-place-preserved
+loop-place-preserved c =
     let N = map name_of c.args.set.now in
-    let n = c.loop-name.name in
+    let place = c.loop-place.place in
+    let group = c.indices_at-group.result.0 in
+    let member = c.indices_at-group.result.1 in
+    let at = c.indices_at-group.ensures.place in
+    let low = c.indices_at-group.ensures.member in
+    let were = c.loop-place.invariant.names_are in
     elim c.if-has.branch [
       | then-has w ↦ record {
-        names_are = subst (λ masks. AreMasksBelow masks N (n + 1)) (sym w.at_hand-is) (below_more_yes c.loop-name.at_hand w.insert.new.self N n (n / 16) (n % 16) c.loop-name.invariant.names_are refl refl (w.if-has.ensures.has.0 refl) w.insert.ensures);
+        names_are = subst (λ masks. AreMasksBelow masks N (place + 1)) (sym w.at_hand-is)
+            (below_more_yes c.loop-place.at_hand w.insert.new.self N place group member were at low (w.if-has.ensures.has.0 refl) w.insert.ensures);
         at_least = omega arith;
         at_most = omega arith;
       }
       | else-has w ↦ record {
-        names_are = subst (λ masks. AreMasksBelow masks N (n + 1)) (sym w.at_hand-is) (below_more_no c.loop-name.at_hand N n (n / 16) (n % 16) c.loop-name.invariant.names_are refl refl (λ among. false≢true (w.if-has.ensures.has.1 among)));
+        names_are = subst (λ masks. AreMasksBelow masks N (place + 1)) (sym w.at_hand-is)
+            (below_more_no c.loop-place.at_hand N place group member were at low (λ among. false≢true (w.if-has.ensures.has.1 among)));
         at_least = omega arith;
         at_most = omega arith;
       }

@@ -1,7 +1,7 @@
 use Rattle.std.proofs.Common.{◌≡◌, ◌<◌, ◌≤◌, length, get_or, filter, Some, sym, ap, ◌∙◌, arith, below_more}
 use Rattle.std.specs.List.{range_with_len}
 use Rattle.std.proofs.lemmas.Bool.{false≢true, lt-ltb, le-ltb}
-use Rattle.s39_set.specs.Names.{names_in_group}
+use Rattle.s39_set.specs.Names.{names_in_group, most_groups}
 use Rattle.s39_set.specs.Quorums.{group_threshold_of, member_threshold_of}
 use Rattle.s39_set.proofs.JustMembers.{has_members, AreExactBelow, exact_from_just, just_from_exact, groups_from_just}
 use Rattle.s39_set.proofs.Ranges.{length-filter-range_more_yes, length-filter-range_more_no, length-filter-range-le}
@@ -52,10 +52,10 @@ pub returns-clause-just : goal.returns-clause-just
 returns-clause-just c =
     let names = c.args.names.now in
     let set = c.args.set.now in
-    let all : c.loop-group.group ≡ 16 = omega arith in
-    let groups : c.loop-group.groups ≡ length (filter (has_members names) (range_with_len 0 16)) =
+    let all : c.loop-group.group ≡ most_groups = omega arith in
+    let groups : c.loop-group.groups ≡ length (filter (has_members names) (range_with_len 0 most_groups)) =
     c.loop-group.invariant.groups_are ∙ ap (λ n. length (filter (has_members names) (range_with_len 0 n))) all in
-    let exact : AreExactBelow (member_threshold_of set) names 16 = λ g below some. c.loop-group.invariant.exact g (omega arith) some in (
+    let exact : AreExactBelow (member_threshold_of set) names most_groups = λ g below some. c.loop-group.invariant.exact g (omega arith) some in (
       λ h.
           let threshold : group_threshold_of set ≡ Some c.loop-group.groups =
           sym c.group_threshold-required.ensures.threshold ∙ same_from_option_eq c.group_threshold-required.result c.loop-group.groups (sym c.eq.ensures ∙ h) in

@@ -2,12 +2,13 @@ use Rattle.std.proofs.Common.{◌≡◌, ◌<◌, ℕ, Bool, false, List, length
 use Rattle.s39_words.specs.declared.share.ShareFields.{ShareFields}
 use Rattle.s39_set.specs.declared.common.Common.{Common}
 use Rattle.s39_set.specs.declared.masks.Masks.{Masks}
-use Rattle.s39_set.specs.Masks.{is_in}
+use Rattle.s39_set.specs.Masks.{is_in, AddsName}
 use Rattle.s39_set.specs.declared.set_error.Added.TheVariants.{New, Repeat}
 use Rattle.s39_set.specs.ShareSet.{HasOneMore, name_of, refusal_of}
 use Rattle.s39_set.specs.Places.{shares_at, place_of, common_of, IsKept}
 use Rattle.s39_set.proofs.Joins.{not_refused}
-use Rattle.s39_set.proofs.Kept.{AddsName, kept_more, has_one_more, repeat_from_masks, new_from_masks, empty_place}
+use Rattle.s39_set.proofs.Kept.{kept_more, has_one_more, repeat_from_masks, new_from_masks, empty_place}
+use Rattle.s39_set.specs.Names.{most_groups}
 use Rattle.s39_set.proofs.share_set.ShareSet.add.Goals as goal
 
 -- the name that is looked up is the share's
@@ -62,7 +63,7 @@ module _ (c : goal.After-index-self-place_of) where
   allowed : refusal_of (shares_at c.self.inside.places) c.args.share ≡ None
   allowed = ap (λ l. refusal_of l c.args.share) c.self.view_is ∙ sym c.refusal.ensures.refusal ∙ c.in_default.is
 
-  groups : length c.self.inside.member_thresholds ≡ 16
+  groups : length c.self.inside.member_thresholds ≡ most_groups
   groups = omega arith
 
   kept : IsKept (Some (common_of c.args.share)) c.insert.new.self (set c.self.inside.member_thresholds c.args.share.group_index (Some c.args.share.member_threshold)) (set c.self.inside.places c.place_of.result (Some c.args.share))
