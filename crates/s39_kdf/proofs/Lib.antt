@@ -3,3 +3,4 @@ pub mod Lengths
 pub mod Parts
 pub mod ByteValues
 pub mod Rounds
+pub mod Unprintable

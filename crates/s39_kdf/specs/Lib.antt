@@ -4,3 +4,4 @@ pub mod PreparedKey
 pub mod Pbkdf2
 pub mod Cipher
 pub mod Limits
+pub mod Passphrases

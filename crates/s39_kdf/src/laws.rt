@@ -2,6 +2,7 @@
 ghost use Rattle.std.specs.Prelude.{◌≡◌};
 ghost use Rattle.s39_kdf.specs.Cipher.{EncryptsOneSecret, SecretsHaveOneEncryption, TextsHaveOneSecret, EncryptionKeepsLengthAndBytes};
 ghost use Rattle.s39_kdf.specs.Limits.{shortest_secret, longest_secret};
+ghost use Rattle.s39_kdf.specs.Passphrases.{PassphrasesHaveOneFirstUnprintable, PrintablePassphrasesHaveNone, PassphrasesArePrintableOrNot};
 ghost use Rattle.s39_kdf.specs.Hmac.{block_length, mac_length};
 ghost use Rattle.s39_kdf.specs.Pbkdf2.{longest_derived_key};
 
@@ -33,4 +34,11 @@ pub fn one_encryption()
 /// A secret and its encryption have one length, and the one consists of bytes where the other does.
 pub fn encryption_keeps_length_and_bytes()
     ensures { EncryptionKeepsLengthAndBytes }
+{}
+
+/// The bytes of a passphrase are all printable, or there is one first that isn't.
+pub fn passphrases_are_printable_or_not()
+    ensures one { PassphrasesHaveOneFirstUnprintable }
+    ensures none { PrintablePassphrasesHaveNone }
+    ensures some { PassphrasesArePrintableOrNot }
 {}

@@ -5,4 +5,5 @@ pub mod ShowOutput
 pub mod Shown
 pub mod Recovering
 pub mod OneRecover
+pub mod SomeRecover
 pub mod Creating

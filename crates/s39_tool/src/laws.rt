@@ -10,11 +10,14 @@ ghost use Rattle.s39_tool.specs.Input.{Input, longest_line};
 ghost use Rattle.s39_tool.specs.Accepted.{IsReadAs};
 ghost use Rattle.s39_tool.specs.Show.{IsShowOutput};
 ghost use Rattle.s39_tool.specs.Recover.{IsRecoverOutput};
-ghost use Rattle.s39_tool.specs.OfBackup.{HoldsMnemonicsOf};
+ghost use Rattle.s39_tool.specs.OfBackup.{HoldsMnemonicsOf, RecoversCreated};
 ghost use Rattle.s39_backup.specs.Created.{AreOfBackup, most_random};
 
-use s39_backup::laws::{one_outcome, shares_of_a_backup_agree};
-use s39_set::laws::sets_take_shares;
+use s39_backup::laws::{
+    every_quorum_has_an_outcome, every_quorum_recovers, one_outcome, shares_of_a_backup_agree,
+};
+use s39_kdf::laws::passphrases_are_printable_or_not;
+use s39_set::laws::{quorum_or_lack, sets_take_shares};
 use s39_words::laws::{every_text_has_a_reading, one_reading};
 
 /// The code's limits are those of the definitions.
@@ -56,8 +59,20 @@ pub fn one_recover_output()
         → IsRecoverOutput passphrase input other another
         → (text ≡ other) × (answer ≡ another) }
 {
+    passphrases_are_printable_or_not();
     one_set();
     one_outcome();
+}
+
+/// An input has an output of `recover` with a passphrase.
+pub fn some_recover_output()
+    ensures { (passphrase : List ℕ) (input : Input)
+        → (text : List ℕ) × (answer : Result (Unit {0}) Fault) × IsRecoverOutput passphrase input text answer }
+{
+    passphrases_are_printable_or_not();
+    every_input_is_read();
+    quorum_or_lack();
+    every_quorum_has_an_outcome();
 }
 
 /// An input is read as something: a set of shares, or a refusal.
@@ -78,4 +93,18 @@ pub fn mnemonics_of_a_backup_are_a_set()
     one_reading();
     every_input_is_read();
     shares_of_a_backup_agree();
+}
+
+/// Of mnemonics of a created backup, an output of `recover` with the passphrase of the creation is the secret where they
+/// have a quorum, and else why they have none.
+pub fn created_backups_recover()
+    ensures { (passphrase : List ℕ) (input : Input) (text : List ℕ) (answer : Result (Unit {0}) Fault)
+        → IsRecoverOutput passphrase input text answer
+        → RecoversCreated passphrase input text answer }
+{
+    passphrases_are_printable_or_not();
+    one_set();
+    one_outcome();
+    every_quorum_recovers();
+    mnemonics_of_a_backup_are_a_set();
 }

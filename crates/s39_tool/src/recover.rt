@@ -3,11 +3,13 @@ ghost use Rattle.std.specs.Prelude.{◌≡◌, ◌≢◌, ◌<◌, Ok, Err, IfOk
 ghost use Rattle.s39_kdf.specs.declared.limits.BadPassphrase.{BadPassphrase};
 ghost use Rattle.s39_tool.specs.Fault.{fault_of};
 ghost use Rattle.s39_tool.specs.Recover.{HasOutcome, IsUnrecovered, IsRecoverOutput, secret_line};
+ghost use Rattle.s39_tool.specs.OfBackup.{RecoversCreated};
 ghost use Rattle.s39_tool.specs.Runs.{Runs};
 
 use crate::collect::set_of;
 use crate::device::Counting;
 use crate::fault::{DeviceFailure, Fault, Refusal};
+use crate::laws::created_backups_recover;
 use crate::output::{Line, push_hex, write_text};
 use s39_backup::{Mismatch, recover_quorum};
 use s39_kdf::{Bytes, check_passphrase};
@@ -61,12 +63,16 @@ pub fn run_recover<R: Read, W: Write>(
     requires writable { output.old.failures < u64.MAX }
     ensures runs { Runs R.remaining W.contents (IsRecoverOutput passphrase.now)
         input.old input.new output.old output.new result }
+    // Of mnemonics of a created backup, with the passphrase of the creation: its secret, or why they have no quorum.
+    ensures created { Runs R.remaining W.contents (RecoversCreated passphrase.now)
+        input.old input.new output.old output.new result }
     // Of any devices.
     ensures untouched { IfErr result (λ fault.
         fault.refusal ≢ Refusal.Device DeviceFailure.Write → output.new ≡ output.old) }
     ensures unread { (bad : BadPassphrase)
         → result ≡ Err (fault_of (Refusal.Passphrase bad)) → input.new ≡ input.old }
 {
+    created_backups_recover();
     check_passphrase(passphrase)?;
     let set = set_of(input)?;
     let secret = secret_of(&set, passphrase)?;

@@ -6,7 +6,8 @@ use Rattle.std.proofs.lemmas.Bool.{cases_order}
 use Rattle.std.proofs.lemmas.Bool.Decides.{nat_tests}
 use Rattle.std.proofs.lemmas.Cmp.{lists_total}
 use Rattle.std.proofs.lemmas.List.{get_or-take, length-take}
-use Rattle.s39_kdf.specs.Limits.{IsPrintable, IsFirstUnprintable}
+use Rattle.s39_kdf.specs.Limits.{IsPrintable}
+use Rattle.s39_kdf.specs.Passphrases.{PassphrasesHaveOneFirstUnprintable, PrintablePassphrasesHaveNone}
 use Rattle.s39_words.specs.declared.ShareFields.{ShareFields}
 use Rattle.s39_set.specs.declared.set_lack.SetLack.{SetLack}
 use Rattle.s39_set.specs.declared.set_lack.SetLack.TheVariants.{NoShares, Incomplete}
@@ -18,7 +19,7 @@ use Rattle.s39_set.proofs.Ascending.{name_cmp_total}
 use Rattle.s39_set.proofs.SetQuorums.{no_lack-from_meets}
 use Rattle.s39_tool.specs.declared.fault.LineRefusal.{LineRefusal}
 use Rattle.s39_tool.specs.declared.fault.Stop.{Stop}
-use Rattle.s39_tool.specs.declared.fault.Refusal.TheVariants.{Passphrase}
+use Rattle.s39_tool.specs.declared.fault.Refusal.TheVariants.{Passphrase, Lack as LackRefusal}
 use Rattle.s39_tool.specs.declared.recover.Unrecovered.{Unrecovered}
 use Rattle.s39_tool.specs.declared.recover.Unrecovered.TheVariants.{Lack, DigestMismatch}
 use Rattle.s39_tool.specs.declared.fault.Fault.{Fault}
@@ -27,6 +28,8 @@ use Rattle.s39_tool.specs.Fault.{fault_of, fault_of_stop}
 use Rattle.s39_tool.specs.Accepted.{IsReadAs}
 use Rattle.s39_backup.specs.declared.combination.Mismatch.{Mismatch}
 use Rattle.s39_backup.specs.Outcome.{IsOutcome}
+use Rattle.s39_backup.specs.Created.{AreOfBackup}
+use Rattle.s39_tool.specs.OfBackup.{HoldsMnemonicsOf, IsSecretOrLack, RecoversCreated}
 use Rattle.s39_tool.specs.Recover.{secret_line, fault_of_unrecovered, HasOutcome, IsUnrecovered, RefusesPassphrase, RefusesSet, RecoversSecret, IsRecoverOutput}
 use Rattle.s39_tool.proofs.Sets.AcceptedSets.{accepted_is_share_set}
 
@@ -81,36 +84,12 @@ lack_once set (Incomplete complete required) (Incomplete complete' required') p 
     let thresholds : Some required ≡ Some required' = sym p.required_is ∙ q.required_is in
     cc
 
--- ---- a passphrase has one first byte that isn't printable
+-- ---- a passphrase is refused once
 
-not_before : (bytes : List ℕ) (p q : ℕ) → IsFirstUnprintable bytes p → IsFirstUnprintable bytes q → p < q → ⊥
-not_before bytes p q first other before =
-    let from_1 = first.counted_from_1 in
-    let within = first.within in
-    let long = length-take (q - 1) bytes in
-    let below : p - 1 < length (take (q - 1) bytes) = omega arith in
-    let same : get_or (take (q - 1) bytes) (p - 1) 0 ≡ slice_index bytes (p - 1) = get_or-take (q - 1) bytes (p - 1) 0 (omega arith) in
-    first.unprintable (subst IsPrintable same (other.printable_before (p - 1) 0 below))
-
--- a passphrase has one first byte that isn't printable
-pub first_unprintable_once : (bytes : List ℕ) (p q : ℕ) → IsFirstUnprintable bytes p → IsFirstUnprintable bytes q → p ≡ q
-first_unprintable_once bytes p q first other =
-    elim (cases_order p q) [
-      | inl same ↦ same
-      | inr (inl before) ↦ absurd (not_before bytes p q first other before)
-      | inr (inr after) ↦ absurd (not_before bytes q p other first after)
-    ]
-
--- and none where all are
-none_unprintable : (bytes : List ℕ) (p : ℕ) → All IsPrintable bytes → IsFirstUnprintable bytes p → ⊥
-none_unprintable bytes p all first =
-    let from_1 = first.counted_from_1 in
-    let within = first.within in
-    first.unprintable (all (p - 1) 0 (omega arith))
-
-refusal_of_passphrase_once : (passphrase : List ℕ) (f g : Fault) → RefusesPassphrase passphrase f → RefusesPassphrase passphrase g → f ≡ g
-refusal_of_passphrase_once passphrase f g p q =
-    let place = first_unprintable_once passphrase p.bad.position q.bad.position p.first q.first in
+refusal_of_passphrase_once : PassphrasesHaveOneFirstUnprintable → (passphrase : List ℕ) (f g : Fault)
+    → RefusesPassphrase passphrase f → RefusesPassphrase passphrase g → f ≡ g
+refusal_of_passphrase_once one passphrase f g p q =
+    let place = one passphrase p.bad.position q.bad.position p.first q.first in
     p.fault_is ∙ ap (λ (n : ℕ). fault_of (Passphrase (record { position = n }))) place ∙ sym q.fault_is
 
 -- ---- a set gives one secret, or none for one cause
@@ -122,8 +101,9 @@ Refuses passphrase input fault =
     ⊎ ((stop : Stop LineRefusal) × All IsPrintable passphrase × IsReadAs input (Err stop) × (fault ≡ fault_of_stop stop))
     ⊎ RefusesSet passphrase input fault
 
--- each input is read as one thing, and each quorum has one outcome
-module _ (one_set : (input : Input) (answer another : Result (List ShareFields) (Stop LineRefusal)) → IsReadAs input answer → IsReadAs input another → answer ≡ another)
+-- each passphrase is refused once, each input is read as one thing, and each quorum has one outcome
+module _ (one_unprintable : PassphrasesHaveOneFirstUnprintable) (none_unprintable : PrintablePassphrasesHaveNone)
+    (one_set : (input : Input) (answer another : Result (List ShareFields) (Stop LineRefusal)) → IsReadAs input answer → IsReadAs input another → answer ≡ another)
     (one_outcome : (set : List ShareFields) (names : List (ℕ × ℕ)) (passphrase : List ℕ) (outcome other : Result (List ℕ) Mismatch) → IsShareSet set → IsQuorum set names
     → IsOutcome set names passphrase outcome → IsOutcome set names passphrase other → outcome ≡ other) where
   -- the least quorum of a set has one outcome
@@ -180,7 +160,7 @@ module _ (one_set : (input : Input) (answer another : Result (List ShareFields) 
       (subst (λ s. IsUnrecovered s passphrase q.cause) set q.refused)
 
   fault_once : (passphrase : List ℕ) (input : Input) (f g : Fault) → Refuses passphrase input f → Refuses passphrase input g → f ≡ g
-  fault_once passphrase input f g (inl p) (inl q) = refusal_of_passphrase_once passphrase f g p q
+  fault_once passphrase input f g (inl p) (inl q) = refusal_of_passphrase_once one_unprintable passphrase f g p q
   fault_once passphrase input f g (inl p) (inr (inl (stop, printable, q, is))) = absurd (none_unprintable passphrase p.bad.position printable p.first)
   fault_once passphrase input f g (inl p) (inr (inr q)) = absurd (none_unprintable passphrase p.bad.position q.printable p.first)
   fault_once passphrase input f g (inr (inl (stop, printable, p, is))) (inl q) = absurd (none_unprintable passphrase q.bad.position printable q.first)
@@ -198,3 +178,46 @@ module _ (one_set : (input : Input) (answer another : Result (List ShareFields) 
   recover_once passphrase input text other (Ok _) (Err g) p q = absurd (not_both passphrase input text g p q.1)
   recover_once passphrase input text other (Err f) (Ok _) p q = absurd (not_both passphrase input other f q p.1)
   recover_once passphrase input text other (Err f) (Err g) p q = (p.0 ∙ sym q.0, ap Err (fault_once passphrase input f g p.1 q.1))
+
+  -- ---- mnemonics of a created backup
+
+  module _ (every_quorum_recovers : (set : List ShareFields) (names : List (ℕ × ℕ)) (passphrase secret : List ℕ) → IsShareSet set → IsQuorum set names
+      → AreOfBackup set passphrase secret → IsOutcome set names passphrase (Ok secret)) where
+    -- the least quorum of a created backup's shares gives its secret
+    created_outcome : (set : List ShareFields) (passphrase secret : List ℕ) (outcome : Result (List ℕ) Mismatch) → IsShareSet set
+        → AreOfBackup set passphrase secret → HasOutcome set passphrase outcome → outcome ≡ Ok secret
+    created_outcome set passphrase secret outcome is backup has =
+        one_outcome set has.names passphrase outcome (Ok secret) is has.least.quorum has.outcome_is
+        (every_quorum_recovers set has.names passphrase secret is has.least.quorum backup)
+
+    created_lack : (set : List ShareFields) (passphrase secret : List ℕ) (cause : Unrecovered) → IsShareSet set → AreOfBackup set passphrase secret
+        → IsUnrecovered set passphrase cause → (lack : SetLack) × IsLack set lack × (fault_of_unrecovered cause ≡ fault_of (LackRefusal lack))
+    created_lack set passphrase secret (Lack lack) is backup refused = (lack, refused, refl)
+    created_lack set passphrase secret (DigestMismatch mismatch) is backup refused =
+        let same = created_outcome set passphrase secret (Err mismatch) is backup refused in absurd (cc)
+
+    -- what `recover` gives of an input that is read as shares of a created backup
+    created_output : (passphrase secret : List ℕ) (input : Input) (set : List ShareFields) (text : List ℕ) (answer : Result (Unit {0}) Fault)
+        → All IsPrintable passphrase → IsReadAs input (Ok set) → AreOfBackup set passphrase secret
+        → IsRecoverOutput passphrase input text answer → IsSecretOrLack set secret text answer
+    created_output passphrase secret input set text (Ok _) printable read backup p =
+        let has = subst (λ s. HasOutcome s passphrase (Ok p.secret)) (same_set input set p.set read p.read) p.outcome in
+        let same = created_outcome set passphrase secret (Ok p.secret) (accepted_is_share_set input set read) backup has in
+        let secrets : p.secret ≡ secret = cc in
+        ((has.names, has.least.quorum), p.text_is ∙ ap secret_line secrets)
+    created_output passphrase secret input set text (Err fault) printable read backup (none, inl q) =
+        absurd (none_unprintable passphrase q.bad.position printable q.first)
+    created_output passphrase secret input set text (Err fault) printable read backup (none, inr (inl (stop, printable', q, is))) =
+        absurd (not_accepted_and_refused input set stop read q)
+    created_output passphrase secret input set text (Err fault) printable read backup (none, inr (inr q)) =
+        let refused = subst (λ s. IsUnrecovered s passphrase q.cause) (same_set input set q.set read q.read) q.refused in
+        let (lack, lacks, is) = created_lack set passphrase secret q.cause (accepted_is_share_set input set read) backup refused in
+        (none, (lack, lacks, q.fault_is ∙ is))
+
+    pub recovers_created : ((passphrase secret : List ℕ) (input : Input) → HoldsMnemonicsOf passphrase secret input
+        → (set : List ShareFields) × IsReadAs input (Ok set) × AreOfBackup set passphrase secret)
+        → (passphrase : List ℕ) (input : Input) (text : List ℕ) (answer : Result (Unit {0}) Fault)
+        → IsRecoverOutput passphrase input text answer → RecoversCreated passphrase input text answer
+    recovers_created are_a_set passphrase input text answer output secret mnemonics =
+        let (set, read, backup) = are_a_set passphrase secret input mnemonics in
+        (set, read, created_output passphrase secret input set text answer mnemonics.created.0 read backup output)

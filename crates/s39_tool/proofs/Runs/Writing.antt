@@ -83,3 +83,24 @@ module _ {R W T : Type 0} (remaining : R → Option (List ℕ)) (contents : W �
     read_failures_are = omega arith;
     write_failures_are = part.failure;
   }
+
+-- what follows from what is written and answered
+pub Runs-map : {R W T : Type 0} (remaining : R → Option (List ℕ)) (contents : W → Option (List ℕ))
+    (IsOutput Follows : Input → List ℕ → Result T Fault → Type 0) (reader read_to : Counted R) (writer written_to : Counted W) (answer : Result T Fault)
+    → Runs remaining contents IsOutput reader read_to writer written_to answer
+    → ((input : Input) (text : List ℕ) (full : Result T Fault) → IsOutput input text full → Follows input text full)
+    → Runs remaining contents Follows reader read_to writer written_to answer
+Runs-map remaining contents IsOutput Follows reader read_to writer written_to answer runs then = record {
+  output = OfInput-map remaining reader read_to _ _ runs.output (λ input w. record {
+    text = w.text;
+    full_answer = w.full_answer;
+    output = then input w.text w.full_answer w.output;
+    written = w.written;
+    unwritten = w.unwritten;
+    parts = w.parts;
+    appends = w.appends;
+    whole = w.whole;
+  });
+  read_failures_are = runs.read_failures_are;
+  write_failures_are = runs.write_failures_are;
+}

@@ -1,8 +1,9 @@
 use Rattle.std.proofs.Common.{◌∙◌, [], inl, refl, ap, ◌+◌, sym, arith, Ok}
 use Rattle.std.proofs.lemmas.Result.{err_from_is_err_and}
 use Rattle.s39_tool.specs.Recover.{IsRecoverOutput}
+use Rattle.s39_tool.specs.OfBackup.{RecoversCreated}
 use Rattle.s39_tool.proofs.Runs.Devices.{OfInput-map, of_nothing}
-use Rattle.s39_tool.proofs.Runs.Writing.{nothing_written, run_whole, run_part}
+use Rattle.s39_tool.proofs.Runs.Writing.{nothing_written, run_whole, run_part, Runs-map}
 use Rattle.s39_tool.proofs.Runs.Recovering.{stop_reads, stop_writes, unrecovered_reads, unrecovered_writes, refused_input, refused_set, recovered}
 use Rattle.s39_tool.proofs.recover.run_recover.Goals as goal
 
@@ -56,3 +57,30 @@ returns-clause-runs g c =
     (λ input read. recovered c.args.passphrase.now (c.in_ok-check_passphrase.ensures.accepted.0 refl) input _ c.in_ok-secret.secret.items c.as_slice.result.now
     read c.in_ok-secret.ensures.secret (c.as_slice.ensures.value ∙ c.secret_line.ensures)))
     c.in_ok-write_text.ensures c.in_ok-set.ensures.failures refl
+
+-- ---- mnemonics of a created backup
+
+pub returns-in_err-check_passphrase-clause-created : goal.returns-in_err-check_passphrase-clause-created
+returns-in_err-check_passphrase-clause-created g c =
+    Runs-map g.R.Read.remaining g.W.Write.contents (IsRecoverOutput c.args.passphrase.now) (RecoversCreated c.args.passphrase.now) _ _ _ _ _
+    (returns-in_err-check_passphrase-clause-runs g c) (c.created_backups_recover.ensures c.args.passphrase.now)
+
+pub returns-in_err-set-clause-created : goal.returns-in_err-set-clause-created
+returns-in_err-set-clause-created g c =
+    Runs-map g.R.Read.remaining g.W.Write.contents (IsRecoverOutput c.args.passphrase.now) (RecoversCreated c.args.passphrase.now) _ _ _ _ _
+    (returns-in_err-set-clause-runs g c) (c.created_backups_recover.ensures c.args.passphrase.now)
+
+pub returns-in_err-secret-clause-created : goal.returns-in_err-secret-clause-created
+returns-in_err-secret-clause-created g c =
+    Runs-map g.R.Read.remaining g.W.Write.contents (IsRecoverOutput c.args.passphrase.now) (RecoversCreated c.args.passphrase.now) _ _ _ _ _
+    (returns-in_err-secret-clause-runs g c) (c.created_backups_recover.ensures c.args.passphrase.now)
+
+pub returns-in_err-write_text-clause-created : goal.returns-in_err-write_text-clause-created
+returns-in_err-write_text-clause-created g c =
+    Runs-map g.R.Read.remaining g.W.Write.contents (IsRecoverOutput c.args.passphrase.now) (RecoversCreated c.args.passphrase.now) _ _ _ _ _
+    (returns-in_err-write_text-clause-runs g c) (c.created_backups_recover.ensures c.args.passphrase.now)
+
+pub returns-clause-created : goal.returns-clause-created
+returns-clause-created g c =
+    Runs-map g.R.Read.remaining g.W.Write.contents (IsRecoverOutput c.args.passphrase.now) (RecoversCreated c.args.passphrase.now) _ _ _ _ _
+    (returns-clause-runs g c) (c.created_backups_recover.ensures c.args.passphrase.now)
