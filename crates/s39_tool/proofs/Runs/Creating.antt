@@ -1,5 +1,6 @@
 -- A run that creates a backup.
-use Rattle.std.proofs.Common.{◌≡◌, ◌≢◌, ℕ, suc, min, ◌+◌, ◌<◌, ◌≤◌, true, List, [], ◌∷◌, ◌++◌, length, take, drop, All, get_or, refl, sym, ap, ap₂, ◌∙◌, subst, inl, inr, append-nil, arith, Option, Ok, Err}
+use Rattle.std.proofs.Common.{◌≡◌, ◌≢◌, ℕ, suc, min, ◌+◌, ◌<◌, ◌≤◌, true, List, [], ◌∷◌, ◌++◌, length, take, drop, All, get_or, refl, sym, ap, ap₂, ◌∙◌}
+use Rattle.std.proofs.Common.{subst, inl, inr, append-nil, arith, Option, Ok, Err}
 use Rattle.std.specs.List.{AllZip}
 use Rattle.std.specs.Io.KnownBytes.{Consumes}
 use Rattle.std.proofs.lemmas.Bool.{cases_lt}
@@ -35,7 +36,8 @@ AllZip-append R (x ∷ xs) xs' (y ∷ ys) ys' all more = (all.0, AllZip-append R
 pub printed_none : ArePrintedLines [] []
 printed_none = record { lines = []; printed = tt; text_is = refl }
 
-pub printed_both : (shares more : List ShareFields) (text rest : List ℕ) → ArePrintedLines shares text → ArePrintedLines more rest → ArePrintedLines (shares ++ more) (text ++ rest)
+pub printed_both : (shares more : List ShareFields) (text rest : List ℕ) → ArePrintedLines shares text → ArePrintedLines more rest
+    → ArePrintedLines (shares ++ more) (text ++ rest)
 printed_both shares more text rest p q = record {
   lines = p.lines ++ q.lines;
   printed = AllZip-append IsPrinted p.lines q.lines shares more p.printed q.printed;
@@ -61,7 +63,8 @@ module _ (shares : List ShareFields) (k : ℕ) (share : ShareFields) (text line 
   printed_next =
       let more : take (k + 1) shares ≡ take k shares ++ share ∷ [] =
       take_more shares k share below ∙ ap (λ (x : ShareFields). take k shares ++ x ∷ []) (sym here) in
-      subst (λ l. ArePrintedLines l (text ++ ended_line line)) (sym more) (printed_both (take k shares) (share ∷ []) text (ended_line line) printed (printed_one share line is))
+      subst (λ l. ArePrintedLines l (text ++ ended_line line)) (sym more)
+      (printed_both (take k shares) (share ∷ []) text (ended_line line) printed (printed_one share line is))
 
   -- and the others have printed forms
   pub printed_rest : ((s : ShareFields) → IsShare s → (t : List ℕ) × IsPrinted t s) → All IsShare shares
@@ -70,7 +73,8 @@ module _ (shares : List ShareFields) (k : ℕ) (share : ShareFields) (text line 
       let back = drop (suc k) shares in
       let (rest, others) = printed_all every back (All-drop IsShare (suc k) shares each) in
       let whole : take k shares ++ share ∷ back ≡ shares =
-      ap (λ (x : ShareFields). take k shares ++ x ∷ back) here ∙ ap (λ l. take k shares ++ l) (sym (drop-cons shares k share below)) ∙ take-append-drop k shares in (
+      ap (λ (x : ShareFields). take k shares ++ x ∷ back) here ∙ ap (λ l. take k shares ++ l) (sym (drop-cons shares k share below))
+      ∙ take-append-drop k shares in (
         rest,
         subst (λ l. ArePrintedLines l (text ++ (ended_line line ++ rest))) whole
             (printed_both (take k shares) (share ∷ back) text (ended_line line ++ rest) printed
@@ -96,7 +100,8 @@ module _ (asked : Asked) (input : Input) (limit : ℕ) (random : List ℕ) (limi
   counted = ap length random_is ∙ length-take limit input.bytes
 
   -- the creation with the bytes that came is that with all bytes
-  pub created_of_all : (shares : List ShareFields) (text : List ℕ) → Creates asked random (Ok shares) → ArePrintedLines shares text → IsCreateOutput asked input text (Ok tt)
+  pub created_of_all : (shares : List ShareFields) (text : List ℕ) → Creates asked random (Ok shares) → ArePrintedLines shares text
+      → IsCreateOutput asked input text (Ok tt)
   created_of_all shares text created printed =
       let many : length random ≡ needed_by asked = created.2 in
       let c = counted in

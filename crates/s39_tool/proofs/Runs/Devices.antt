@@ -9,7 +9,8 @@ use Rattle.s39_tool.specs.Input.{Input}
 use Rattle.s39_tool.specs.Runs.{OfInput}
 
 -- a read that gave nothing took nothing
-pub consumed_nothing : (a m b : Option (List ℕ)) (came buf : List ℕ) (count : ℕ) → Consumes a m came → Consumes m b (take count buf) → count ≡ 0 → Consumes a b came
+pub consumed_nothing : (a m b : Option (List ℕ)) (came buf : List ℕ) (count : ℕ) → Consumes a m came → Consumes m b (take count buf) → count ≡ 0
+    → Consumes a b came
 consumed_nothing a m b came buf count first last none =
     subst (Consumes a b) (ap (λ (n : ℕ). came ++ take n buf) none ∙ append-nil came) (Consumes-trans a m b came (take count buf) first last)
 
@@ -28,7 +29,8 @@ of_all (Some x) (Some y) came P p h = rw p (h y)
 module _ {R : Type 0} (remaining : R → Option (List ℕ)) (first reader : Counted R) (came : List ℕ) (Is : Input → Type 0)
     (consumed : Consumes (remaining first.device) (remaining reader.device) came) (few : reader.reads ≤ first.reads + length came + 1) where
   -- the reader is at its end
-  pub of_end : IsAtEnd (remaining reader.device) → reader.failures ≡ first.failures → Is (record { bytes = came; ended = true }) → OfInput remaining first reader Is
+  pub of_end : IsAtEnd (remaining reader.device) → reader.failures ≡ first.failures → Is (record { bytes = came; ended = true })
+      → OfInput remaining first reader Is
   of_end end same is = record {
     whole = λ _. Consumes-whole (remaining first.device) (remaining reader.device) came (λ bytes. Is (record { bytes = bytes; ended = true })) consumed end is;
     cut_off = λ other. absurd (other same);
@@ -36,7 +38,8 @@ module _ {R : Type 0} (remaining : R → Option (List ℕ)) (first reader : Coun
   }
 
   -- what came decides, whatever follows
-  pub of_beginning : reader.failures ≡ first.failures → ((rest : List ℕ) → Is (record { bytes = came ++ rest; ended = true })) → OfInput remaining first reader Is
+  pub of_beginning : reader.failures ≡ first.failures → ((rest : List ℕ) → Is (record { bytes = came ++ rest; ended = true }))
+      → OfInput remaining first reader Is
   of_beginning same is = record {
     whole = λ _. of_all (remaining first.device) (remaining reader.device) came (λ bytes. Is (record { bytes = bytes; ended = true })) consumed is;
     cut_off = λ other. absurd (other same);
@@ -52,7 +55,8 @@ module _ {R : Type 0} (remaining : R → Option (List ℕ)) (first reader : Coun
   }
 
 -- what holds of every input holds where nothing is read
-pub of_nothing : {R : Type 0} (remaining : R → Option (List ℕ)) (reader : Counted R) (Is : Input → Type 0) → ((input : Input) → Is input) → OfInput remaining reader reader Is
+pub of_nothing : {R : Type 0} (remaining : R → Option (List ℕ)) (reader : Counted R) (Is : Input → Type 0) → ((input : Input) → Is input)
+    → OfInput remaining reader reader Is
 of_nothing remaining reader Is is =
     of_beginning remaining reader reader [] Is (Consumes-nil (remaining reader.device)) (omega arith) refl (λ rest. is (record { bytes = rest; ended = true }))
 

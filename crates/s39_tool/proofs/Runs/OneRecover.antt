@@ -1,11 +1,9 @@
 -- An input has one output of `recover` with a passphrase.
-use Rattle.std.proofs.Common.{◌≡◌, ◌≢◌, ℕ, ◌-◌, ◌<◌, List, [], ◌∷◌, length, get_or, take, All, refl, sym, ap, ap₂, ◌∙◌, subst, ◌⊎◌, inl, inr, arith, Some, None, Result, Ok, Err, Ordering, Less, Equal, Greater}
-use Rattle.std.specs.Prelude.{slice_index}
+use Rattle.std.proofs.Common.{◌≡◌, ◌≢◌, ℕ, List, [], ◌∷◌, All, refl, sym, ap, ap₂, ◌∙◌, subst, ◌⊎◌, inl, inr, arith, Some}
+use Rattle.std.proofs.Common.{None, Result, Ok, Err, Ordering, Less, Equal, Greater}
 use Rattle.std.specs.Ordering.{ordering_then, ordering_reverse, nat_cmp}
-use Rattle.std.proofs.lemmas.Bool.{cases_order}
 use Rattle.std.proofs.lemmas.Bool.Decides.{nat_tests}
 use Rattle.std.proofs.lemmas.Cmp.{lists_total}
-use Rattle.std.proofs.lemmas.List.{get_or-take, length-take}
 use Rattle.s39_kdf.specs.Limits.{IsPrintable}
 use Rattle.s39_kdf.specs.Passphrases.{PassphrasesHaveOneFirstUnprintable, PrintablePassphrasesHaveNone}
 use Rattle.s39_words.specs.declared.ShareFields.{ShareFields}
@@ -103,8 +101,10 @@ Refuses passphrase input fault =
 
 -- each passphrase is refused once, each input is read as one thing, and each quorum has one outcome
 module _ (one_unprintable : PassphrasesHaveOneFirstUnprintable) (none_unprintable : PrintablePassphrasesHaveNone)
-    (one_set : (input : Input) (answer another : Result (List ShareFields) (Stop LineRefusal)) → IsReadAs input answer → IsReadAs input another → answer ≡ another)
-    (one_outcome : (set : List ShareFields) (names : List (ℕ × ℕ)) (passphrase : List ℕ) (outcome other : Result (List ℕ) Mismatch) → IsShareSet set → IsQuorum set names
+    (one_set : (input : Input) (answer another : Result (List ShareFields) (Stop LineRefusal)) → IsReadAs input answer → IsReadAs input another
+    → answer ≡ another)
+    (one_outcome : (set : List ShareFields) (names : List (ℕ × ℕ)) (passphrase : List ℕ) (outcome other : Result (List ℕ) Mismatch) → IsShareSet set
+    → IsQuorum set names
     → IsOutcome set names passphrase outcome → IsOutcome set names passphrase other → outcome ≡ other) where
   -- the least quorum of a set has one outcome
   outcome_once : (set : List ShareFields) (passphrase : List ℕ) (outcome other : Result (List ℕ) Mismatch) → IsShareSet set
@@ -121,7 +121,8 @@ module _ (one_unprintable : PassphrasesHaveOneFirstUnprintable) (none_unprintabl
   recovered_not_refused set passphrase secret (DigestMismatch mismatch) is p q =
       let both = outcome_once set passphrase (Ok secret) (Err mismatch) is p q in cc
 
-  unrecovered_once : (set : List ShareFields) (passphrase : List ℕ) (c d : Unrecovered) → IsShareSet set → IsUnrecovered set passphrase c → IsUnrecovered set passphrase d → c ≡ d
+  unrecovered_once : (set : List ShareFields) (passphrase : List ℕ) (c d : Unrecovered) → IsShareSet set → IsUnrecovered set passphrase c
+      → IsUnrecovered set passphrase d → c ≡ d
   unrecovered_once set passphrase (Lack lack) (Lack other) is p q = ap Lack (lack_once set lack other p q)
   unrecovered_once set passphrase (Lack lack) (DigestMismatch mismatch) is p q = absurd (no_lack-from_meets set q.names q.least.quorum.meets lack p)
   unrecovered_once set passphrase (DigestMismatch mismatch) (Lack lack) is p q = absurd (no_lack-from_meets set p.names p.least.quorum.meets lack q)
@@ -136,7 +137,8 @@ module _ (one_unprintable : PassphrasesHaveOneFirstUnprintable) (none_unprintabl
   not_accepted_and_refused : (input : Input) (set : List ShareFields) (stop : Stop LineRefusal) → IsReadAs input (Ok set) → IsReadAs input (Err stop) → ⊥
   not_accepted_and_refused input set stop p q = let both = one_set input (Ok set) (Err stop) p q in cc
 
-  secret_once : (passphrase : List ℕ) (input : Input) (text other : List ℕ) → RecoversSecret passphrase input text → RecoversSecret passphrase input other → text ≡ other
+  secret_once : (passphrase : List ℕ) (input : Input) (text other : List ℕ) → RecoversSecret passphrase input text → RecoversSecret passphrase input other
+      → text ≡ other
   secret_once passphrase input text other p q =
       let set = same_set input p.set q.set p.read q.read in
       let outcome = outcome_once p.set passphrase (Ok p.secret) (Ok q.secret) (accepted_is_share_set input p.set p.read) p.outcome

@@ -32,7 +32,8 @@ module _ (one_reading : (text : List ℕ) (r s : Result ShareFields WordError) �
   }
 
   -- an input has one text and one answer
-  pub output_once : (input : Input) (text other : List ℕ) (a b : Result (Unit {0}) Fault) → IsShowOutput input text a → IsShowOutput input other b → (text ≡ other) × (a ≡ b)
+  pub output_once : (input : Input) (text other : List ℕ) (a b : Result (Unit {0}) Fault) → IsShowOutput input text a → IsShowOutput input other b
+      → (text ≡ other) × (a ≡ b)
   output_once input text other a b p q =
       let same = leads_once Each Refused held_once input p.held q.held p.stop q.stop p.holds q.holds in
       (p.text_is ∙ ap show_text same.0 ∙ sym q.text_is, p.answer_is ∙ ap answer_of same.1 ∙ sym q.answer_is)

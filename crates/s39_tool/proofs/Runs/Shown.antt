@@ -52,7 +52,12 @@ module _ {W : Type 0} (contents : W → Option (List ℕ)) where
     written : WritesWhole contents old (show_text held) new
 
   lines_shown : (lines : List (List ℕ)) (old new : Counted W) → TakesLines (ShowsLine contents) lines old new → AreShown lines old new
-  lines_shown [] old new t = record { held = []; holds = tt; written = subst (λ (o : Counted W). WritesWhole contents old [] o) t (nothing_written contents old) }
+  lines_shown [] old new t = record {
+    held = [];
+    holds = tt;
+    written = subst (λ (o : Counted W). WritesWhole contents old [] o) t
+        (nothing_written contents old);
+  }
   lines_shown (line ∷ lines) old new (next, (one, holds, written), t) =
       let rest = lines_shown lines next new t in record {
         held = one ∷ rest.held;
@@ -67,7 +72,8 @@ module _ {W : Type 0} (contents : W → Option (List ℕ)) where
 
   -- every text is read as something
   module _ (every_reading : (text : List ℕ) → (r : Result ShareFields WordError) × Reads text r) where
-    stops_showing : (input : Input) (old new : Counted W) (refused : RefusedLine ShowRefusal) → StopsAtLine (ShowsLine contents) (lines_of input) old new refused
+    stops_showing : (input : Input) (old new : Counted W) (refused : RefusedLine ShowRefusal)
+        → StopsAtLine (ShowsLine contents) (lines_of input) old new refused
         → StopsShowing input old new refused
     stops_showing input old new refused (reached, at) = by refused.refusal refl at.refuses where
       shown : AreShown at.before old reached
@@ -79,7 +85,16 @@ module _ {W : Type 0} (contents : W → Option (List ℕ)) where
             (subst (λ (o : Counted W). WritesWhole contents old (show_text shown.held) o) stays shown.written) (record {
               held = shown.held;
               stop = Err (AtLine (record { number = refused.number; refusal = refusal }));
-              holds = record { before = at.before; line = at.line; after = at.after; parts = at.parts; taken = shown.holds; refuses = refuses; number_is = at.number_is };
+              holds = record {
+                before = at.before;
+                line = at.line;
+                after = at.after;
+                parts = at.parts;
+                taken = shown.holds;
+                refuses = refuses;
+                number_is =
+                    at.number_is;
+              };
               text_is = refl;
               answer_is = refl;
             });
@@ -88,7 +103,8 @@ module _ {W : Type 0} (contents : W → Option (List ℕ)) where
       by WriteFailed is (share, holds, part) =
           let held = shown.held ++ Some share ∷ [] in
           let lines = AllZip-one_more Holds at.before shown.held at.line (Some share) shown.holds holds in
-          let (more, stop, all) = holds_from every_reading input (at.before ++ at.line ∷ []) at.after held lines (at.parts ∙ sym (append_assoc at.before (at.line ∷ []) at.after)) in
+          let (more, stop, all) = holds_from every_reading input (at.before ++ at.line ∷ []) at.after held lines
+          (at.parts ∙ sym (append_assoc at.before (at.line ∷ []) at.after)) in
           let text_is : show_text (held ++ more) ≡ show_text shown.held ++ (show_line share ++ show_text more) =
           ap show_text (append_assoc shown.held (Some share ∷ []) more) ∙ flat_map-append line_text shown.held (Some share ∷ more) in
           rw is record {
@@ -111,8 +127,11 @@ module _ {W : Type 0} (contents : W → Option (List ℕ)) where
         (record { held = shown.held; stop = Err ReadFailed; holds = (failed, shown.holds); text_is = refl; answer_is = refl })
     runs_shown input old new (Err (AtLine refused)) at = (stops_showing input old new refused at).writes
 
-    pub shown_failures : (input : Input) (old new : Counted W) (answer : Result (Unit {0}) (Stop ShowRefusal)) → RunsOver (ShowsLine contents) input old new answer
+    pub shown_failures : (input : Input) (old new : Counted W) (answer : Result (Unit {0}) (Stop ShowRefusal))
+        → RunsOver (ShowsLine contents) input old new answer
         → new.failures ≡ old.failures + write_failures (answer_of_show answer)
-    shown_failures input old new (Ok _) (ended, taken) = let shown = lines_shown (lines_of input) old new taken in let none = shown.written.no_failure in omega arith
-    shown_failures input old new (Err ReadFailed) (failed, taken) = let shown = lines_shown (lines_of input) old new taken in let none = shown.written.no_failure in omega arith
+    shown_failures input old new (Ok _) (ended, taken) = let shown = lines_shown (lines_of input) old new taken in let none = shown.written.no_failure in
+        omega arith
+    shown_failures input old new (Err ReadFailed) (failed, taken) = let shown = lines_shown (lines_of input) old new taken in let none =
+        shown.written.no_failure in omega arith
     shown_failures input old new (Err (AtLine refused)) at = (stops_showing input old new refused at).failures

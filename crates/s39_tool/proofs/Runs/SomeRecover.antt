@@ -1,5 +1,5 @@
 -- An input has an output of `recover` with a passphrase.
-use Rattle.std.proofs.Common.{◌≡◌, ◌⊎◌, ℕ, List, [], All, inl, inr, refl, None, Result, Ok, Err}
+use Rattle.std.proofs.Common.{◌⊎◌, ℕ, List, [], All, inl, inr, refl, None, Result, Ok, Err}
 use Rattle.s39_kdf.specs.Limits.{IsPrintable}
 use Rattle.s39_kdf.specs.Passphrases.{PassphrasesArePrintableOrNot}
 use Rattle.s39_words.specs.declared.ShareFields.{ShareFields}
@@ -34,7 +34,12 @@ module _ (printable_or_not : PassphrasesArePrintableOrNot)
     (passphrase : List ℕ) (input : Input) where
   of_outcome : All IsPrintable passphrase → (set : List ShareFields) → IsReadAs input (Ok set) → (outcome : Result (List ℕ) Mismatch)
       → HasOutcome set passphrase outcome → HasOutput passphrase input
-  of_outcome printable set read (Ok secret) has = (secret_line secret, Ok tt, recovered passphrase printable input set secret (secret_line secret) read has refl)
+  of_outcome printable set read (Ok secret) has = (
+    secret_line secret,
+    Ok tt,
+    recovered passphrase printable input set secret
+        (secret_line secret) read has refl,
+  )
   of_outcome printable set read (Err mismatch) has =
       ([], Err (fault_of_unrecovered (DigestMismatch mismatch)), refused_set passphrase printable input set (DigestMismatch mismatch) read has)
 

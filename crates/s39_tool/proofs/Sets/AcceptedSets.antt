@@ -1,5 +1,6 @@
 -- The set that an input is read as is a share set.
-use Rattle.std.proofs.Common.{◌≡◌, ℕ, ◌<◌, false, not, List, [], ◌∷◌, length, get_or, take, filter, All, Contains, sym, ap, ◌∙◌, subst, subst₂, inl, inr, arith, Option, Some, None, Ok}
+use Rattle.std.proofs.Common.{◌≡◌, ℕ, ◌<◌, false, not, List, [], ◌∷◌, length, get_or, take, filter, All, Contains, sym, ap, ◌∙◌, subst, subst₂, inl, inr}
+use Rattle.std.proofs.Common.{arith, Option, Some, None, Ok}
 use Rattle.std.specs.List.{AllZip}
 use Rattle.std.specs.Prelude.{◌==◌}
 use Rattle.std.proofs.lemmas.Bool.{cases_Bool, cases_order, false≢true, eq-eqb}
@@ -20,10 +21,12 @@ use Rattle.s39_tool.specs.Accepted.{shares_in, AllJoin, IsReadAs}
 
 -- ---- a share that isn't refused agrees with those before it
 
-none_differs : (number : ShareFields → ℕ) (shares : List ShareFields) (share s : ShareFields) → some_differs number shares share ≡ false → Contains shares s → number s ≡ number share
+none_differs : (number : ShareFields → ℕ) (shares : List ShareFields) (share s : ShareFields) → some_differs number shares share ≡ false → Contains shares s
+    → number s ≡ number share
 none_differs number shares share s fails (k, below, here) =
     elim (cases_Bool (not (number s == number share))) [
-      | inl differs ↦ absurd (false≢true (sym fails ∙ list_any_at (λ t. not (number t == number share)) shares k s below (ap (λ (t : ShareFields). not (number t == number share)) here ∙ differs)))
+      | inl differs ↦ absurd (false≢true (sym fails ∙ list_any_at (λ t. not (number t == number share)) shares k s below
+          (ap (λ (t : ShareFields). not (number t == number share)) here ∙ differs)))
       | inr same ↦ same_from_test (number s) (number share) same
     ]
 
@@ -31,7 +34,8 @@ agrees_from_none : (shares : List ShareFields) (share s : ShareFields) → refus
 agrees_from_none shares share s h has_s =
     let (fails, rest) =
     from_none (some_differs (λ t. t.id) shares share) (some_differs (λ t. flag_bit t.extendable) shares share) (some_differs (λ t. t.exponent) shares share)
-    (some_differs (λ t. t.group_threshold) shares share) (some_differs (λ t. t.group_count) shares share) (some_differs (λ t. length t.value.items) shares share)
+    (some_differs (λ t. t.group_threshold) shares share) (some_differs (λ t. t.group_count) shares share)
+    (some_differs (λ t. length t.value.items) shares share)
     (last_refusal_of shares share) h in
     let last = last_from_none shares share rest in
     record {
@@ -49,7 +53,8 @@ agrees_from_none shares share s h has_s =
 -- ---- shares that all join agree
 
 -- an earlier share agrees with a later one
-earlier_agrees : (shares : List ShareFields) → AllJoin shares → (i j : ℕ) (d : ShareFields) → i < j → j < length shares → Agrees (get_or shares i d) (get_or shares j d)
+earlier_agrees : (shares : List ShareFields) → AllJoin shares → (i j : ℕ) (d : ShareFields) → i < j → j < length shares
+    → Agrees (get_or shares i d) (get_or shares j d)
 earlier_agrees shares join i j d before below =
     let share = get_or shares j d in
     let long = length-take j shares in
@@ -58,7 +63,8 @@ earlier_agrees shares join i j d before below =
     agrees_from_none (take j shares) share (get_or shares i d) (join j share (slice_get-get_or shares j d below))
     (subst (Contains (take j shares)) same (Contains-get_or (take j shares) i d within))
 
-any_agree : (shares : List ShareFields) → AllJoin shares → (i j : ℕ) (d : ShareFields) → i < length shares → j < length shares → Agrees (get_or shares i d) (get_or shares j d)
+any_agree : (shares : List ShareFields) → AllJoin shares → (i j : ℕ) (d : ShareFields) → i < length shares → j < length shares
+    → Agrees (get_or shares i d) (get_or shares j d)
 any_agree shares join i j d below also_below =
     elim (cases_order i j) [
       | inl same ↦ subst (λ k. Agrees (get_or shares i d) (get_or shares k d)) same (agrees-itself (get_or shares i d))

@@ -1,11 +1,13 @@
 -- A run that collects the shares of its lines into a set.
-use Rattle.std.proofs.Common.{◌≡◌, ℕ, Bool, true, false, not, List, [], ◌∷◌, ◌++◌, length, get_or, take, filter, All, Contains, refl, sym, ap, ◌∙◌, subst, ◌⊎◌, inl, inr, append_assoc, arith, Option, Some, None, Ok, Err}
+use Rattle.std.proofs.Common.{◌≡◌, ℕ, Bool, true, false, not, List, [], ◌∷◌, ◌++◌, length, get_or, take, filter, All, Contains, refl, sym, ap, ◌∙◌, subst}
+use Rattle.std.proofs.Common.{◌⊎◌, inl, inr, append_assoc, arith, Option, Some, None, Ok, Err}
 use Rattle.std.specs.List.{list_any}
 use Rattle.std.specs.Prelude.{◌==◌, bytes_eq}
 use Rattle.std.specs.declared.cmp.Ordering.TheVariants.{Less}
 use Rattle.std.proofs.lemmas.Bool.{cases_lt}
 use Rattle.std.proofs.lemmas.List.{append-nil, length_push, get_or_append_left, get_or_push, take-append-le, take_at}
-use Rattle.std.proofs.lemmas.List.Elements.{All-nil, All-contains, All-push, All-contains_itself, Contains-append_left, Contains-append_right, Contains-push, Contains-get_or, Contains-push_cases, Contains-append_cases, filter_passes, filter_map-append}
+use Rattle.std.proofs.lemmas.List.Elements.{All-nil, All-contains, All-push, All-contains_itself, Contains-append_left, Contains-append_right, Contains-push}
+use Rattle.std.proofs.lemmas.List.Elements.{Contains-get_or, Contains-push_cases, Contains-append_cases, filter_passes, filter_map-append}
 use Rattle.std.proofs.lemmas.List.Folds.{Any-from_list_any, list_any_at}
 use Rattle.std.proofs.lemmas.Option.{slice_get_within, get_or_from_slice_get, slice_get-get_or}
 use Rattle.s39_words.specs.declared.ShareFields.{ShareFields}
@@ -42,7 +44,8 @@ list_any-part test xs ys inside h =
     list_any_at test xs among.0 found.1 among.1 (ap test among.2 ∙ found.4)
 
 list_any-same_elements : {X : Type 0} (test : X → Bool) (xs ys : List X) → HaveTheSame xs ys → list_any test xs ≡ list_any test ys
-list_any-same_elements test xs ys same = same_bools (list_any test xs) (list_any test ys) (list_any-part test ys xs same.second) (list_any-part test xs ys same.first)
+list_any-same_elements test xs ys same = same_bools (list_any test xs) (list_any test ys) (list_any-part test ys xs same.second)
+    (list_any-part test xs ys same.first)
 
 filter-part : {X : Type 0} (test : X → Bool) (xs ys : List X) → All (Contains xs) ys → All (Contains (filter test xs)) (filter test ys)
 filter-part test xs ys inside k d below =
@@ -66,8 +69,10 @@ refusal-same_elements xs ys share same =
       differs (λ s. s.group_threshold),
       differs (λ s. s.group_count),
       differs (λ s. length s.value.items),
-      list_any-same_elements (λ s. not (s.member_threshold == share.member_threshold)) (filter (is_in_group share.group_index) xs) (filter (is_in_group share.group_index) ys) group,
-      list_any-same_elements (λ s. not (bytes_eq s.value.items share.value.items)) (filter (has_name share.group_index share.member_index) xs) (filter (has_name share.group_index share.member_index) ys) name,
+      list_any-same_elements (λ s. not (s.member_threshold == share.member_threshold)) (filter (is_in_group share.group_index) xs)
+          (filter (is_in_group share.group_index) ys) group,
+      list_any-same_elements (λ s. not (bytes_eq s.value.items share.value.items)) (filter (has_name share.group_index share.member_index) xs)
+          (filter (has_name share.group_index share.member_index) ys) name,
     )
     refl
 
@@ -114,7 +119,8 @@ AllJoin-more shares share join joins k s at =
 module _ (old : List ShareFields) (share : ShareFields) (new : List ShareFields) (more : HasOneMore old share new) where
   Contains-more : (s : ShareFields) → Contains old s → Contains new s
   Contains-more s has_s =
-      let parts : Contains more.before s ⊎ Contains more.after s = Contains-append_cases more.before more.after s (subst (λ l. Contains l s) more.old_is has_s) in
+      let parts : Contains more.before s ⊎ Contains more.after s = Contains-append_cases more.before more.after s
+      (subst (λ l. Contains l s) more.old_is has_s) in
       subst (λ l. Contains l s) (sym more.new_is) (elim parts [
         | inl front ↦ Contains-append_left more.before (share ∷ more.after) s front
         | inr back ↦ Contains-append_right more.before (share ∷ more.after) s (Contains-cons share more.after s back)
@@ -122,8 +128,10 @@ module _ (old : List ShareFields) (share : ShareFields) (new : List ShareFields)
 
   only_more : (s : ShareFields) → Contains new s → Contains (old ++ share ∷ []) s
   only_more s has_s =
-      let parts : Contains more.before s ⊎ Contains (share ∷ more.after) s = Contains-append_cases more.before (share ∷ more.after) s (subst (λ l. Contains l s) more.new_is has_s) in
-      let from_old = λ (has : Contains (more.before ++ more.after) s). Contains-append_left old (share ∷ []) s (subst (λ l. Contains l s) (sym more.old_is) has) in
+      let parts : Contains more.before s ⊎ Contains (share ∷ more.after) s =
+      Contains-append_cases more.before (share ∷ more.after) s (subst (λ l. Contains l s) more.new_is has_s) in
+      let from_old = λ (has : Contains (more.before ++ more.after) s). Contains-append_left old (share ∷ []) s
+      (subst (λ l. Contains l s) (sym more.old_is) has) in
       elim parts [
         | inl front ↦ from_old (Contains-append_left more.before more.after s front)
         | inr back ↦ elim (Contains-cases share more.after s back) [
@@ -147,16 +155,19 @@ Contains-added old new share adds =
 only_added : (old new : List ShareFields) (share : ShareFields) → AddsShare old share new → All (Contains (old ++ share ∷ [])) new
 only_added old new share adds =
     elim adds.added [
-      | inl (has_share, same) ↦ subst (All (Contains (old ++ share ∷ []))) (sym same) (λ k d below. Contains-append_left old (share ∷ []) (get_or old k d) (Contains-get_or old k d below))
+      | inl (has_share, same) ↦ subst (All (Contains (old ++ share ∷ []))) (sym same)
+          (λ k d below. Contains-append_left old (share ∷ []) (get_or old k d) (Contains-get_or old k d below))
       | inr more ↦ (λ k d below. only_more old share new more (get_or new k d) (Contains-get_or new k d below))
     ]
 
-collected_more : (shares old new : List ShareFields) (share : ShareFields) → IsCollected shares old → AddsShare old share new → IsCollected (shares ++ share ∷ []) new
+collected_more : (shares old new : List ShareFields) (share : ShareFields) → IsCollected shares old → AddsShare old share new
+    → IsCollected (shares ++ share ∷ []) new
 collected_more shares old new share c adds = record {
   join = AllJoin-more shares share c.join (refusal-same_elements shares old share (record { first = c.set_is.only; second = c.set_is.all }) ∙ adds.joins);
   set_is = record {
     ascending = adds.is_set.ascending;
-    all = let has = Contains-added old new share adds in All-push (Contains new) shares share (λ k d below. All-contains (Contains new) old (get_or shares k d) has.0 (c.set_is.all k d below)) has.1;
+    all = let has = Contains-added old new share adds in All-push (Contains new) shares share
+        (λ k d below. All-contains (Contains new) old (get_or shares k d) has.0 (c.set_is.all k d below)) has.1;
     only = λ k d below.
         let s = get_or new k d in
         elim (Contains-push_cases old share s (only_added old new share adds k d below)) [
@@ -183,14 +194,16 @@ collected_none_of = record {
 }
 
 -- what a line holds is added
-pub collected_held : (lines : List (List ℕ)) (line : List ℕ) (held : Option ShareFields) (old new : List ShareFields) → IsCollectedOf lines old → Holds line held → AddsHeld old held new
+pub collected_held : (lines : List (List ℕ)) (line : List ℕ) (held : Option ShareFields) (old new : List ShareFields) → IsCollectedOf lines old
+    → Holds line held → AddsHeld old held new
     → IsCollectedOf (lines ++ line ∷ []) new
 collected_held lines line None old new c holds adds = record {
   shares = c.shares;
   together = record {
     held = c.together.held ++ None ∷ [];
     holds = AllZip-one_more Holds lines c.together.held line None c.together.holds holds;
-    shares_are = c.together.shares_are ∙ sym (filter_map-append (λ (o : Option ShareFields). o) c.together.held (None ∷ []) ∙ append-nil (shares_in c.together.held));
+    shares_are = c.together.shares_are ∙ sym (filter_map-append (λ (o : Option ShareFields). o) c.together.held (None ∷ [])
+        ∙ append-nil (shares_in c.together.held));
     join = c.together.join;
   };
   collected = subst (IsCollected c.shares) adds c.collected;
@@ -201,13 +214,15 @@ collected_held lines line (Some share) old new c holds adds =
       together = record {
         held = c.together.held ++ Some share ∷ [];
         holds = AllZip-one_more Holds lines c.together.held line (Some share) c.together.holds holds;
-        shares_are = ap (λ l. l ++ share ∷ []) c.together.shares_are ∙ sym (filter_map-append (λ (o : Option ShareFields). o) c.together.held (Some share ∷ []));
+        shares_are = ap (λ l. l ++ share ∷ []) c.together.shares_are ∙ sym
+            (filter_map-append (λ (o : Option ShareFields). o) c.together.held (Some share ∷ []));
         join = more.join;
       };
       collected = more;
     }
 
-collected_lines : (before lines : List (List ℕ)) (old set : List ShareFields) → IsCollectedOf before old → TakesLines CollectsLine lines old set → IsCollectedOf (before ++ lines) set
+collected_lines : (before lines : List (List ℕ)) (old set : List ShareFields) → IsCollectedOf before old → TakesLines CollectsLine lines old set
+    → IsCollectedOf (before ++ lines) set
 collected_lines before [] old set c t = rw append-nil (subst (IsCollectedOf before) t c)
 collected_lines before (line ∷ lines) old set c (next, (held, holds, adds), t) =
     subst (λ ls. IsCollectedOf ls set) (append_assoc before (line ∷ []) lines)
@@ -217,19 +232,22 @@ collected_all : (lines : List (List ℕ)) (old set : List ShareFields) → old �
 collected_all lines old set none t = collected_lines [] lines old set (subst (IsCollectedOf []) (sym none) collected_none_of) t
 
 -- what the set refuses, its shares refuse
-pub refused_among : (shares set : List ShareFields) (line : List ℕ) (refusal : LineRefusal) → IsCollected shares set → IsRefusedAmong set line refusal → IsRefusedAmong shares line refusal
+pub refused_among : (shares set : List ShareFields) (line : List ℕ) (refusal : LineRefusal) → IsCollected shares set → IsRefusedAmong set line refusal
+    → IsRefusedAmong shares line refusal
 refused_among shares set line refusal c (inl refused) = inl refused
 refused_among shares set line refusal c (inr (share, error, holds, cause, is)) =
     inr (share, error, holds, refusal-same_elements shares set share (record { first = c.set_is.only; second = c.set_is.all }) ∙ cause, is)
 
 -- a run that takes all lines of an input gives the set that the input holds
-pub runs_accepted : (input : Input) (old set : List ShareFields) → old ≡ [] → RunsOver CollectsLine input old set (Ok tt) → IsReadAs input (Ok set) × IsShareSet set
+pub runs_accepted : (input : Input) (old set : List ShareFields) → old ≡ [] → RunsOver CollectsLine input old set (Ok tt)
+    → IsReadAs input (Ok set) × IsShareSet set
 runs_accepted input old set none (ended, taken) =
     let all = collected_all (lines_of input) old set none taken in
     ((all.shares, (ended, all.together), all.collected.set_is), all.collected.is_set)
 
 -- a run that stops gives the first line that is refused, or that a read failed
-pub runs_refused : (input : Input) (old set : List ShareFields) (stop : Stop LineRefusal) → old ≡ [] → RunsOver CollectsLine input old set (Err stop) → IsReadAs input (Err stop)
+pub runs_refused : (input : Input) (old set : List ShareFields) (stop : Stop LineRefusal) → old ≡ [] → RunsOver CollectsLine input old set (Err stop)
+    → IsReadAs input (Err stop)
 runs_refused input old set (AtLine refused) none (reached, at) =
     let earlier = collected_all at.before old reached none at.taken in (
       earlier.shares,

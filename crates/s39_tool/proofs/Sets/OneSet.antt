@@ -1,5 +1,6 @@
 -- An input holds one set or has one fault, as a line has one reading.
-use Rattle.std.proofs.Common.{◌≡◌, ℕ, List, ◌∷◌, ◌++◌, length, get_or, map, take, AllPairs, Contains, refl, sym, ap, ◌∙◌, subst, subst₂, inl, inr, arith, Option, Some, None, Result, Ok, Err}
+use Rattle.std.proofs.Common.{◌≡◌, ℕ, List, ◌∷◌, ◌++◌, length, get_or, map, take, AllPairs, Contains, refl, sym, ap, ◌∙◌, subst, subst₂, inl, inr, arith}
+use Rattle.std.proofs.Common.{Option, Some, None, Result, Ok, Err}
 use Rattle.std.specs.List.{slice_get}
 use Rattle.std.specs.declared.cmp.Ordering.TheVariants.{Less}
 use Rattle.std.proofs.lemmas.List.{length-append, length-map, get_or_at, get_or-map, take_at}
@@ -24,7 +25,8 @@ use Rattle.s39_tool.proofs.Taking.Leads.{AreTakenOnce, leads_once}
 
 shares_ascend : (set : List ShareFields) → IsAscending (map name_of set) → AllPairs (λ s t. name_cmp (name_of s) (name_of t) ≡ Less) set
 shares_ascend set names i j d before below =
-    let names_before : name_cmp (get_or (map name_of set) i (name_of d)) (get_or (map name_of set) j (name_of d)) ≡ Less = names i j (name_of d) before (omega (arith, length-map set name_of)) in
+    let names_before : name_cmp (get_or (map name_of set) i (name_of d)) (get_or (map name_of set) j (name_of d)) ≡ Less =
+    names i j (name_of d) before (omega (arith, length-map set name_of)) in
     let first : get_or (map name_of set) i (name_of d) ≡ name_of (get_or set i d) = get_or-map name_of set i d (name_of d) (omega arith) in
     let second : get_or (map name_of set) j (name_of d) ≡ name_of (get_or set j d) = get_or-map name_of set j d (name_of d) below in
     subst₂ (λ (a b : ℕ × ℕ). name_cmp a b ≡ Less) first second names_before
@@ -49,7 +51,8 @@ module _ (one_reading : (text : List ℕ) (r s : Result ShareFields WordError) �
   shares_once lines shares others p q = p.shares_are ∙ ap shares_in (all_hold_once one_reading lines p.held q.held p.holds q.holds) ∙ sym q.shares_are
 
   -- of lines whose shares can stand in one set, none is refused
-  none_refused : (before after : List (List ℕ)) (line : List ℕ) (shares all : List ShareFields) (refusal : LineRefusal) → HoldTogether before shares → IsRefusedAmong shares line refusal
+  none_refused : (before after : List (List ℕ)) (line : List ℕ) (shares all : List ShareFields) (refusal : LineRefusal) → HoldTogether before shares
+      → IsRefusedAmong shares line refusal
       → HoldTogether (before ++ line ∷ after) all → ⊥
   none_refused before after line shares all refusal p (inl refused) q =
       let parts = AllZip-parts Holds before line after q.held q.holds in

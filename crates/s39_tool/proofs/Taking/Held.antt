@@ -10,7 +10,8 @@ use Rattle.s39_tool.specs.declared.fault.LineRefusal.TheVariants.{Word, Set, Too
 use Rattle.s39_tool.specs.Input.{longest_line, is_skipped}
 use Rattle.s39_tool.specs.Lines.{Holds, IsRefusedBy}
 
-pub AllZip-one_more : {A B : Type 0} (R : A → B → Type 0) (xs : List A) (ys : List B) (x : A) (y : B) → AllZip R xs ys → R x y → AllZip R (xs ++ x ∷ []) (ys ++ y ∷ [])
+pub AllZip-one_more : {A B : Type 0} (R : A → B → Type 0) (xs : List A) (ys : List B) (x : A) (y : B) → AllZip R xs ys → R x y
+    → AllZip R (xs ++ x ∷ []) (ys ++ y ∷ [])
 AllZip-one_more R [] [] x y all r = (r, tt)
 AllZip-one_more R [] (z ∷ ys) x y all r = absurd all
 AllZip-one_more R (w ∷ xs) [] x y all r = absurd all

@@ -1,5 +1,6 @@
 -- An input leads to one thing, and to something.
-use Rattle.std.proofs.Common.{◌≡◌, ℕ, Bool, true, false, List, [], ◌∷◌, ◌++◌, length, refl, sym, ap, ap₂, ◌∙◌, subst, subst₂, ◌⊎◌, inl, inr, append_assoc, append-nil, Result, Ok, Err}
+use Rattle.std.proofs.Common.{◌≡◌, ℕ, Bool, true, false, List, [], ◌∷◌, ◌++◌, length, refl, sym, ap, ap₂, ◌∙◌, subst, subst₂, ◌⊎◌, inl, inr, append_assoc}
+use Rattle.std.proofs.Common.{append-nil, Result, Ok, Err}
 use Rattle.s39_tool.specs.declared.fault.RefusedLine.{RefusedLine}
 use Rattle.s39_tool.specs.declared.fault.Stop.{Stop}
 use Rattle.s39_tool.specs.declared.fault.Stop.TheVariants.{AtLine, ReadFailed}
@@ -43,11 +44,13 @@ module _ {S C : Type 0} (Takes : List (List ℕ) → S → Type 0) (Refuses : S 
               let number = p.number_is ∙ ap (λ (ls : List (List ℕ)). line_number (length ls)) before ∙ sym p'.number_is in
               (same, ap₂ (λ (n : ℕ) (c : C). record { number = n; refusal = c }) number cause)
           | inr (inl (more, later)) ↦ absurd (once.not_both p.before more p.line s t r.refusal p.taken p.refuses (subst (λ ls. Takes ls t) later p'.taken))
-          | inr (inr (more, earlier)) ↦ absurd (once.not_both p'.before more p'.line t s q.refusal p'.taken p'.refuses (subst (λ ls. Takes ls s) earlier p.taken))
+          | inr (inr (more, earlier)) ↦ absurd (once.not_both p'.before more p'.line t s q.refusal p'.taken p'.refuses
+              (subst (λ ls. Takes ls s) earlier p.taken))
         ]
 
     -- an input leads to one state and one answer
-    pub leads_once : (input : Input) (s t : S) (a b : Result (Unit {0}) (Stop C)) → LeadTo Takes Refuses input s a → LeadTo Takes Refuses input t b → (s ≡ t) × (a ≡ b)
+    pub leads_once : (input : Input) (s t : S) (a b : Result (Unit {0}) (Stop C)) → LeadTo Takes Refuses input s a → LeadTo Takes Refuses input t b
+        → (s ≡ t) × (a ≡ b)
     leads_once input s t (Ok _) (Ok _) p q = (once.taken (lines_of input) s t p.1 q.1, refl)
     leads_once input s t (Ok _) (Err (AtLine r)) p q = absurd (none_refused (lines_of input) s t r p.1 q)
     leads_once input s t (Ok _) (Err ReadFailed) p q = let ended = p.0 in let failed = q.0 in absurd (cc)
@@ -61,7 +64,8 @@ module _ {S C : Type 0} (Takes : List (List ℕ) → S → Type 0) (Refuses : S 
 
   -- after lines that lead somewhere, the next line leads on, or it is refused
   module _ (Extends : S → S → Type 0) (stays : (s : S) → Extends s s) (joins : (s t u : S) → Extends s t → Extends t u → Extends s u)
-      (step : (before : List (List ℕ)) (s : S) (line : List ℕ) → Takes before s → ((t : S) × Takes (before ++ line ∷ []) t × Extends s t) ⊎ ((c : C) × Refuses s line c)) where
+      (step : (before : List (List ℕ)) (s : S) (line : List ℕ) → Takes before s
+      → ((t : S) × Takes (before ++ line ∷ []) t × Extends s t) ⊎ ((c : C) × Refuses s line c)) where
     leads_on : (before after : List (List ℕ)) (s : S) → Takes before s
         → (t : S) × Extends s t × (Takes (before ++ after) t ⊎ ((r : RefusedLine C) × IsRefusedLine Takes Refuses (before ++ after) t r))
     leads_on before [] s taken = (s, stays s, inl (rw append-nil taken))
@@ -97,6 +101,7 @@ module _ {S C : Type 0} (Takes : List (List ℕ) → S → Type 0) (Refuses : S 
         let found = by input.ended refl in
         (t, found.0, further, found.1)
       where
-        by_end : {t : S} (ended : Bool) → input.ended ≡ ended → Takes (lines_of input) t → (answer : Result (Unit {0}) (Stop C)) × LeadTo Takes Refuses input t answer
+        by_end : {t : S} (ended : Bool) → input.ended ≡ ended → Takes (lines_of input) t
+            → (answer : Result (Unit {0}) (Stop C)) × LeadTo Takes Refuses input t answer
         by_end true is all = (Ok tt, (is, all))
         by_end false is all = (Err ReadFailed, (is, all))

@@ -18,7 +18,8 @@ module _ {W : Type 0} (contents : W → Option (List ℕ)) where
   writing_begins output line = record { written = []; parts = refl; appends = Appends-nil (contents output.device); no_failure = refl }
 
   -- a write takes a part of the rest
-  pub writing_goes_on : (old mid new : Counted W) (line rest : List ℕ) (count : ℕ) → IsWriting old mid line rest → Appends (contents mid.device) (contents new.device) (take count rest) → new.failures ≡ mid.failures
+  pub writing_goes_on : (old mid new : Counted W) (line rest : List ℕ) (count : ℕ) → IsWriting old mid line rest
+      → Appends (contents mid.device) (contents new.device) (take count rest) → new.failures ≡ mid.failures
       → IsWriting old new line (drop count rest)
   writing_goes_on old mid new line rest count w a f = record {
     written = w.written ++ take count rest;

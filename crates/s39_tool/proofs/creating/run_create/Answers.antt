@@ -24,7 +24,11 @@ returns-in_err-check_secret-clause-runs g c =
       refl,
       inl (
         SecretLength bad,
-        (c.in_ok-check_passphrase.ensures.accepted.0 refl, (λ h. (let no = c.in_err-check_secret.ensures.accepted.1 h in absurd (cc))), c.in_err-check_secret.ensures.length),
+        (
+          c.in_ok-check_passphrase.ensures.accepted.0 refl,
+          (λ h. (let no = c.in_err-check_secret.ensures.accepted.1 h in absurd (cc))),
+          c.in_err-check_secret.ensures.length,
+        ),
         tt,
         refl,
       ),
@@ -66,7 +70,8 @@ pub returns-in_err-write_mnemonics-clause-runs : goal.returns-in_err-write_mnemo
 returns-in_err-write_mnemonics-clause-runs g c =
     let p = err_from_is_err_and c.from_residual-in_err-write_mnemonics.result c.from_residual-in_err-write_mnemonics.ensures.1 in
     let (text, printed, part) = c.in_err-write_mnemonics.ensures in
-    rw (p.1, p.2) (run_part g.R.Read.remaining g.W.Write.contents _ c.args.input.now c.read_up_to.new.input c.args.output.now c.write_mnemonics.new.output text (Ok tt)
+    rw (p.1, p.2) (run_part g.R.Read.remaining g.W.Write.contents _ c.args.input.now c.read_up_to.new.input c.args.output.now c.write_mnemonics.new.output
+    text (Ok tt)
     (OfInput-map g.R.Read.remaining c.args.input.now c.read_up_to.new.input _ _ c.in_ok-random.ensures.read
     (λ input read. created_of_all _ input (c.random_needed-needed.result + 1) c.deref.result.now
     (ap (λ n. n + 1) c.random_needed-needed.ensures.needed) (c.deref.ensures.0 ∙ read.0) read.1 c.create.new.out text c.in_ok-create.ensures.created

@@ -36,7 +36,8 @@ returns t c =
     let n = c.args.number in
     elim c.if-number-ge10.branch [
       | then-number-ge10 w ↦
-          rw (c.push.ensures.items, w.line-is, w.push_number.ensures, decimal-digits n w.if-number-ge10.true (omega arith)) (append_assoc c.args.line.now.items (decimal (n / 10)) ((48 + n % 10) ∷ []))
+          rw (c.push.ensures.items, w.line-is, w.push_number.ensures, decimal-digits n w.if-number-ge10.true (omega arith))
+          (append_assoc c.args.line.now.items (decimal (n / 10)) ((48 + n % 10) ∷ []))
       | else-number-ge10 w ↦
           rw (c.push.ensures.items, w.line-is, decimal-digit n w.if-number-ge10.false) refl
     ]

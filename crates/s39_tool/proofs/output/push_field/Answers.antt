@@ -7,4 +7,5 @@ pub push_number-requires : goal.push_number-requires
 push_number-requires c = let digits = length-decimal-u16 c.args.number (omega arith) in rw (c.push_text.ensures, length-append) (omega (arith, c.requires))
 
 pub returns-clause-room : goal.returns-clause-room
-returns-clause-room c = let digits = length-decimal-u16 c.args.number (omega arith) in rw (c.push_number.ensures, c.push_text.ensures, length-append, length-append) (omega arith)
+returns-clause-room c = let digits = length-decimal-u16 c.args.number (omega arith) in
+    rw (c.push_number.ensures, c.push_text.ensures, length-append, length-append) (omega arith)

@@ -12,5 +12,6 @@ push-requires c =
     let short : length value ≤ longest_secret = c.as_slice.ensures.fits in
     let room = c.push_header.ensures.room in
     let digits : length (encode_lower value) ≡ 2 * length value = length-encode_with _ value in
-    let fits : length c.push_hex.new.line.items < LINE_BYTES = rw (c.push_hex.ensures, c.push_text.ensures, length-append, length-append) (omega (arith, short, room, digits)) in
+    let fits : length c.push_hex.new.line.items < LINE_BYTES = rw (c.push_hex.ensures, c.push_text.ensures, length-append, length-append)
+    (omega (arith, short, room, digits)) in
     (omega arith, fits)

@@ -15,5 +15,6 @@ returns g c =
       output = OfInput-map g.R.Read.remaining c.args.input.now c.take_lines.new.input _ _ run.runs
           (λ input. runs_shown g.W.Write.contents every input c.args.output.now c.take_lines.new.taker c.take_lines.result);
       read_failures_are = run.failures ∙ ap (λ n. c.args.input.now.failures + n) (sym (answers_read_failures c.take_lines.result));
-      write_failures_are = shown_failures g.W.Write.contents every (record { bytes = came; ended = ended }) c.args.output.now c.take_lines.new.taker c.take_lines.result over;
+      write_failures_are = shown_failures g.W.Write.contents every (record { bytes = came; ended = ended }) c.args.output.now c.take_lines.new.taker
+          c.take_lines.result over;
     })
