@@ -100,6 +100,7 @@ Runs-map remaining contents IsOutput Follows reader read_to writer written_to an
     parts = w.parts;
     appends = w.appends;
     whole = w.whole;
+    cut_short = w.cut_short;
   });
   read_failures_are = runs.read_failures_are;
   write_failures_are = runs.write_failures_are;
