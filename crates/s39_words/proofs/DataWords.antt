@@ -11,7 +11,7 @@ use Rattle.s39_words.specs.declared.share.ShareFields.{ShareFields}
 use Rattle.s39_words.specs.Bits.{bits, cut_in_tens}
 use Rattle.s39_words.specs.Share.{IsValue, IsShare, flag_bit, header_bits, value_bits, padding_bits, data_words}
 use Rattle.s39_words.specs.Reading.{IsWordCount, padding_length, bits_of_words, number_at, flag_of, stored_group_threshold, stored_group_count, padding_of}
-use Rattle.s39_words.specs.FieldsAt.{pieces, byte_count, value_at, fields_at}
+use Rattle.s39_words.specs.FieldsAt.{pieces, byte_count, share_value_at, fields_at}
 use Rattle.s39_words.proofs.Digits.{bits-below, number-bits-below, number-below, bits-number, zeros_from_number, number_from_zeros, bits-zeros}
 use Rattle.s39_words.proofs.Pieces.{length-pieces, length-joined, joined-below, pieces-below, joined-pieces, pieces-joined, cut-joined, joined-cut, length-cut, cut-below, take-add, take-joined, all_zeros}
 
@@ -173,7 +173,7 @@ module _ (f : ShareFields) (ok : IsShare f) (checksum : List ℕ) (three : lengt
   before_value : length (header_bits f ++ padding_bits (length (value_bits f.value.items))) ≡ 40 + padding_before (length f.value.items)
   before_value = length-append (header_bits f) (padding_bits (length (value_bits f.value.items))) ∙ ap (λ n. 40 + n) (length-padding f)
 
-  at_value : value_at (data_words f ++ checksum) ≡ f.value.items
+  at_value : share_value_at (data_words f ++ checksum) ≡ f.value.items
   at_value =
       ap (λ k. pieces 8 k (drop (40 + padding_length (length (data_words f ++ checksum))) (bits_of_words (data_words f ++ checksum)))) byte_count-is
       ∙ ap (λ p. pieces 8 (length f.value.items) (drop (40 + p) (bits_of_words (data_words f ++ checksum)))) padding_length-is
@@ -244,19 +244,19 @@ module _ (ws : List ℕ) (count : IsWordCount (length ws)) where
   value-room : 8 * byte_count (length ws) ≤ length (drop (40 + padding_length (length ws)) (bits_of_words ws))
   value-room = omega (arith, length-drop (40 + padding_length (length ws)) (bits_of_words ws), length-bits_of_words, value-whole, words-at_least)
 
-  pub length-value_at : length (value_at ws) ≡ byte_count (length ws)
-  length-value_at = length-pieces 8 (byte_count (length ws)) (drop (40 + padding_length (length ws)) (bits_of_words ws))
+  pub length-share_value_at : length (share_value_at ws) ≡ byte_count (length ws)
+  length-share_value_at = length-pieces 8 (byte_count (length ws)) (drop (40 + padding_length (length ws)) (bits_of_words ws))
 
-  pub is_value : IsValue (value_at ws)
+  pub is_value : IsValue (share_value_at ws)
   is_value =
       let a = count.at_least in
       let b = count.at_most in
       let c = count.padding in
       record {
         bytes = pieces-below 8 (byte_count (length ws)) (drop (40 + padding_length (length ws)) (bits_of_words ws)) (All-drop (λ b. b < 2) (40 + padding_length (length ws)) (bits_of_words ws) (joined-below 10 ws)) value-room;
-        even = ap (λ n. n % 2) length-value_at ∙ count-even;
-        at_least = omega (arith, length-value_at, value-whole);
-        at_most = omega (arith, length-value_at, value-whole);
+        even = ap (λ n. n % 2) length-share_value_at ∙ count-even;
+        at_least = omega (arith, length-share_value_at, value-whole);
+        at_most = omega (arith, length-share_value_at, value-whole);
       }
 
   -- the fields in the words are in their ranges, but for the thresholds
@@ -294,10 +294,10 @@ module _ (ws : List ℕ) (count : IsWordCount (length ws)) where
         (joins 32 4 (number_at ws 32 4) (omega arith) refl)
         (joins 36 4 (number_at ws 36 4 + 1 - 1) (omega arith) (omega arith))
 
-    padding-count : padding_before (length (value_at ws)) ≡ padding_length (length ws)
+    padding-count : padding_before (length (share_value_at ws)) ≡ padding_length (length ws)
     padding-count =
         let a = count.padding in
-        let e : padding_before (length (value_at ws)) ≡ padding_before (byte_count (length ws)) = ap padding_before length-value_at in
+        let e : padding_before (length (share_value_at ws)) ≡ padding_before (byte_count (length ws)) = ap padding_before length-share_value_at in
         e ∙ omega (arith, value-whole, words-at_least)
 
     length-padding_of : length (padding_of ws) ≡ padding_length (length ws)
@@ -305,21 +305,21 @@ module _ (ws : List ℕ) (count : IsWordCount (length ws)) where
         let a = count.padding in
         length-take-le (padding_length (length ws)) (drop 40 (bits_of_words ws)) (omega (arith, length-drop 40 (bits_of_words ws), length-bits_of_words, words-at_least))
 
-    padding-is : padding_bits (length (value_bits (value_at ws))) ≡ padding_of ws
+    padding-is : padding_bits (length (value_bits (share_value_at ws))) ≡ padding_of ws
     padding-is =
-        ap padding_bits (length-joined 8 (value_at ws))
+        ap padding_bits (length-joined 8 (share_value_at ws))
         ∙ ap (λ n. replicate n 0) (padding-count ∙ sym length-padding_of)
         ∙ sym (all_zeros (padding_of ws) padding)
 
-    value-is : value_bits (value_at ws) ≡ take (8 * byte_count (length ws)) (drop (40 + padding_length (length ws)) (bits_of_words ws))
+    value-is : value_bits (share_value_at ws) ≡ take (8 * byte_count (length ws)) (drop (40 + padding_length (length ws)) (bits_of_words ws))
     value-is = joined-pieces 8 (byte_count (length ws)) (drop (40 + padding_length (length ws)) (bits_of_words ws)) (All-drop (λ b. b < 2) (40 + padding_length (length ws)) (bits_of_words ws) (joined-below 10 ws)) value-room
 
     digits-are : digits (fields_at ws) ≡ take (10 * (length ws - 3)) (bits_of_words ws)
     digits-are =
         let n : 40 + padding_length (length ws) + 8 * byte_count (length ws) ≡ 10 * (length ws - 3) = omega (arith, value-whole, words-at_least) in
-        ap (λ xs. xs ++ padding_bits (length (value_bits (value_at ws))) ++ value_bits (value_at ws)) header-is
-        ∙ ap (λ xs. take 40 (bits_of_words ws) ++ xs ++ value_bits (value_at ws)) padding-is
-        ∙ ap (λ xs. xs ++ value_bits (value_at ws)) (take-add 40 (padding_length (length ws)) (bits_of_words ws))
+        ap (λ xs. xs ++ padding_bits (length (value_bits (share_value_at ws))) ++ value_bits (share_value_at ws)) header-is
+        ∙ ap (λ xs. take 40 (bits_of_words ws) ++ xs ++ value_bits (share_value_at ws)) padding-is
+        ∙ ap (λ xs. xs ++ value_bits (share_value_at ws)) (take-add 40 (padding_length (length ws)) (bits_of_words ws))
         ∙ ap (λ xs. take (40 + padding_length (length ws)) (bits_of_words ws) ++ xs) value-is
         ∙ take-add (40 + padding_length (length ws)) (8 * byte_count (length ws)) (bits_of_words ws)
         ∙ ap (λ k. take k (bits_of_words ws)) n

@@ -1,12 +1,10 @@
 -- The indices of a text's words: one list of them, or a first word that has none.
-use Rattle.std.proofs.Common.{◌≡◌, ℕ, suc, true, ◌+◌, ◌<◌, ◌≤◌, min, List, [], ◌∷◌, ◌++◌, length, get_or, take, drop, Some, None, Result, Ok, Err, refl, sym, ap, subst, ◌∙◌, ⊎_elim, arith, add-one}
+use Rattle.std.proofs.Common.{◌≡◌, ℕ, suc, true, ◌+◌, ◌<◌, ◌≤◌, min, List, [], ◌∷◌, ◌++◌, length, take, Some, None, Result, Ok, Err, append_assoc, refl, sym, ap, subst, ◌∙◌, ⊎_elim, arith}
 use Rattle.std.specs.Prelude.{map, All, IsSome, is_some, IsOk, OnOk, OnErr, ◌↔◌, bytes_eq}
-use denote.Ref.{Bor}
 use Rattle.arrayvec.specs.ArrayVec.{ArrayVec}
-use Rattle.std.specs.Str.{str_to_ascii_lowercase}
 use Rattle.std.proofs.lemmas.Bool.{false≢true, cases_lt}
-use Rattle.std.proofs.lemmas.List.{length-map, length-take, length-append, map-append, take_all, take-append-le, take-append-drop, drop_more}
-use Rattle.std.proofs.lemmas.List.Elements.{All-nil, All-cons, All-head, All-tail, All-same, All-take}
+use Rattle.std.proofs.lemmas.List.{length-map, length-take, length-append, map-append, take_all, take-append-le, append-nil}
+use Rattle.std.proofs.lemmas.List.Elements.{All-nil, All-cons, All-head, All-tail, All-same, All-take, All-append}
 use Rattle.std.proofs.lemmas.List.Quantifiers.{position-Some}
 use Rattle.s39_words.specs.declared.word_error.WordError.TheVariants.{WordCount}
 use Rattle.s39_words.specs.Layout.{most_words, IsIndex}
@@ -135,45 +133,59 @@ keep_more ws v v' n w i (Err u) h e ok err room = record {
 pub kept_below : (ws : List (List ℕ)) (kept : List ℕ) (n : ℕ) → KeepIndices ws kept n → All IsIndex kept
 kept_below ws kept n h = All-same IsIndex kept (take most_words h.all) h.kept_is (All-take IsIndex most_words h.all (indices_below ws h.all h.known))
 
--- ---- the words of a text, taken in turn from the pieces between its separators
+-- ---- the words of a text, taken in turn
 
-abbrev pub lower : List (List ℕ) → List (List ℕ)
-lower words = map str_to_ascii_lowercase words
+-- so many words of the text are looked up, and those of the rest are left
+pub record KeepsWords (text rest kept : List ℕ) (n : ℕ) : Type 0 where
+  pub done : List (List ℕ)
+  pub parts : words_of text ≡ done ++ words_of rest
+  pub keeps : KeepIndices done kept n
 
-pub lower_push : (xs : List (Bor (List ℕ))) (x : Bor (List ℕ)) → lower (map (λ w. w.now) (xs ++ x ∷ [])) ≡ lower (map (λ w. w.now) xs) ++ str_to_ascii_lowercase x.now ∷ []
-lower_push xs x = ap lower (map-append (λ w. w.now) xs (x ∷ [])) ∙ map-append str_to_ascii_lowercase (map (λ w. w.now) xs) (x.now ∷ [])
+pub keeps_none : (text rest : List ℕ) → words_of rest ≡ words_of text → KeepsWords text rest [] 0
+keeps_none text rest same = record { done = []; parts = sym same; keeps = keep_none }
 
--- the first unknown word, where all before it have indices
-pub first_unknown : (text word kept : List ℕ) (n : ℕ) (all done : List (List ℕ)) → words_of text ≡ lower all → done ≡ take (length done) all → length done < length all → word ≡ get_or all (length done) word → KeepIndices (lower done) kept n → index_of (str_to_ascii_lowercase word) ≡ None → IsFirstUnknown (words_of text) (n + 1)
-first_unknown text word kept n all done words done_is within word_is keeps unknown = record {
-  before = lower done;
-  word = str_to_ascii_lowercase word;
-  after = lower (drop (length done + 1) all);
+-- one word more, and the separators behind it
+pub keeps_word : {E : Type 0} (text rest after next word : List ℕ) (v v' : ArrayVec ℕ) (n i : ℕ) (r : Result (Unit {0}) E) → KeepsWords text rest v.items n
+    → words_of rest ≡ word ∷ words_of after → words_of next ≡ words_of after → index_of word ≡ Some i
+    → OnOk r (v'.items ≡ v.items ++ i ∷ []) → OnErr r (v' ≡ v) → (IsOk r ↔ (length v.items < most_words)) → KeepsWords text next v'.items (n + 1)
+keeps_word text rest after next word v v' n i r h first same known ok err room = record {
+  done = h.done ++ word ∷ [];
   parts =
-      let here : drop (length done) all ≡ word ∷ drop (length done + 1) all =
-      drop_more all (length done) word within ∙ ap (λ x. x ∷ drop (length done + 1) all) (sym word_is) in
-      let split : all ≡ done ++ word ∷ drop (length done + 1) all =
-      sym (take-append-drop (length done) all) ∙ ap (λ xs. xs ++ drop (length done) all) (sym done_is) ∙ ap (λ xs. done ++ xs) here in
-      words ∙ ap lower split ∙ map-append str_to_ascii_lowercase done (word ∷ drop (length done + 1) all);
-  position_is = add-one n ∙ ap suc (keeps.count ∙ length_indices (lower done) keeps.all keeps.known);
-  known = indices_known (lower done) keeps.all keeps.known;
-  unknown = unknown;
+      h.parts ∙ ap (λ ws. h.done ++ ws) (first ∙ ap (λ ws. word ∷ ws) (sym same)) ∙ sym (append_assoc h.done (word ∷ []) (words_of next));
+  keeps = keep_more h.done v v' n word i r h.keeps known ok err room;
+}
+
+-- the first unknown word of the rest is that of the text
+pub first_unknown : (text rest kept : List ℕ) (n : ℕ) → KeepsWords text rest kept n → IsFirstUnknown (words_of rest) 1 → IsFirstUnknown (words_of text) (n + 1)
+first_unknown text rest kept n h u = record {
+  before = h.done ++ u.before;
+  word = u.word;
+  after = u.after;
+  parts = h.parts ∙ ap (λ ws. h.done ++ ws) u.parts ∙ sym (append_assoc h.done u.before (u.word ∷ u.after));
+  position_is =
+      let none : length u.before ≡ 0 = omega (arith, u.position_is) in
+      let count : n ≡ length h.done = h.keeps.count ∙ length_indices h.done h.keeps.all h.keeps.known in
+      omega (arith, length-append h.done u.before, none, count);
+  known = All-append (λ w. IsSome (index_of w)) h.done u.before (indices_known h.done h.keeps.all h.keeps.known) u.known;
+  unknown = u.unknown;
 }
 
 pub at_most_words : (n : ℕ) → IsWordCount n → n ≤ most_words
 at_most_words n h = omega arith
 
+all_known : (text kept : List ℕ) (n : ℕ) → (h : KeepsWords text [] kept n) → HaveIndices (words_of text) h.keeps.all
+all_known text kept n h = subst (λ ws. HaveIndices ws h.keeps.all) (sym (h.parts ∙ append-nil h.done)) h.keeps.known
+
 -- all words have indices, and a mnemonic may have as many
-pub passes_count : (text kept : List ℕ) (n : ℕ) (all done : List (List ℕ)) → words_of text ≡ lower all → done ≡ all → KeepIndices (lower done) kept n → IsWordCount n → PassesCount text kept
-passes_count text kept n all done words done_is keeps count =
-    let few : length keeps.all ≤ most_words = subst (λ m. m ≤ most_words) keeps.count (at_most_words n count) in
-    let is_all : kept ≡ keeps.all = keeps.kept_is ∙ take_all most_words keeps.all few in
+pub passes_count : (text kept : List ℕ) (n : ℕ) → KeepsWords text [] kept n → IsWordCount n → PassesCount text kept
+passes_count text kept n h count =
+    let few : length h.keeps.all ≤ most_words = subst (λ m. m ≤ most_words) h.keeps.count (at_most_words n count) in
+    let is_all : kept ≡ h.keeps.all = h.keeps.kept_is ∙ take_all most_words h.keeps.all few in
     record {
-      known = subst (λ xs. HaveIndices (words_of text) xs) (sym is_all) (subst (λ ws. HaveIndices ws keeps.all) (ap lower done_is ∙ sym words) keeps.known);
-      count = subst IsWordCount (keeps.count ∙ sym (ap length is_all)) count;
+      known = subst (λ xs. HaveIndices (words_of text) xs) (sym is_all) (all_known text kept n h);
+      count = subst IsWordCount (h.keeps.count ∙ sym (ap length is_all)) count;
     }
 
 -- all words have indices, and no mnemonic has as many
-pub no_word_count : (text kept : List ℕ) (n : ℕ) (all done : List (List ℕ)) → words_of text ≡ lower all → done ≡ all → KeepIndices (lower done) kept n → (IsWordCount n → ⊥) → Reads text (Err (WordCount n))
-no_word_count text kept n all done words done_is keeps none =
-    (keeps.all, subst (λ ws. HaveIndices ws keeps.all) (ap lower done_is ∙ sym words) keeps.known, keeps.count, none)
+pub no_word_count : (text kept : List ℕ) (n : ℕ) → KeepsWords text [] kept n → (IsWordCount n → ⊥) → Reads text (Err (WordCount n))
+no_word_count text kept n h none = (h.keeps.all, all_known text kept n h, h.keeps.count, none)

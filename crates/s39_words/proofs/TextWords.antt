@@ -1,53 +1,105 @@
--- The words of a text in small letters are those of the text, each in small letters.
-use Rattle.std.proofs.Common.{◌≡◌, ℕ, Bool, true, false, cond, ltb, ◌<◌, List, [], ◌∷◌, length, take, get_or, Option, Some, None, refl, ap, ◌∙◌, arith}
-use Rattle.std.specs.Prelude.{map, filter, nat_lt, not, ◌==◌}
-use Rattle.std.specs.List.{slice_split, onto_first}
-use Rattle.std.specs.Char.{to_ascii_lowercase}
+-- The words of a text, from the first on.
+use Rattle.std.proofs.Common.{◌≡◌, ℕ, zero, suc, ◌<◌, Bool, true, false, List, [], ◌∷◌, ◌++◌, length, take, get_or, refl, sym, ap, subst, ◌∙◌, arith}
+use Rattle.std.specs.Prelude.{All, filter, nat_lt}
+use Rattle.std.specs.List.{slice_split}
+use Rattle.std.specs.Char.{is_ascii_alphabetic, to_ascii_lowercase}
 use Rattle.std.specs.Str.{str_to_ascii_lowercase}
+use Rattle.std.proofs.lemmas.Bool.{false≢true, cond-true, lt-ltb}
 use Rattle.std.proofs.lemmas.Bool.Decides.{nat_tests}
-use Rattle.std.proofs.lemmas.List.{length-map}
-use Rattle.std.specs.Iterator.{Yields}
-use denote.Ref.{Bor}
-use Rattle.std.proofs.lemmas.Iterator.{YieldsList}
-use Rattle.std.proofs.lemmas.Iterator.Consumers.{YieldsList-so_far, YieldsList-turn, YieldsList-end}
+use Rattle.std.proofs.lemmas.List.{map-append, append-nil}
+use Rattle.std.proofs.lemmas.List.Elements.{All-nil, All-cons, All-head, All-tail, All-map, All-weaker}
+use Rattle.std.proofs.lemmas.List.Splits.{slice_split-cons_yes, slice_split_none, slice_split_at}
+use Rattle.s39_words.specs.FirstWord.{BeginsInWord, BeginsWith}
 use Rattle.s39_words.specs.Spelling.{is_separator, words_of}
 
 separator_lower : (b : ℕ) → is_separator (to_ascii_lowercase b) ≡ is_separator b
 separator_lower b = grind (arith, nat_tests)
 
-cond_map : {A B : Type 0} (b : Bool) (f : A → B) (x y : A) → cond b (f x) (f y) ≡ f (cond b x y)
-cond_map true f x y = refl
-cond_map false f x y = refl
+pub letter_in_word : (b : ℕ) → is_ascii_alphabetic b ≡ true → is_separator b ≡ false
+letter_in_word b h = grind (arith, nat_tests)
 
-onto_first_map : (f : ℕ → ℕ) (x : ℕ) (parts : List (List ℕ)) → onto_first (f x) (map (map f) parts) ≡ map (map f) (onto_first x parts)
-onto_first_map f x [] = refl
-onto_first_map f x (part ∷ parts) = refl
+-- a separator at the beginning is no part of a word
+pub words_of_separator : (b : ℕ) (rest : List ℕ) → is_separator b ≡ true → words_of (b ∷ rest) ≡ words_of rest
+words_of_separator b rest h =
+    ap (filter (λ word. nat_lt 0 (length word)))
+    (slice_split-cons_yes is_separator (to_ascii_lowercase b) (str_to_ascii_lowercase rest) (separator_lower b ∙ h))
 
-split_map : (p : ℕ → Bool) (f : ℕ → ℕ) → ((x : ℕ) → p (f x) ≡ p x) → (xs : List ℕ) → slice_split p (map f xs) ≡ map (map f) (slice_split p xs)
-split_map p f same [] = refl
-split_map p f same (x ∷ xs) = rw (same x, split_map p f same xs, onto_first_map f x (slice_split p xs)) (cond_map (p x) (map (map f)) ([] ∷ slice_split p xs) (onto_first x (slice_split p xs)))
+lower_inside : (word : List ℕ) → All (λ b. is_separator b ≡ false) word → All (λ b. is_separator b ≡ false) (str_to_ascii_lowercase word)
+lower_inside word inside =
+    All-map (λ b. is_separator b ≡ false) to_ascii_lowercase word
+    (All-weaker (λ b. is_separator b ≡ false) (λ b. is_separator (to_ascii_lowercase b) ≡ false) (λ b h. separator_lower b ∙ h) word inside)
 
-nonempty_map : (f : ℕ → ℕ) (ws : List (List ℕ)) → filter (λ w. nat_lt 0 (length w)) (map (map f) ws) ≡ map (map f) (filter (λ w. nat_lt 0 (length w)) ws)
-nonempty_map f [] = refl
-nonempty_map f (w ∷ ws) =
-    rw (length-map w f, nonempty_map f ws)
-    (cond_map (ltb 0 (length w)) (map (map f)) (w ∷ filter (λ w. nat_lt 0 (length w)) ws) (filter (λ w. nat_lt 0 (length w)) ws))
+keep_first : (w : ℕ) (ws : List ℕ) (parts : List (List ℕ)) → filter (λ word. nat_lt 0 (length word)) ((w ∷ ws) ∷ parts) ≡ (w ∷ ws) ∷ filter (λ word. nat_lt 0 (length word)) parts
+keep_first w ws parts = cond-true _ _ _ (lt-ltb 0 (length (w ∷ ws)) (omega arith))
 
-pub words_of_pieces : (text : List ℕ) → words_of text ≡ map str_to_ascii_lowercase (filter (λ w. nat_lt 0 (length w)) (slice_split is_separator text))
-words_of_pieces text =
-    ap (filter (λ w. nat_lt 0 (length w))) (split_map is_separator to_ascii_lowercase separator_lower text)
-    ∙ nonempty_map to_ascii_lowercase (slice_split is_separator text)
+parts_of_first : (word rest : List ℕ) → All (λ b. is_separator b ≡ false) word → All (λ b. is_separator b ≡ true) (take 1 rest) → 0 < length word
+    → words_of (word ++ rest) ≡ str_to_ascii_lowercase word ∷ words_of rest
+parts_of_first [] rest inside behind some = absurd (omega arith)
+parts_of_first (w ∷ ws) [] inside behind some =
+    ap words_of (append-nil (w ∷ ws))
+    ∙ ap (filter (λ word. nat_lt 0 (length word))) (slice_split_none is_separator (str_to_ascii_lowercase (w ∷ ws)) (lower_inside (w ∷ ws) inside))
+    ∙ keep_first (to_ascii_lowercase w) (str_to_ascii_lowercase ws) []
+parts_of_first (w ∷ ws) (s ∷ rest) inside behind some =
+    let here : is_separator s ≡ true = All-head (λ b. is_separator b ≡ true) s [] behind in
+    ap (λ text. filter (λ word. nat_lt 0 (length word)) (slice_split is_separator text)) (map-append to_ascii_lowercase (w ∷ ws) (s ∷ rest))
+    ∙ ap (filter (λ word. nat_lt 0 (length word)))
+    (slice_split_at is_separator (str_to_ascii_lowercase (w ∷ ws)) (to_ascii_lowercase s) (str_to_ascii_lowercase rest) (lower_inside (w ∷ ws) inside) (separator_lower s ∙ here))
+    ∙ keep_first (to_ascii_lowercase w) (str_to_ascii_lowercase ws) (slice_split is_separator (str_to_ascii_lowercase rest))
+    ∙ ap (λ words. str_to_ascii_lowercase (w ∷ ws) ∷ words) (sym (words_of_separator s rest here))
 
-pub nonempty_test : (n : ℕ) → not (n == 0) ≡ nat_lt 0 n
-nonempty_test n = grind (arith, nat_tests)
+-- the word that a text begins with is its first
+pub words_of_first : (text word rest : List ℕ) → BeginsWith text word rest → 0 < length word → words_of text ≡ str_to_ascii_lowercase word ∷ words_of rest
+words_of_first text word rest begins some = ap words_of begins.parts ∙ parts_of_first word rest begins.inside begins.behind some
 
--- ---- a loop over the pieces, which has yielded xs
+begins_after : (b : ℕ) (text : List ℕ) (separates : Bool) → is_separator b ≡ separates → (word : List ℕ) × (rest : List ℕ) × BeginsWith text word rest
+    → (word : List ℕ) × (rest : List ℕ) × BeginsWith (b ∷ text) word rest
+begins_after b text true e later = (
+  [],
+  b ∷ text,
+  record {
+    parts = refl;
+    inside = All-nil (λ b. is_separator b ≡ false);
+    behind = All-cons (λ b. is_separator b ≡ true) b [] e (All-nil (λ b. is_separator b ≡ true));
+  },
+)
+begins_after b text false e later = (
+  b ∷ later.0,
+  later.1,
+  record {
+    parts = ap (λ bs. b ∷ bs) later.2.parts;
+    inside = All-cons (λ b. is_separator b ≡ false) b later.0 e later.2.inside;
+    behind = later.2.behind;
+  },
+)
 
-pub turn : {S : Type 0} {steps : S → Option (Bor (List ℕ)) → S → Type 0} (s t u : S) (xs : List (Bor (List ℕ))) (r : Option (Bor (List ℕ))) (x : Bor (List ℕ)) → Yields steps s xs t → r ≡ Some x → steps t r u → (all : List (List ℕ)) → YieldsList steps (λ w. w.now) s all → (map (λ w. w.now) xs ≡ take (length (map (λ w. w.now) xs)) all) × (length (map (λ w. w.now) xs) < length all) × (x.now ≡ get_or all (length (map (λ w. w.now) xs)) x.now)
-turn s t u xs r x yields is step all road =
-    let now : (length xs < length all) × (x.now ≡ get_or all (length xs) x.now) = YieldsList-turn road xs t yields r u x is step in
-    let same : length (map (λ w. w.now) xs) ≡ length xs = length-map xs (λ w. w.now) in
-    rw same (YieldsList-so_far road xs t yields, now.0, now.1)
+-- every text begins with one, which may be empty
+pub begins_somehow : (text : List ℕ) → (word : List ℕ) × (rest : List ℕ) × BeginsWith text word rest
+begins_somehow [] = ([], [], record { parts = refl; inside = All-nil (λ b. is_separator b ≡ false); behind = All-nil (λ b. is_separator b ≡ true) })
+begins_somehow (b ∷ text) = begins_after b text (is_separator b) refl (begins_somehow text)
 
-pub ended : {S : Type 0} {steps : S → Option (Bor (List ℕ)) → S → Type 0} (s t u : S) (xs : List (Bor (List ℕ))) (r : Option (Bor (List ℕ))) → Yields steps s xs t → r ≡ None → steps t r u → (all : List (List ℕ)) → YieldsList steps (λ w. w.now) s all → map (λ w. w.now) xs ≡ all
-ended s t u xs r yields is step all road = (YieldsList-end road xs t yields r u is step).0
+some_of_parts : (word rest : List ℕ) → All (λ b. is_separator b ≡ true) (take 1 rest) → All (λ b. is_separator b ≡ false) (take 1 (word ++ rest)) → 0 < length (word ++ rest) → 0 < length word
+some_of_parts [] [] behind begins some = absurd (omega arith)
+some_of_parts [] (r ∷ rest) behind begins some =
+    absurd (false≢true (sym (All-head (λ b. is_separator b ≡ false) r [] begins) ∙ All-head (λ b. is_separator b ≡ true) r [] behind))
+some_of_parts (w ∷ ws) rest behind begins some = omega arith
+
+-- it isn't empty where the text begins in a word
+pub some_from_begins : (text word rest : List ℕ) → BeginsWith text word rest → BeginsInWord text → 0 < length text → 0 < length word
+some_from_begins text word rest h begins some =
+    some_of_parts word rest h.behind (subst BeginsInWord h.parts begins) (subst (λ t. 0 < length t) h.parts some)
+
+within_parts : (word rest : List ℕ) (i : ℕ) → All (λ b. is_separator b ≡ true) (take 1 rest) → All (λ b. is_separator b ≡ false) (take (suc i) (word ++ rest)) → i < length (word ++ rest)
+    → (i < length word) × (get_or word i 0 ≡ get_or (word ++ rest) i 0)
+within_parts [] [] i behind inside within = absurd (omega arith)
+within_parts [] (r ∷ rest) i behind inside within =
+    absurd (false≢true (sym (All-head (λ b. is_separator b ≡ false) r (take i rest) inside) ∙ All-head (λ b. is_separator b ≡ true) r [] behind))
+within_parts (w ∷ ws) rest zero behind inside within = (omega arith, refl)
+within_parts (w ∷ ws) rest (suc i) behind inside within =
+    let later = within_parts ws rest i behind (All-tail (λ b. is_separator b ≡ false) w (take (suc i) (ws ++ rest)) inside) (omega arith) in
+    (omega (arith, later.0), later.1)
+
+-- bytes that are no separators belong to it
+pub within_first : (text word rest : List ℕ) (i : ℕ) → BeginsWith text word rest → All (λ b. is_separator b ≡ false) (take (suc i) text) → i < length text → (i < length word) × (get_or word i 0 ≡ get_or text i 0)
+within_first text word rest i h inside within =
+    let there = within_parts word rest i h.behind (subst (λ t. All (λ b. is_separator b ≡ false) (take (suc i) t)) h.parts inside) (subst (λ t. i < length t) h.parts within) in
+    (there.0, there.1 ∙ ap (λ t. get_or t i 0) (sym h.parts))

@@ -1,7 +1,7 @@
 -- Two lists of words with a valid checksum that differ in three places at most are the same.
-use Rattle.std.proofs.Common.{◌≡◌, ◌≢◌, ℕ, zero, suc, ◌+◌, ◌-◌, ◌<◌, ◌≤◌, Bool, true, false, ◌&&◌, List, [], ◌∷◌, ◌++◌, length, refl, sym, ap, ap₂, subst, ◌∙◌, ⊎_elim, arith, rules, Err}
-use Rattle.std.specs.Prelude.{All, AllPairs, bit_xor, not, ◌==◌, if◌then◌else◌}
-use Rattle.std.proofs.lemmas.Bool.{and_parts, eqb-true, eq-eqb}
+use Rattle.std.proofs.Common.{◌≡◌, ◌≢◌, ℕ, zero, suc, ◌+◌, ◌-◌, ◌<◌, ◌≤◌, Bool, true, false, List, [], ◌∷◌, ◌++◌, length, refl, sym, ap, ap₂, subst, ◌∙◌, arith, Err}
+use Rattle.std.specs.Prelude.{All, AllPairs, bit_xor, ◌==◌, if◌then◌else◌}
+use Rattle.std.proofs.lemmas.Bool.{eqb-true, eq-eqb}
 use Rattle.std.proofs.lemmas.List.{length-append}
 use Rattle.std.proofs.lemmas.List.Kept.{AllPairs-cons}
 use Rattle.std.proofs.lemmas.List.Elements.{All-nil, All-cons, All-head, All-tail, All-append}
@@ -15,10 +15,10 @@ use Rattle.s39_field.specs.Theory.Orders.{power_of_two-element, powers_of_two_ar
 use Rattle.s39_field.specs.Theory.PowerSums.{power_sums_determine_values}
 use Rattle.s39_field.specs.Theory.Products.{multiples_keep_roots}
 use Rattle.s39_field.specs.Theory.Powers.{word_field_is_field}
-use Rattle.s39_field.specs.Theory.Values.{add_of_sums, same_from_sum, mul-zero_left, one_mul, value_at-sum}
+use Rattle.s39_field.specs.Theory.Values.{add_of_sums, same_from_sum, mul-zero_left, value_at-sum}
 use Rattle.s39_words.specs.Layout.{IsIndex, most_words}
 use Rattle.s39_words.specs.Checksum.{generator, customization_string, one_added_to_last, checked_polynomial, IsValidChecksum}
-use Rattle.s39_words.specs.Reading.{IsWordCount, PassesCount, flag_of, Reads}
+use Rattle.s39_words.specs.Reading.{IsWordCount, flag_of, Reads}
 use Rattle.s39_words.specs.declared.word_error.WordError.TheVariants.{BadChecksum}
 use Rattle.s39_words.specs.Mistyping.{most_wrong_words, differing_places, IsMnemonic, IsMistyped}
 use Rattle.s39_words.specs.Spelling.{words_of}

@@ -15,8 +15,8 @@ abbrev pub byte_count : ℕ → ℕ
 byte_count n = (value_field_length n - padding_length n) / 8
 
 -- the bytes of the value, which stand behind the padding
-abbrev pub value_at : List ℕ → List ℕ
-value_at indices = pieces 8 (byte_count (length indices)) (drop (header_length + padding_length (length indices)) (bits_of_words indices))
+abbrev pub share_value_at : List ℕ → List ℕ
+share_value_at indices = pieces 8 (byte_count (length indices)) (drop (header_length + padding_length (length indices)) (bits_of_words indices))
 
 -- the fields in these words
 abbrev pub fields_at : List ℕ → ShareFields
@@ -29,5 +29,5 @@ fields_at indices = record {
   group_count = stored_group_count indices + 1;
   member_index = number_at indices 32 4;
   member_threshold = number_at indices 36 4 + 1;
-  value = record { items = value_at indices };
+  value = record { items = share_value_at indices };
 }

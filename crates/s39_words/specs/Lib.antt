@@ -9,3 +9,4 @@ pub mod Reading
 pub mod Mistyping
 pub mod FieldsAt
 pub mod Printing
+pub mod FirstWord

@@ -11,6 +11,7 @@ mod size;
 mod spelling;
 mod word_error;
 mod word_list;
+mod word_reader;
 mod word_writer;
 
 pub use printing::print;

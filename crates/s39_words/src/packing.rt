@@ -2,7 +2,7 @@
 ghost use Rattle.std.specs.Prelude.{◌≡◌, ◌≢◌, ℕ, ◌+◌, ◌*◌, ◌/◌, ◌%◌, ◌^◌, ◌<◌, ◌≤◌, ◌↔◌, All, length, IsTrue, IsSome, IfSome};
 ghost use Rattle.s39_words.specs.Layout.{IsIndex};
 ghost use Rattle.s39_words.specs.Reading.{IsWordCount, number_at as number_in, flag_of, padding_of};
-ghost use Rattle.s39_words.specs.FieldsAt.{value_at, fields_at};
+ghost use Rattle.s39_words.specs.FieldsAt.{share_value_at, fields_at};
 ghost use Rattle.s39_words.specs.Share.{IsShare, header_bits, data_words};
 
 use crate::share::{Share, ShareFields};
@@ -60,7 +60,7 @@ fn value_of(words: &[u16]) -> Option<Bytes>
     requires indices { All IsIndex words.now }
     requires count { IsWordCount (length words.now) }
     ensures padding { IsSome result ↔ All (λ b. b ≡ 0) (padding_of words.now) }
-    ensures value { IfSome result (λ value. value.items ≡ value_at words.now) }
+    ensures value { IfSome result (λ value. value.items ≡ share_value_at words.now) }
 {
     let digits = WORD_BITS * (words.len() - OTHER_WORDS);
     let padding = digits % 16;

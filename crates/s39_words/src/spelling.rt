@@ -5,14 +5,13 @@ ghost use Rattle.s39_words.specs.declared.share.ShareFields.{ShareFields};
 ghost use Rattle.s39_words.specs.declared.word_error.WordError.{WordError as Cause};
 ghost use Rattle.s39_words.specs.Reading.{Reads, PassesCount, IsWordCount};
 ghost use Rattle.s39_words.specs.Mistyping.{IsMnemonic, IsMistyped};
-ghost use Rattle.s39_words.specs.Spelling.{is_separator};
 
 use crate::checksum::is_valid_checksum;
 use crate::packing::{fields_of, has_flag};
 use crate::share::Share;
 use crate::size::{MAX_PADDING_BITS, MAX_WORDS, MIN_WORDS, OTHER_WORDS, WORD_BITS};
 use crate::word_error::WordError;
-use crate::word_list::index_of_word;
+use crate::word_reader::{after_separators, first_word};
 use arrayvec::ArrayVec;
 
 /// Reads a text as the share that it spells, or as the first cause for which it spells none: an unknown word, a
@@ -52,26 +51,21 @@ pub(crate) fn indices_of(line: &[u8]) -> Result<Indices, WordError>
 {
     let mut indices = ArrayVec::new();
     let mut words = 0;
-    for word in line.split(separates).filter(|word| !word.is_empty()) {
+    let mut rest = after_separators(line);
+    while !rest.is_empty() {
         words += 1;
-        let Some(index) = index_of_word(word) else {
+        let Some(word) = first_word(rest) else {
             return Err(WordError::UnknownWord { position: words });
         };
         // Words past those that a mnemonic may have are only counted.
-        let _ = indices.try_push(index);
+        let _ = indices.try_push(word.index);
+        rest = after_separators(word.rest);
     }
     if is_word_count(words) {
         Ok(indices)
     } else {
         Err(WordError::WordCount { words })
     }
-}
-
-/// Whether this byte stands between words.
-fn separates(byte: &u8) -> bool
-    ensures { result ≡ is_separator byte.now }
-{
-    *byte == b' ' || *byte == b'\t' || *byte == b'\r'
 }
 
 /// Whether a mnemonic may have this many words.

@@ -1,7 +1,5 @@
 //! The word list of SLIP-0039.
-ghost use Rattle.std.specs.Prelude.{◌≡◌, ◌<◌, ◌↔◌, map, All, IsSome, IfSome, IsTrue};
-ghost use Rattle.std.specs.Char.{is_ascii_alphabetic, to_ascii_lowercase};
-ghost use Rattle.std.specs.Str.{str_to_ascii_lowercase};
+ghost use Rattle.std.specs.Prelude.{◌≡◌, ℕ, List, map, IfSome};
 ghost use Rattle.s39_words.specs.Layout.{IsIndex};
 ghost use Rattle.s39_words.specs.WordList.{word_list, index_of, FitsRow, row_of, number_of_row};
 
@@ -149,33 +147,6 @@ pub(crate) fn rows() -> &'static [Row]
     &ROWS
 }
 
-/// The small letter of an ASCII letter, or `None` of another byte.
-fn small_letter(byte: u8) -> Option<u8>
-    ensures letter { IsSome result ↔ IsTrue (is_ascii_alphabetic byte) }
-    ensures small { IfSome result (λ letter. letter ≡ to_ascii_lowercase byte) }
-{
-    if byte.is_ascii_alphabetic() {
-        Some(byte.to_ascii_lowercase())
-    } else {
-        None
-    }
-}
-
-/// The row of a word, its capitals as small letters, or `None` where no word in the list has such bytes or as many.
-fn row_of_word(word: &[u8]) -> Option<Row>
-    ensures fits { IsSome result ↔ FitsRow (str_to_ascii_lowercase word.now) }
-    ensures row { IfSome result (λ row. row ≡ row_of (str_to_ascii_lowercase word.now)) }
-{
-    if word.len() > MAX_LETTERS {
-        return None;
-    }
-    let mut row = [b' '; MAX_LETTERS];
-    for (i, byte) in word.iter().enumerate() {
-        row[i] = small_letter(*byte)?;
-    }
-    Some(row)
-}
-
 /// A row as one number, so that two are compared in one step: the rows are in the order of these numbers.
 #[tactic(auto, unfolding(crate::specs::WordList::number_of_row))]
 fn number_of(row: &Row) -> u64
@@ -184,13 +155,13 @@ fn number_of(row: &Row) -> u64
     u64::from_be_bytes(*row)
 }
 
-/// The index of a word in the list, 0 to 1023, its ASCII capitals read as small letters.
-pub(crate) fn index_of_word(word: &[u8]) -> Option<u16>
-    ensures same { result ≡ index_of (str_to_ascii_lowercase word.now) }
+/// The index of a word in the list, 0 to 1023, by the number of its row.
+pub(crate) fn index_of_number(number: u64) -> Option<u16>
+    ensures same { (word : List ℕ) → FitsRow word → number ≡ number_of_row (row_of word)
+        → result ≡ index_of word }
     ensures in_list { IfSome result (λ index. IsIndex index) }
 {
-    let row = row_of_word(word)?;
-    match rows().binary_search_by_key(&number_of(&row), number_of) {
+    match rows().binary_search_by_key(&number, number_of) {
         Ok(index) => Some(index as u16),
         Err(_) => None,
     }

@@ -1,10 +1,14 @@
-use Rattle.std.specs.Prelude.{map}
-use Rattle.s39_words.proofs.Indices.{KeepIndices, lower}
+use Rattle.std.proofs.Common.{◌+◌, ◌≤◌, length}
+use Rattle.s39_words.specs.FirstWord.{BeginsInWord}
+use Rattle.s39_words.proofs.Indices.{KeepsWords}
 use Rattle.s39_words.proofs.spelling.indices_of.Given as goal
 
-abbrev pub invariant-loop-word : goal.invariant-loop-word
-invariant-loop-word l = record {
-  can_next : (goal.iterator-loop-word).can_next l.word-iterator;
-  is_finite : (goal.iterator-loop-word).is_finite l.word-iterator;
-  kept : KeepIndices (lower (map (λ word. word.now) l.yielded)) l.indices.items l.words;
+abbrev pub invariant-loop-rest : goal.invariant-loop-rest
+invariant-loop-rest l = record {
+  begins : BeginsInWord l.rest;
+  short : l.words + length l.rest ≤ length l.line;
+  keeps : KeepsWords l.line l.rest l.indices.items l.words;
 }
+
+abbrev pub decreases-loop-rest : goal.decreases-loop-rest
+decreases-loop-rest l = length l.rest
