@@ -1,7 +1,8 @@
 //! The vectors of SLIP-0039, texts that are no mnemonic, and what the word list holds.
 use crate::laws::read_back;
 use crate::printing::word_at;
-use crate::word_list::{index_of_word, rows};
+use crate::word_list::rows;
+use crate::word_reader::{after_separators, first_word};
 use crate::{MAX_TEXT_BYTES, WordError, parse, print};
 use arrayvec::ArrayVec;
 use sha2::{Digest, Sha256};
@@ -37,6 +38,20 @@ const EXTENDABLE_TWO_WORDS_EXCHANGED: &str =
 
 const GROUP_THRESHOLD_ABOVE_COUNT: &str =
     "music husband acrobat acid artist finance center either graduate swimming object bike medical clothes station aspect spider maiden bulb welcome";
+
+/// The index of the word that a text is, or `None` where it isn't one word of the list.
+fn index_of_word(text: &[u8]) -> Option<u16> {
+    let word = after_separators(text);
+    if word.is_empty() {
+        return None;
+    }
+    let first = first_word(word)?;
+    if first.rest.is_empty() {
+        Some(first.index)
+    } else {
+        None
+    }
+}
 
 #[test]
 fn prints_the_text_that_it_read(rt: HostRuntime) -> Result<(), Fail> {
