@@ -49,6 +49,8 @@ pub enum RefusalText {
     DigestMismatchInGroup(u8),
     #[error("digest mismatch of groups")]
     DigestMismatchOfGroups,
+    #[error("cursor is no quorum")]
+    NotAQuorum,
     #[error("line too long")]
     LineTooLong,
     #[error("read failed")]
@@ -117,6 +119,7 @@ impl From<Refusal> for RefusalText {
                 RefusalText::DigestMismatchInGroup(group)
             }
             Refusal::DigestMismatch(Mismatch::OfGroups) => RefusalText::DigestMismatchOfGroups,
+            Refusal::NotAQuorum => RefusalText::NotAQuorum,
             Refusal::Device(DeviceFailure::Read) => RefusalText::ReadFailed,
             Refusal::Device(DeviceFailure::Write) => RefusalText::WriteFailed,
         }

@@ -2,3 +2,4 @@ pub mod Taking
 pub mod Sets
 pub mod Texts
 pub mod Runs
+pub mod Drills

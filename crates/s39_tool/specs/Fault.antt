@@ -7,7 +7,7 @@ use Rattle.s39_tool.specs.declared.fault.Stop.TheVariants.{AtLine, ReadFailed}
 use Rattle.s39_tool.specs.declared.fault.DeviceFailure.{DeviceFailure}
 use Rattle.s39_tool.specs.declared.fault.DeviceFailure.TheVariants.{Read, Write}
 use Rattle.s39_tool.specs.declared.fault.Refusal.{Refusal}
-use Rattle.s39_tool.specs.declared.fault.Refusal.TheVariants.{Line, Passphrase, SecretLength, RandomLength, Lack, DigestMismatch, Device}
+use Rattle.s39_tool.specs.declared.fault.Refusal.TheVariants.{Line, Passphrase, SecretLength, RandomLength, Lack, DigestMismatch, NotAQuorum, Device}
 use Rattle.s39_tool.specs.declared.fault.Fault.{Fault}
 use Rattle.s39_words.specs.Reading.{code_of as word_code_of}
 use Rattle.s39_set.specs.ShareSet.{code_of as set_code_of}
@@ -32,6 +32,7 @@ code_of (Passphrase _) = 41
 code_of (SecretLength _) = 42
 code_of (RandomLength _) = 43
 code_of (DigestMismatch _) = 51
+code_of NotAQuorum = 62
 code_of (Device failure) = device_code_of failure
 
 -- a refusal of what stands in a line, of its length, or of its share beside those before it

@@ -11,3 +11,4 @@ pub mod Collecting
 pub mod Recover
 pub mod Create
 pub mod OfBackup
+pub mod Drill

@@ -98,6 +98,8 @@ pub enum Refusal {
     RandomLength { needed: usize },
     /// Shares combine to a secret of another digest than they have.
     DigestMismatch(Mismatch),
+    /// The names after which a drill is to start are no quorum of the shares.
+    NotAQuorum,
     /// A device failed.
     Device(DeviceFailure),
 }
@@ -105,7 +107,7 @@ pub enum Refusal {
 impl Refusal {
     ghost use Rattle.s39_tool.specs.Fault.{code_of, has_line};
 
-    /// The code by which a message names the refusal: 11 to 15, 21 to 30, 41 to 43, 51, or 71 to 73.
+    /// The code by which a message names the refusal: 11 to 15, 21 to 30, 41 to 43, 51, 62, or 71 to 73.
     pub fn code(&self) -> u8
         ensures { result ≡ code_of self.now }
     {
@@ -116,6 +118,7 @@ impl Refusal {
             Refusal::SecretLength(bad) => bad.code(),
             Refusal::RandomLength { .. } => 43,
             Refusal::DigestMismatch(mismatch) => mismatch.code(),
+            Refusal::NotAQuorum => 62,
             Refusal::Device(failure) => failure.code(),
         }
     }

@@ -1,10 +1,11 @@
 //! What the commands of the program `shamir` do, over readers and writers: counted devices, faults, the lines of
-//! an input, and the runs `show`, `create` and `recover`.
+//! an input, and the runs `show`, `create`, `recover` and `drill`.
 #![tactic(auto)]
 
 mod collect;
 mod creating;
 mod device;
+mod drill;
 mod fault;
 pub mod laws;
 mod lines;
@@ -14,6 +15,7 @@ mod show;
 
 pub use creating::run_create;
 pub use device::Counting;
+pub use drill::{Done, Undrilled, run_drill};
 pub use fault::{DeviceFailure, Fault, LineRefusal, Refusal, RefusedLine, Stop};
 pub use recover::{Unrecovered, run_recover};
 pub use s39_backup::{

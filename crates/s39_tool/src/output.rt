@@ -1,9 +1,11 @@
 //! The lines of an output.
-ghost use Rattle.std.specs.Prelude.{◌≡◌, ◌+◌, ◌*◌, ◌<◌, ◌≤◌, ◌++◌, length};
+ghost use Rattle.std.specs.Prelude.{◌≡◌, ◌+◌, ◌*◌, ◌<◌, ◌≤◌, ◌++◌, All, length};
 ghost use Rattle.std.specs.Fmt.{decimal};
 ghost use Rattle.hex.specs.Hex.{encode_lower};
 ghost use Rattle.s39_kdf.specs.Limits.{longest_secret};
-ghost use Rattle.s39_tool.specs.declared.output.TheConstants.{LINE_BYTES};
+ghost use Rattle.s39_set.specs.Names.{most_groups, most_members};
+ghost use Rattle.s39_set.specs.Written.{name_text, quorum_text};
+ghost use Rattle.s39_tool.specs.declared.output.TheConstants.{LINE_BYTES, NAME_BYTES};
 ghost use Rattle.s39_tool.specs.Output.{WritesText};
 
 use crate::device::Counting;
@@ -48,6 +50,38 @@ pub(crate) fn push_field(line: &mut Line, name: &[u8], number: u16)
 {
     push_text(line, name);
     push_number(line, number);
+}
+
+/// A name of a share: its group and its member index.
+fn push_name(line: &mut Line, name: (u8, u8))
+    requires group { name.0 < most_groups }
+    requires member { name.1 < most_members }
+    requires room { length line.old.items + NAME_BYTES ≤ LINE_BYTES + 1 }
+    ensures text { line.new.items ≡ line.old.items ++ name_text name }
+    ensures room { length line.new.items + 1 ≤ length line.old.items + NAME_BYTES }
+{
+    push_number(line, u16::from(name.0));
+    line.push(b'.');
+    push_number(line, u16::from(name.1));
+}
+
+/// Names of shares, with a plus sign between each two.
+pub(crate) fn push_names(line: &mut Line, names: &[(u8, u8)])
+    requires groups { All (λ name. name.0 < most_groups) names.now }
+    requires members { All (λ name. name.1 < most_members) names.now }
+    requires room { length line.old.items + NAME_BYTES * length names.now ≤ LINE_BYTES }
+    ensures text { line.new.items ≡ line.old.items ++ quorum_text names.now }
+    ensures room { length line.new.items
+        ≤ length line.old.items + NAME_BYTES * length names.now }
+{
+    let Some((first, others)) = names.split_first() else {
+        return;
+    };
+    push_name(line, *first);
+    for name in others {
+        line.push(b'+');
+        push_name(line, *name);
+    }
 }
 
 pub(crate) fn push_hex(line: &mut Line, bytes: &[u8])

@@ -1,0 +1,5 @@
+-- The command `drill`.
+pub mod Names
+pub mod Memos
+pub mod Drilling
+pub mod Output

@@ -1,0 +1,241 @@
+-- A drill, a quorum at a time.
+use Rattle.std.proofs.Common.{◌≡◌, ℕ, zero, suc, ◌+◌, ◌≤◌, List, [], ◌∷◌, ◌++◌, map, All, Bool, true, false, is_some, is_err, ◌⊎◌, inl, inr, refl, sym, ap, ◌∙◌, subst, append_assoc, append-nil, arith, ◌↔◌, Option, Some, None, Result, Ok, Err}
+use Rattle.std.proofs.lemmas.List.Elements.{All-nil, All-cons}
+use Rattle.arrayvec.specs.ArrayVec.{ArrayVec}
+use mir.Val.{bool_byte}
+use Rattle.s39_words.specs.declared.ShareFields.{ShareFields}
+use Rattle.s39_set.specs.ShareSet.{IsShareSet}
+use Rattle.s39_set.specs.Quorums.{IsQuorum, IsFirstQuorumAfter, HasNoQuorumAfter}
+use Rattle.s39_set.specs.Listing.{AreAllQuorumsAfter, IsListing, IsWalk}
+use Rattle.s39_backup.specs.declared.combination.Mismatch.{Mismatch}
+use Rattle.s39_backup.specs.Outcome.{IsOutcome}
+use Rattle.s39_tool.specs.Device.{Counted}
+use Rattle.s39_tool.specs.Output.{WritesWhole, WritesPart}
+use Rattle.s39_tool.specs.Drill.{Listed, quorum_line, last_line, mismatches_in, IsDrill, IsNext, shown}
+use Rattle.s39_tool.proofs.Runs.Writing.{nothing_written, both_written, part_after}
+
+abbrev Names : Type 0
+Names = List (ℕ × ℕ)
+
+-- what is known of listings and of outcomes
+pub record Laws : Type 0 where
+  pub first : (set : List ShareFields) (given : Option Names) (names : Names) (limit : ℕ) (others : List Names)
+      → IsFirstQuorumAfter set given names → IsListing set (Some names) limit others → IsListing set given (suc limit) (names ∷ others)
+  pub none : (set : List ShareFields) (given : Option Names) (limit : ℕ) → HasNoQuorumAfter set given → IsListing set given limit []
+  pub exists : (set : List ShareFields) (given : Option Names) (limit : ℕ) → IsShareSet set → (listed : List Names) × IsListing set given limit listed
+  pub walks : (set : List ShareFields) (given : Option Names) (quorums : List Names) → (IsWalk set given quorums ↔ AreAllQuorumsAfter set given quorums)
+  pub outcome : (set : List ShareFields) (names : Names) (passphrase : List ℕ) → IsShareSet set → IsQuorum set names
+      → (outcome : Result (List ℕ) Mismatch) × IsOutcome set names passphrase outcome
+
+-- 1 where the outcome is a mismatch, else 0
+abbrev pub mismatch_in : Result (List ℕ) Mismatch → ℕ
+mismatch_in (Ok secret) = 0
+mismatch_in (Err mismatch) = 1
+
+pub mismatch_most : (outcome : Result (List ℕ) Mismatch) → mismatch_in outcome ≤ 1
+mismatch_most (Ok secret) = omega arith
+mismatch_most (Err mismatch) = omega arith
+
+mismatches-more : (names : Names) (outcome : Result (List ℕ) Mismatch) (lines : List Listed) → mismatch_in outcome + mismatches_in lines ≡ mismatches_in ((names, outcome) ∷ lines)
+mismatches-more names (Ok secret) lines = omega arith
+mismatches-more names (Err mismatch) lines = omega arith
+
+-- no quorum is left
+pub drill_ends : (set : List ShareFields) (passphrase : List ℕ) (reached : Option Names) (limit : ℕ) → IsListing set reached limit [] → HasNoQuorumAfter set reached
+    → IsDrill set passphrase reached limit [] None 0
+drill_ends set passphrase reached limit listing none = record {
+  lines = [];
+  listing = listing;
+  outcomes = All-nil (λ line. IsOutcome set line.0 passphrase line.1);
+  text_is = refl;
+  goes_on = none;
+  mismatches_are = refl;
+}
+
+module _ (laws : Laws) (set : List ShareFields) (passphrase : List ℕ) where
+  -- a quorum and its outcome, and then the drill after it
+  pub drill_step : (reached : Option Names) (limit : ℕ) (names : Names) (outcome : Result (List ℕ) Mismatch) (text : List ℕ) (more : Option Names) (m : ℕ)
+      → IsFirstQuorumAfter set reached names → IsOutcome set names passphrase outcome → IsDrill set passphrase (Some names) limit text more m
+      → IsDrill set passphrase reached (suc limit) (quorum_line (names, outcome) ++ text) more (mismatch_in outcome + m)
+  drill_step reached limit names outcome text more m first is d = record {
+    lines = (names, outcome) ∷ d.lines;
+    listing = laws.first set reached names limit (map (λ line. line.0) d.lines) first d.listing;
+    outcomes = All-cons (λ line. IsOutcome set line.0 passphrase line.1) (names, outcome) d.lines is d.outcomes;
+    text_is = ap (λ t. quorum_line (names, outcome) ++ t) d.text_is;
+    goes_on = d.goes_on;
+    mismatches_are = ap (λ n. mismatch_in outcome + n) d.mismatches_are ∙ mismatches-more names outcome d.lines;
+  }
+
+  module _ (is : IsShareSet set) where
+    -- the limit is reached, and a quorum is left
+    pub drill_stops : (names next : Names) → IsFirstQuorumAfter set (Some names) next → IsDrill set passphrase (Some names) 0 [] (Some names) 0
+    drill_stops names next first =
+        let (listed, l) = laws.exists set (Some names) 0 is in record {
+          lines = [];
+          listing = record { all = l.all; all_are = l.all_are; listed_are = refl };
+          outcomes = All-nil (λ line. IsOutcome set line.0 passphrase line.1);
+          text_is = refl;
+          goes_on = (refl, λ none. none next first.quorum first.after);
+          mismatches_are = refl;
+        }
+
+    first_of_walk : (reached : Option Names) (all : List Names) → IsWalk set reached all → (next : Option Names) × IsNext set reached next
+    first_of_walk reached [] walk = (None, walk)
+    first_of_walk reached (names ∷ others) walk = (Some names, walk.0)
+
+    -- a quorum comes next, or none does
+    pub next_or_none : (reached : Option Names) → (next : Option Names) × IsNext set reached next
+    next_or_none reached =
+        let (listed, l) = laws.exists set reached 0 is in
+        first_of_walk reached l.all ((laws.walks set reached l.all).1 l.all_are)
+
+    -- a text that a drill after some quorum has
+    pub record SomeDrill (reached : Option Names) (limit : ℕ) : Type 0 where
+      pub text : List ℕ
+      pub more : Option Names
+      pub mismatches : ℕ
+      pub drill : IsDrill set passphrase reached limit text more mismatches
+
+    pub drill_from : (reached : Option Names) (names : Names) (limit : ℕ) → IsFirstQuorumAfter set reached names → SomeDrill (Some names) limit → SomeDrill reached (suc limit)
+    drill_from reached names limit first d =
+        let (outcome, o) = laws.outcome set names passphrase is first.quorum in record {
+          text = quorum_line (names, outcome) ++ d.text;
+          more = d.more;
+          mismatches = mismatch_in outcome + d.mismatches;
+          drill = drill_step reached limit names outcome d.text d.more d.mismatches first o d.drill;
+        }
+
+    drill_ended : (reached : Option Names) (limit : ℕ) → HasNoQuorumAfter set reached → SomeDrill reached limit
+    drill_ended reached limit none = record { text = []; more = None; mismatches = 0; drill = drill_ends set passphrase reached limit (laws.none set reached limit none) none }
+
+    drill_or_end : (reached : Option Names) (limit : ℕ) → ((names : Names) → SomeDrill (Some names) limit) → (next : Option Names) × IsNext set reached next
+        → SomeDrill reached (suc limit)
+    drill_or_end reached limit later (None, none) = drill_ended reached (suc limit) none
+    drill_or_end reached limit later (Some next, first) = drill_from reached next limit first (later next)
+
+    -- every drill after a quorum has a text
+    pub some_drill : (names : Names) (limit : ℕ) → SomeDrill (Some names) limit
+    some_drill names zero = by (next_or_none (Some names)) where
+      by : (next : Option Names) × IsNext set (Some names) next → SomeDrill (Some names) zero
+      by (None, none) = drill_ended (Some names) zero none
+      by (Some next, first) = record { text = []; more = Some names; mismatches = 0; drill = drill_stops names next first }
+    some_drill names (suc limit) = drill_or_end (Some names) limit (λ next. some_drill next limit) (next_or_none (Some names))
+
+    -- every drill of a set with a quorum has a text, where its limit is at least 1
+    pub some_drill_of : (reached : Option Names) (limit : ℕ) → SomeDrill reached (suc limit)
+    some_drill_of reached limit = drill_or_end reached limit (λ next. some_drill next limit) (next_or_none reached)
+
+-- after which quorum more remain
+abbrev pub more_after : Names → Option Names → Option Names
+more_after names None = None
+more_after names (Some next) = Some names
+
+-- the drill after the last listed quorum has no line
+pub drill_over : (laws : Laws) (set : List ShareFields) (passphrase : List ℕ) → IsShareSet set → (names : Names) (next : Option Names) (left : ℕ) → IsNext set (Some names) next
+    → (left ≡ 0) ⊎ (is_some next ≡ false) → IsDrill set passphrase (Some names) left [] (more_after names next) 0
+drill_over laws set passphrase is names None left none over = drill_ends set passphrase (Some names) left (laws.none set (Some names) left none) none
+drill_over laws set passphrase is names (Some next) left first (inl reached) =
+    subst (λ (n : ℕ). IsDrill set passphrase (Some names) n [] (Some names) 0) (sym reached) (drill_stops laws set passphrase is names next first)
+drill_over laws set passphrase is names (Some next) left first (inr none) = absurd (let bad : true ≡ false = none in cc)
+
+-- and this is the last line
+pub last_line_is : (names : Names) (next : Option Names) (more : Bool) (line : List ℕ) → more ≡ is_some next → (more ≡ true → line ≡ last_line (Some names)) → (more ≡ false → line ≡ last_line None)
+    → line ≡ last_line (more_after names next)
+last_line_is names None more line is some none = none is
+last_line_is names (Some next) more line is some none = some is
+
+-- the answer says whether the outcome is a mismatch
+pub mismatch_is : (outcome : Result (ArrayVec ℕ) Mismatch) → bool_byte (is_err outcome) ≡ mismatch_in (shown outcome)
+mismatch_is (Ok secret) = refl
+mismatch_is (Err mismatch) = refl
+
+zero-left : (n : ℕ) → n ≡ 0 + n
+zero-left n = omega arith
+
+-- of a drill that starts at this quorum, the text before another quorum is written
+pub record IsDrilling {W : Type 0} (contents : W → Option (List ℕ)) (old new : Counted W) (set : List ShareFields) (passphrase : List ℕ) (start : Names) (limit : ℕ)
+    (quorum : Names) (left mismatches : ℕ) : Type 0 where
+  pub text : List ℕ
+  pub written : WritesWhole contents old text new
+  pub is_quorum : IsQuorum set quorum
+  pub goes_on : (after : Option Names) → IsFirstQuorumAfter set after start
+      → (reached : Option Names) × IsFirstQuorumAfter set reached quorum
+      × ((rest : List ℕ) (more : Option Names) (m : ℕ) → IsDrill set passphrase reached left rest more m
+      → IsDrill set passphrase after limit (text ++ rest) more (mismatches + m))
+
+module _ {W : Type 0} (contents : W → Option (List ℕ)) (old : Counted W) (set : List ShareFields) (passphrase : List ℕ) (start : Names) (limit : ℕ) where
+  pub drilling_starts : IsQuorum set start → IsDrilling contents old old set passphrase start limit start limit 0
+  drilling_starts is = record {
+    text = [];
+    written = nothing_written contents old;
+    is_quorum = is;
+    goes_on = λ after first. (after, first, λ rest more m d. subst (λ n. IsDrill set passphrase after limit rest more n) (zero-left m) d);
+  }
+
+  module _ (laws : Laws) (new after_line : Counted W) (quorum : Names) (left mismatches : ℕ) (outcome : Result (List ℕ) Mismatch)
+      (d : IsDrilling contents old new set passphrase start limit quorum (suc left) mismatches) (is : IsOutcome set quorum passphrase outcome) where
+    abbrev pub line : List ℕ
+    line = quorum_line (quorum, outcome)
+
+    -- the drill after the quorum is the rest of the drill
+    joins : (after : Option Names) → IsFirstQuorumAfter set after start → (rest : List ℕ) (more : Option Names) (m : ℕ)
+        → IsDrill set passphrase (Some quorum) left rest more m → IsDrill set passphrase after limit ((d.text ++ line) ++ rest) more ((mismatches + mismatch_in outcome) + m)
+    joins after first rest more m later =
+        let (reached, from, then) = d.goes_on after first in
+        let whole = then (line ++ rest) more (mismatch_in outcome + m) (drill_step laws set passphrase reached left quorum outcome rest more m from is later) in
+        let same : mismatches + (mismatch_in outcome + m) ≡ (mismatches + mismatch_in outcome) + m = omega arith in
+        subst (λ n. IsDrill set passphrase after limit ((d.text ++ line) ++ rest) more n) same
+        (subst (λ t. IsDrill set passphrase after limit t more (mismatches + (mismatch_in outcome + m))) (sym (append_assoc d.text line rest)) whole)
+
+    -- the write of its line failed
+    pub drilling_fails : IsShareSet set → WritesPart contents new line after_line → (after : Option Names) → IsFirstQuorumAfter set after start
+        → (lines : List ℕ) × (more : Option Names) × (n : ℕ) × IsDrill set passphrase after limit lines more n × WritesPart contents old (lines ++ last_line more) after_line
+    drilling_fails is_set part after first =
+        let rest = some_drill laws set passphrase is_set quorum left in
+        let whole = joins after first rest.text rest.more rest.mismatches rest.drill in
+        let same : d.text ++ (line ++ (rest.text ++ last_line rest.more)) ≡ ((d.text ++ line) ++ rest.text) ++ last_line rest.more =
+        sym (append_assoc d.text line (rest.text ++ last_line rest.more)) ∙ sym (append_assoc (d.text ++ line) rest.text (last_line rest.more)) in (
+          (d.text ++ line) ++ rest.text,
+          rest.more,
+          (mismatches + mismatch_in outcome) + rest.mismatches,
+          whole,
+          subst (λ t. WritesPart contents old t after_line) same (part_after contents old new after_line d.text line (rest.text ++ last_line rest.more) d.written part),
+        )
+
+    module _ (written : WritesWhole contents new line after_line) where
+      both : WritesWhole contents old (d.text ++ line) after_line
+      both = both_written contents old new after_line d.text line d.written written
+
+      -- a quorum comes next
+      pub drilling_goes_on : (next : Names) → IsFirstQuorumAfter set (Some quorum) next
+          → IsDrilling contents old after_line set passphrase start limit next left (mismatches + mismatch_in outcome)
+      drilling_goes_on next first = record {
+        text = d.text ++ line;
+        written = both;
+        is_quorum = first.quorum;
+        goes_on = λ after from. (Some quorum, first, joins after from);
+      }
+
+      module _ (more : Option Names) (last : IsDrill set passphrase (Some quorum) left [] more 0) (end : Counted W) (after : Option Names) (first : IsFirstQuorumAfter set after start) where
+        whole : IsDrill set passphrase after limit (d.text ++ line) more (mismatches + mismatch_in outcome)
+        whole =
+            let n : (mismatches + mismatch_in outcome) + 0 ≡ mismatches + mismatch_in outcome = omega arith in
+            subst (λ k. IsDrill set passphrase after limit (d.text ++ line) more k) n
+            (subst (λ t. IsDrill set passphrase after limit t more ((mismatches + mismatch_in outcome) + 0)) (append-nil (d.text ++ line)) (joins after first [] more 0 last))
+
+        -- the last line is written
+        pub drilling_ends : WritesWhole contents after_line (last_line more) end
+            → (lines : List ℕ) × (more : Option Names) × IsDrill set passphrase after limit lines more (mismatches + mismatch_in outcome) × WritesWhole contents old (lines ++ last_line more) end
+        drilling_ends w = (d.text ++ line, more, whole, both_written contents old after_line end (d.text ++ line) (last_line more) both w)
+
+        -- its write failed
+        pub drilling_fails_last : WritesPart contents after_line (last_line more) end
+            → (lines : List ℕ) × (more : Option Names) × (n : ℕ) × IsDrill set passphrase after limit lines more n × WritesPart contents old (lines ++ last_line more) end
+        drilling_fails_last part = (
+          d.text ++ line,
+          more,
+          mismatches + mismatch_in outcome,
+          whole,
+          subst (λ t. WritesPart contents old t end) (ap (λ l. (d.text ++ line) ++ l) (append-nil (last_line more)))
+              (part_after contents old after_line end (d.text ++ line) (last_line more) [] both part),
+        )

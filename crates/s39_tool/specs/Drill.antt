@@ -1,0 +1,146 @@
+-- The output of `drill`.
+use Rattle.std.specs.Prelude.{◌≡◌, ◌⊎◌, ℕ, List, [], ◌∷◌, ◌++◌, All, codes, map, filter, length, is_err, Option, Some, None, IfSome, Result, Ok, Err}
+use Rattle.std.specs.Fmt.{decimal}
+use Rattle.std.specs.List.{flat_map}
+use Rattle.arrayvec.specs.ArrayVec.{ArrayVec}
+use Rattle.hex.specs.Hex.{encode_lower}
+use Rattle.s39_kdf.specs.Limits.{IsPrintable}
+use Rattle.s39_words.specs.declared.ShareFields.{ShareFields}
+use Rattle.s39_set.specs.declared.set_lack.SetLack.{SetLack}
+use Rattle.s39_set.specs.Quorums.{IsQuorum, IsFirstQuorumAfter, HasNoQuorumAfter}
+use Rattle.s39_set.specs.Lack.{IsLack}
+use Rattle.s39_set.specs.Listing.{IsListing}
+use Rattle.s39_set.specs.Written.{quorum_text}
+use Rattle.s39_backup.specs.declared.combination.Mismatch.{Mismatch}
+use Rattle.s39_backup.specs.declared.combination.Mismatch.TheVariants.{InGroup, OfGroups}
+use Rattle.s39_backup.specs.Outcome.{IsOutcome}
+use Rattle.s39_tool.specs.declared.fault.Refusal.TheVariants.{Lack as LackRefusal, NotAQuorum as CursorRefusal}
+use Rattle.s39_tool.specs.declared.fault.LineRefusal.{LineRefusal}
+use Rattle.s39_tool.specs.declared.fault.Stop.{Stop}
+use Rattle.s39_tool.specs.declared.fault.Fault.{Fault}
+use Rattle.s39_tool.specs.declared.drill.Done.{Done}
+use Rattle.s39_tool.specs.declared.drill.Undrilled.{Undrilled}
+use Rattle.s39_tool.specs.declared.drill.Undrilled.TheVariants.{Lack, NotAQuorum}
+use Rattle.s39_tool.specs.Device.{Counted}
+use Rattle.s39_tool.specs.Output.{WritesWhole, WritesPart}
+use Rattle.s39_tool.specs.Input.{Input}
+use Rattle.s39_tool.specs.Fault.{fault_of, fault_of_stop}
+use Rattle.s39_tool.specs.Accepted.{IsReadAs}
+use Rattle.s39_tool.specs.Recover.{RefusesPassphrase}
+
+-- a quorum that is listed, and its outcome
+abbrev pub Listed : Type 0
+Listed = List (ℕ × ℕ) × Result (List ℕ) Mismatch
+
+-- an outcome as it is shown: the secret in lower-case hexadecimal, or which digest isn't the right one
+abbrev pub outcome_text : Result (List ℕ) Mismatch → List ℕ
+outcome_text (Ok secret) = encode_lower secret
+outcome_text (Err (InGroup group)) = codes "digest mismatch in group " ++ decimal group
+outcome_text (Err OfGroups) = codes "digest mismatch of groups"
+
+-- the line of a quorum: the quorum, a space, its outcome, and a line feed
+abbrev pub quorum_line : Listed → List ℕ
+quorum_line listed = quorum_text listed.0 ++ 32 ∷ outcome_text listed.1 ++ 10 ∷ []
+
+-- the last line: that no more quorums remain, or after which one more do
+abbrev pub last_line : Option (List (ℕ × ℕ)) → List ℕ
+last_line None = codes "end" ++ 10 ∷ []
+last_line (Some names) = codes "more after " ++ quorum_text names ++ 10 ∷ []
+
+-- how many of these outcomes are mismatches
+abbrev pub mismatches_in : List Listed → ℕ
+mismatches_in lines = length (filter (λ line. is_err line.1) lines)
+
+-- the last of these quorums, or what was reached before them where there are none
+abbrev pub last_reached : Option (List (ℕ × ℕ)) → List (List (ℕ × ℕ)) → Option (List (ℕ × ℕ))
+last_reached reached [] = reached
+last_reached reached (names ∷ others) = last_reached (Some names) others
+
+-- no quorum comes after what was reached, or some do after this one, which was reached
+abbrev pub GoesOn : List ShareFields → Option (List (ℕ × ℕ)) → Option (List (ℕ × ℕ)) → Type 0
+GoesOn set reached None = HasNoQuorumAfter set reached
+GoesOn set reached (Some names) = (reached ≡ Some names) × ¬ HasNoQuorumAfter set reached
+
+-- The drill of a set: the text of the lines of the quorums after a given one, or of all, in order, at most as many as
+-- the limit, each with its outcome; whether more remain; and how many of the outcomes are mismatches.
+pub record IsDrill (set : List ShareFields) (passphrase : List ℕ) (after : Option (List (ℕ × ℕ))) (limit : ℕ)
+    (text : List ℕ) (more : Option (List (ℕ × ℕ))) (mismatches : ℕ) : Type 0 where
+  pub lines : List Listed
+  pub listing : IsListing set after limit (map (λ line. line.0) lines)
+  pub outcomes : All (λ line. IsOutcome set line.0 passphrase line.1) lines
+  pub text_is : text ≡ flat_map quorum_line lines
+  pub goes_on : GoesOn set (last_reached after (map (λ line. line.0) lines)) more
+  pub mismatches_are : mismatches ≡ mismatches_in lines
+
+-- why a set isn't drilled: it has no quorum, or what is given isn't a quorum of it
+abbrev pub IsUndrilled : List ShareFields → Option (List (ℕ × ℕ)) → Undrilled → Type 0
+IsUndrilled set after (Lack lack) = IsLack set lack
+IsUndrilled set after NotAQuorum =
+    ((lack : SetLack) → ¬ IsLack set lack)
+    × ((names : List (ℕ × ℕ)) × (after ≡ Some names) × ¬ IsQuorum set names)
+
+-- the fault of a set that isn't drilled
+abbrev pub fault_of_undrilled : Undrilled → Fault
+fault_of_undrilled (Lack lack) = fault_of (LackRefusal lack)
+fault_of_undrilled NotAQuorum = fault_of CursorRefusal
+
+-- the set of the input's shares isn't drilled
+pub record RefusesDrill (passphrase : List ℕ) (after : Option (List (ℕ × ℕ))) (input : Input) (fault : Fault) : Type 0 where
+  pub set : List ShareFields
+  pub cause : Undrilled
+  pub printable : All IsPrintable passphrase
+  pub read : IsReadAs input (Ok set)
+  pub refused : IsUndrilled set after cause
+  pub fault_is : fault ≡ fault_of_undrilled cause
+
+-- the set of the input's shares is drilled: it has a quorum, what is given is one, and the text is that of the lines
+-- of its drill and of the last line
+pub record DrillsSet (passphrase : List ℕ) (after : Option (List (ℕ × ℕ))) (limit : ℕ) (input : Input) (text : List ℕ)
+    (mismatches : ℕ) : Type 0 where
+  pub set : List ShareFields
+  pub lines : List ℕ
+  pub more : Option (List (ℕ × ℕ))
+  pub printable : All IsPrintable passphrase
+  pub read : IsReadAs input (Ok set)
+  pub no_lack : (lack : SetLack) → ¬ IsLack set lack
+  pub cursor : IfSome after (IsQuorum set)
+  pub drill : IsDrill set passphrase after limit lines more mismatches
+  pub text_is : text ≡ lines ++ last_line more
+
+-- `drill` writes this text for the passphrase, the quorum after which it starts, the limit and the input, and answers
+-- so: the passphrase is judged first, then the lines of the input, and then the set of their shares
+abbrev pub IsDrillOutput : List ℕ → Option (List (ℕ × ℕ)) → ℕ → Input → List ℕ → Result Done Fault → Type 0
+IsDrillOutput passphrase after limit input text (Ok done) = DrillsSet passphrase after limit input text done.mismatches
+IsDrillOutput passphrase after limit input text (Err fault) =
+    (text ≡ [])
+    × (RefusesPassphrase passphrase fault
+    ⊎ ((stop : Stop LineRefusal) × All IsPrintable passphrase × IsReadAs input (Err stop) × (fault ≡ fault_of_stop stop))
+    ⊎ RefusesDrill passphrase after input fault)
+
+-- Within a run; no public contract cites this.
+
+-- the first quorum after what was reached, or none, where none comes after
+abbrev pub IsNext : List ShareFields → Option (List (ℕ × ℕ)) → Option (List (ℕ × ℕ)) → Type 0
+IsNext set reached None = HasNoQuorumAfter set reached
+IsNext set reached (Some names) = IsFirstQuorumAfter set reached names
+
+-- an outcome in its bytes
+abbrev pub shown : Result (ArrayVec ℕ) Mismatch → Result (List ℕ) Mismatch
+shown (Ok secret) = Ok secret.items
+shown (Err mismatch) = Err mismatch
+
+-- where a drill starts: at the first quorum after the given one, or of all, or nowhere where none remains
+pub record StartsAt (set : List ShareFields) (after next : Option (List (ℕ × ℕ))) : Type 0 where
+  pub no_lack : (lack : SetLack) → ¬ IsLack set lack
+  pub cursor : IfSome after (IsQuorum set)
+  pub starts : IsNext set after next
+
+-- the text of a drill is written, or a write fails
+abbrev pub WritesDrill : {W E : Type 0} → (W → Option (List ℕ)) → Counted W → List ShareFields → List ℕ → Option (List (ℕ × ℕ)) → ℕ
+    → Result Done E → Counted W → Type 0
+WritesDrill contents old set passphrase after limit (Ok done) new =
+    (lines : List ℕ) × (more : Option (List (ℕ × ℕ))) × IsDrill set passphrase after limit lines more done.mismatches
+    × WritesWhole contents old (lines ++ last_line more) new
+WritesDrill contents old set passphrase after limit (Err _) new =
+    (lines : List ℕ) × (more : Option (List (ℕ × ℕ))) × (mismatches : ℕ) × IsDrill set passphrase after limit lines more mismatches
+    × WritesPart contents old (lines ++ last_line more) new

@@ -1,0 +1,251 @@
+//! The command `drill`: the quorums of an input's shares in order, each with its outcome.
+ghost use Rattle.std.specs.Prelude.{◌≡◌, ◌≢◌, ℕ, List, Option, ◌+◌, ◌-◌, ◌*◌, ◌<◌, ◌≤◌, ◌++◌, ◌∷◌, [], All, Some, None, Ok, Err, IfSome, IfOk, IfErr, OnErr, length, true, false};
+ghost use Rattle.std.specs.Option.{option_copied};
+ghost use Rattle.s39_kdf.specs.Limits.{IsPrintable, longest_secret};
+ghost use Rattle.s39_kdf.specs.declared.limits.BadPassphrase.{BadPassphrase};
+ghost use Rattle.s39_set.specs.Names.{most_groups, most_members, most_names, AreNames};
+ghost use Rattle.s39_set.specs.Looks.{most_step_looks};
+ghost use Rattle.s39_set.specs.Quorums.{IsQuorum, IsFirstQuorumAfter};
+ghost use Rattle.s39_set.specs.ShareSet.{IsShareSet};
+ghost use Rattle.s39_set.specs.Written.{name_text, quorum_text};
+ghost use Rattle.s39_backup.specs.Outcome.{AreParams, IsOutcome};
+ghost use Rattle.s39_tool.specs.Drill.{IsNext, IsUndrilled, StartsAt, IsDrillOutput, WritesDrill, shown, outcome_text, quorum_line, last_line};
+ghost use Rattle.s39_tool.specs.declared.output.TheConstants.{LINE_BYTES};
+ghost use Rattle.s39_tool.specs.Fault.{fault_of};
+ghost use Rattle.s39_tool.specs.Runs.{Runs};
+
+use crate::collect::set_of;
+use crate::device::Counting;
+use crate::fault::{DeviceFailure, Fault, Refusal};
+use crate::output::{Line, WriteFailed, push_field, push_hex, push_names, push_text, write_text};
+use s39_backup::laws::every_quorum_has_an_outcome;
+use s39_backup::{Memo, Mismatch, combine_quorum, params_of};
+use s39_kdf::{Bytes, check_passphrase};
+use s39_set::laws::{listings_join, one_listing, walks_list_all};
+use s39_set::{Looks, NotAQuorum, Quorum, SetLack, ShareSet, first, next_after};
+use std::io::{Read, Write};
+
+/// What a drill found.
+#[derive(Clone, Copy, Debug, PartialEq, Eq)]
+pub struct Done {
+    /// How many of the listed quorums were refused for a digest.
+    pub mismatches: u32,
+}
+
+/// Why a set isn't drilled.
+#[derive(Clone, Copy, Debug, PartialEq, Eq)]
+pub enum Undrilled {
+    /// The set has no quorum.
+    Lack(SetLack),
+    /// What is given is no quorum of the set.
+    NotAQuorum,
+}
+
+impl From<SetLack> for Undrilled {
+    ghost use Rattle.s39_tool.specs.declared.drill.Undrilled.TheVariants.{Lack};
+
+    ghost from_gives = { λ lack cause. cause ≡ Lack lack };
+
+    fn from(lack: SetLack) -> Undrilled {
+        Undrilled::Lack(lack)
+    }
+}
+
+impl From<Undrilled> for Fault {
+    ghost use Rattle.s39_tool.specs.Drill.{fault_of_undrilled};
+
+    ghost from_gives = { λ cause fault. fault ≡ fault_of_undrilled cause };
+
+    fn from(cause: Undrilled) -> Fault {
+        match cause {
+            Undrilled::Lack(lack) => Fault::from(Refusal::Lack(lack)),
+            Undrilled::NotAQuorum => Fault::from(Refusal::NotAQuorum),
+        }
+    }
+}
+
+/// Tries the quorums of the input's shares that come after a given one (all, where there is none), in ascending order
+/// and at most `limit`, and writes a line for each: the quorum, a space, and the secret that it recovers with the
+/// passphrase in lower-case hexadecimal, or `digest mismatch in group G` with the lowest group that is refused, or
+/// `digest mismatch of groups`. The last line is `end` where no greater quorum remains, else `more after ` and the
+/// last listed one. The answer counts the mismatches. Each line is written as soon as it is known.
+///
+/// The first that applies is answered, and then nothing is written:
+///
+/// - `Passphrase` where a byte of it isn't printable, before anything is read;
+/// - the first refused line with its number: a word error, `TooLong` for more than 1,024 bytes, or `Set` where its
+///   share can't join those before it;
+/// - that the reader failed, where a read does; an unfinished line is then dropped, unless it is too long already;
+/// - `Lack` where the shares have no quorum;
+/// - `NotAQuorum` where the given names aren't one.
+///
+/// Where a write fails or takes no byte, the answer is that the writer failed, and a beginning of the lines is written.
+/// A wrong passphrase isn't noticed: as a rule it gives other secrets. The caller keeps `limit` at least 1, and both
+/// `failures()` below `u64::MAX`.
+pub fn run_drill<R: Read, W: Write>(
+    passphrase: &[u8],
+    after: Option<&Quorum>,
+    limit: u32,
+    input: &mut Counting<R>,
+    output: &mut Counting<W>,
+) -> Result<Done, Fault>
+    requires some { 1 ≤ limit }
+    requires readable { input.old.failures < u64.MAX }
+    requires writable { output.old.failures < u64.MAX }
+    ensures runs { Runs R.remaining W.contents
+        (IsDrillOutput passphrase.now (option_copied after.entry) limit)
+        input.old input.new output.old output.new result }
+    // Of any devices.
+    ensures untouched { IfErr result (λ fault.
+        fault.refusal ≢ Refusal.Device DeviceFailure.Write → output.new ≡ output.old) }
+    ensures unread { (bad : BadPassphrase)
+        → result ≡ Err (fault_of (Refusal.Passphrase bad)) → input.new ≡ input.old }
+{
+    listings_join();
+    check_passphrase(passphrase)?;
+    let set = set_of(input)?;
+    let mut looks = Looks::new();
+    let Some(start) = start_of(&set, after, &mut looks)? else {
+        write_text(output, b"end\n")?;
+        return Ok(Done { mismatches: 0 });
+    };
+    Ok(write_drill(&set, start, passphrase, limit, &mut looks, output)?)
+}
+
+/// The quorum at which a drill of a set starts, if there is one.
+fn start_of(
+    set: &ShareSet,
+    after: Option<&Quorum>,
+    looks: &mut Looks,
+) -> Result<Option<Quorum>, Undrilled>
+    requires none { looks.old ≡ 0 }
+    ensures is_set { IsShareSet set.now }
+    ensures start { IfOk result (StartsAt set.now (option_copied after.entry)) }
+    ensures refused { IfErr result (IsUndrilled set.now (option_copied after.entry)) }
+    ensures looks { looks.new ≤ most_step_looks }
+{
+    let least = first(set)?;
+    match after {
+        None => Ok(Some(least)),
+        Some(quorum) => match next_after(set, quorum, looks) {
+            Ok(next) => Ok(next),
+            Err(NotAQuorum) => Err(Undrilled::NotAQuorum),
+        },
+    }
+}
+
+/// Writes the lines of a drill that starts at this quorum, the last line too.
+fn write_drill<W: Write>(
+    set: &ShareSet,
+    start: Quorum,
+    passphrase: &[u8],
+    limit: u32,
+    looks: &mut Looks,
+    output: &mut Counting<W>,
+) -> Result<Done, WriteFailed>
+    requires is_set { IsShareSet set.now }
+    requires quorum { IsQuorum set.now start }
+    requires printable { All IsPrintable passphrase.now }
+    requires some { 1 ≤ limit }
+    requires looks { looks.old ≤ most_step_looks }
+    requires writable { output.old.failures < u64.MAX }
+    ensures { (after : Option (List (ℕ × ℕ))) → IsFirstQuorumAfter set.now after start
+        → WritesDrill W.contents output.old set.now passphrase.now after limit result output.new }
+{
+    every_quorum_has_an_outcome();
+    listings_join();
+    one_listing();
+    walks_list_all();
+    let mut memo = Memo::new(passphrase, params_of(set, &start));
+    let mut quorum = start;
+    let mut mismatches = 0;
+    let mut left = limit;
+    loop {
+        let outcome = outcome_of(set, &quorum, &mut memo);
+        write_text(output, quorum_line(&quorum, &outcome).as_slice())?;
+        mismatches += u32::from(outcome.is_err());
+        left -= 1;
+        let next = following(set, &quorum, looks);
+        if left == 0 || next.is_none() {
+            write_text(output, last_line(&quorum, next.is_some()).as_slice())?;
+            return Ok(Done { mismatches });
+        }
+        quorum = next.unwrap();
+    }
+}
+
+/// The quorum that comes after one of a set, if there is one.
+fn following(set: &ShareSet, quorum: &Quorum, looks: &mut Looks) -> Option<Quorum>
+    requires quorum { IsQuorum set.now quorum.now }
+    requires looks { looks.old ≤ u64.MAX - most_step_looks }
+    ensures next { IsNext set.now (Some quorum.now) result }
+    ensures looks { looks.new ≤ looks.old + most_step_looks }
+{
+    next_after(set, quorum, looks).unwrap()
+}
+
+/// What a quorum recovers with the passphrase of a memo, or the mismatch to which it combines.
+fn outcome_of(set: &ShareSet, quorum: &Quorum, memo: &mut Memo<'_>) -> Result<Bytes, Mismatch>
+    requires quorum { IsQuorum set.now quorum.now }
+    requires params { AreParams set.now memo.old.params }
+    ensures outcome { IsOutcome set.now quorum.now memo.old.passphrase (shown result) }
+    ensures passphrase { memo.new.passphrase ≡ memo.old.passphrase }
+    ensures params { memo.new.params ≡ memo.old.params }
+{
+    let encrypted = combine_quorum(set, quorum)?;
+    Ok(memo.secret(&encrypted))
+}
+
+/// The line of a quorum and its outcome.
+fn quorum_line(quorum: &Quorum, outcome: &Result<Bytes, Mismatch>) -> Line
+    ensures { result.items ≡ quorum_line (quorum.now, shown outcome.now) }
+{
+    let mut line = Line::new();
+    push_names(&mut line, quorum.pairs());
+    line.push(b' ');
+    push_outcome(&mut line, outcome);
+    line.push(b'\n');
+    line
+}
+
+/// A secret in lower-case hexadecimal, or which digest isn't the right one.
+fn push_outcome(line: &mut Line, outcome: &Result<Bytes, Mismatch>)
+    requires room { length line.old.items + 2 * longest_secret ≤ LINE_BYTES }
+    ensures text { line.new.items ≡ line.old.items ++ outcome_text (shown outcome.now) }
+    ensures room { length line.new.items ≤ length line.old.items + 2 * longest_secret }
+{
+    match outcome {
+        Ok(secret) => push_hex(line, secret.as_slice()),
+        Err(mismatch) => push_mismatch(line, *mismatch),
+    }
+}
+
+/// Which digest isn't the right one.
+fn push_mismatch(line: &mut Line, mismatch: Mismatch)
+    requires room { length line.old.items + 2 * longest_secret ≤ LINE_BYTES }
+    ensures text { line.new.items ≡ line.old.items ++ outcome_text (Err mismatch) }
+    ensures room { length line.new.items ≤ length line.old.items + 2 * longest_secret }
+{
+    match mismatch {
+        Mismatch::InGroup { group } => {
+            push_field(line, b"digest mismatch in group ", u16::from(group));
+        }
+        Mismatch::OfGroups => push_text(line, b"digest mismatch of groups"),
+    }
+}
+
+/// The last line of a drill: after which quorum more remain, or that none do.
+fn last_line(quorum: &Quorum, more: bool) -> Line
+    ensures more { more ≡ true → result.items ≡ last_line (Some quorum.now) }
+    ensures end { more ≡ false → result.items ≡ last_line None }
+{
+    let mut line = Line::new();
+    if more {
+        push_text(&mut line, b"more after ");
+        push_names(&mut line, quorum.pairs());
+        line.push(b'\n');
+    } else {
+        push_text(&mut line, b"end\n");
+    }
+    line
+}
