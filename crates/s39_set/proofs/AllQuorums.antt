@@ -40,8 +40,11 @@ parts-begin (x ∷ xs) =
     All-cons (BeginsIn (x ∷ xs)) (x ∷ []) (map (λ ys. x ∷ ys) (parts_of xs) ++ parts_of xs)
     (record { first = x; others = []; part_is = refl; among = Contains-head x xs })
     (All-append (BeginsIn (x ∷ xs)) (map (λ ys. x ∷ ys) (parts_of xs)) (parts_of xs)
-    (All-map (BeginsIn (x ∷ xs)) (λ ys. x ∷ ys) (parts_of xs) (λ k d below. record { first = x; others = get_or (parts_of xs) k d; part_is = refl; among = Contains-head x xs }))
-    (All-weaker (BeginsIn xs) (BeginsIn (x ∷ xs)) (λ part b. record { first = b.first; others = b.others; part_is = b.part_is; among = Contains-cons x xs b.first b.among }) (parts_of xs) (parts-begin xs)))
+    (All-map (BeginsIn (x ∷ xs)) (λ ys. x ∷ ys) (parts_of xs)
+    (λ k d below. record { first = x; others = get_or (parts_of xs) k d; part_is = refl; among = Contains-head x xs }))
+    (All-weaker (BeginsIn xs) (BeginsIn (x ∷ xs))
+    (λ part b. record { first = b.first; others = b.others; part_is = b.part_is; among = Contains-cons x xs b.first b.among }) (parts_of xs)
+    (parts-begin xs)))
 
 -- lists that begin alike compare as their rests
 cons-less : (x : ℕ × ℕ) (xs ys : List (ℕ × ℕ)) → names_cmp xs ys ≡ Less → names_cmp (x ∷ xs) (x ∷ ys) ≡ Less
@@ -58,13 +61,17 @@ parts-ascending [] ascending = AllPairs-nil (λ a b. names_cmp a b ≡ Less)
 parts-ascending (x ∷ xs) ascending =
     let rest = parts-ascending xs (AllPairs-tail (λ a b. name_cmp a b ≡ Less) x xs ascending) in
     let later : (ys part : List (ℕ × ℕ)) → BeginsIn xs part → names_cmp (x ∷ ys) part ≡ Less =
-    λ ys part b. rw b.part_is (first-less x b.first ys b.others (All-contains (λ z. name_cmp x z ≡ Less) xs b.first (AllPairs-head (λ a b. name_cmp a b ≡ Less) x xs ascending) b.among)) in
+    λ ys part b. rw b.part_is
+    (first-less x b.first ys b.others
+    (All-contains (λ z. name_cmp x z ≡ Less) xs b.first (AllPairs-head (λ a b. name_cmp a b ≡ Less) x xs ascending) b.among)) in
     AllPairs-cons (λ a b. names_cmp a b ≡ Less) (x ∷ []) (map (λ ys. x ∷ ys) (parts_of xs) ++ parts_of xs)
     (All-append (λ b. names_cmp (x ∷ []) b ≡ Less) (map (λ ys. x ∷ ys) (parts_of xs)) (parts_of xs)
-    (All-map (λ b. names_cmp (x ∷ []) b ≡ Less) (λ ys. x ∷ ys) (parts_of xs) (All-weaker (BeginsIn xs) (λ part. names_cmp (x ∷ []) (x ∷ part) ≡ Less) (nil-less x xs) (parts_of xs) (parts-begin xs)))
+    (All-map (λ b. names_cmp (x ∷ []) b ≡ Less) (λ ys. x ∷ ys) (parts_of xs)
+    (All-weaker (BeginsIn xs) (λ part. names_cmp (x ∷ []) (x ∷ part) ≡ Less) (nil-less x xs) (parts_of xs) (parts-begin xs)))
     (All-weaker (BeginsIn xs) (λ part. names_cmp (x ∷ []) part ≡ Less) (later []) (parts_of xs) (parts-begin xs)))
     (AllPairs-append (λ a b. names_cmp a b ≡ Less) (map (λ ys. x ∷ ys) (parts_of xs)) (parts_of xs)
-    (AllPairs-map (λ a b. names_cmp a b ≡ Less) (λ ys. x ∷ ys) (parts_of xs) (λ i j d before below. cons-less x (get_or (parts_of xs) i d) (get_or (parts_of xs) j d) (rest i j d before below)))
+    (AllPairs-map (λ a b. names_cmp a b ≡ Less) (λ ys. x ∷ ys) (parts_of xs)
+    (λ i j d before below. cons-less x (get_or (parts_of xs) i d) (get_or (parts_of xs) j d) (rest i j d before below)))
     rest
     (λ front among.
     let from = one_of_map (λ ys. x ∷ ys) (parts_of xs) front among in
@@ -77,7 +84,8 @@ parts-sublists (x ∷ xs) =
     All-cons (λ part. IsSublist part (x ∷ xs)) (x ∷ []) (map (λ ys. x ∷ ys) (parts_of xs) ++ parts_of xs)
     (keeps (nil-sublist xs))
     (All-append (λ part. IsSublist part (x ∷ xs)) (map (λ ys. x ∷ ys) (parts_of xs)) (parts_of xs)
-    (All-map (λ part. IsSublist part (x ∷ xs)) (λ ys. x ∷ ys) (parts_of xs) (All-weaker (λ part. IsSublist part xs) (λ part. IsSublist (x ∷ part) (x ∷ xs)) (λ part s. keeps s) (parts_of xs) (parts-sublists xs)))
+    (All-map (λ part. IsSublist part (x ∷ xs)) (λ ys. x ∷ ys) (parts_of xs)
+    (All-weaker (λ part. IsSublist part xs) (λ part. IsSublist (x ∷ part) (x ∷ xs)) (λ part s. keeps s) (parts_of xs) (parts-sublists xs)))
     (All-weaker (λ part. IsSublist part xs) (λ part. IsSublist part (x ∷ xs)) (λ part s. leaves s) (parts_of xs) (parts-sublists xs)))
 
 Contains-longer : (x : ℕ × ℕ) (ys xs : List (ℕ × ℕ)) → (ys ≢ [] → Contains (parts_of xs) ys) → Contains (parts_of (x ∷ xs)) (x ∷ ys)
@@ -111,7 +119,8 @@ just_from_test set names h =
     record {
       groups = same_from_option_eq (group_threshold_of set) (length (complete_groups (member_threshold_of set) names)) parts.0;
       members = All-weaker (λ name. test name ≡ true) (λ name. member_threshold_of set name.0 ≡ Some (length (names_in_group name.0 names)))
-          (λ name passes. same_from_option_eq (member_threshold_of set name.0) (length (names_in_group name.0 names)) passes) names (AllPass-from_list_all test names parts.1);
+          (λ name passes. same_from_option_eq (member_threshold_of set name.0) (length (names_in_group name.0 names)) passes) names
+          (AllPass-from_list_all test names parts.1);
     }
 
 test_from_just : (set : List ShareFields) (names : List (ℕ × ℕ)) → HasJustTheMembers set names → just_test set names ≡ true
@@ -160,11 +169,17 @@ module _ (set : List ShareFields) (is : IsShareSet set) (given : Option (List (�
   all_quorums-listed =
       let N = map name_of set in
       record {
-        ascending = AllPairs-filter (λ a b. names_cmp a b ≡ Less) (λ names. just_test set names && after_test given names) (parts_of N) (parts-ascending N is.ascending);
+        ascending = AllPairs-filter (λ a b. names_cmp a b ≡ Less) (λ names. just_test set names && after_test given names) (parts_of N)
+            (parts-ascending N is.ascending);
         each = λ names. (
           λ among.
-              let both = and_parts (just_test set names) (after_test given names) (All-contains (λ ns. (just_test set ns && after_test given ns) ≡ true) (filter (λ ns. just_test set ns && after_test given ns) (parts_of N)) names (filter_passes (λ ns. just_test set ns && after_test given ns) (parts_of N)) among) in
-              let inside : Contains (parts_of N) names = All-contains (Contains (parts_of N)) (filter (λ ns. just_test set ns && after_test given ns) (parts_of N)) names (Contains-sublist (filter_kept (λ ns. just_test set ns && after_test given ns) (parts_of N))) among in
+              let both = and_parts (just_test set names) (after_test given names)
+              (All-contains (λ ns. (just_test set ns && after_test given ns) ≡ true)
+              (filter (λ ns. just_test set ns && after_test given ns) (parts_of N)) names
+              (filter_passes (λ ns. just_test set ns && after_test given ns) (parts_of N)) among) in
+              let inside : Contains (parts_of N) names =
+              All-contains (Contains (parts_of N)) (filter (λ ns. just_test set ns && after_test given ns) (parts_of N)) names
+              (Contains-sublist (filter_kept (λ ns. just_test set ns && after_test given ns) (parts_of N))) among in
               let part : IsSublist names N = All-contains (λ ns. IsSublist ns N) (parts_of N) names (parts-sublists N) inside in
               let quorum = quorum_from_just set is names (record {
                 at_hand = record { ascending = AllPairs-sublist (λ a b. name_cmp a b ≡ Less) part is.ascending; at_hand = Contains-sublist part };

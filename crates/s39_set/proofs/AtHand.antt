@@ -81,7 +81,8 @@ module _ (set : List ShareFields) where
       let same_group : share.group_index ≡ group = ap (λ name. name.0) same in
       let same_member : share.member_index ≡ member = ap (λ name. name.1) same in
       let passes : has_name group member share ≡ true =
-      and_from (share.group_index == group) (share.member_index == member) (eq-eqb share.group_index group same_group) (eq-eqb share.member_index member same_member) in
+      and_from (share.group_index == group) (share.member_index == member) (eq-eqb share.group_index group same_group)
+      (eq-eqb share.member_index member same_member) in
       is_some-not_none (find (has_name group member) set)
       (λ e. false≢true (sym (All-contains (λ s. has_name group member s ≡ false) set share (none-passes (has_name group member) set e) inside) ∙ passes))
 
@@ -110,4 +111,5 @@ module _ (set : List ShareFields) where
       let same : (group, name.1) ≡ name = ap (λ g. (g, name.1)) (sym here) in
       let held = at_hand-from_contains group name.1 (subst (Contains N) (sym same) among) in
       subst (Contains (names_of group members)) same
-      (Contains-map (λ member. (group, member)) members name.1 (Contains-filter (is_at_hand set group) (range_with_len 0 most_members) name.1 (Contains-range most_members name.1 low) held)))
+      (Contains-map (λ member. (group, member)) members name.1
+      (Contains-filter (is_at_hand set group) (range_with_len 0 most_members) name.1 (Contains-range most_members name.1 low) held)))

@@ -19,7 +19,8 @@ pub same_groups : (xs ys : List ℕ) → AllPairs (λ a b. a < b) xs → AllPair
 same_groups = same_from_elements (λ a b. a < b) groups_one_way
 
 -- no fewer of them than there are, are all of them
-pub same_groups_from_length : (xs ys : List ℕ) → AllPairs (λ a b. a < b) xs → AllPairs (λ a b. a < b) ys → All (Contains xs) ys → length xs ≤ length ys → xs ≡ ys
+pub same_groups_from_length : (xs ys : List ℕ) → AllPairs (λ a b. a < b) xs → AllPairs (λ a b. a < b) ys → All (Contains xs) ys → length xs ≤ length ys
+    → xs ≡ ys
 same_groups_from_length = same_from_part (λ a b. a < b) groups_one_way
 
 -- the numbers of a range ascend
@@ -68,7 +69,8 @@ module _ (T : ℕ → Option ℕ) (names : List (ℕ × ℕ)) where
   -- they are below most_groups
   pub complete_groups-below : (g : ℕ) → Contains (complete_groups T names) g → g < most_groups
   complete_groups-below g among =
-      All-contains (λ h. h < most_groups) (complete_groups T names) g (All-filter (is_complete T names) (λ h. h < most_groups) (range_with_len 0 most_groups) (range-below most_groups)) among
+      All-contains (λ h. h < most_groups) (complete_groups T names) g
+      (All-filter (is_complete T names) (λ h. h < most_groups) (range_with_len 0 most_groups) (range-below most_groups)) among
 
   -- they are complete
   pub complete_groups-threshold : (g : ℕ) → Contains (complete_groups T names) g → HasThreshold T names g
@@ -86,7 +88,8 @@ pub names_in_group-sublist : (g : ℕ) {fewer names : List (ℕ × ℕ)} → IsS
 names_in_group-sublist g part = filter-sublist (λ name. name.0 == g) part
 
 -- and complete some of the groups
-pub complete_groups-sublist : (T : ℕ → Option ℕ) {fewer names : List (ℕ × ℕ)} → IsSublist fewer names → IsSublist (complete_groups T fewer) (complete_groups T names)
+pub complete_groups-sublist : (T : ℕ → Option ℕ) {fewer names : List (ℕ × ℕ)} → IsSublist fewer names
+    → IsSublist (complete_groups T fewer) (complete_groups T names)
 complete_groups-sublist T {fewer} {names} part =
     filter_weaker (is_complete T fewer) (is_complete T names)
     (λ g complete.

@@ -59,14 +59,16 @@ module _ (T : ℕ → Option ℕ) (positive : (g t : ℕ) → T g ≡ Some t →
         ascending = just.ascending;
         at_hand = just.at_hand;
         exact = exact;
-        groups = just.groups ∙ ap length (filter-range_agree (is_complete T names) (has_members names) 0 most_groups (λ g _. complete_is_members names exact g));
+        groups = just.groups
+            ∙ ap length (filter-range_agree (is_complete T names) (has_members names) 0 most_groups (λ g _. complete_is_members names exact g));
       }
 
   pub just_from_exact : (N : List (ℕ × ℕ)) (G : ℕ) (names : List (ℕ × ℕ)) → IsExact T N G names → HasJust T N G names
   just_from_exact N G names is = record {
     ascending = is.ascending;
     at_hand = is.at_hand;
-    groups = is.groups ∙ sym (ap length (filter-range_agree (is_complete T names) (has_members names) 0 most_groups (λ g _. complete_is_members names is.exact g)));
+    groups = is.groups
+        ∙ sym (ap length (filter-range_agree (is_complete T names) (has_members names) 0 most_groups (λ g _. complete_is_members names is.exact g)));
     members = members_from_exact names is.exact;
   }
 
@@ -88,7 +90,9 @@ passing-agree p q a (suc k) h =
     let rest : passing p (a + 1) k ≡ passing q (a + 1) k = passing-agree p q (a + 1) k (λ g from below. h g (omega arith) (omega arith)) in
     by (p a) (q a) (h a (omega arith) (omega arith)) rest
   where
-    by : (b c : Bool) → b ≡ c → passing p (a + 1) k ≡ passing q (a + 1) k → length (cond b (a ∷ filter p (range_with_len (a + 1) k)) (filter p (range_with_len (a + 1) k))) ≡ length (cond c (a ∷ filter q (range_with_len (a + 1) k)) (filter q (range_with_len (a + 1) k)))
+    by : (b c : Bool) → b ≡ c → passing p (a + 1) k ≡ passing q (a + 1) k
+        → length (cond b (a ∷ filter p (range_with_len (a + 1) k)) (filter p (range_with_len (a + 1) k))) ≡ length
+        (cond c (a ∷ filter q (range_with_len (a + 1) k)) (filter q (range_with_len (a + 1) k)))
     by true true e rest = ap suc rest
     by true false e rest = cc
     by false true e rest = cc
@@ -134,7 +138,8 @@ module _ (P F B : List (ℕ × ℕ)) (h : ℕ) (upto : All (λ name. name.0 ≤ 
   count-earlier g less =
       let front : count F g ≡ 0 = none_in F g (λ k d below e. let here : (get_or F k d).0 ≡ h = in_group k d below in omega arith) in
       let back : count B g ≡ 0 = none_in B g (λ k d below e. let here : h < (get_or B k d).0 = later k d below in omega arith) in
-      let both : count (F ++ B) g ≡ count F g + count B g = ap length (filter-append (λ name. name.0 == g) F B) ∙ length-append (names_in_group g F) (names_in_group g B) in
+      let both : count (F ++ B) g ≡ count F g + count B g =
+      ap length (filter-append (λ name. name.0 == g) F B) ∙ length-append (names_in_group g F) (names_in_group g B) in
       omega (arith, parts g)
 
   -- of the group, those before and those of it

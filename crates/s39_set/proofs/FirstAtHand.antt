@@ -19,7 +19,8 @@ module _ (set : List ShareFields) (group threshold : ℕ) where
   length-first_below n = length-map (first_passing (is_at_hand set group) threshold n) (λ member. (group, member))
 
   -- a member at hand is one more of them, where they are too few
-  pub first_below_more : (n : ℕ) → is_at_hand set group n ≡ true → length (first_below set group threshold n) < threshold → first_below set group threshold (n + 1) ≡ first_below set group threshold n ++ (group, n) ∷ []
+  pub first_below_more : (n : ℕ) → is_at_hand set group n ≡ true → length (first_below set group threshold n) < threshold
+      → first_below set group threshold (n + 1) ≡ first_below set group threshold n ++ (group, n) ∷ []
   first_below_more n held few =
       ap (names_of group) (first_passing_more (is_at_hand set group) threshold n held (omega (arith, length-first_below n)))
       ∙ map_push (λ member. (group, member)) (first_passing (is_at_hand set group) threshold n) n
@@ -29,7 +30,8 @@ module _ (set : List ShareFields) (group threshold : ℕ) where
   first_below_without n lacking = ap (names_of group) (first_passing_without (is_at_hand set group) threshold n lacking)
 
   -- nor does any, where they are enough
-  pub first_below_full : (n : ℕ) → threshold ≤ length (first_below set group threshold n) → first_below set group threshold (n + 1) ≡ first_below set group threshold n
+  pub first_below_full : (n : ℕ) → threshold ≤ length (first_below set group threshold n)
+      → first_below set group threshold (n + 1) ≡ first_below set group threshold n
   first_below_full n full = ap (names_of group) (first_passing_full (is_at_hand set group) threshold n (omega (arith, length-first_below n)))
 
   -- they come before the next name
@@ -41,7 +43,8 @@ module _ (set : List ShareFields) (group threshold : ℕ) where
       (first_passing-below (is_at_hand set group) threshold n))
 
   -- and so do names of earlier groups before them
-  pub earlier-before : (names : List (ℕ × ℕ)) → All (λ name. name.0 < group) names → (n : ℕ) → All (λ name. name_cmp name (group, n) ≡ Less) (names ++ first_below set group threshold n)
+  pub earlier-before : (names : List (ℕ × ℕ)) → All (λ name. name.0 < group) names → (n : ℕ)
+      → All (λ name. name_cmp name (group, n) ≡ Less) (names ++ first_below set group threshold n)
   earlier-before names earlier n =
       All-append (λ name. name_cmp name (group, n) ≡ Less) names (first_below set group threshold n)
       (All-weaker (λ name. name.0 < group) (λ name. name_cmp name (group, n) ≡ Less) (λ name less. name_cmp_groups name (group, n) less) names earlier)
@@ -50,4 +53,5 @@ module _ (set : List ShareFields) (group threshold : ℕ) where
   -- below most_members they are the group's first names
   pub first_below-all : IsShareSet set → first_below set group threshold most_members ≡ take threshold (names_in_group group (map name_of set))
   first_below-all is =
-      sym (take-map (λ member. (group, member)) threshold (members_below set group most_members)) ∙ ap (take threshold) (sym (names_in_group-members set is group))
+      sym (take-map (λ member. (group, member)) threshold (members_below set group most_members))
+      ∙ ap (take threshold) (sym (names_in_group-members set is group))

@@ -28,7 +28,8 @@ abbrev pub AreLeast : (T : ℕ → Option ℕ) (N : List (ℕ × ℕ)) (a k need
 AreLeast T N a k needed names = names_cmp (members_of T N (take needed (filter (is_complete T N) (range_with_len a k)))) names ≢ Greater
 
 -- names of a group come before those of later ones
-pub before_later : (group : ℕ) (some others back : List (ℕ × ℕ)) → 1 ≤ length some → All (λ name. name.0 ≡ group) some → 1 ≤ length back → All (λ name. group < name.0) back → names_cmp (some ++ others) back ≢ Greater
+pub before_later : (group : ℕ) (some others back : List (ℕ × ℕ)) → 1 ≤ length some → All (λ name. name.0 ≡ group) some → 1 ≤ length back
+    → All (λ name. group < name.0) back → names_cmp (some ++ others) back ≢ Greater
 before_later group [] others back l here m later = absurd (omega arith)
 before_later group (x ∷ xs) others [] l here m later = absurd (omega arith)
 before_later group (x ∷ xs) others (y ∷ ys) l here m later =
@@ -39,14 +40,17 @@ before_later group (x ∷ xs) others (y ∷ ys) l here m later =
 module _ (T : ℕ → Option ℕ) (N : List (ℕ × ℕ)) (positive : (g t : ℕ) → T g ≡ Some t → 1 ≤ t) where
   -- no group is complete in no names
   pub none_complete : (a k : ℕ) → filter (is_complete T []) (range_with_len a k) ≡ []
-  none_complete a k = filter-none (is_complete T []) (range_with_len a k) (λ i d below. is_complete-none T [] (get_or (range_with_len a k) i d) (positive (get_or (range_with_len a k) i d)) refl)
+  none_complete a k =
+      filter-none (is_complete T []) (range_with_len a k)
+      (λ i d below. is_complete-none T [] (get_or (range_with_len a k) i d) (positive (get_or (range_with_len a k) i d)) refl)
 
   pub some_from_needed : (a k m : ℕ) (names : List (ℕ × ℕ)) → suc m ≡ length (filter (is_complete T names) (range_with_len a k)) → 1 ≤ length names
   some_from_needed a k m [] e = let none : suc m ≡ 0 = e ∙ ap length (none_complete a k) in absurd (omega arith)
   some_from_needed a k m (x ∷ xs) e = omega arith
 
   -- the names behind those of group a
-  back_has_just : (a k needed : ℕ) (front back : List (ℕ × ℕ)) → HasJustFrom T N a (suc k) needed (front ++ back) → All (λ name. name.0 ≡ a) front → All (λ name. a < name.0) back → HasJustFrom T N (a + 1) k (length (filter (is_complete T (front ++ back)) (range_with_len (a + 1) k))) back
+  back_has_just : (a k needed : ℕ) (front back : List (ℕ × ℕ)) → HasJustFrom T N a (suc k) needed (front ++ back) → All (λ name. name.0 ≡ a) front
+      → All (λ name. a < name.0) back → HasJustFrom T N (a + 1) k (length (filter (is_complete T (front ++ back)) (range_with_len (a + 1) k))) back
   back_has_just a k needed front back h here later = record {
     ascending = AllPairs-append_right (λ x y. name_cmp x y ≡ Less) front back h.ascending;
     at_hand = All-append_right (Contains N) front back h.at_hand;
@@ -59,7 +63,8 @@ module _ (T : ℕ → Option ℕ) (N : List (ℕ × ℕ)) (positive : (g t : ℕ
   }
 
   -- where group a is complete and the names are of later groups
-  least_skipped : (a k needed : ℕ) (names : List (ℕ × ℕ)) → is_complete T N a ≡ true → All (λ name. a < name.0) names → needed ≡ length (filter (is_complete T names) (range_with_len (a + 1) k)) → AreLeast T N a (suc k) needed names
+  least_skipped : (a k needed : ℕ) (names : List (ℕ × ℕ)) → is_complete T N a ≡ true → All (λ name. a < name.0) names
+      → needed ≡ length (filter (is_complete T names) (range_with_len (a + 1) k)) → AreLeast T N a (suc k) needed names
   least_skipped a k zero names complete later groups = slice_cmp-nil_not_greater name_cmp names
   least_skipped a k (suc m) names complete later groups =
       let has = threshold_from_complete T N a complete in
@@ -76,7 +81,8 @@ module _ (T : ℕ → Option ℕ) (N : List (ℕ × ℕ)) (positive : (g t : ℕ
       later)
 
   -- where no name is of group a
-  least_without : (a k needed : ℕ) (names : List (ℕ × ℕ)) → HasJustFrom T N a (suc k) needed names → All (λ name. a < name.0) names → ((m : ℕ) → HasJustFrom T N (a + 1) k m names → AreLeast T N (a + 1) k m names) → AreLeast T N a (suc k) needed names
+  least_without : (a k needed : ℕ) (names : List (ℕ × ℕ)) → HasJustFrom T N a (suc k) needed names → All (λ name. a < name.0) names
+      → ((m : ℕ) → HasJustFrom T N (a + 1) k m names → AreLeast T N (a + 1) k m names) → AreLeast T N a (suc k) needed names
   least_without a k needed names h later others =
       let none : names_in_group a names ≡ [] = names_in_group-back a [] names (All-nil (λ name. name.0 ≡ a)) later in
       let incomplete : is_complete T names a ≡ false = is_complete-none T names a (positive a) none in
@@ -89,7 +95,9 @@ module _ (T : ℕ → Option ℕ) (N : List (ℕ × ℕ)) (positive : (g t : ℕ
       (cases_Bool (is_complete T N a))
 
   -- where the names of group a are as many as its threshold
-  least_with : IsAscending N → (a k needed : ℕ) (front back : List (ℕ × ℕ)) → HasJustFrom T N a (suc k) needed (front ++ back) → All (λ name. name.0 ≡ a) front → All (λ name. a < name.0) back → T a ≡ Some (length front) → ((m : ℕ) → HasJustFrom T N (a + 1) k m back → AreLeast T N (a + 1) k m back) → AreLeast T N a (suc k) needed (front ++ back)
+  least_with : IsAscending N → (a k needed : ℕ) (front back : List (ℕ × ℕ)) → HasJustFrom T N a (suc k) needed (front ++ back) → All (λ name. name.0 ≡ a) front
+      → All (λ name. a < name.0) back → T a ≡ Some (length front) → ((m : ℕ) → HasJustFrom T N (a + 1) k m back → AreLeast T N (a + 1) k m back)
+      → AreLeast T N a (suc k) needed (front ++ back)
   least_with ascending a k needed front back h here later threshold others =
       let of_group : names_in_group a (front ++ back) ≡ front = names_in_group-joined a front back here later in
       let sorted : IsAscending (names_in_group a N) = AllPairs-filter (λ x y. name_cmp x y ≡ Less) (λ name. name.0 == a) N ascending in
@@ -115,7 +123,9 @@ module _ (T : ℕ → Option ℕ) (N : List (ℕ × ℕ)) (positive : (g t : ℕ
       (first_elements_are_least name_cmp name_cmp_total (names_in_group a N) front sorted sorted_front within)
       (others m (back_has_just a k needed front back h here later)))
 
-  least_split : IsAscending N → (a k needed : ℕ) (front back : List (ℕ × ℕ)) → HasJustFrom T N a (suc k) needed (front ++ back) → All (λ name. name.0 ≡ a) front → All (λ name. a < name.0) back → ((m : ℕ) → HasJustFrom T N (a + 1) k m back → AreLeast T N (a + 1) k m back) → AreLeast T N a (suc k) needed (front ++ back)
+  least_split : IsAscending N → (a k needed : ℕ) (front back : List (ℕ × ℕ)) → HasJustFrom T N a (suc k) needed (front ++ back) → All (λ name. name.0 ≡ a) front
+      → All (λ name. a < name.0) back → ((m : ℕ) → HasJustFrom T N (a + 1) k m back → AreLeast T N (a + 1) k m back)
+      → AreLeast T N a (suc k) needed (front ++ back)
   least_split ascending a k needed [] back h here later others = least_without a k needed back h later others
   least_split ascending a k needed (f ∷ fs) back h here later others =
       let of_group : names_in_group a ((f ∷ fs) ++ back) ≡ f ∷ fs = names_in_group-joined a (f ∷ fs) back here later in
@@ -135,7 +145,8 @@ module _ (T : ℕ → Option ℕ) (N : List (ℕ × ℕ)) (positive : (g t : ℕ
       (λ m behind. least_from ascending (a + 1) k m back behind))
 
 -- of all names at hand that have just the groups and members that the thresholds ask, the first members of the first complete groups come first
-pub first_members_are_least : (T : ℕ → Option ℕ) (N : List (ℕ × ℕ)) (G : ℕ) → ((g t : ℕ) → T g ≡ Some t → 1 ≤ t) → All (λ name. name.0 < most_groups) N → IsAscending N → (other : List (ℕ × ℕ)) → HasJust T N G other → names_cmp (members_of T N (take G (complete_groups T N))) other ≢ Greater
+pub first_members_are_least : (T : ℕ → Option ℕ) (N : List (ℕ × ℕ)) (G : ℕ) → ((g t : ℕ) → T g ≡ Some t → 1 ≤ t) → All (λ name. name.0 < most_groups) N
+    → IsAscending N → (other : List (ℕ × ℕ)) → HasJust T N G other → names_cmp (members_of T N (take G (complete_groups T N))) other ≢ Greater
 first_members_are_least T N G positive _ ascending other h =
     least_from T N positive ascending 0 most_groups G other (record {
       ascending = h.ascending;

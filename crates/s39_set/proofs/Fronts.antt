@@ -29,15 +29,18 @@ module _ (names : List (ℕ × ℕ)) (i : ℕ) (ascending : IsAscending names) (
 
   -- their groups are no later than its
   pub front-groups : All (λ n. n.0 < (get_or names i (0, 0)).0 + 1) (take i names)
-  front-groups k d within = let order : (get_or (take i names) k d).0 ≤ (get_or names i (0, 0)).0 = groups-in_order (get_or (take i names) k d) (get_or names i (0, 0)) (front-before k d within) in omega arith
+  front-groups k d within = let order : (get_or (take i names) k d).0 ≤ (get_or names i (0, 0)).0 =
+      groups-in_order (get_or (take i names) k d) (get_or names i (0, 0)) (front-before k d within) in omega arith
 
   -- nor are those of its group behind them
-  pub with_members-groups : (masks : Masks) (many a : ℕ) → All (λ n. n.0 < (get_or names i (0, 0)).0 + 1) (take i names ++ take many (members_from masks (get_or names i (0, 0)).0 a))
+  pub with_members-groups : (masks : Masks) (many a : ℕ)
+      → All (λ n. n.0 < (get_or names i (0, 0)).0 + 1) (take i names ++ take many (members_from masks (get_or names i (0, 0)).0 a))
   with_members-groups masks many a =
       let group = (get_or names i (0, 0)).0 in
       All-append (λ n. n.0 < group + 1) (take i names) (take many (members_from masks group a)) front-groups
       (All-take (λ n. n.0 < group + 1) many (members_from masks group a)
-      (All-map (λ n. n.0 < group + 1) (λ member. (group, member)) (filter (is_in masks group) (range_with_len a (most_members - a))) (λ k d within. let next : group < group + 1 = omega arith in next)))
+      (All-map (λ n. n.0 < group + 1) (λ member. (group, member)) (filter (is_in masks group) (range_with_len a (most_members - a)))
+      (λ k d within. let next : group < group + 1 = omega arith in next)))
 
   -- where the name before it is of another group, none is of its group
   pub none_of_group : 0 < i → (get_or names (i - 1) (0, 0)).0 ≢ (get_or names i (0, 0)).0 → length (names_in_group (get_or names i (0, 0)).0 (take i names)) ≡ 0
@@ -55,7 +58,9 @@ module _ (names : List (ℕ × ℕ)) (i : ℕ) (ascending : IsAscending names) (
       elim (cases_lt k (i - 1)) [
         | inl earlier ↦ (
             let less : name_cmp (get_or names k d) (get_or names (i - 1) d) ≡ Less = ascending k (i - 1) d earlier (omega arith) in
-            let less_last : name_cmp n last ≡ Less = subst (λ m. name_cmp m last ≡ Less) (sym at) (subst (λ m. name_cmp (get_or names k d) m ≡ Less) (get_or_default names (i - 1) d (0, 0) (omega arith)) less) in
+            let less_last : name_cmp n last ≡ Less =
+            subst (λ m. name_cmp m last ≡ Less) (sym at)
+            (subst (λ m. name_cmp (get_or names k d) m ≡ Less) (get_or_default names (i - 1) d (0, 0) (omega arith)) less) in
             groups-in_order n last less_last)
         | inr here ↦ (
             let this : k ≡ i - 1 = omega arith in

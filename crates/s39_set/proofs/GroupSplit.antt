@@ -27,7 +27,8 @@ pub record IsSplitAt (group : ℕ) (names front back : List (ℕ × ℕ)) : Type
   pub later : All (λ name. group < name.0) back
 
 -- ascending names, none of them of an earlier group, can be split so
-pub split_at_group : (group : ℕ) (names : List (ℕ × ℕ)) → IsAscending names → All (λ name. group ≤ name.0) names → (front back : List (ℕ × ℕ)) × IsSplitAt group names front back
+pub split_at_group : (group : ℕ) (names : List (ℕ × ℕ)) → IsAscending names → All (λ name. group ≤ name.0) names
+    → (front back : List (ℕ × ℕ)) × IsSplitAt group names front back
 split_at_group group [] ascending from = (
   [],
   [],
@@ -105,7 +106,8 @@ not_reached None positive = refl
 not_reached (Some t) positive = lt-leb t 0 (positive t refl)
 
 -- a group with no name is not complete, if its threshold is positive
-pub is_complete-none : (T : ℕ → Option ℕ) (names : List (ℕ × ℕ)) (g : ℕ) → ((t : ℕ) → T g ≡ Some t → 1 ≤ t) → names_in_group g names ≡ [] → is_complete T names g ≡ false
+pub is_complete-none : (T : ℕ → Option ℕ) (names : List (ℕ × ℕ)) (g : ℕ) → ((t : ℕ) → T g ≡ Some t → 1 ≤ t) → names_in_group g names ≡ []
+    → is_complete T names g ≡ false
 is_complete-none T names g positive none =
     ap (λ some. option_map_or (λ threshold. nat_le threshold (length some)) (T g) false) none ∙ not_reached (T g) positive
 

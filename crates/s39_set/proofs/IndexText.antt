@@ -24,9 +24,12 @@ decimal-index (suc (suc (suc (suc (suc (suc (suc (suc (suc zero))))))))) low = r
 decimal-index (suc (suc (suc (suc (suc (suc (suc (suc (suc (suc zero)))))))))) low = record { one = λ below. absurd (omega arith); two = λ _. refl }
 decimal-index (suc (suc (suc (suc (suc (suc (suc (suc (suc (suc (suc zero))))))))))) low = record { one = λ below. absurd (omega arith); two = λ _. refl }
 decimal-index (suc (suc (suc (suc (suc (suc (suc (suc (suc (suc (suc (suc zero)))))))))))) low = record { one = λ below. absurd (omega arith); two = λ _. refl }
-decimal-index (suc (suc (suc (suc (suc (suc (suc (suc (suc (suc (suc (suc (suc zero))))))))))))) low = record { one = λ below. absurd (omega arith); two = λ _. refl }
-decimal-index (suc (suc (suc (suc (suc (suc (suc (suc (suc (suc (suc (suc (suc (suc zero)))))))))))))) low = record { one = λ below. absurd (omega arith); two = λ _. refl }
-decimal-index (suc (suc (suc (suc (suc (suc (suc (suc (suc (suc (suc (suc (suc (suc (suc zero))))))))))))))) low = record { one = λ below. absurd (omega arith); two = λ _. refl }
+decimal-index (suc (suc (suc (suc (suc (suc (suc (suc (suc (suc (suc (suc (suc zero))))))))))))) low =
+    record { one = λ below. absurd (omega arith); two = λ _. refl }
+decimal-index (suc (suc (suc (suc (suc (suc (suc (suc (suc (suc (suc (suc (suc (suc zero)))))))))))))) low =
+    record { one = λ below. absurd (omega arith); two = λ _. refl }
+decimal-index (suc (suc (suc (suc (suc (suc (suc (suc (suc (suc (suc (suc (suc (suc (suc zero))))))))))))))) low =
+    record { one = λ below. absurd (omega arith); two = λ _. refl }
 decimal-index (suc (suc (suc (suc (suc (suc (suc (suc (suc (suc (suc (suc (suc (suc (suc (suc n)))))))))))))))) low = absurd (omega arith)
 
 -- what a text of an index looks like, in its bytes
@@ -64,7 +67,8 @@ text_from_one (x ∷ []) l from below =
     ap (λ y. y ∷ []) (sym same) ∙ sym ((decimal-index (x - 48) (omega arith)).one (omega arith))
 text_from_one (x ∷ y ∷ ys) l from below = absurd (omega arith)
 
-pub text_from_two : (text : List ℕ) → length text ≡ 2 → get_or text 0 0 ≡ 49 → 48 ≤ get_or text 1 0 → get_or text 1 0 < 54 → text ≡ decimal (10 + (get_or text 1 0 - 48))
+pub text_from_two : (text : List ℕ) → length text ≡ 2 → get_or text 0 0 ≡ 49 → 48 ≤ get_or text 1 0 → get_or text 1 0 < 54
+    → text ≡ decimal (10 + (get_or text 1 0 - 48))
 text_from_two [] l first from below = absurd (omega arith)
 text_from_two (x ∷ []) l first from below = absurd (omega arith)
 text_from_two (x ∷ y ∷ []) l first from below =

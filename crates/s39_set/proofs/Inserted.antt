@@ -23,11 +23,13 @@ or_right true b h = refl
 or_right false b h = h
 
 -- a name is in the new masks where it was in the old ones or is the one added
-pub inserted_cases : (old new : Masks) (group member : ℕ) → AddsName old new (group, member) → (g m : ℕ) → IsTrue (is_in new g m) → IsTrue (is_in old g m) ⊎ ((g ≡ group) × (m ≡ member))
+pub inserted_cases : (old new : Masks) (group member : ℕ) → AddsName old new (group, member) → (g m : ℕ) → IsTrue (is_in new g m)
+    → IsTrue (is_in old g m) ⊎ ((g ≡ group) × (m ≡ member))
 inserted_cases old new group member is g m h =
     ⊎_elim
     (λ (was : is_in old g m ≡ true). inl was)
-    (λ (added : ((g == group) && (m == member)) ≡ true). let parts = and_parts (g == group) (m == member) added in inr (eqb-true g group parts.0, eqb-true m member parts.1))
+    (λ (added : ((g == group) && (m == member)) ≡ true). let parts =
+    and_parts (g == group) (m == member) added in inr (eqb-true g group parts.0, eqb-true m member parts.1))
     (or_cases (is_in old g m) ((g == group) && (m == member)) (sym (is g m) ∙ h))
 
 pub inserted_old : (old new : Masks) (group member : ℕ) → AddsName old new (group, member) → (g m : ℕ) → IsTrue (is_in old g m) → IsTrue (is_in new g m)
@@ -35,7 +37,8 @@ inserted_old old new group member is g m h = is g m ∙ or_left (is_in old g m) 
 
 pub inserted_this : (old new : Masks) (group member : ℕ) → AddsName old new (group, member) → (g m : ℕ) → g ≡ group → m ≡ member → IsTrue (is_in new g m)
 inserted_this old new group member is g m same_group same_member =
-    is g m ∙ or_right (is_in old g m) ((g == group) && (m == member)) (and_from (g == group) (m == member) (eq-eqb g group same_group) (eq-eqb m member same_member))
+    is g m ∙ or_right (is_in old g m) ((g == group) && (m == member))
+    (and_from (g == group) (m == member) (eq-eqb g group same_group) (eq-eqb m member same_member))
 
 -- masks with one name more
 pub masks_more : (old new : Masks) (names : List (ℕ × ℕ)) (name : ℕ × ℕ) → AreMasksOf old names → AddsName old new name → AreMasksOf new (names ++ name ∷ [])
@@ -43,7 +46,8 @@ masks_more old new names name were is g m low_g low_m = (
   λ h.
       ⊎_elim
       (λ (was : IsTrue (is_in old g m)). Contains-append_left names (name ∷ []) (g, m) ((were g m low_g low_m).0 was))
-      (λ (this : (g ≡ name.0) × (m ≡ name.1)). Contains-append_right names (name ∷ []) (g, m) (subst (Contains (name ∷ [])) (ap₂ (λ (x y : ℕ). (x, y)) (sym this.0) (sym this.1)) (Contains-head name [])))
+      (λ (this : (g ≡ name.0) × (m ≡ name.1)). Contains-append_right names (name ∷ []) (g, m)
+      (subst (Contains (name ∷ [])) (ap₂ (λ (x y : ℕ). (x, y)) (sym this.0) (sym this.1)) (Contains-head name [])))
       (inserted_cases old new name.0 name.1 is g m h),
   λ among.
       ⊎_elim
@@ -61,7 +65,8 @@ abbrev pub AreMasksBelow : Masks → List (ℕ × ℕ) → ℕ → Type 0
 AreMasksBelow masks names n =
     (g m : ℕ) → g < most_groups → m < most_members → (IsTrue (is_in masks g m) ↔ ((place_of (g, m) < n) × Contains names (g, m)))
 
-pub below_more_yes : (old new : Masks) (names : List (ℕ × ℕ)) (n group member : ℕ) → AreMasksBelow old names n → place_of (group, member) ≡ n → member < most_members → Contains names (group, member) → AddsName old new (group, member) → AreMasksBelow new names (n + 1)
+pub below_more_yes : (old new : Masks) (names : List (ℕ × ℕ)) (n group member : ℕ) → AreMasksBelow old names n → place_of (group, member) ≡ n
+    → member < most_members → Contains names (group, member) → AddsName old new (group, member) → AreMasksBelow new names (n + 1)
 below_more_yes old new names n group member were at low_member among is g m low_g low_m = (
   λ h.
       ⊎_elim
@@ -82,7 +87,8 @@ below_more_yes old new names n group member were at low_member among is g m low_
       ],
 )
 
-pub below_more_no : (masks : Masks) (names : List (ℕ × ℕ)) (n group member : ℕ) → AreMasksBelow masks names n → place_of (group, member) ≡ n → member < most_members → (Contains names (group, member) → ⊥) → AreMasksBelow masks names (n + 1)
+pub below_more_no : (masks : Masks) (names : List (ℕ × ℕ)) (n group member : ℕ) → AreMasksBelow masks names n → place_of (group, member) ≡ n
+    → member < most_members → (Contains names (group, member) → ⊥) → AreMasksBelow masks names (n + 1)
 below_more_no masks names n group member were at low_member apart g m low_g low_m = (
   λ h. let both = (were g m low_g low_m).0 h in let less : place_of (g, m) < n = both.0 in (omega arith, both.1),
   λ both.

@@ -54,8 +54,10 @@ module _ (T : ℕ → Option ℕ) (positive : (g t : ℕ) → T g ≡ Some t →
       let g = get_or (range_with_len 0 most_groups) k d in
       let low : g < most_groups = range-below most_groups k d within in
       elim (cases_lt 0 (length (names_in_group g names))) [
-        | inl some ↦ is_complete_from T names g (length (names_in_group g names)) (exact g low some) (omega arith) ∙ sym (lt-ltb 0 (length (names_in_group g names)) some)
-        | inr none ↦ is_complete-none T names g (positive g) (nil_from_length (names_in_group g names) (omega arith)) ∙ sym (le-ltb 0 (length (names_in_group g names)) none)
+        | inl some ↦ is_complete_from T names g (length (names_in_group g names)) (exact g low some) (omega arith)
+            ∙ sym (lt-ltb 0 (length (names_in_group g names)) some)
+        | inr none ↦ is_complete-none T names g (positive g) (nil_from_length (names_in_group g names) (omega arith))
+            ∙ sym (le-ltb 0 (length (names_in_group g names)) none)
       ])
 
 module _ (set : List ShareFields) (names : List (ℕ × ℕ)) where
@@ -65,7 +67,8 @@ module _ (set : List ShareFields) (names : List (ℕ × ℕ)) where
       at_group (λ h. member_threshold_of set h ≡ Some (length (names_in_group h names))) names has.members g some
 
   -- exact names have just the members, where as many groups have names as the group threshold asks
-  pub just_from_exact : IsShareSet set → All (λ name. name.0 < most_groups) names → AreExactBelow (member_threshold_of set) names most_groups → group_threshold_of set ≡ Some (length (filter (has_members names) (range_with_len 0 most_groups))) → HasJustTheMembers set names
+  pub just_from_exact : IsShareSet set → All (λ name. name.0 < most_groups) names → AreExactBelow (member_threshold_of set) names most_groups
+      → group_threshold_of set ≡ Some (length (filter (has_members names) (range_with_len 0 most_groups))) → HasJustTheMembers set names
   just_from_exact is below exact groups = record {
     groups = groups ∙ ap (λ gs. Some (length gs)) (sym (complete_groups-exact (member_threshold_of set) (member_threshold-positive set is) names exact));
     members = λ k d within.
@@ -74,6 +77,7 @@ module _ (set : List ShareFields) (names : List (ℕ × ℕ)) where
   }
 
   -- and no others do
-  pub groups_from_just : IsShareSet set → HasJustTheMembers set names → group_threshold_of set ≡ Some (length (filter (has_members names) (range_with_len 0 most_groups)))
+  pub groups_from_just : IsShareSet set → HasJustTheMembers set names
+      → group_threshold_of set ≡ Some (length (filter (has_members names) (range_with_len 0 most_groups)))
   groups_from_just is has =
       has.groups ∙ ap (λ gs. Some (length gs)) (complete_groups-exact (member_threshold_of set) (member_threshold-positive set is) names (exact_from_just has))

@@ -12,7 +12,8 @@ use Rattle.s39_set.proofs.Sublists.{Contains-head, Contains-cons, Contains-cases
 use Rattle.s39_set.proofs.NamesOrder.{names_order, names_one_way, names_not_before_itself, same_or_before, before-not_greater, same-not_greater, same_from_both}
 
 -- what comes after a list that comes after a given one comes after that one
-pub comes_after-goes_on : (given : Option (List (ℕ × ℕ))) (names others : List (ℕ × ℕ)) → ComesAfter given names → names_cmp names others ≡ Less → ComesAfter given others
+pub comes_after-goes_on : (given : Option (List (ℕ × ℕ))) (names others : List (ℕ × ℕ)) → ComesAfter given names → names_cmp names others ≡ Less
+    → ComesAfter given others
 comes_after-goes_on None names others after before = tt
 comes_after-goes_on (Some first) names others after before = names_order.trans first names others after before
 
@@ -39,7 +40,8 @@ module _ (set : List ShareFields) (given : Option (List (ℕ × ℕ))) where
   none_from_empty all names quorum after = Contains-nil names ((all.each names).1 (quorum, after))
 
   -- the first quorum, and then all after it
-  pub all_from_first : (names : List (ℕ × ℕ)) (others : List (List (ℕ × ℕ))) → IsFirstQuorumAfter set given names → AreAllQuorumsAfter set (Some names) others → AreAllQuorumsAfter set given (names ∷ others)
+  pub all_from_first : (names : List (ℕ × ℕ)) (others : List (List (ℕ × ℕ))) → IsFirstQuorumAfter set given names → AreAllQuorumsAfter set (Some names) others
+      → AreAllQuorumsAfter set given (names ∷ others)
   all_from_first names others first all = record {
     ascending =
         AllPairs-cons (λ a b. names_cmp a b ≡ Less) names others
@@ -70,12 +72,14 @@ module _ (set : List ShareFields) (given : Option (List (ℕ × ℕ))) where
             ⊎_elim
             (λ (same : names ≡ other). same-not_greater names other same)
             (λ (later : Contains others other).
-            before-not_greater names other (All-contains (λ n. names_cmp names n ≡ Less) others other (AllPairs-head (λ a b. names_cmp a b ≡ Less) names others all.ascending) later))
+            before-not_greater names other
+            (All-contains (λ n. names_cmp names n ≡ Less) others other (AllPairs-head (λ a b. names_cmp a b ≡ Less) names others all.ascending) later))
             (Contains-cases names others other ((all.each other).1 (quorum, after)));
       }
 
   -- and the others come after it
-  pub all_after_first : (names : List (ℕ × ℕ)) (others : List (List (ℕ × ℕ))) → AreAllQuorumsAfter set given (names ∷ others) → AreAllQuorumsAfter set (Some names) others
+  pub all_after_first : (names : List (ℕ × ℕ)) (others : List (List (ℕ × ℕ))) → AreAllQuorumsAfter set given (names ∷ others)
+      → AreAllQuorumsAfter set (Some names) others
   all_after_first names others all =
       let later = AllPairs-head (λ a b. names_cmp a b ≡ Less) names others all.ascending in
       let here = (all.each names).0 (Contains-head names others) in
@@ -92,21 +96,26 @@ module _ (set : List ShareFields) (given : Option (List (ℕ × ℕ))) where
       }
 
 -- all quorums after a listed one are those behind it
-pub all_after : (set : List ShareFields) (given : Option (List (ℕ × ℕ))) (before : List (List (ℕ × ℕ))) (last : List (ℕ × ℕ)) (others : List (List (ℕ × ℕ))) → AreAllQuorumsAfter set given (before ++ last ∷ others) → AreAllQuorumsAfter set (Some last) others
+pub all_after : (set : List ShareFields) (given : Option (List (ℕ × ℕ))) (before : List (List (ℕ × ℕ))) (last : List (ℕ × ℕ)) (others : List (List (ℕ × ℕ)))
+    → AreAllQuorumsAfter set given (before ++ last ∷ others) → AreAllQuorumsAfter set (Some last) others
 all_after set given [] last others all = all_after_first set given last others all
-all_after set given (names ∷ before) last others all = all_after set (Some names) before last others (all_after_first set given names (before ++ last ∷ others) all)
+all_after set given (names ∷ before) last others all =
+    all_after set (Some names) before last others (all_after_first set given names (before ++ last ∷ others) all)
 
 -- ---- walks
 
 -- a walk lists all quorums
-pub listed_by_walk : (set : List ShareFields) (given : Option (List (ℕ × ℕ))) (quorums : List (List (ℕ × ℕ))) → IsWalk set given quorums → AreAllQuorumsAfter set given quorums
+pub listed_by_walk : (set : List ShareFields) (given : Option (List (ℕ × ℕ))) (quorums : List (List (ℕ × ℕ))) → IsWalk set given quorums
+    → AreAllQuorumsAfter set given quorums
 listed_by_walk set given [] none = none_listed set given none
 listed_by_walk set given (names ∷ others) walk = all_from_first set given names others walk.0 (listed_by_walk set (Some names) others walk.1)
 
 -- and all quorums are a walk
-pub walk_from_all : (set : List ShareFields) (given : Option (List (ℕ × ℕ))) (quorums : List (List (ℕ × ℕ))) → AreAllQuorumsAfter set given quorums → IsWalk set given quorums
+pub walk_from_all : (set : List ShareFields) (given : Option (List (ℕ × ℕ))) (quorums : List (List (ℕ × ℕ))) → AreAllQuorumsAfter set given quorums
+    → IsWalk set given quorums
 walk_from_all set given [] all = none_from_empty set given all
-walk_from_all set given (names ∷ others) all = (first_of_all set given names others all, walk_from_all set (Some names) others (all_after_first set given names others all))
+walk_from_all set given (names ∷ others) all =
+    (first_of_all set given names others all, walk_from_all set (Some names) others (all_after_first set given names others all))
 
 -- ---- listings
 
@@ -116,7 +125,8 @@ module _ (set : List ShareFields) (given : Option (List (ℕ × ℕ))) where
   one_listing limit listed others p q = p.listed_are ∙ ap (take limit) (one_list set given p.all q.all p.all_are q.all_are) ∙ sym q.listed_are
 
   -- the first quorum, and then the listing after it
-  pub listing_goes_on : (names : List (ℕ × ℕ)) (limit : ℕ) (others : List (List (ℕ × ℕ))) → IsFirstQuorumAfter set given names → IsListing set (Some names) limit others → IsListing set given (suc limit) (names ∷ others)
+  pub listing_goes_on : (names : List (ℕ × ℕ)) (limit : ℕ) (others : List (List (ℕ × ℕ))) → IsFirstQuorumAfter set given names
+      → IsListing set (Some names) limit others → IsListing set given (suc limit) (names ∷ others)
   listing_goes_on names limit others first listing = record {
     all = names ∷ listing.all;
     all_are = all_from_first set given names listing.all first listing.all_are;
@@ -132,7 +142,9 @@ module _ (set : List ShareFields) (given : Option (List (ℕ × ℕ))) where
   listing_ends limit none = record { all = []; all_are = none_listed set given none; listed_are = take-none limit }
 
   -- a listing, and the listing after its last quorum
-  pub listings_join : (limit more : ℕ) (before : List (List (ℕ × ℕ))) (last : List (ℕ × ℕ)) (others : List (List (ℕ × ℕ))) → IsListing set given limit (before ++ last ∷ []) → IsListing set (Some last) more others → IsListing set given (limit + more) ((before ++ last ∷ []) ++ others)
+  pub listings_join : (limit more : ℕ) (before : List (List (ℕ × ℕ))) (last : List (ℕ × ℕ)) (others : List (List (ℕ × ℕ)))
+      → IsListing set given limit (before ++ last ∷ []) → IsListing set (Some last) more others
+      → IsListing set given (limit + more) ((before ++ last ∷ []) ++ others)
   listings_join limit more before last others p q =
       let rest = drop limit p.all in
       let whole : p.all ≡ before ++ last ∷ rest =

@@ -92,7 +92,8 @@ module _ (T : ℕ → Option ℕ) (names : List (ℕ × ℕ)) where
       let after : g < later.0 = All-contains (λ h. g < h) gs later.0 (AllPairs-head (λ a b. a < b) g gs order) (members_of-groups gs k d below) in
       name_cmp_groups name later (omega arith))
 
-  names_in_group-parts : (g h : ℕ) (groups : List ℕ) → names_in_group g (members_of T names (h ∷ groups)) ≡ names_in_group g (first_members T names h) ++ names_in_group g (members_of T names groups)
+  names_in_group-parts : (g h : ℕ) (groups : List ℕ)
+      → names_in_group g (members_of T names (h ∷ groups)) ≡ names_in_group g (first_members T names h) ++ names_in_group g (members_of T names groups)
   names_in_group-parts g h groups = filter-append (λ name. name.0 == g) (first_members T names h) (members_of T names groups)
 
   -- of other groups there are none
@@ -105,7 +106,8 @@ module _ (T : ℕ → Option ℕ) (names : List (ℕ × ℕ)) where
       (names_in_group-other_groups hs g (λ among. apart (Contains-cons h hs g among)))
 
   -- of each group they are its first members
-  pub names_in_group-members_of : (groups : List ℕ) (g : ℕ) → AllPairs (λ a b. a < b) groups → Contains groups g → names_in_group g (members_of T names groups) ≡ first_members T names g
+  pub names_in_group-members_of : (groups : List ℕ) (g : ℕ) → AllPairs (λ a b. a < b) groups → Contains groups g
+      → names_in_group g (members_of T names groups) ≡ first_members T names g
   names_in_group-members_of [] g order among = absurd (Contains-nil g among)
   names_in_group-members_of (h ∷ hs) g order among =
       let after : All (λ k. h < k) hs = AllPairs-head (λ a b. a < b) h hs order in
@@ -128,8 +130,10 @@ pub one_of : {X : Type 0} (xs : List X) → 1 ≤ length xs → (x : X) × Conta
 one_of [] some = absurd (omega arith)
 one_of (x ∷ xs) some = (x, Contains-head x xs)
 
-module _ (T : ℕ → Option ℕ) (positive : (g t : ℕ) → T g ≡ Some t → 1 ≤ t) (names : List (ℕ × ℕ)) (groups : List ℕ) (order : AllPairs (λ a b. a < b) groups) (complete : All (Contains (complete_groups T names)) groups) where
-  length-members_of : (g t : ℕ) → Contains groups g → T g ≡ Some t → t ≤ length (names_in_group g names) → length (names_in_group g (members_of T names groups)) ≡ t
+module _ (T : ℕ → Option ℕ) (positive : (g t : ℕ) → T g ≡ Some t → 1 ≤ t) (names : List (ℕ × ℕ)) (groups : List ℕ) (order : AllPairs (λ a b. a < b) groups)
+    (complete : All (Contains (complete_groups T names)) groups) where
+  length-members_of : (g t : ℕ) → Contains groups g → T g ≡ Some t → t ≤ length (names_in_group g names)
+      → length (names_in_group g (members_of T names groups)) ≡ t
   length-members_of g t among e enough =
       ap length (names_in_group-members_of T names groups g order among) ∙ length-first_members T names g t e enough
 
@@ -150,7 +154,8 @@ module _ (T : ℕ → Option ℕ) (positive : (g t : ℕ) → T g ≡ Some t →
       let some = positive g has.threshold has.is in
       let one = one_of (names_in_group g chosen) (omega arith) in
       let here : one.0.0 ≡ g = All-contains (λ name. name.0 ≡ g) (names_in_group g chosen) one.0 (names_in_group-group g chosen) one.1 in
-      let inside : Contains chosen one.0 = All-contains (Contains chosen) (names_in_group g chosen) one.0 (Contains-sublist (filter_kept (λ name. name.0 == g) chosen)) one.1 in
+      let inside : Contains chosen one.0 =
+      All-contains (Contains chosen) (names_in_group g chosen) one.0 (Contains-sublist (filter_kept (λ name. name.0 == g) chosen)) one.1 in
       subst (Contains groups) here (All-contains (λ name. Contains groups name.0) chosen one.0 (members_of-groups T names groups) inside) in
       same_groups (complete_groups T chosen) groups (complete_groups-ascending T chosen) order all only
 

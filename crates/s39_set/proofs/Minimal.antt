@@ -30,7 +30,8 @@ groups_at_hand T N G names ascending meets =
     omega arith
 
 -- the first members of the first complete groups have just what the thresholds ask
-pub first_members_have_just : (T : ℕ → Option ℕ) → ((g t : ℕ) → T g ≡ Some t → 1 ≤ t) → (N : List (ℕ × ℕ)) (G : ℕ) → IsAscending N → G ≤ length (complete_groups T N) → HasJust T N G (members_of T N (take G (complete_groups T N)))
+pub first_members_have_just : (T : ℕ → Option ℕ) → ((g t : ℕ) → T g ≡ Some t → 1 ≤ t) → (N : List (ℕ × ℕ)) (G : ℕ) → IsAscending N
+    → G ≤ length (complete_groups T N) → HasJust T N G (members_of T N (take G (complete_groups T N)))
 first_members_have_just T positive N G ascending enough =
     let groups = take G (complete_groups T N) in
     let first = take-sublist G (complete_groups T N) in
@@ -41,7 +42,8 @@ first_members_have_just T positive N G ascending enough =
     ascending)
 
 -- names that meet the thresholds, while no fewer of them do, have just what these ask
-pub just_from_minimal : (T : ℕ → Option ℕ) → ((g t : ℕ) → T g ≡ Some t → 1 ≤ t) → (N : List (ℕ × ℕ)) (G : ℕ) (names : List (ℕ × ℕ)) → Meets T N G names → ((fewer : List (ℕ × ℕ)) → All (Contains names) fewer → fewer ≢ names → Meets T N G fewer → ⊥) → HasJust T N G names
+pub just_from_minimal : (T : ℕ → Option ℕ) → ((g t : ℕ) → T g ≡ Some t → 1 ≤ t) → (N : List (ℕ × ℕ)) (G : ℕ) (names : List (ℕ × ℕ)) → Meets T N G names
+    → ((fewer : List (ℕ × ℕ)) → All (Contains names) fewer → fewer ≢ names → Meets T N G fewer → ⊥) → HasJust T N G names
 just_from_minimal T positive N G names meets minimal =
     let fewer = members_of T names (take G (complete_groups T names)) in
     let just : HasJust T names G fewer = first_members_have_just T positive names G meets.ascending meets.groups in
@@ -64,7 +66,8 @@ just_from_minimal T positive N G names meets minimal =
     }
 
 -- of names with just what the thresholds ask, no fewer meet them
-pub minimal_from_just : (T : ℕ → Option ℕ) (N : List (ℕ × ℕ)) → All (λ name. name.0 < most_groups) N → (G : ℕ) (names : List (ℕ × ℕ)) → HasJust T N G names → (fewer : List (ℕ × ℕ)) → All (Contains names) fewer → fewer ≢ names → Meets T N G fewer → ⊥
+pub minimal_from_just : (T : ℕ → Option ℕ) (N : List (ℕ × ℕ)) → All (λ name. name.0 < most_groups) N → (G : ℕ) (names : List (ℕ × ℕ)) → HasJust T N G names
+    → (fewer : List (ℕ × ℕ)) → All (Contains names) fewer → fewer ≢ names → Meets T N G fewer → ⊥
 minimal_from_just T N below G names just fewer inside other meets =
     let part : IsSublist fewer names = names-sublist names fewer just.ascending meets.ascending inside in
     let same_complete : complete_groups T fewer ≡ complete_groups T names =

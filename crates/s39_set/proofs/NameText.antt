@@ -11,7 +11,8 @@ use Rattle.s39_set.proofs.IndexText.{decimal-index}
 use Rattle.s39_set.specs.Names.{most_groups, most_members}
 
 -- where the first element that passes stands behind these, the elements before it are as many as they
-position_or_len-first : {X : Type 0} (p : X → Bool) (xs : List X) (x : X) (ys : List X) → All (λ y. p y ≡ false) xs → p x ≡ true → position_or_len p (xs ++ x ∷ ys) ≡ length xs
+position_or_len-first : {X : Type 0} (p : X → Bool) (xs : List X) (x : X) (ys : List X) → All (λ y. p y ≡ false) xs → p x ≡ true
+    → position_or_len p (xs ++ x ∷ ys) ≡ length xs
 position_or_len-first p [] x ys fails passes = rw passes refl
 position_or_len-first p (z ∷ xs) x ys fails passes =
     let first = All-head (λ y. p y ≡ false) z xs fails in
@@ -37,9 +38,11 @@ decimal-without n byte low small =
     let none : All (λ b. (b == byte) ≡ false) [] = All-nil (λ b. (b == byte) ≡ false) in
     let other : (x : ℕ) → 48 ≤ x → (x == byte) ≡ false = λ x from. ne_eqb x byte (λ e. omega arith) in
     elim (cases_lt n 10) [
-      | inl below ↦ subst (All (λ b. (b == byte) ≡ false)) (sym (of.one below)) (All-cons (λ b. (b == byte) ≡ false) (48 + n) [] (other (48 + n) (omega arith)) none)
+      | inl below ↦ subst (All (λ b. (b == byte) ≡ false)) (sym (of.one below))
+          (All-cons (λ b. (b == byte) ≡ false) (48 + n) [] (other (48 + n) (omega arith)) none)
       | inr high ↦ subst (All (λ b. (b == byte) ≡ false)) (sym (of.two high))
-          (All-cons (λ b. (b == byte) ≡ false) 49 ((38 + n) ∷ []) (other 49 (omega arith)) (All-cons (λ b. (b == byte) ≡ false) (38 + n) [] (other (38 + n) (omega arith)) none))
+          (All-cons (λ b. (b == byte) ≡ false) 49 ((38 + n) ∷ []) (other 49 (omega arith))
+          (All-cons (λ b. (b == byte) ≡ false) (38 + n) [] (other (38 + n) (omega arith)) none))
     ]
 
 -- the written form has its first full stop behind the group
@@ -47,11 +50,14 @@ position-name : (text : List ℕ) (name : ℕ × ℕ) → IsNameText text name �
 position-name text name is =
     let back = decimal name.1 in
     let front = decimal name.0 in
-    let here : position_or_len is_stop (front ++ 46 ∷ back) ≡ length front = position_or_len-first is_stop front 46 back (decimal-without name.0 46 is.group (omega arith)) refl in
+    let here : position_or_len is_stop (front ++ 46 ∷ back) ≡ length front =
+    position_or_len-first is_stop front 46 back (decimal-without name.0 46 is.group (omega arith)) refl in
     let l : length (front ++ 46 ∷ back) ≡ length front + suc (length back) = length-append front (46 ∷ back) in
-    let inside : nat_lt (position_or_len is_stop (front ++ 46 ∷ back)) (length (front ++ 46 ∷ back)) ≡ true = lt-ltb (position_or_len is_stop (front ++ 46 ∷ back)) (length (front ++ 46 ∷ back)) (omega arith) in
+    let inside : nat_lt (position_or_len is_stop (front ++ 46 ∷ back)) (length (front ++ 46 ∷ back)) ≡ true =
+    lt-ltb (position_or_len is_stop (front ++ 46 ∷ back)) (length (front ++ 46 ∷ back)) (omega arith) in
     ap (position is_stop) is.text_is
-    ∙ cond-true (nat_lt (position_or_len is_stop (front ++ 46 ∷ back)) (length (front ++ 46 ∷ back))) (Some (position_or_len is_stop (front ++ 46 ∷ back))) None inside
+    ∙ cond-true (nat_lt (position_or_len is_stop (front ++ 46 ∷ back)) (length (front ++ 46 ∷ back)))
+    (Some (position_or_len is_stop (front ++ 46 ∷ back))) None inside
     ∙ ap Some here
 
 -- the parts of a text before and behind its first full stop are the group and the member in decimal
@@ -74,7 +80,8 @@ parts_of_name text stop name is found =
     }
 
 -- a text with those parts is the name's written form
-pub name_of_parts : (text : List ℕ) (stop : ℕ) (name : ℕ × ℕ) → name.0 < most_groups → name.1 < most_members → HasParts text stop name → Some stop ≡ position is_stop text → IsNameText text name
+pub name_of_parts : (text : List ℕ) (stop : ℕ) (name : ℕ × ℕ) → name.0 < most_groups → name.1 < most_members → HasParts text stop name
+    → Some stop ≡ position is_stop text → IsNameText text name
 name_of_parts text stop name group member parts found =
     let at = position-Some is_stop text stop 0 (sym found) in
     let dot : get_or text stop 0 ≡ 46 = eqb-true (get_or text stop 0) 46 at.1 in

@@ -16,7 +16,8 @@ less_places a b c d low h = grind (arith, nat_tests)
 place_of-less : (x y : ℕ × ℕ) → x.1 < most_members → name_cmp x y ≡ Less → place_of x < place_of y
 place_of-less x y low h = less_places x.0 x.1 y.0 y.1 low h
 
-length_from_place : (name : ℕ × ℕ) (b : ℕ) (names : List (ℕ × ℕ)) → IsAscending names → All (λ x. x.1 < most_members) names → All (λ x. b ≤ place_of x) names → All (λ x. name_cmp x name ≡ Less) names → b ≤ place_of name → b + length names ≤ place_of name
+length_from_place : (name : ℕ × ℕ) (b : ℕ) (names : List (ℕ × ℕ)) → IsAscending names → All (λ x. x.1 < most_members) names → All (λ x. b ≤ place_of x) names
+    → All (λ x. name_cmp x name ≡ Less) names → b ≤ place_of name → b + length names ≤ place_of name
 length_from_place name b [] ascending low from earlier first = omega arith
 length_from_place name b (x ∷ xs) ascending low from earlier first =
     let here : b ≤ place_of x = All-head (λ y. b ≤ place_of y) x xs from in
@@ -38,7 +39,8 @@ length-before names name are earlier =
     omega arith
 
 -- with it behind them they are still names in order
-pub AreNames-push : (names : List (ℕ × ℕ)) (name : ℕ × ℕ) → AreNames names → name.0 < most_groups → name.1 < most_members → All (λ x. name_cmp x name ≡ Less) names → AreNames (names ++ name ∷ [])
+pub AreNames-push : (names : List (ℕ × ℕ)) (name : ℕ × ℕ) → AreNames names → name.0 < most_groups → name.1 < most_members
+    → All (λ x. name_cmp x name ≡ Less) names → AreNames (names ++ name ∷ [])
 AreNames-push names name are group member earlier = record {
   ascending = all_pairs_push (λ a b. name_cmp a b ≡ Less) names name are.ascending earlier;
   groups = All-push (λ x. x.0 < most_groups) names name are.groups group;
@@ -53,10 +55,12 @@ pub less_than : (x y z : ℕ × ℕ) → name_cmp x y ≡ Less → name_cmp y z 
 less_than x y z h k = less_names x.0 x.1 y.0 y.1 z.0 z.1 h k
 
 -- ascending names all come before a name where the last of them does
-pub all_before : (names : List (ℕ × ℕ)) (last name : ℕ × ℕ) → IsAscending names → 0 < length names → get_or names (length names - 1) last ≡ last → name_cmp last name ≡ Less → All (λ x. name_cmp x name ≡ Less) names
+pub all_before : (names : List (ℕ × ℕ)) (last name : ℕ × ℕ) → IsAscending names → 0 < length names → get_or names (length names - 1) last ≡ last
+    → name_cmp last name ≡ Less → All (λ x. name_cmp x name ≡ Less) names
 all_before names last name ascending some at less k d below =
     elim (cases_lt k (length names - 1)) [
-      | inl earlier ↦ (let before : name_cmp (get_or names k d) (get_or names (length names - 1) d) ≡ Less = ascending k (length names - 1) d earlier (omega arith) in
+      | inl earlier ↦
+          (let before : name_cmp (get_or names k d) (get_or names (length names - 1) d) ≡ Less = ascending k (length names - 1) d earlier (omega arith) in
           let same : get_or names (length names - 1) d ≡ last = get_or_default names (length names - 1) d last (omega arith) ∙ at in
           less_than (get_or names k d) last name (subst (λ n. name_cmp (get_or names k d) n ≡ Less) same before) less)
       | inr here ↦ (let is_last : k ≡ length names - 1 = omega arith in

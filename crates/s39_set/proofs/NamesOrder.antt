@@ -44,7 +44,8 @@ names_one_way xs ys before after = let back = names_order.antisymm xs ys in cc
 
 -- no list comes before itself
 pub names_not_before_itself : (xs ys : List (ℕ × ℕ)) → xs ≡ ys → names_cmp xs ys ≡ Less → ⊥
-names_not_before_itself xs ys same before = let tied = tied_itself names_order xs in let less : names_cmp xs xs ≡ Less = subst (λ zs. names_cmp xs zs ≡ Less) (sym same) before in cc
+names_not_before_itself xs ys same before = let tied = tied_itself names_order xs in let less : names_cmp xs xs ≡ Less =
+    subst (λ zs. names_cmp xs zs ≡ Less) (sym same) before in cc
 
 -- a list that doesn't come after another is it or comes before it
 pub same_or_before : (xs ys : List (ℕ × ℕ)) → names_cmp xs ys ≢ Greater → (xs ≡ ys) ⊎ (names_cmp xs ys ≡ Less)

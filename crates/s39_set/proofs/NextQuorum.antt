@@ -25,13 +25,16 @@ front_cases [] xs ys others less = inr (record { rest = others; is = refl; less 
 front_cases (p ∷ P) xs ys [] less = absurd (let bad : Greater ≡ Less = less in cc)
 front_cases (p ∷ P) xs ys (o ∷ os) less = by (name_cmp p o) refl less (λ h. front_cases P xs ys os h)
   where
-    by : (c : Ordering) → name_cmp p o ≡ c → ordering_then c (names_cmp (P ++ xs) os) ≡ Less → (names_cmp (P ++ xs) os ≡ Less → (names_cmp (P ++ ys) os ≢ Greater) ⊎ GoesOn P xs os) → (names_cmp (p ∷ (P ++ ys)) (o ∷ os) ≢ Greater) ⊎ GoesOn (p ∷ P) xs (o ∷ os)
+    by : (c : Ordering) → name_cmp p o ≡ c → ordering_then c (names_cmp (P ++ xs) os) ≡ Less
+        → (names_cmp (P ++ xs) os ≡ Less → (names_cmp (P ++ ys) os ≢ Greater) ⊎ GoesOn P xs os)
+        → (names_cmp (p ∷ (P ++ ys)) (o ∷ os) ≢ Greater) ⊎ GoesOn (p ∷ P) xs (o ∷ os)
     by Less e h rest = inl (rw e (λ f. let bad : Less ≡ Greater = f in cc))
     by Equal e h rest =
         let same : p ≡ o = name_cmp-equal p o e in
         ⊎_elim
         (λ (k : names_cmp (P ++ ys) os ≢ Greater). inl (rw e k))
-        (λ (k : GoesOn P xs os). inr (subst (λ (q : ℕ × ℕ). GoesOn (p ∷ P) xs (q ∷ os)) same (record { rest = k.rest; is = ap (λ l. p ∷ l) k.is; less = k.less })))
+        (λ (k : GoesOn P xs os). inr
+        (subst (λ (q : ℕ × ℕ). GoesOn (p ∷ P) xs (q ∷ os)) same (record { rest = k.rest; is = ap (λ l. p ∷ l) k.is; less = k.less })))
         (rest h)
     by Greater e h rest = absurd (let bad : Greater ≡ Less = h in cc)
 
@@ -48,7 +51,8 @@ module _ (T : ℕ → Option ℕ) (N : List (ℕ × ℕ)) (G : ℕ) (below : All
       (λ same. let l : length Q ≡ length (Q ++ z ∷ Z) = ap length same in absurd (omega (arith, length-append Q (z ∷ Z))))
       (meets_from_just T N G Q just)
 
-  pub none_before : (P S : List (ℕ × ℕ)) (x : ℕ × ℕ) → Q ≡ P ++ x ∷ S → NoneWith (P ++ x ∷ []) → ((y : ℕ × ℕ) (Z : List (ℕ × ℕ)) → HasJust T N G (P ++ y ∷ Z) → name_cmp x y ≡ Less → ⊥) → NoneWith P
+  pub none_before : (P S : List (ℕ × ℕ)) (x : ℕ × ℕ) → Q ≡ P ++ x ∷ S → NoneWith (P ++ x ∷ [])
+      → ((y : ℕ × ℕ) (Z : List (ℕ × ℕ)) → HasJust T N G (P ++ y ∷ Z) → name_cmp x y ≡ Less → ⊥) → NoneWith P
   none_before P S x is none nothing [] other less =
       let bad : Greater ≡ Less = sym (cmp-append P (x ∷ S) []) ∙ ap (λ q. names_cmp q (P ++ [])) (sym is) ∙ less in
       absurd (cc)
@@ -64,7 +68,9 @@ module _ (T : ℕ → Option ℕ) (N : List (ℕ × ℕ)) (G : ℕ) (below : All
       by Greater e h = absurd (let bad : Greater ≡ Less = sym (ap (λ c. ordering_then c (names_cmp S Z)) e) ∙ h in cc)
 
   -- the least that can stand in x's place comes first of all that come after Q
-  pub first_there : (P S : List (ℕ × ℕ)) (x : ℕ × ℕ) (R : List (ℕ × ℕ)) → Q ≡ P ++ x ∷ S → NoneWith (P ++ x ∷ []) → ((y : ℕ × ℕ) (Z : List (ℕ × ℕ)) → HasJust T N G (P ++ y ∷ Z) → name_cmp x y ≡ Less → names_cmp R (y ∷ Z) ≢ Greater) → (other : List (ℕ × ℕ)) → HasJust T N G other → names_cmp Q other ≡ Less → names_cmp (P ++ R) other ≢ Greater
+  pub first_there : (P S : List (ℕ × ℕ)) (x : ℕ × ℕ) (R : List (ℕ × ℕ)) → Q ≡ P ++ x ∷ S → NoneWith (P ++ x ∷ [])
+      → ((y : ℕ × ℕ) (Z : List (ℕ × ℕ)) → HasJust T N G (P ++ y ∷ Z) → name_cmp x y ≡ Less → names_cmp R (y ∷ Z) ≢ Greater) → (other : List (ℕ × ℕ))
+      → HasJust T N G other → names_cmp Q other ≡ Less → names_cmp (P ++ R) other ≢ Greater
   first_there P S x R is none least other has less =
       ⊎_elim
       (λ (h : names_cmp (P ++ R) other ≢ Greater). h)

@@ -63,7 +63,8 @@ module _ {X : Type 0} (R : X → X → Ordering) where
   slice_cmp-first_less_not_greater x y xs ys less = rw less (less-not_greater Less refl)
 
   -- fronts of one length decide first
-  pub slice_cmp-append_not_greater : (us vs xs ys : List X) → length us ≡ length vs → slice_cmp R us vs ≢ Greater → slice_cmp R xs ys ≢ Greater → slice_cmp R (us ++ xs) (vs ++ ys) ≢ Greater
+  pub slice_cmp-append_not_greater : (us vs xs ys : List X) → length us ≡ length vs → slice_cmp R us vs ≢ Greater → slice_cmp R xs ys ≢ Greater
+      → slice_cmp R (us ++ xs) (vs ++ ys) ≢ Greater
   slice_cmp-append_not_greater [] [] xs ys l h k = k
   slice_cmp-append_not_greater [] (v ∷ vs) xs ys l h k = absurd (omega arith)
   slice_cmp-append_not_greater (u ∷ us) [] xs ys l h k = absurd (omega arith)
@@ -83,7 +84,8 @@ module _ {X : Type 0} (R : X → X → Ordering) (total : IsTotalOrder R) where
       (Contains-cases x xs y c)
 
   -- past the first elements of both, the one still has all elements of the other
-  pub contained_tail : (x : X) (xs : List X) (y : X) (ys : List X) → AllPairs (λ a b. R a b ≡ Less) (x ∷ xs) → AllPairs (λ a b. R a b ≡ Less) (y ∷ ys) → All (Contains (x ∷ xs)) (y ∷ ys) → All (Contains xs) ys
+  pub contained_tail : (x : X) (xs : List X) (y : X) (ys : List X) → AllPairs (λ a b. R a b ≡ Less) (x ∷ xs) → AllPairs (λ a b. R a b ≡ Less) (y ∷ ys)
+      → All (Contains (x ∷ xs)) (y ∷ ys) → All (Contains xs) ys
   contained_tail x xs y ys ascending ascending' within k d below =
       let z = get_or ys k d in
       let less : R y z ≡ Less = AllPairs-head (λ a b. R a b ≡ Less) y ys ascending' k d below in
@@ -108,7 +110,8 @@ module _ {X : Type 0} (R : X → X → Ordering) (total : IsTotalOrder R) where
       omega arith
 
   -- its first elements, as many as the other has, don't come after the other
-  pub first_elements_are_least : (xs ys : List X) → AllPairs (λ a b. R a b ≡ Less) xs → AllPairs (λ a b. R a b ≡ Less) ys → All (Contains xs) ys → slice_cmp R (take (length ys) xs) ys ≢ Greater
+  pub first_elements_are_least : (xs ys : List X) → AllPairs (λ a b. R a b ≡ Less) xs → AllPairs (λ a b. R a b ≡ Less) ys → All (Contains xs) ys
+      → slice_cmp R (take (length ys) xs) ys ≢ Greater
   first_elements_are_least xs [] ascending ascending' within = slice_cmp-nil_not_greater R []
   first_elements_are_least [] (y ∷ ys) ascending ascending' within = absurd (Contains-nil y (All-head (Contains []) y ys within))
   first_elements_are_least (x ∷ xs) (y ∷ ys) ascending ascending' within =

@@ -30,7 +30,8 @@ places-at_least b (Some share ∷ places) own =
     All-cons (λ s. b ≤ place_of (name_of s)) share (shares_at places) (omega arith)
     (λ k d below. let rest = places-at_least (suc b) places (own_places-tail b (Some share) places own) k d below in omega arith)
 
-has_name-from_place : (share : ShareFields) (group member : ℕ) → share.member_index < most_members → member < most_members → place_of (name_of share) ≡ place_of (group, member) → has_name group member share ≡ true
+has_name-from_place : (share : ShareFields) (group member : ℕ) → share.member_index < most_members → member < most_members
+    → place_of (name_of share) ≡ place_of (group, member) → has_name group member share ≡ true
 has_name-from_place share group member low also_low same =
     and_from (share.group_index == group) (share.member_index == member)
     (eq-eqb share.group_index group (omega arith))
@@ -44,7 +45,9 @@ no_name-from_place share group member apart =
     ]
 
 -- the share of a name stands at its place
-pub find-place : (b : ℕ) (places : List (Option ShareFields)) (group member : ℕ) → OwnPlaces b places → All (λ share. share.member_index < most_members) (shares_at places) → member < most_members → (j : ℕ) → place_of (group, member) ≡ b + j → find (has_name group member) (shares_at places) ≡ get_or places j None
+pub find-place : (b : ℕ) (places : List (Option ShareFields)) (group member : ℕ) → OwnPlaces b places
+    → All (λ share. share.member_index < most_members) (shares_at places) → member < most_members → (j : ℕ) → place_of (group, member) ≡ b + j
+    → find (has_name group member) (shares_at places) ≡ get_or places j None
 find-place b [] group member own low also_low j at = refl
 find-place b (None ∷ places) group member own low also_low zero at =
     find-none (has_name group member) (shares_at places)
@@ -60,4 +63,5 @@ find-place b (Some share ∷ places) group member own low also_low (suc j) at =
     let here : place_of (name_of share) ≡ b + 0 = own 0 in
     cond-false (has_name group member share) (Some share) (find (has_name group member) (shares_at places))
     (no_name-from_place share group member (λ e. absurd (omega arith)))
-    ∙ find-place (suc b) places group member (own_places-tail b (Some share) places own) (All-tail (λ s. s.member_index < most_members) share (shares_at places) low) also_low j (omega arith)
+    ∙ find-place (suc b) places group member (own_places-tail b (Some share) places own)
+    (All-tail (λ s. s.member_index < most_members) share (shares_at places) low) also_low j (omega arith)

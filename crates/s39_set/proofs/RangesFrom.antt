@@ -29,7 +29,9 @@ module _ (p : ℕ → Bool) (a j : ℕ) (from : a ≤ j) where
 
   -- one that doesn't changes nothing
   pub filter-range_from_no : p j ≡ false → filter p (range_with_len a ((j + 1) - a)) ≡ filter p (range_with_len a (j - a))
-  filter-range_from_no fails = filter-range_from ∙ ap (λ xs. filter p (range_with_len a (j - a)) ++ xs) (cond-false (p j) (j ∷ []) [] fails) ∙ append-nil (filter p (range_with_len a (j - a)))
+  filter-range_from_no fails =
+      filter-range_from ∙ ap (λ xs. filter p (range_with_len a (j - a)) ++ xs) (cond-false (p j) (j ∷ []) [] fails)
+      ∙ append-nil (filter p (range_with_len a (j - a)))
 
   pub length-filter-range_from_yes : p j ≡ true → length (filter p (range_with_len a ((j + 1) - a))) ≡ length (filter p (range_with_len a (j - a))) + 1
   length-filter-range_from_yes passes = ap length (filter-range_from_yes passes) ∙ length_push (filter p (range_with_len a (j - a))) j
@@ -65,9 +67,11 @@ pub less_up : (g m h a b : ℕ) → name_cmp (g, m) (h, a) ≡ Less → a ≤ b 
 less_up g m h a b less up = grind (arith, nat_tests)
 
 -- names before a group's member, and its members from there on, come before the next member
-pub all_before_next : (p : ℕ → Bool) (many a j group : ℕ) → a ≤ j → (names : List (ℕ × ℕ)) → All (λ n. name_cmp n (group, a) ≡ Less) names → All (λ n. name_cmp n (group, j) ≡ Less) (names ++ map (λ member. (group, member)) (first_from p many a j))
+pub all_before_next : (p : ℕ → Bool) (many a j group : ℕ) → a ≤ j → (names : List (ℕ × ℕ)) → All (λ n. name_cmp n (group, a) ≡ Less) names
+    → All (λ n. name_cmp n (group, j) ≡ Less) (names ++ map (λ member. (group, member)) (first_from p many a j))
 all_before_next p many a j group from names earlier =
     All-append (λ n. name_cmp n (group, j) ≡ Less) names (map (λ member. (group, member)) (first_from p many a j))
     (All-weaker (λ n. name_cmp n (group, a) ≡ Less) (λ n. name_cmp n (group, j) ≡ Less) (λ n less. less_up n.0 n.1 group a j less from) names earlier)
     (All-map (λ n. name_cmp n (group, j) ≡ Less) (λ member. (group, member)) (first_from p many a j)
-    (All-weaker (λ k. k < j) (λ k. name_cmp (group, k) (group, j) ≡ Less) (λ k less. member-less group k j less) (first_from p many a j) (first_from-below p many a j from)))
+    (All-weaker (λ k. k < j) (λ k. name_cmp (group, k) (group, j) ≡ Less) (λ k less. member-less group k j less) (first_from p many a j)
+    (first_from-below p many a j from)))

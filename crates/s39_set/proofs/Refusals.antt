@@ -28,7 +28,8 @@ first_of a b c d e f rest =
     else if f then Some OtherLength
     else rest
 
-first_of-some : (a b c d e f : Bool) (rest : Option SetError) (error : SetError) → first_of a b c d e f None ≡ Some error → first_of a b c d e f rest ≡ Some error
+first_of-some : (a b c d e f : Bool) (rest : Option SetError) (error : SetError) → first_of a b c d e f None ≡ Some error
+    → first_of a b c d e f rest ≡ Some error
 first_of-some true b c d e f rest error h = h
 first_of-some false true c d e f rest error h = h
 first_of-some false false true d e f rest error h = h
@@ -83,7 +84,9 @@ last_from_none shares share h =
     by (some_differs (λ s. s.member_threshold) (filter (is_in_group share.group_index) shares) share)
     (list_any (λ s. not (bytes_eq s.value.items share.value.items)) (filter (has_name share.group_index share.member_index) shares)) h
   where
-    by : (a b : Bool) → (if a then Some (OtherMemberThreshold share.group_index) else if b then Some (ConflictingShare share.group_index share.member_index) else None) ≡ None → (a ≡ false) × (b ≡ false)
+    by : (a b : Bool)
+        → (if a then Some (OtherMemberThreshold share.group_index) else if b then Some (ConflictingShare share.group_index share.member_index) else None) ≡ None
+        → (a ≡ false) × (b ≡ false)
     by true b h = absurd (let bad : Some (OtherMemberThreshold share.group_index) ≡ None = h in cc)
     by false true h = absurd (let bad : Some (ConflictingShare share.group_index share.member_index) ≡ None = h in cc)
     by false false h = (refl, refl)
@@ -96,15 +99,18 @@ pub last_from_failures : (shares : List ShareFields) (share : ShareFields)
 last_from_failures shares share h k = rw (h, k)
 
 module _ (first : ShareFields) (others : List ShareFields) (is : IsShareSet (first ∷ others)) (share : ShareFields) where
-  one_number : (number : ShareFields → ℕ) → ((s : ShareFields) → Agrees first s → number first ≡ number s) → some_differs number (first ∷ others) share ≡ not (number first == number share)
+  one_number : (number : ShareFields → ℕ) → ((s : ShareFields) → Agrees first s → number first ≡ number s)
+      → some_differs number (first ∷ others) share ≡ not (number first == number share)
   one_number number same =
       list_any-same (λ s. not (number s == number share)) (not (number first == number share)) (first ∷ others) (omega arith)
-      (λ k d below. ap (λ n. not (n == number share)) (sym (same (get_or (first ∷ others) k d) (All-head (λ s. All (Agrees s) (first ∷ others)) first others is.agree k d below))))
+      (λ k d below. ap (λ n. not (n == number share))
+      (sym (same (get_or (first ∷ others) k d) (All-head (λ s. All (Agrees s) (first ∷ others)) first others is.agree k d below))))
 
   -- against all shares as against the first
   pub refusal-as_first_of : refusal_of (first ∷ others) share
       ≡ first_of (not (first.id == share.id)) (not (flag_bit first.extendable == flag_bit share.extendable)) (not (first.exponent == share.exponent))
-      (not (first.group_threshold == share.group_threshold)) (not (first.group_count == share.group_count)) (not (length first.value.items == length share.value.items))
+      (not (first.group_threshold == share.group_threshold)) (not (first.group_count == share.group_count))
+      (not (length first.value.items == length share.value.items))
       (last_refusal_of (first ∷ others) share)
   refusal-as_first_of =
       let rest = last_refusal_of (first ∷ others) share in
@@ -115,19 +121,26 @@ module _ (first : ShareFields) (others : List ShareFields) (is : IsShareSet (fir
       let d = one_number (λ s. s.group_threshold) (λ s agrees. agrees.group_threshold) in
       let e = one_number (λ s. s.group_count) (λ s agrees. agrees.group_count) in
       let f = one_number (λ s. length s.value.items) (λ s agrees. agrees.value_length) in
-      ap (λ t. first_of t (differs (λ s. flag_bit s.extendable)) (differs (λ s. s.exponent)) (differs (λ s. s.group_threshold)) (differs (λ s. s.group_count)) (differs (λ s. length s.value.items)) rest) a
-      ∙ ap (λ t. first_of (not (first.id == share.id)) t (differs (λ s. s.exponent)) (differs (λ s. s.group_threshold)) (differs (λ s. s.group_count)) (differs (λ s. length s.value.items)) rest) b
-      ∙ ap (λ t. first_of (not (first.id == share.id)) (not (flag_bit first.extendable == flag_bit share.extendable)) t (differs (λ s. s.group_threshold)) (differs (λ s. s.group_count)) (differs (λ s. length s.value.items)) rest) c
-      ∙ ap (λ t. first_of (not (first.id == share.id)) (not (flag_bit first.extendable == flag_bit share.extendable)) (not (first.exponent == share.exponent)) t (differs (λ s. s.group_count)) (differs (λ s. length s.value.items)) rest) d
-      ∙ ap (λ t. first_of (not (first.id == share.id)) (not (flag_bit first.extendable == flag_bit share.extendable)) (not (first.exponent == share.exponent)) (not (first.group_threshold == share.group_threshold)) t (differs (λ s. length s.value.items)) rest) e
-      ∙ ap (λ t. first_of (not (first.id == share.id)) (not (flag_bit first.extendable == flag_bit share.extendable)) (not (first.exponent == share.exponent)) (not (first.group_threshold == share.group_threshold)) (not (first.group_count == share.group_count)) t rest) f
+      ap (λ t. first_of t (differs (λ s. flag_bit s.extendable)) (differs (λ s. s.exponent)) (differs (λ s. s.group_threshold)) (differs (λ s. s.group_count))
+      (differs (λ s. length s.value.items)) rest) a
+      ∙ ap (λ t. first_of (not (first.id == share.id)) t (differs (λ s. s.exponent)) (differs (λ s. s.group_threshold)) (differs (λ s. s.group_count))
+      (differs (λ s. length s.value.items)) rest) b
+      ∙ ap (λ t. first_of (not (first.id == share.id)) (not (flag_bit first.extendable == flag_bit share.extendable)) t (differs (λ s. s.group_threshold))
+      (differs (λ s. s.group_count)) (differs (λ s. length s.value.items)) rest) c
+      ∙ ap (λ t. first_of (not (first.id == share.id)) (not (flag_bit first.extendable == flag_bit share.extendable)) (not (first.exponent == share.exponent)) t
+      (differs (λ s. s.group_count)) (differs (λ s. length s.value.items)) rest) d
+      ∙ ap (λ t. first_of (not (first.id == share.id)) (not (flag_bit first.extendable == flag_bit share.extendable)) (not (first.exponent == share.exponent))
+      (not (first.group_threshold == share.group_threshold)) t (differs (λ s. length s.value.items)) rest) e
+      ∙ ap (λ t. first_of (not (first.id == share.id)) (not (flag_bit first.extendable == flag_bit share.extendable)) (not (first.exponent == share.exponent))
+      (not (first.group_threshold == share.group_threshold)) (not (first.group_count == share.group_count)) t rest) f
 
   -- a cause in what all shares have in common comes first
   pub refusal-common : (error : SetError) → common_refusal_of (common_of first) share ≡ Some error → refusal_of (first ∷ others) share ≡ Some error
   refusal-common error h =
       refusal-as_first_of
       ∙ first_of-some (not (first.id == share.id)) (not (flag_bit first.extendable == flag_bit share.extendable)) (not (first.exponent == share.exponent))
-      (not (first.group_threshold == share.group_threshold)) (not (first.group_count == share.group_count)) (not (length first.value.items == length share.value.items))
+      (not (first.group_threshold == share.group_threshold)) (not (first.group_count == share.group_count))
+      (not (length first.value.items == length share.value.items))
       (last_refusal_of (first ∷ others) share) error h
 
   -- where there is none, the last two causes remain
@@ -135,7 +148,8 @@ module _ (first : ShareFields) (others : List ShareFields) (is : IsShareSet (fir
   refusal-last h =
       refusal-as_first_of
       ∙ first_of-none (not (first.id == share.id)) (not (flag_bit first.extendable == flag_bit share.extendable)) (not (first.exponent == share.exponent))
-      (not (first.group_threshold == share.group_threshold)) (not (first.group_count == share.group_count)) (not (length first.value.items == length share.value.items))
+      (not (first.group_threshold == share.group_threshold)) (not (first.group_count == share.group_count))
+      (not (length first.value.items == length share.value.items))
       (last_refusal_of (first ∷ others) share) h
 
 -- ---- the member threshold, and the value
@@ -147,14 +161,18 @@ has_name-is group member s h =
     ap₂ (λ (a b : ℕ). (a, b)) (eqb-true s.group_index group parts.0) (eqb-true s.member_index member parts.1)
 
 pub has_name-own : (s : ShareFields) → has_name s.group_index s.member_index s ≡ true
-has_name-own s = and_from (s.group_index == s.group_index) (s.member_index == s.member_index) (eq-eqb s.group_index s.group_index refl) (eq-eqb s.member_index s.member_index refl)
+has_name-own s =
+    and_from (s.group_index == s.group_index) (s.member_index == s.member_index) (eq-eqb s.group_index s.group_index refl)
+    (eq-eqb s.member_index s.member_index refl)
 
 module _ (shares : List ShareFields) (is : IsShareSet shares) (share : ShareFields) where
   -- the test of the member threshold, where the group has one
-  pub threshold_test : (t : ℕ) → member_threshold_of shares share.group_index ≡ Some t → some_differs (λ s. s.member_threshold) (filter (is_in_group share.group_index) shares) share ≡ not (t == share.member_threshold)
+  pub threshold_test : (t : ℕ) → member_threshold_of shares share.group_index ≡ Some t
+      → some_differs (λ s. s.member_threshold) (filter (is_in_group share.group_index) shares) share ≡ not (t == share.member_threshold)
   threshold_test t e = by (find (is_in_group share.group_index) shares) refl e
     where
-      by : (found : Option ShareFields) → find (is_in_group share.group_index) shares ≡ found → option_map (λ s. s.member_threshold) found ≡ Some t → some_differs (λ s. s.member_threshold) (filter (is_in_group share.group_index) shares) share ≡ not (t == share.member_threshold)
+      by : (found : Option ShareFields) → find (is_in_group share.group_index) shares ≡ found → option_map (λ s. s.member_threshold) found ≡ Some t
+          → some_differs (λ s. s.member_threshold) (filter (is_in_group share.group_index) shares) share ≡ not (t == share.member_threshold)
       by None f e = absurd (let bad : None ≡ Some t = e in cc)
       by (Some x) f e =
           let threshold : Some x.member_threshold ≡ Some t = e in
@@ -163,7 +181,8 @@ module _ (shares : List ShareFields) (is : IsShareSet shares) (share : ShareFiel
           let passes_x = find-passes (is_in_group share.group_index) shares x f in
           let kept = Contains-filter (is_in_group share.group_index) shares x has_x passes_x in
           let below = kept.1 in
-          list_any-same (λ s. not (s.member_threshold == share.member_threshold)) (not (t == share.member_threshold)) (filter (is_in_group share.group_index) shares) (omega arith)
+          list_any-same (λ s. not (s.member_threshold == share.member_threshold)) (not (t == share.member_threshold))
+          (filter (is_in_group share.group_index) shares) (omega arith)
           (λ k d within.
           let s = get_or (filter (is_in_group share.group_index) shares) k d in
           let has_s = Contains-from_filter (is_in_group share.group_index) shares k d within in
@@ -172,15 +191,21 @@ module _ (shares : List ShareFields) (is : IsShareSet shares) (share : ShareFiel
           ap (λ n. not (n == share.member_threshold)) (sym ((agree shares is x s has_x has_s).member_threshold groups) ∙ same))
 
   -- and where it has none
-  pub threshold_test-none : member_threshold_of shares share.group_index ≡ None → some_differs (λ s. s.member_threshold) (filter (is_in_group share.group_index) shares) share ≡ false
+  pub threshold_test-none : member_threshold_of shares share.group_index ≡ None
+      → some_differs (λ s. s.member_threshold) (filter (is_in_group share.group_index) shares) share ≡ false
   threshold_test-none e = by (find (is_in_group share.group_index) shares) refl e
     where
-      by : (found : Option ShareFields) → find (is_in_group share.group_index) shares ≡ found → option_map (λ s. s.member_threshold) found ≡ None → some_differs (λ s. s.member_threshold) (filter (is_in_group share.group_index) shares) share ≡ false
-      by None f e = ap (λ l. some_differs (λ s. s.member_threshold) l share) (filter-none (is_in_group share.group_index) shares (none-passes (is_in_group share.group_index) shares f))
+      by : (found : Option ShareFields) → find (is_in_group share.group_index) shares ≡ found → option_map (λ s. s.member_threshold) found ≡ None
+          → some_differs (λ s. s.member_threshold) (filter (is_in_group share.group_index) shares) share ≡ false
+      by None f e =
+          ap (λ l. some_differs (λ s. s.member_threshold) l share)
+          (filter-none (is_in_group share.group_index) shares (none-passes (is_in_group share.group_index) shares f))
       by (Some x) f e = absurd (let bad : Some x.member_threshold ≡ None = e in cc)
 
   -- the test of the value, where the set has a share of the name
-  pub value_test : (held : ShareFields) → find (has_name share.group_index share.member_index) shares ≡ Some held → list_any (λ s. not (bytes_eq s.value.items share.value.items)) (filter (has_name share.group_index share.member_index) shares) ≡ not (bytes_eq held.value.items share.value.items)
+  pub value_test : (held : ShareFields) → find (has_name share.group_index share.member_index) shares ≡ Some held
+      → list_any (λ s. not (bytes_eq s.value.items share.value.items)) (filter (has_name share.group_index share.member_index) shares) ≡ not
+      (bytes_eq held.value.items share.value.items)
   value_test held f =
       let test = has_name share.group_index share.member_index in
       let has_held = Contains-find test shares held f in
@@ -191,11 +216,13 @@ module _ (shares : List ShareFields) (is : IsShareSet shares) (share : ShareFiel
       (λ k d within.
       let s = get_or (filter test shares) k d in
       let same = one_share shares is s held (Contains-from_filter test shares k d within) has_held
-      (has_name-is share.group_index share.member_index s (filter_passes test shares k d within) ∙ sym (has_name-is share.group_index share.member_index held passes_held)) in
+      (has_name-is share.group_index share.member_index s (filter_passes test shares k d within)
+      ∙ sym (has_name-is share.group_index share.member_index held passes_held)) in
       ap (λ (x : ShareFields). not (bytes_eq x.value.items share.value.items)) same)
 
   -- and where it has none
-  pub value_test-none : find (has_name share.group_index share.member_index) shares ≡ None → list_any (λ s. not (bytes_eq s.value.items share.value.items)) (filter (has_name share.group_index share.member_index) shares) ≡ false
+  pub value_test-none : find (has_name share.group_index share.member_index) shares ≡ None
+      → list_any (λ s. not (bytes_eq s.value.items share.value.items)) (filter (has_name share.group_index share.member_index) shares) ≡ false
   value_test-none f =
       ap (list_any (λ s. not (bytes_eq s.value.items share.value.items)))
       (filter-none (has_name share.group_index share.member_index) shares (none-passes (has_name share.group_index share.member_index) shares f))
@@ -212,7 +239,8 @@ module _ (shares : List ShareFields) (is : IsShareSet shares) (share : ShareFiel
       by (first ∷ others) e = absurd (let bad : Some (common_of first) ≡ None = e in cc)
 
 -- a cause in what all shares have in common comes first
-pub refusal-from_common : (shares : List ShareFields) → IsShareSet shares → (share : ShareFields) (common : Common) (error : SetError) → common_of_all shares ≡ Some common → common_refusal_of common share ≡ Some error → refusal_of shares share ≡ Some error
+pub refusal-from_common : (shares : List ShareFields) → IsShareSet shares → (share : ShareFields) (common : Common) (error : SetError)
+    → common_of_all shares ≡ Some common → common_refusal_of common share ≡ Some error → refusal_of shares share ≡ Some error
 refusal-from_common [] is share common error e h = absurd (let bad : None ≡ Some common = e in cc)
 refusal-from_common (first ∷ others) is share common error e h =
     let same : Some (common_of first) ≡ Some common = e in
@@ -220,7 +248,8 @@ refusal-from_common (first ∷ others) is share common error e h =
     refusal-common first others is share error (ap (λ c. common_refusal_of c share) common_is ∙ h)
 
 -- else the last two causes decide
-pub refusal-from_last : (shares : List ShareFields) → IsShareSet shares → (share : ShareFields) (common : Common) → common_of_all shares ≡ Some common → common_refusal_of common share ≡ None → refusal_of shares share ≡ last_refusal_of shares share
+pub refusal-from_last : (shares : List ShareFields) → IsShareSet shares → (share : ShareFields) (common : Common) → common_of_all shares ≡ Some common
+    → common_refusal_of common share ≡ None → refusal_of shares share ≡ last_refusal_of shares share
 refusal-from_last [] is share common e h = absurd (let bad : None ≡ Some common = e in cc)
 refusal-from_last (first ∷ others) is share common e h =
     let same : Some (common_of first) ≡ Some common = e in
@@ -228,29 +257,36 @@ refusal-from_last (first ∷ others) is share common e h =
     refusal-last first others is share (ap (λ c. common_refusal_of c share) common_is ∙ h)
 
 -- the first of the last two causes
-pub last_refusal-threshold : (shares : List ShareFields) (share : ShareFields) → some_differs (λ s. s.member_threshold) (filter (is_in_group share.group_index) shares) share ≡ true → last_refusal_of shares share ≡ Some (OtherMemberThreshold share.group_index)
+pub last_refusal-threshold : (shares : List ShareFields) (share : ShareFields)
+    → some_differs (λ s. s.member_threshold) (filter (is_in_group share.group_index) shares) share ≡ true
+    → last_refusal_of shares share ≡ Some (OtherMemberThreshold share.group_index)
 last_refusal-threshold shares share h = rw h
 
 -- the second
-pub last_refusal-value : (shares : List ShareFields) (share : ShareFields) → some_differs (λ s. s.member_threshold) (filter (is_in_group share.group_index) shares) share ≡ false
+pub last_refusal-value : (shares : List ShareFields) (share : ShareFields)
+    → some_differs (λ s. s.member_threshold) (filter (is_in_group share.group_index) shares) share ≡ false
     → list_any (λ s. not (bytes_eq s.value.items share.value.items)) (filter (has_name share.group_index share.member_index) shares) ≡ true
     → last_refusal_of shares share ≡ Some (ConflictingShare share.group_index share.member_index)
 last_refusal-value shares share h k = rw (h, k)
 
 module _ (shares : List ShareFields) (is : IsShareSet shares) (share : ShareFields) where
   -- the test of the member threshold applies where it is another
-  pub threshold-differs : (t : ℕ) → member_threshold_of shares share.group_index ≡ Some t → t ≢ share.member_threshold → some_differs (λ s. s.member_threshold) (filter (is_in_group share.group_index) shares) share ≡ true
+  pub threshold-differs : (t : ℕ) → member_threshold_of shares share.group_index ≡ Some t → t ≢ share.member_threshold
+      → some_differs (λ s. s.member_threshold) (filter (is_in_group share.group_index) shares) share ≡ true
   threshold-differs t e apart = threshold_test shares is share t e ∙ not_from_false (t == share.member_threshold) (ne_eqb t share.member_threshold apart)
 
   -- and fails where it is the same
-  pub threshold-same : (t : ℕ) → member_threshold_of shares share.group_index ≡ Some t → t ≡ share.member_threshold → some_differs (λ s. s.member_threshold) (filter (is_in_group share.group_index) shares) share ≡ false
+  pub threshold-same : (t : ℕ) → member_threshold_of shares share.group_index ≡ Some t → t ≡ share.member_threshold
+      → some_differs (λ s. s.member_threshold) (filter (is_in_group share.group_index) shares) share ≡ false
   threshold-same t e same = threshold_test shares is share t e ∙ not_from_true (t == share.member_threshold) (eq-eqb t share.member_threshold same)
 
   -- and where the group has none, or the same
-  pub threshold-fails : (o : Option ℕ) → o ≡ member_threshold_of shares share.group_index → ((t : ℕ) → o ≡ Some t → t ≡ share.member_threshold) → some_differs (λ s. s.member_threshold) (filter (is_in_group share.group_index) shares) share ≡ false
+  pub threshold-fails : (o : Option ℕ) → o ≡ member_threshold_of shares share.group_index → ((t : ℕ) → o ≡ Some t → t ≡ share.member_threshold)
+      → some_differs (λ s. s.member_threshold) (filter (is_in_group share.group_index) shares) share ≡ false
   threshold-fails None e same = threshold_test-none shares is share (sym e)
   threshold-fails (Some t) e same = threshold-same t (sym e) (same t refl)
 
 -- a name by its two indices
-pub found_by_indices : (shares : List ShareFields) (share held : ShareFields) (group member : ℕ) → group ≡ share.group_index → member ≡ share.member_index → Some held ≡ find (has_name group member) shares → find (has_name share.group_index share.member_index) shares ≡ Some held
+pub found_by_indices : (shares : List ShareFields) (share held : ShareFields) (group member : ℕ) → group ≡ share.group_index → member ≡ share.member_index
+    → Some held ≡ find (has_name group member) shares → find (has_name share.group_index share.member_index) shares ≡ Some held
 found_by_indices shares share held group member g m e = ap₂ (λ (x y : ℕ). find (has_name x y) shares) (sym g) (sym m) ∙ sym e

@@ -21,7 +21,8 @@ use Rattle.s39_set.proofs.FirstMembers.{none_complete, first_members_are_least}
 use Rattle.s39_set.specs.Names.{most_groups, most_members}
 
 -- what meets the set's thresholds meets them as plain numbers
-pub meets_from_set : (set : List ShareFields) (names : List (ℕ × ℕ)) (required : ℕ) → group_threshold_of set ≡ Some required → MeetsThresholds set names → Meets (member_threshold_of set) (map name_of set) required names
+pub meets_from_set : (set : List ShareFields) (names : List (ℕ × ℕ)) (required : ℕ) → group_threshold_of set ≡ Some required → MeetsThresholds set names
+    → Meets (member_threshold_of set) (map name_of set) required names
 meets_from_set set names required e meets = record {
   ascending = meets.at_hand.ascending;
   at_hand = meets.at_hand.at_hand;
@@ -29,14 +30,16 @@ meets_from_set set names required e meets = record {
 }
 
 -- and the other way round
-pub set_from_meets : (set : List ShareFields) (names : List (ℕ × ℕ)) (required : ℕ) → group_threshold_of set ≡ Some required → Meets (member_threshold_of set) (map name_of set) required names → MeetsThresholds set names
+pub set_from_meets : (set : List ShareFields) (names : List (ℕ × ℕ)) (required : ℕ) → group_threshold_of set ≡ Some required
+    → Meets (member_threshold_of set) (map name_of set) required names → MeetsThresholds set names
 set_from_meets set names required e meets = record {
   at_hand = record { ascending = meets.ascending; at_hand = meets.at_hand };
   groups = subst (λ o. IsSomeAnd o (λ threshold. threshold ≤ length (complete_groups (member_threshold_of set) names))) (sym e) meets.groups;
 }
 
 -- what just meets the set's thresholds just meets them as plain numbers
-pub just_from_set : (set : List ShareFields) (names : List (ℕ × ℕ)) (required : ℕ) → group_threshold_of set ≡ Some required → HasJustTheGroups set names → HasJust (member_threshold_of set) (map name_of set) required names
+pub just_from_set : (set : List ShareFields) (names : List (ℕ × ℕ)) (required : ℕ) → group_threshold_of set ≡ Some required → HasJustTheGroups set names
+    → HasJust (member_threshold_of set) (map name_of set) required names
 just_from_set set names required e has = record {
   ascending = has.at_hand.ascending;
   at_hand = has.at_hand.at_hand;
@@ -45,17 +48,20 @@ just_from_set set names required e has = record {
 }
 
 -- and the other way round
-pub set_from_just : (set : List ShareFields) (names : List (ℕ × ℕ)) (required : ℕ) → group_threshold_of set ≡ Some required → HasJust (member_threshold_of set) (map name_of set) required names → HasJustTheGroups set names
+pub set_from_just : (set : List ShareFields) (names : List (ℕ × ℕ)) (required : ℕ) → group_threshold_of set ≡ Some required
+    → HasJust (member_threshold_of set) (map name_of set) required names → HasJustTheGroups set names
 set_from_just set names required e just = record {
   at_hand = record { ascending = just.ascending; at_hand = just.at_hand };
   just = record { groups = e ∙ ap Some just.groups; members = just.members };
 }
 
 -- where names meet thresholds there is a group threshold
-pub group_threshold-from_meets : (set : List ShareFields) (names : List (ℕ × ℕ)) → MeetsThresholds set names → (required : ℕ) × (group_threshold_of set ≡ Some required)
+pub group_threshold-from_meets : (set : List ShareFields) (names : List (ℕ × ℕ)) → MeetsThresholds set names
+    → (required : ℕ) × (group_threshold_of set ≡ Some required)
 group_threshold-from_meets set names meets = by (group_threshold_of set) refl meets.groups
   where
-    by : (o : Option ℕ) → group_threshold_of set ≡ o → IsSomeAnd o (λ threshold. threshold ≤ length (complete_groups (member_threshold_of set) names)) → (required : ℕ) × (group_threshold_of set ≡ Some required)
+    by : (o : Option ℕ) → group_threshold_of set ≡ o → IsSomeAnd o (λ threshold. threshold ≤ length (complete_groups (member_threshold_of set) names))
+        → (required : ℕ) × (group_threshold_of set ≡ Some required)
     by None e h = absurd h
     by (Some required) e h = (required, e)
 
@@ -129,7 +135,10 @@ module _ (set : List ShareFields) (is : IsShareSet set) where
       }
 
   -- where enough groups are complete, the first members of the first of them are the least quorum
-  pub first_members-least_quorum : (required : ℕ) → group_threshold_of set ≡ Some required → required ≤ length (complete_groups (member_threshold_of set) (map name_of set)) → IsFirstQuorumAfter set None (members_of (member_threshold_of set) (map name_of set) (take required (complete_groups (member_threshold_of set) (map name_of set))))
+  pub first_members-least_quorum : (required : ℕ) → group_threshold_of set ≡ Some required
+      → required ≤ length (complete_groups (member_threshold_of set) (map name_of set))
+      → IsFirstQuorumAfter set None
+      (members_of (member_threshold_of set) (map name_of set) (take required (complete_groups (member_threshold_of set) (map name_of set))))
   first_members-least_quorum required e enough =
       let names = members_of (member_threshold_of set) (map name_of set) (take required (complete_groups (member_threshold_of set) (map name_of set))) in
       let just = first_members_have_just (member_threshold_of set) member_threshold-positive (map name_of set) required is.ascending enough in
@@ -142,7 +151,9 @@ module _ (set : List ShareFields) (is : IsShareSet set) where
       }
 
   -- where too few groups are complete, that is what the set lacks
-  pub incomplete_from_fewer : (required : ℕ) → group_threshold_of set ≡ Some required → length (complete_groups (member_threshold_of set) (map name_of set)) < required → IsIncomplete set (length (complete_groups (member_threshold_of set) (map name_of set))) required
+  pub incomplete_from_fewer : (required : ℕ) → group_threshold_of set ≡ Some required
+      → length (complete_groups (member_threshold_of set) (map name_of set)) < required
+      → IsIncomplete set (length (complete_groups (member_threshold_of set) (map name_of set))) required
   incomplete_from_fewer required e few = record {
     complete_is = refl;
     required_is = e;
@@ -152,7 +163,8 @@ module _ (set : List ShareFields) (is : IsShareSet set) where
   }
 
 -- a set has a first quorum or a lack
-pub first_or_lack : (set : List ShareFields) → IsShareSet set → ((names : List (ℕ × ℕ)) × IsFirstQuorumAfter set None names) ⊎ ((lack : SetLack) × IsLack set lack)
+pub first_or_lack : (set : List ShareFields) → IsShareSet set
+    → ((names : List (ℕ × ℕ)) × IsFirstQuorumAfter set None names) ⊎ ((lack : SetLack) × IsLack set lack)
 first_or_lack [] is = inr (NoShares, refl)
 first_or_lack (share ∷ shares) is =
     let set = share ∷ shares in
@@ -160,7 +172,11 @@ first_or_lack (share ∷ shares) is =
     let complete = length (complete_groups (member_threshold_of set) (map name_of set)) in
     elim (cases_lt complete required) [
       | inl few ↦ inr (Incomplete complete required, incomplete_from_fewer set is required refl few)
-      | inr enough ↦ inl (members_of (member_threshold_of set) (map name_of set) (take required (complete_groups (member_threshold_of set) (map name_of set))), first_members-least_quorum set is required refl enough)
+      | inr enough ↦ inl (
+        members_of (member_threshold_of set) (map name_of set)
+            (take required (complete_groups (member_threshold_of set) (map name_of set))),
+        first_members-least_quorum set is required refl enough,
+      )
     ]
 
 -- the names of a quorum are names in order, and there are some
@@ -171,13 +187,16 @@ written_of_quorum set is names quorum = record {
       let meets = meets_from_set set names required e quorum.meets in
       let some = group_threshold-positive set is required e in
       let no_groups : length (complete_groups (member_threshold_of set) names) ≡ 0 =
-      ap (λ ns. length (complete_groups (member_threshold_of set) ns)) none ∙ ap length (none_complete (member_threshold_of set) (map name_of set) (member_threshold-positive set is) 0 most_groups) in
+      ap (λ ns. length (complete_groups (member_threshold_of set) ns)) none
+      ∙ ap length (none_complete (member_threshold_of set) (map name_of set) (member_threshold-positive set is) 0 most_groups) in
       let enough = meets.groups in
       absurd (omega arith);
   are_names = record {
     ascending = quorum.meets.at_hand.ascending;
-    groups = λ k d below. All-contains (λ name. name.0 < most_groups) (map name_of set) (get_or names k d) (groups-below set is) (quorum.meets.at_hand.at_hand k d below);
-    members = λ k d below. All-contains (λ name. name.1 < most_members) (map name_of set) (get_or names k d) (members-below set is) (quorum.meets.at_hand.at_hand k d below);
+    groups = λ k d below. All-contains (λ name. name.0 < most_groups) (map name_of set) (get_or names k d) (groups-below set is)
+        (quorum.meets.at_hand.at_hand k d below);
+    members = λ k d below. All-contains (λ name. name.1 < most_members) (map name_of set) (get_or names k d) (members-below set is)
+        (quorum.meets.at_hand.at_hand k d below);
   };
   text_is = refl;
 }

@@ -30,7 +30,8 @@ Contains-from_filter {X} test (y ∷ ys) =
     let rest : All (Contains (y ∷ ys)) (filter test ys) =
     λ k d below. (let found = Contains-from_filter test ys k d below in (suc found.0, omega arith, found.2)) in
     elim (cases_Bool (test y)) [
-      | inl yes' ↦ subst (All (Contains (y ∷ ys))) (sym (cond-true (test y) (y ∷ filter test ys) (filter test ys) yes')) (All-cons (Contains (y ∷ ys)) y (filter test ys) (0, omega arith, refl) rest)
+      | inl yes' ↦ subst (All (Contains (y ∷ ys))) (sym (cond-true (test y) (y ∷ filter test ys) (filter test ys) yes'))
+          (All-cons (Contains (y ∷ ys)) y (filter test ys) (0, omega arith, refl) rest)
       | inr no' ↦ subst (All (Contains (y ∷ ys))) (sym (cond-false (test y) (y ∷ filter test ys) (filter test ys) no')) rest
     ]
 
@@ -46,7 +47,9 @@ module _ (shares : List ShareFields) (is : IsShareSet shares) where
     where
       by : (found : Option ShareFields) → find (is_in_group s.group_index) shares ≡ found → option_map (λ t. t.member_threshold) found ≡ Some s.member_threshold
       by None e =
-          absurd (false≢true (sym (All-contains (λ t. is_in_group s.group_index t ≡ false) shares s (none-passes (is_in_group s.group_index) shares e) has_s) ∙ eq-eqb s.group_index s.group_index refl))
+          absurd (false≢true
+          (sym (All-contains (λ t. is_in_group s.group_index t ≡ false) shares s (none-passes (is_in_group s.group_index) shares e) has_s)
+          ∙ eq-eqb s.group_index s.group_index refl))
       by (Some t) e =
           let same = eqb-true t.group_index s.group_index (find-passes (is_in_group s.group_index) shares t e) in
           ap Some ((agree t s (Contains-find (is_in_group s.group_index) shares t e) has_s).member_threshold same)
@@ -62,8 +65,12 @@ module _ (shares : List ShareFields) (is : IsShareSet shares) where
       elim (cases_order i j) [
         | inl e ↦ (sym at_i ∙ get_or_default shares i s t i_below ∙ ap (λ n. get_or shares n t) e ∙ at_j)
         | inr apart ↦ elim apart [
-          | inl before ↦ absurd (equal_names (get_or (map name_of shares) i (name_of s)) (get_or (map name_of shares) j (name_of s)) (name_at_i ∙ same ∙ sym name_at_j) (is.ascending i j (name_of s) before (omega (arith, length-map shares name_of))))
-          | inr after ↦ absurd (equal_names (get_or (map name_of shares) j (name_of s)) (get_or (map name_of shares) i (name_of s)) (name_at_j ∙ sym same ∙ sym name_at_i) (is.ascending j i (name_of s) after (omega (arith, length-map shares name_of))))
+          | inl before ↦ absurd
+              (equal_names (get_or (map name_of shares) i (name_of s)) (get_or (map name_of shares) j (name_of s)) (name_at_i ∙ same ∙ sym name_at_j)
+              (is.ascending i j (name_of s) before (omega (arith, length-map shares name_of))))
+          | inr after ↦ absurd
+              (equal_names (get_or (map name_of shares) j (name_of s)) (get_or (map name_of shares) i (name_of s)) (name_at_j ∙ sym same ∙ sym name_at_i)
+              (is.ascending j i (name_of s) after (omega (arith, length-map shares name_of))))
         ]
       ]
 
@@ -72,7 +79,8 @@ pub name_from_find : (shares : List ShareFields) (group member : ℕ) (b : Bool)
     → (IsTrue b → Contains (map name_of shares) (group, member)) × (Contains (map name_of shares) (group, member) → IsTrue b)
 name_from_find shares group member b e = by (find (has_name group member) shares) refl
   where
-    by : (found : Option ShareFields) → find (has_name group member) shares ≡ found → (IsTrue b → Contains (map name_of shares) (group, member)) × (Contains (map name_of shares) (group, member) → IsTrue b)
+    by : (found : Option ShareFields) → find (has_name group member) shares ≡ found
+        → (IsTrue b → Contains (map name_of shares) (group, member)) × (Contains (map name_of shares) (group, member) → IsTrue b)
     by None f =
         let no_b : b ≡ false = e ∙ ap is_some f in (
           λ h. absurd (false≢true (sym no_b ∙ h)),
@@ -86,7 +94,8 @@ name_from_find shares group member b e = by (find (has_name group member) shares
           λ h. (
             has_s.0,
             omega (arith, length-map shares name_of),
-            get_or-map name_of shares has_s.0 s (group, member) has_s.1 ∙ ap name_of has_s.2 ∙ ap₂ (λ (x y : ℕ). (x, y)) (eqb-true s.group_index group passes.0) (eqb-true s.member_index member passes.1),
+            get_or-map name_of shares has_s.0 s (group, member) has_s.1 ∙ ap name_of has_s.2
+                ∙ ap₂ (λ (x y : ℕ). (x, y)) (eqb-true s.group_index group passes.0) (eqb-true s.member_index member passes.1),
           ),
           λ h. e ∙ ap is_some f,
         )

@@ -29,7 +29,8 @@ pub record AreAbove (names : List (ℕ × ℕ)) (x : ℕ × ℕ) (above : List (
   pub all : (n : ℕ × ℕ) → Contains names n → n.0 ≡ x.0 → name_cmp x n ≡ Less → Contains above n
 
 -- one more passes the weaker test
-pub passing-more : (p q : ℕ → Bool) → ((g : ℕ) → p g ≡ true → q g ≡ true) → (a k g : ℕ) → Contains (range_with_len a k) g → q g ≡ true → p g ≡ false → passing p a k < passing q a k
+pub passing-more : (p q : ℕ → Bool) → ((g : ℕ) → p g ≡ true → q g ≡ true) → (a k g : ℕ) → Contains (range_with_len a k) g → q g ≡ true → p g ≡ false
+    → passing p a k < passing q a k
 passing-more p q weaker a k g among yes' no' =
     let part = filter_weaker p q weaker (range_with_len a k) in
     elim (cases_lt (passing p a k) (passing q a k)) [
@@ -37,11 +38,14 @@ passing-more p q weaker a k g among yes' no' =
       | inr few ↦ (
           let same : filter p (range_with_len a k) ≡ filter q (range_with_len a k) = same_from_length part few in
           let inside : Contains (filter q (range_with_len a k)) g = Contains-filter q (range_with_len a k) g among yes' in
-          let also : p g ≡ true = All-contains (λ h. p h ≡ true) (filter p (range_with_len a k)) g (filter_passes p (range_with_len a k)) (subst (λ l. Contains l g) (sym same) inside) in
+          let also : p g ≡ true =
+          All-contains (λ h. p h ≡ true) (filter p (range_with_len a k)) g (filter_passes p (range_with_len a k))
+          (subst (λ l. Contains l g) (sym same) inside) in
           absurd (false≢true (sym no' ∙ also)))
     ]
 
-module _ (T : ℕ → Option ℕ) (N : List (ℕ × ℕ)) (G : ℕ) (positive : (g t : ℕ) → T g ≡ Some t → 1 ≤ t) (below : All (λ name. name.0 < most_groups) N) (sorted : IsAscending N) where
+module _ (T : ℕ → Option ℕ) (N : List (ℕ × ℕ)) (G : ℕ) (positive : (g t : ℕ) → T g ≡ Some t → 1 ≤ t) (below : All (λ name. name.0 < most_groups) N)
+    (sorted : IsAscending N) where
   -- what stands behind a part of a quorum, of a group and of later ones
   record IsTail (P : List (ℕ × ℕ)) (h : ℕ) (O F B : List (ℕ × ℕ)) : Type 0 where
     joined : O ≡ P ++ (F ++ B)
@@ -51,12 +55,14 @@ module _ (T : ℕ → Option ℕ) (N : List (ℕ × ℕ)) (G : ℕ) (positive : 
     exact : IsExact T N G O
 
   -- a quorum that goes on with a name of the group or of a later one
-  tail_of : (P : List (ℕ × ℕ)) (h : ℕ) (y : ℕ × ℕ) (Z : List (ℕ × ℕ)) → HasJust T N G (P ++ y ∷ Z) → All (λ n. n.0 ≤ h) P → h ≤ y.0 → (F B : List (ℕ × ℕ)) × (y ∷ Z ≡ F ++ B) × IsTail P h (P ++ y ∷ Z) F B
+  tail_of : (P : List (ℕ × ℕ)) (h : ℕ) (y : ℕ × ℕ) (Z : List (ℕ × ℕ)) → HasJust T N G (P ++ y ∷ Z) → All (λ n. n.0 ≤ h) P → h ≤ y.0
+      → (F B : List (ℕ × ℕ)) × (y ∷ Z ≡ F ++ B) × IsTail P h (P ++ y ∷ Z) F B
   tail_of P h y Z just upto from =
       let rest : IsAscending (y ∷ Z) = AllPairs-append_right (λ a b. name_cmp a b ≡ Less) P (y ∷ Z) just.ascending in
       let all_from : All (λ n. h ≤ n.0) (y ∷ Z) =
       All-cons (λ n. h ≤ n.0) y Z from
-      (λ k d within. let order : y.0 ≤ (get_or Z k d).0 = groups-in_order y (get_or Z k d) (AllPairs-head (λ a b. name_cmp a b ≡ Less) y Z rest k d within) in omega arith) in
+      (λ k d within. let order : y.0 ≤ (get_or Z k d).0 =
+      groups-in_order y (get_or Z k d) (AllPairs-head (λ a b. name_cmp a b ≡ Less) y Z rest k d within) in omega arith) in
       let (F, B, split) = split_at_group h (y ∷ Z) rest all_from in (
         F,
         B,
@@ -89,15 +95,18 @@ module _ (T : ℕ → Option ℕ) (N : List (ℕ × ℕ)) (G : ℕ) (positive : 
 
     -- how many groups behind it has
     groups_behind : passing_above (has_members O) h ≡ passing_above (has_members B) h
-    groups_behind = passing-agree (has_members O) (has_members B) (h + 1) (most_groups - (h + 1)) (λ g from upto. ap (λ n. nat_lt 0 n) (at_later g (omega arith)))
+    groups_behind =
+        passing-agree (has_members O) (has_members B) (h + 1) (most_groups - (h + 1)) (λ g from upto. ap (λ n. nat_lt 0 n) (at_later g (omega arith)))
 
     -- the names behind have just what the thresholds ask
     back_just : (needed : ℕ) → needed ≡ passing_above (has_members O) h → HasJustFrom T N (h + 1) (most_groups - (h + 1)) needed B
     back_just needed e = record {
-      ascending = AllPairs-append_right (λ a b. name_cmp a b ≡ Less) F B (AllPairs-append_right (λ a b. name_cmp a b ≡ Less) P (F ++ B) (subst IsAscending is.joined is.exact.ascending));
+      ascending = AllPairs-append_right (λ a b. name_cmp a b ≡ Less) F B
+          (AllPairs-append_right (λ a b. name_cmp a b ≡ Less) P (F ++ B) (subst IsAscending is.joined is.exact.ascending));
       at_hand = All-append_right (Contains N) F B (All-append_right (Contains N) P (F ++ B) (subst (All (Contains N)) is.joined is.exact.at_hand));
       from = λ k d within. let past : h < (get_or B k d).0 = is.later k d within in omega arith;
-      groups = e ∙ groups_behind ∙ sym (passing-agree (is_complete T B) (has_members B) (h + 1) (most_groups - (h + 1)) (λ g _ _. complete_is_members T positive B back_exact g));
+      groups = e ∙ groups_behind
+          ∙ sym (passing-agree (is_complete T B) (has_members B) (h + 1) (most_groups - (h + 1)) (λ g _ _. complete_is_members T positive B back_exact g));
       members = members_from_exact T positive B back_exact;
     }
 
@@ -108,7 +117,8 @@ module _ (T : ℕ → Option ℕ) (N : List (ℕ × ℕ)) (G : ℕ) (positive : 
         (passing-agree (has_members O) (has_members P) 0 h (λ g _ upto. ap (λ n. nat_lt 0 n) (at_earlier g (omega arith))))
 
   -- what stands in the place of x, and behind it
-  module _ (P S : List (ℕ × ℕ)) (x : ℕ × ℕ) (just : HasJust T N G (P ++ x ∷ S)) (A C : List (ℕ × ℕ)) (at_hand : AreAbove N x A) (chosen : AreAbove (P ++ x ∷ S) x C) where
+  module _ (P S : List (ℕ × ℕ)) (x : ℕ × ℕ) (just : HasJust T N G (P ++ x ∷ S)) (A C : List (ℕ × ℕ)) (at_hand : AreAbove N x A)
+      (chosen : AreAbove (P ++ x ∷ S) x C) where
     Q : List (ℕ × ℕ)
     Q = P ++ x ∷ S
 
@@ -126,7 +136,8 @@ module _ (T : ℕ → Option ℕ) (N : List (ℕ × ℕ)) (G : ℕ) (positive : 
         crossing [] ascending = All-nil (λ n. name_cmp n x ≡ Less)
         crossing (f ∷ fs) ascending =
             All-cons (λ n. name_cmp n x ≡ Less) f fs
-            (All-contains (λ n. name_cmp f n ≡ Less) (fs ++ x ∷ S) x (AllPairs-head (λ a b. name_cmp a b ≡ Less) f (fs ++ x ∷ S) ascending) (Contains-append_right fs (x ∷ S) x (Contains-head x S)))
+            (All-contains (λ n. name_cmp f n ≡ Less) (fs ++ x ∷ S) x (AllPairs-head (λ a b. name_cmp a b ≡ Less) f (fs ++ x ∷ S) ascending)
+            (Contains-append_right fs (x ∷ S) x (Contains-head x S)))
             (crossing fs (AllPairs-tail (λ a b. name_cmp a b ≡ Less) f (fs ++ x ∷ S) ascending))
 
     upto : All (λ n. n.0 ≤ x.0) P
@@ -180,12 +191,14 @@ module _ (T : ℕ → Option ℕ) (N : List (ℕ × ℕ)) (G : ℕ) (positive : 
     -- the group's threshold
     threshold_is : T x.0 ≡ Some (count P x.0 + suc (length C))
     threshold_is =
-        let many : count (P ++ x ∷ S) x.0 ≡ count P x.0 + suc (length C) = at_group P (P ++ x ∷ S) own.0 own.1 x.0 low own.3 ∙ ap (λ l. count P x.0 + length l) front_is in
+        let many : count (P ++ x ∷ S) x.0 ≡ count P x.0 + suc (length C) =
+        at_group P (P ++ x ∷ S) own.0 own.1 x.0 low own.3 ∙ ap (λ l. count P x.0 + length l) front_is in
         own.3.exact.exact x.0 (omega arith) ∙ ap Some many
 
     own_groups : G ≡ passing (has_members P) 0 x.0 + (1 + groups_after)
     own_groups =
-        let many : count (P ++ x ∷ S) x.0 ≡ count P x.0 + suc (length C) = at_group P (P ++ x ∷ S) own.0 own.1 x.0 low own.3 ∙ ap (λ l. count P x.0 + length l) front_is in
+        let many : count (P ++ x ∷ S) x.0 ≡ count P x.0 + suc (length C) =
+        at_group P (P ++ x ∷ S) own.0 own.1 x.0 low own.3 ∙ ap (λ l. count P x.0 + length l) front_is in
         let some : has_members (P ++ x ∷ S) x.0 ≡ true = lt-ltb 0 (count (P ++ x ∷ S) x.0) (omega arith) in
         groups_split P (P ++ x ∷ S) own.0 own.1 x.0 low own.3
         ∙ ap (λ b. passing (has_members P) 0 x.0 + (cond b 1 0 + groups_after)) some
@@ -226,7 +239,8 @@ module _ (T : ℕ → Option ℕ) (N : List (ℕ × ℕ)) (G : ℕ) (positive : 
         ]
 
     -- the names of x's group that stand there are at hand above x
-    front_above : (y : ℕ × ℕ) (Z F B : List (ℕ × ℕ)) → HasJust T N G (P ++ y ∷ Z) → name_cmp x y ≡ Less → y ∷ Z ≡ F ++ B → All (λ n. n.0 ≡ x.0) F → All (Contains A) F
+    front_above : (y : ℕ × ℕ) (Z F B : List (ℕ × ℕ)) → HasJust T N G (P ++ y ∷ Z) → name_cmp x y ≡ Less → y ∷ Z ≡ F ++ B → All (λ n. n.0 ≡ x.0) F
+        → All (Contains A) F
     front_above y Z F B other less joined in_group k d within =
         let n = get_or F k d in
         let among : Contains (y ∷ Z) n = subst (λ l. Contains l n) (sym joined) (Contains-append_left F B n (All-contains_itself F k d within)) in
@@ -234,7 +248,8 @@ module _ (T : ℕ → Option ℕ) (N : List (ℕ × ℕ)) (G : ℕ) (positive : 
         let higher : name_cmp x n ≡ Less =
         ⊎_elim
         (λ (same : y ≡ n). subst (λ m. name_cmp x m ≡ Less) same less)
-        (λ (later : Contains Z n). less_than x y n less (All-contains (λ m. name_cmp y m ≡ Less) Z n (AllPairs-head (λ a b. name_cmp a b ≡ Less) y Z rest) later))
+        (λ (later : Contains Z n). less_than x y n less
+        (All-contains (λ m. name_cmp y m ≡ Less) Z n (AllPairs-head (λ a b. name_cmp a b ≡ Less) y Z rest) later))
         (Contains-cases y Z n among) in
         at_hand.all n (All-contains (Contains N) (P ++ y ∷ Z) n other.at_hand (Contains-append_right P (y ∷ Z) n among)) (in_group k d within) higher
 
@@ -258,14 +273,16 @@ module _ (T : ℕ → Option ℕ) (N : List (ℕ × ℕ)) (G : ℕ) (positive : 
     taken-bounds : (n : ℕ) → All (λ g. ((x.0 + 1) ≤ g) × (g < (x.0 + 1) + (most_groups - (x.0 + 1)))) (groups_taken n)
     taken-bounds n =
         All-take (λ g. ((x.0 + 1) ≤ g) × (g < (x.0 + 1) + (most_groups - (x.0 + 1)))) n (filter (is_complete T N) (groups_above x.0))
-        (All-filter (is_complete T N) (λ g. ((x.0 + 1) ≤ g) × (g < (x.0 + 1) + (most_groups - (x.0 + 1)))) (groups_above x.0) (range_from-bounds (x.0 + 1) (most_groups - (x.0 + 1))))
+        (All-filter (is_complete T N) (λ g. ((x.0 + 1) ≤ g) × (g < (x.0 + 1) + (most_groups - (x.0 + 1)))) (groups_above x.0)
+        (range_from-bounds (x.0 + 1) (most_groups - (x.0 + 1))))
 
     taken-complete : (n : ℕ) → All (Contains (complete_groups T N)) (groups_taken n)
     taken-complete n k d within =
         let groups = filter (is_complete T N) (groups_above x.0) in
         let g = get_or (groups_taken n) k d in
         let bounds = taken-bounds n k d within in
-        let complete : is_complete T N g ≡ true = All-take (λ h. is_complete T N h ≡ true) n groups (filter_passes (is_complete T N) (groups_above x.0)) k d within in
+        let complete : is_complete T N g ≡ true =
+        All-take (λ h. is_complete T N h ≡ true) n groups (filter_passes (is_complete T N) (groups_above x.0)) k d within in
         let has = threshold_from_complete T N g complete in
         let below_all = low in
         let small : g < most_groups = omega (arith, bounds.0, bounds.1, below_all) in
@@ -283,15 +300,19 @@ module _ (T : ℕ → Option ℕ) (N : List (ℕ × ℕ)) (G : ℕ) (positive : 
         let B = members_of T N (groups_taken n) in
         let l : length (take n groups) ≡ n = length-take-le n groups enough in
         let order : AllPairs (λ a b. a < b) (take n groups) =
-        AllPairs-sublist (λ a b. a < b) (take-sublist n groups) (AllPairs-filter (λ a b. a < b) (is_complete T N) (groups_above x.0) (range_from-ascending (x.0 + 1) (most_groups - (x.0 + 1)))) in
+        AllPairs-sublist (λ a b. a < b) (take-sublist n groups)
+        (AllPairs-filter (λ a b. a < b) (is_complete T N) (groups_above x.0) (range_from-ascending (x.0 + 1) (most_groups - (x.0 + 1)))) in
         let just : HasJust T N n B = subst (λ m. HasJust T N m B) l (members_of-has_just T positive N (take n groups) order (taken-complete n) sorted) in
         let later : All (λ m. x.0 < m.0) B =
         All-weaker (λ m. Contains (take n groups) m.0) (λ m. x.0 < m.0)
-        (λ m among. let bounds = All-contains (λ g. ((x.0 + 1) ≤ g) × (g < (x.0 + 1) + (most_groups - (x.0 + 1)))) (take n groups) m.0 (taken-bounds n) among in omega (arith, bounds.0))
+        (λ m among. let bounds =
+        All-contains (λ g. ((x.0 + 1) ≤ g) × (g < (x.0 + 1) + (most_groups - (x.0 + 1)))) (take n groups) m.0 (taken-bounds n) among in omega
+        (arith, bounds.0))
         B (members_of-groups T N (take n groups)) in
         let exact = exact_from_just T positive N n B just in
         let none : (g : ℕ) → g ≤ x.0 → has_members B g ≡ false =
-        λ g less. le-ltb 0 (count B g) (let zero_here = count-behind [] [] B x.0 (All-nil (λ m. m.0 ≤ x.0)) (All-nil (λ m. m.0 ≡ x.0)) later g less in omega (arith, zero_here)) in
+        λ g less. le-ltb 0 (count B g)
+        (let zero_here = count-behind [] [] B x.0 (All-nil (λ m. m.0 ≤ x.0)) (All-nil (λ m. m.0 ≡ x.0)) later g less in omega (arith, zero_here)) in
         let split = passing-split (has_members B) x.0 low in
         let first : passing (has_members B) 0 x.0 ≡ 0 = passing-none (has_members B) 0 x.0 (λ g _ upto. none g (omega arith)) in
         let own_none : cond {A = ℕ} (has_members B x.0) 1 0 ≡ 0 = ap (λ b. cond {A = ℕ} b 1 0) (none x.0 (le_refl x.0)) in
@@ -345,10 +366,14 @@ module _ (T : ℕ → Option ℕ) (N : List (ℕ × ℕ)) (G : ℕ) (positive : 
                 ]
               ];
           groups =
-              let low_groups : passing (has_members O) 0 x.0 ≡ passing (has_members P) 0 x.0 = passing-agree (has_members O) (has_members P) 0 x.0 (λ g _ less. ap (λ m. nat_lt 0 m) (earlier g (omega arith))) in
-              let high_groups : passing_above (has_members O) x.0 ≡ passing_above (has_members B) x.0 = passing-agree (has_members O) (has_members B) (x.0 + 1) (most_groups - (x.0 + 1)) (λ g from _. ap (λ m. nat_lt 0 m) (later g (omega arith))) in
+              let low_groups : passing (has_members O) 0 x.0 ≡ passing (has_members P) 0 x.0 =
+              passing-agree (has_members O) (has_members P) 0 x.0 (λ g _ less. ap (λ m. nat_lt 0 m) (earlier g (omega arith))) in
+              let high_groups : passing_above (has_members O) x.0 ≡ passing_above (has_members B) x.0 =
+              passing-agree (has_members O) (has_members B) (x.0 + 1) (most_groups - (x.0 + 1))
+              (λ g from _. ap (λ m. nat_lt 0 m) (later g (omega arith))) in
               let own_group : has_members O x.0 ≡ nat_lt 0 (count P x.0 + length F) = ap (λ m. nat_lt 0 m) own_count in
-              let split = passing-split (has_members O) x.0 low ∙ ap (λ b. passing (has_members O) 0 x.0 + (cond b 1 0 + passing_above (has_members O) x.0)) own_group in
+              let split = passing-split (has_members O) x.0 low
+              ∙ ap (λ b. passing (has_members O) 0 x.0 + (cond b 1 0 + passing_above (has_members O) x.0)) own_group in
               omega (arith, split, low_groups, high_groups, groups, back.groups);
         })
 
@@ -421,7 +446,8 @@ module _ (T : ℕ → Option ℕ) (N : List (ℕ × ℕ)) (G : ℕ) (positive : 
               (by y Z other less F' B' joined tail);
         }
       where
-        by : (y : ℕ × ℕ) (Z : List (ℕ × ℕ)) → HasJust T N G (P ++ y ∷ Z) → name_cmp x y ≡ Less → (F' B' : List (ℕ × ℕ)) → y ∷ Z ≡ F' ++ B' → IsTail P x.0 (P ++ y ∷ Z) F' B' → names_cmp (take (suc (length C)) A ++ members_of T N (groups_taken groups_after)) (F' ++ B') ≢ Greater
+        by : (y : ℕ × ℕ) (Z : List (ℕ × ℕ)) → HasJust T N G (P ++ y ∷ Z) → name_cmp x y ≡ Less → (F' B' : List (ℕ × ℕ)) → y ∷ Z ≡ F' ++ B'
+            → IsTail P x.0 (P ++ y ∷ Z) F' B' → names_cmp (take (suc (length C)) A ++ members_of T N (groups_taken groups_after)) (F' ++ B') ≢ Greater
         by y Z other less [] B' joined tail =
             let few : suc (length C) ≤ length A = more_at_hand n above free in
             let l : length (take (suc (length C)) A) ≡ suc (length C) = length-take-le (suc (length C)) A few in
@@ -437,12 +463,14 @@ module _ (T : ℕ → Option ℕ) (N : List (ℕ × ℕ)) (G : ℕ) (positive : 
             let rest : IsAscending (y ∷ Z) = AllPairs-append_right (λ a b. name_cmp a b ≡ Less) P (y ∷ Z) other.ascending in
             let ascending_front : IsAscending (f ∷ fs) = AllPairs-append_left (λ a b. name_cmp a b ≡ Less) (f ∷ fs) B' (subst IsAscending joined rest) in
             slice_cmp-append_not_greater name_cmp (take (suc (length C)) A) (f ∷ fs) (members_of T N (groups_taken groups_after)) B' (omega arith)
-            (subst (λ m. names_cmp (take m A) (f ∷ fs) ≢ Greater) many (first_elements_are_least name_cmp name_cmp_total A (f ∷ fs) at_hand.ascending ascending_front inside))
+            (subst (λ m. names_cmp (take m A) (f ∷ fs) ≢ Greater) many
+            (first_elements_are_least name_cmp name_cmp_total A (f ∷ fs) at_hand.ascending ascending_front inside))
             (least_from T N positive sorted (x.0 + 1) (most_groups - (x.0 + 1)) groups_after B'
             (back_just P (P ++ y ∷ Z) (f ∷ fs) B' x.0 low tail groups_after is.behind))
 
     -- where all members above are chosen, no other of the group can stand there
-    none_of_group : ((n : ℕ × ℕ) → Contains A n → Contains C n) → (y : ℕ × ℕ) (Z : List (ℕ × ℕ)) → HasJust T N G (P ++ y ∷ Z) → name_cmp x y ≡ Less → (f : ℕ × ℕ) (fs B' : List (ℕ × ℕ)) → y ∷ Z ≡ (f ∷ fs) ++ B' → IsTail P x.0 (P ++ y ∷ Z) (f ∷ fs) B' → ⊥
+    none_of_group : ((n : ℕ × ℕ) → Contains A n → Contains C n) → (y : ℕ × ℕ) (Z : List (ℕ × ℕ)) → HasJust T N G (P ++ y ∷ Z) → name_cmp x y ≡ Less
+        → (f : ℕ × ℕ) (fs B' : List (ℕ × ℕ)) → y ∷ Z ≡ (f ∷ fs) ++ B' → IsTail P x.0 (P ++ y ∷ Z) (f ∷ fs) B' → ⊥
     none_of_group all y Z other less f fs B' joined tail =
         let is = of_group (P ++ y ∷ Z) B' f fs tail in
         let many = is.as_many in
@@ -453,9 +481,11 @@ module _ (T : ℕ → Option ℕ) (N : List (ℕ × ℕ)) (G : ℕ) (positive : 
         absurd (omega arith)
 
     -- then, where x is the first of its group and another complete group has no chosen name, the least is of the groups behind
-    pub least_of_later : ((n : ℕ × ℕ) → Contains A n → Contains C n) → count P x.0 ≡ 0 → (g : ℕ) → Contains (groups_above x.0) g → is_complete T N g ≡ true → has_members (P ++ x ∷ S) g ≡ false → IsLeastThere (members_of T N (groups_taken (suc groups_after)))
+    pub least_of_later : ((n : ℕ × ℕ) → Contains A n → Contains C n) → count P x.0 ≡ 0 → (g : ℕ) → Contains (groups_above x.0) g → is_complete T N g ≡ true
+        → has_members (P ++ x ∷ S) g ≡ false → IsLeastThere (members_of T N (groups_taken (suc groups_after)))
     least_of_later all first g among complete free =
-        let more : groups_after < passing_above (is_complete T N) x.0 = passing-more (has_members (P ++ x ∷ S)) (is_complete T N) weaker (x.0 + 1) (most_groups - (x.0 + 1)) g among complete free in
+        let more : groups_after < passing_above (is_complete T N) x.0 =
+        passing-more (has_members (P ++ x ∷ S)) (is_complete T N) weaker (x.0 + 1) (most_groups - (x.0 + 1)) g among complete free in
         let B = members_of T N (groups_taken (suc groups_after)) in
         let back = back_of (suc groups_after) more in
         let none_here : nat_lt 0 (count P x.0 + 0) ≡ false = le-ltb 0 (count P x.0 + 0) (omega arith) in
@@ -464,7 +494,8 @@ module _ (T : ℕ → Option ℕ) (N : List (ℕ × ℕ)) (G : ℕ) (positive : 
               (λ some. absurd (omega arith))
               (let total : passing (has_members P) 0 x.0 + (1 + groups_after) ≡ passing (has_members P) 0 x.0 + (0 + suc groups_after) = omega arith in
               own_groups ∙ total ∙ ap (λ b. passing (has_members P) 0 x.0 + (cond b 1 0 + suc groups_after)) (sym none_here));
-          greater = less_than_all B (some_names B (suc groups_after) back (omega arith)) (λ k d within. let past : x.0 < (get_or B k d).0 = back.later k d within in name_cmp_groups x (get_or B k d) past);
+          greater = less_than_all B (some_names B (suc groups_after) back (omega arith))
+              (λ k d within. let past : x.0 < (get_or B k d).0 = back.later k d within in name_cmp_groups x (get_or B k d) past);
           least = λ y Z other less.
               let (F', B', joined, tail) = tail_of P x.0 y Z other upto (groups-in_order x y less) in
               subst (λ Y. names_cmp B Y ≢ Greater) (sym joined) (by y Z other less F' B' joined tail);
@@ -477,7 +508,8 @@ module _ (T : ℕ → Option ℕ) (N : List (ℕ × ℕ)) (G : ℕ) (positive : 
             absurd (omega arith)
         some_names (b ∷ bs) n back positive_n = omega arith
 
-        by : (y : ℕ × ℕ) (Z : List (ℕ × ℕ)) → HasJust T N G (P ++ y ∷ Z) → name_cmp x y ≡ Less → (F' B' : List (ℕ × ℕ)) → y ∷ Z ≡ F' ++ B' → IsTail P x.0 (P ++ y ∷ Z) F' B' → names_cmp (members_of T N (groups_taken (suc groups_after))) (F' ++ B') ≢ Greater
+        by : (y : ℕ × ℕ) (Z : List (ℕ × ℕ)) → HasJust T N G (P ++ y ∷ Z) → name_cmp x y ≡ Less → (F' B' : List (ℕ × ℕ)) → y ∷ Z ≡ F' ++ B'
+            → IsTail P x.0 (P ++ y ∷ Z) F' B' → names_cmp (members_of T N (groups_taken (suc groups_after))) (F' ++ B') ≢ Greater
         by y Z other less [] B' joined tail =
             let is = of_later (P ++ y ∷ Z) B' tail in
             least_from T N positive sorted (x.0 + 1) (most_groups - (x.0 + 1)) (suc groups_after) B'
@@ -485,7 +517,9 @@ module _ (T : ℕ → Option ℕ) (N : List (ℕ × ℕ)) (G : ℕ) (positive : 
         by y Z other less (f ∷ fs) B' joined tail = absurd (none_of_group all y Z other less f fs B' joined tail)
 
     -- else nothing greater can stand there
-    pub nothing_greater : ((n : ℕ × ℕ) → Contains A n → Contains C n) → (count P x.0 ≡ 0 → (g : ℕ) → Contains (groups_above x.0) g → is_complete T N g ≡ true → has_members (P ++ x ∷ S) g ≡ true) → (y : ℕ × ℕ) (Z : List (ℕ × ℕ)) → HasJust T N G (P ++ y ∷ Z) → name_cmp x y ≡ Less → ⊥
+    pub nothing_greater : ((n : ℕ × ℕ) → Contains A n → Contains C n)
+        → (count P x.0 ≡ 0 → (g : ℕ) → Contains (groups_above x.0) g → is_complete T N g ≡ true → has_members (P ++ x ∷ S) g ≡ true)
+        → (y : ℕ × ℕ) (Z : List (ℕ × ℕ)) → HasJust T N G (P ++ y ∷ Z) → name_cmp x y ≡ Less → ⊥
     nothing_greater all no_group y Z other less =
         let (F', B', joined, tail) = tail_of P x.0 y Z other upto (groups-in_order x y less) in
         by F' B' joined tail
@@ -496,7 +530,8 @@ module _ (T : ℕ → Option ℕ) (N : List (ℕ × ℕ)) (G : ℕ) (positive : 
             let O = P ++ y ∷ Z in
             let fewer : passing_above (has_members O) x.0 ≤ passing_above (is_complete T N) x.0 =
             length-sublist (filter_weaker (has_members O) (is_complete T N) (other_weaker O other tail.exact.exact) (groups_above x.0)) in
-            let all_used : passing_above (is_complete T N) x.0 ≤ groups_after = used (no_group is.first) (x.0 + 1) (most_groups - (x.0 + 1)) (λ g among. among) in
+            let all_used : passing_above (is_complete T N) x.0 ≤ groups_after =
+            used (no_group is.first) (x.0 + 1) (most_groups - (x.0 + 1)) (λ g among. among) in
             let behind = is.behind in
             absurd (omega arith)
           where
@@ -507,7 +542,9 @@ module _ (T : ℕ → Option ℕ) (N : List (ℕ × ℕ)) (G : ℕ) (positive : 
                 let more = length-sublist (names_in_group-sublist g (names-sublist N O sorted has.ascending has.at_hand)) in
                 is_complete_from T N g t.threshold t.is (omega arith)
 
-            used : ((g : ℕ) → Contains (groups_above x.0) g → is_complete T N g ≡ true → has_members (P ++ x ∷ S) g ≡ true) → (a k : ℕ) → ((g : ℕ) → Contains (range_with_len a k) g → Contains (groups_above x.0) g) → passing (is_complete T N) a k ≤ passing (has_members (P ++ x ∷ S)) a k
+            used : ((g : ℕ) → Contains (groups_above x.0) g → is_complete T N g ≡ true → has_members (P ++ x ∷ S) g ≡ true) → (a k : ℕ)
+                → ((g : ℕ) → Contains (range_with_len a k) g → Contains (groups_above x.0) g)
+                → passing (is_complete T N) a k ≤ passing (has_members (P ++ x ∷ S)) a k
             used h a zero inside = omega arith
             used h a (suc k) inside =
                 let rest = used h (a + 1) k (λ g among. inside g (Contains-cons a (range_with_len (a + 1) k) g among)) in
@@ -518,7 +555,10 @@ module _ (T : ℕ → Option ℕ) (N : List (ℕ × ℕ)) (G : ℕ) (positive : 
                   | inr fails ↦ (by_bool (has_members (P ++ x ∷ S) a) a k fails rest)
                 ]
               where
-                by_bool : (b : Bool) (a' k' : ℕ) → is_complete T N a ≡ false → passing (is_complete T N) (a + 1) k ≤ passing (has_members (P ++ x ∷ S)) (a + 1) k → passing (is_complete T N) a (suc k) ≤ length (cond b (a ∷ filter (has_members (P ++ x ∷ S)) (range_with_len (a + 1) k)) (filter (has_members (P ++ x ∷ S)) (range_with_len (a + 1) k)))
+                by_bool : (b : Bool) (a' k' : ℕ) → is_complete T N a ≡ false
+                    → passing (is_complete T N) (a + 1) k ≤ passing (has_members (P ++ x ∷ S)) (a + 1) k
+                    → passing (is_complete T N) a (suc k) ≤ length
+                    (cond b (a ∷ filter (has_members (P ++ x ∷ S)) (range_with_len (a + 1) k)) (filter (has_members (P ++ x ∷ S)) (range_with_len (a + 1) k)))
                 by_bool true a' k' fails rest' = rw fails (omega arith)
                 by_bool false a' k' fails rest' = rw fails rest'
         by (f ∷ fs) B' joined tail = none_of_group all y Z other less f fs B' joined tail

@@ -51,17 +51,23 @@ higher_member : (g m h n : ℕ) → g ≡ h → name_cmp (h, m) (g, n) ≡ Less 
 higher_member g m h n same less = grind (arith, nat_tests)
 
 -- the members of a name's group above it, from masks of names
-above_from_masks : (masks : Masks) (names : List (ℕ × ℕ)) (x : ℕ × ℕ) → AreMasksOf masks names → All (λ n. n.1 < most_members) names → x.0 < most_groups → x.1 < most_members → AreAbove names x (members_from masks x.0 (x.1 + 1))
+above_from_masks : (masks : Masks) (names : List (ℕ × ℕ)) (x : ℕ × ℕ) → AreMasksOf masks names → All (λ n. n.1 < most_members) names → x.0 < most_groups
+    → x.1 < most_members → AreAbove names x (members_from masks x.0 (x.1 + 1))
 above_from_masks masks names x masks_are low low_g low_m =
     let p = is_in masks x.0 in
     let members = filter p (range_with_len (x.1 + 1) (most_members - (x.1 + 1))) in
-    let bounds : All (λ m. ((x.1 + 1) ≤ m) × (m < (x.1 + 1) + (most_members - (x.1 + 1)))) members = All-filter p (λ m. ((x.1 + 1) ≤ m) × (m < (x.1 + 1) + (most_members - (x.1 + 1)))) (range_with_len (x.1 + 1) (most_members - (x.1 + 1))) (range-bounds_from (x.1 + 1) (most_members - (x.1 + 1))) in
+    let bounds : All (λ m. ((x.1 + 1) ≤ m) × (m < (x.1 + 1) + (most_members - (x.1 + 1)))) members =
+    All-filter p (λ m. ((x.1 + 1) ≤ m) × (m < (x.1 + 1) + (most_members - (x.1 + 1)))) (range_with_len (x.1 + 1) (most_members - (x.1 + 1)))
+    (range-bounds_from (x.1 + 1) (most_members - (x.1 + 1))) in
     record {
       ascending =
           AllPairs-map (λ a b. name_cmp a b ≡ Less) (λ m. (x.0, m)) members
-          (λ i j d before within. member-less x.0 (get_or members i d) (get_or members j d) (AllPairs-filter (λ a b. a < b) p (range_with_len (x.1 + 1) (most_members - (x.1 + 1))) (range-ascending_from (x.1 + 1) (most_members - (x.1 + 1))) i j d before within));
+          (λ i j d before within. member-less x.0 (get_or members i d) (get_or members j d)
+          (AllPairs-filter (λ a b. a < b) p (range_with_len (x.1 + 1) (most_members - (x.1 + 1)))
+          (range-ascending_from (x.1 + 1) (most_members - (x.1 + 1))) i j d before within));
       group = All-map (λ n. n.0 ≡ x.0) (λ m. (x.0, m)) members (λ k d within. refl);
-      higher = All-map (λ n. name_cmp x n ≡ Less) (λ m. (x.0, m)) members (λ k d within. let b = bounds k d within in member-less x.0 x.1 (get_or members k d) (omega (arith, b.0)));
+      higher = All-map (λ n. name_cmp x n ≡ Less) (λ m. (x.0, m)) members
+          (λ k d within. let b = bounds k d within in member-less x.0 x.1 (get_or members k d) (omega (arith, b.0)));
       among = All-map (Contains names) (λ m. (x.0, m)) members
           (λ k d within.
           let b = bounds k d within in
@@ -75,14 +81,16 @@ above_from_masks masks names x masks_are low low_g low_m =
           let set_bit : IsTrue (is_in masks x.0 n.1) = (masks_are x.0 n.1 low_g small).1 (subst (Contains names) (sym as_pair) among) in
           subst (Contains (members_from masks x.0 (x.1 + 1))) as_pair
           (Contains-map (λ m. (x.0, m)) members n.1
-          (Contains-filter p (range_with_len (x.1 + 1) (most_members - (x.1 + 1))) n.1 (Contains-range_from (x.1 + 1) (most_members - (x.1 + 1)) n.1 (omega arith) (omega arith)) set_bit));
+          (Contains-filter p (range_with_len (x.1 + 1) (most_members - (x.1 + 1))) n.1
+          (Contains-range_from (x.1 + 1) (most_members - (x.1 + 1)) n.1 (omega arith) (omega arith)) set_bit));
     }
 
 -- tests that agree on a range choose the same numbers
 filter-range_within : (p q : ℕ → Bool) (a k : ℕ) → ((g : ℕ) → a ≤ g → g < a + k → p g ≡ q g) → filter p (range_with_len a k) ≡ filter q (range_with_len a k)
 filter-range_within p q a zero h = refl
 filter-range_within p q a (suc k) h =
-    let rest : filter p (range_with_len (a + 1) k) ≡ filter q (range_with_len (a + 1) k) = filter-range_within p q (a + 1) k (λ g from below. h g (omega arith) (omega arith)) in
+    let rest : filter p (range_with_len (a + 1) k) ≡ filter q (range_with_len (a + 1) k) =
+    filter-range_within p q (a + 1) k (λ g from below. h g (omega arith) (omega arith)) in
     rw (h a (omega arith) (omega arith), rest)
 
 -- functions that agree at each element give the same lists
@@ -105,7 +113,8 @@ module _ (shares : List ShareFields) (is : IsShareSet shares) (Q : List (ℕ × 
 
   -- no quorum begins with all of it and goes on
   pub none_behind_all : NoneBehind Q
-  none_behind_all Z other = none_at_end (member_threshold_of shares) (map name_of shares) required.0 (groups-below shares is) Q (just Q quorum) Z (just (Q ++ Z) other)
+  none_behind_all Z other =
+      none_at_end (member_threshold_of shares) (map name_of shares) required.0 (groups-below shares is) Q (just Q quorum) Z (just (Q ++ Z) other)
 
   pub last_from_none : NoneBehind [] → HasNoQuorumAfter shares (Some Q)
   last_from_none none names other after = none names other after
@@ -162,7 +171,8 @@ module _ (shares : List ShareFields) (is : IsShareSet shares) (Q : List (ℕ × 
         let groups = take n (filter (is_complete T N) (groups_above x.0)) in
         let bounds : All (λ g. ((x.0 + 1) ≤ g) × (g < (x.0 + 1) + (most_groups - (x.0 + 1)))) groups =
         All-take (λ g. ((x.0 + 1) ≤ g) × (g < (x.0 + 1) + (most_groups - (x.0 + 1)))) n (filter (is_complete T N) (groups_above x.0))
-        (All-filter (is_complete T N) (λ g. ((x.0 + 1) ≤ g) × (g < (x.0 + 1) + (most_groups - (x.0 + 1)))) (groups_above x.0) (range-bounds_from (x.0 + 1) (most_groups - (x.0 + 1)))) in
+        (All-filter (is_complete T N) (λ g. ((x.0 + 1) ≤ g) × (g < (x.0 + 1) + (most_groups - (x.0 + 1)))) (groups_above x.0)
+        (range-bounds_from (x.0 + 1) (most_groups - (x.0 + 1)))) in
         ap (λ gs. flat_map (members_taken shares choice.at_hand) (take n gs)) groups_same
         ∙ flat_map-same (members_taken shares choice.at_hand) (first_members T N) groups
         (λ k d within.
@@ -171,7 +181,8 @@ module _ (shares : List ShareFields) (is : IsShareSet shares) (Q : List (ℕ × 
         let small : g < most_groups = omega (arith, b.1) in
         ap (take (unwrap_or (T g) 0)) (sym (names_in_group-masks shares is choice.at_hand knows.at_hand g small)))
 
-    all_chosen : ((m : ℕ) → x.1 < m → m < most_members → IsTrue (is_in choice.at_hand x.0 m) → IsTrue (is_in choice.chosen x.0 m)) → (n : ℕ × ℕ) → Contains A n → Contains C n
+    all_chosen : ((m : ℕ) → x.1 < m → m < most_members → IsTrue (is_in choice.at_hand x.0 m) → IsTrue (is_in choice.chosen x.0 m)) → (n : ℕ × ℕ) → Contains A n
+        → Contains C n
     all_chosen all n above =
         let same : n.0 ≡ x.0 = All-contains (λ m. m.0 ≡ x.0) A n at_hand_above.group above in
         let less : name_cmp x n ≡ Less = All-contains (λ m. name_cmp x m ≡ Less) A n at_hand_above.higher above in
@@ -191,11 +202,13 @@ module _ (shares : List ShareFields) (is : IsShareSet shares) (Q : List (ℕ × 
     pub none_from_tail : IsTailFor choice P x None → NoneBehind (P ++ x ∷ []) → NoneBehind P
     none_from_tail tail none Z other =
         none_before T N required.0 (groups-below shares is) Q (just Q quorum) P S x parts (with_just none)
-        (nothing_greater T N required.0 (member_threshold-positive shares is) (groups-below shares is) is.ascending P S x just_here A C at_hand_above chosen_above
+        (nothing_greater T N required.0 (member_threshold-positive shares is)
+        (groups-below shares is) is.ascending P S x just_here A C at_hand_above chosen_above
         (all_chosen tail.0)
         (λ first g within complete.
         let low = low_g in
-        let b = All-contains (λ h. ((x.0 + 1) ≤ h) × (h < (x.0 + 1) + (most_groups - (x.0 + 1)))) (groups_above x.0) g (range-bounds_from (x.0 + 1) (most_groups - (x.0 + 1))) within in
+        let b = All-contains (λ h. ((x.0 + 1) ≤ h) × (h < (x.0 + 1) + (most_groups - (x.0 + 1)))) (groups_above x.0) g
+        (range-bounds_from (x.0 + 1) (most_groups - (x.0 + 1))) within in
         let small : g < most_groups = omega (arith, b.1) in
         let more : x.0 < g = omega (arith, b.0) in
         let some = tail.1 first g more small (knows.complete g small ∙ complete) in
@@ -209,7 +222,8 @@ module _ (shares : List ShareFields) (is : IsShareSet shares) (Q : List (ℕ × 
     first_quorum R none has greater least_there = record {
       quorum = quorum_of (P ++ R) has;
       after = comes_after T N required.0 (groups-below shares is) Q (just Q quorum) P S x R parts greater;
-      least = λ other is_quorum after. first_there T N required.0 (groups-below shares is) Q (just Q quorum) P S x R parts (with_just none) least_there other (just other is_quorum) after;
+      least = λ other is_quorum after. first_there T N required.0 (groups-below shares is) Q (just Q quorum) P S x R parts (with_just none) least_there other
+          (just other is_quorum) after;
     }
 
     first_of_group : IsTailFor choice P x (Some Group) → NoneBehind (P ++ x ∷ []) → IsFirstQuorumAfter shares (Some Q) (P ++ tail_names shares choice x Group)
@@ -222,16 +236,19 @@ module _ (shares : List ShareFields) (is : IsShareSet shares) (Q : List (ℕ × 
         λ chosen.
         let in_quorum : Contains Q n = subst (λ q. Contains q n) (sym parts) (All-contains (Contains (P ++ x ∷ S)) C n chosen_above.among chosen) in
         false≢true (sym spare.3 ∙ (knows.chosen x.0 m low spare.1).1 in_quorum) in
-        let l = least_of_group T N required.0 (member_threshold-positive shares is) (groups-below shares is) is.ascending P S x just_here A C at_hand_above chosen_above n above free in
+        let l = least_of_group T N required.0 (member_threshold-positive shares is)
+        (groups-below shares is) is.ascending P S x just_here A C at_hand_above chosen_above n above free in
         let groups = passing_above (has_members (P ++ x ∷ S)) x.0 in
         let R = take (suc (length C)) A ++ members_of T N (take groups (filter (is_complete T N) (groups_above x.0))) in
-        let back : groups_taken shares choice (x.0 + 1) (groups_used choice.members x.0) ≡ members_of T N (take groups (filter (is_complete T N) (groups_above x.0))) =
+        let back : groups_taken shares choice (x.0 + 1) (groups_used choice.members x.0) ≡ members_of T N
+        (take groups (filter (is_complete T N) (groups_above x.0))) =
         members_same (groups_used choice.members x.0) ∙ ap (λ k. members_of T N (take k (filter (is_complete T N) (groups_above x.0)))) used in
         let front : take (length C + 1) A ≡ take (suc (length C)) A = ap (λ k. take k A) (add-one (length C)) in
         let same : tail_names shares choice x Group ≡ R = ap₂ ◌++◌ front back in
         subst (λ r. IsFirstQuorumAfter shares (Some Q) (P ++ r)) (sym same) (first_quorum R none l.has_just l.greater l.least)
 
-    first_of_later : IsTailFor choice P x (Some LaterGroups) → NoneBehind (P ++ x ∷ []) → IsFirstQuorumAfter shares (Some Q) (P ++ tail_names shares choice x LaterGroups)
+    first_of_later : IsTailFor choice P x (Some LaterGroups) → NoneBehind (P ++ x ∷ [])
+        → IsFirstQuorumAfter shares (Some Q) (P ++ tail_names shares choice x LaterGroups)
     first_of_later tail none =
         let low = low_g in
         let spare = tail.2 in
@@ -240,17 +257,21 @@ module _ (shares : List ShareFields) (is : IsShareSet shares) (Q : List (ℕ × 
         let small : g < most_groups = facts.1 in
         let more : x.0 < g = facts.0 in
         let complete : is_complete T N g ≡ true = sym (knows.complete g small) ∙ facts.2 in
-        let none_used : length (names_in_group g (P ++ x ∷ S)) ≡ 0 = ap (λ q. length (names_in_group g q)) (sym parts) ∙ sym (knows.members g small) ∙ facts.3 in
+        let none_used : length (names_in_group g (P ++ x ∷ S)) ≡ 0 =
+        ap (λ q. length (names_in_group g q)) (sym parts) ∙ sym (knows.members g small) ∙ facts.3 in
         let unused : has_members (P ++ x ∷ S) g ≡ false = ap (λ n. nat_lt 0 n) none_used in
         let within : Contains (groups_above x.0) g = Contains-range_from (x.0 + 1) (most_groups - (x.0 + 1)) g (omega arith) (omega arith) in
-        let l = least_of_later T N required.0 (member_threshold-positive shares is) (groups-below shares is) is.ascending P S x just_here A C at_hand_above chosen_above (all_chosen tail.0) tail.1 g within complete unused in
+        let l = least_of_later T N required.0 (member_threshold-positive shares is)
+        (groups-below shares is) is.ascending P S x just_here A C at_hand_above chosen_above (all_chosen tail.0) tail.1 g within complete unused in
         let groups = passing_above (has_members (P ++ x ∷ S)) x.0 in
         let R = members_of T N (take (suc groups) (filter (is_complete T N) (groups_above x.0))) in
         let same : tail_names shares choice x LaterGroups ≡ R =
-        members_same (groups_used choice.members x.0 + 1) ∙ ap (λ k. members_of T N (take k (filter (is_complete T N) (groups_above x.0)))) (add-one (groups_used choice.members x.0) ∙ ap suc used) in
+        members_same (groups_used choice.members x.0 + 1)
+        ∙ ap (λ k. members_of T N (take k (filter (is_complete T N) (groups_above x.0)))) (add-one (groups_used choice.members x.0) ∙ ap suc used) in
         subst (λ r. IsFirstQuorumAfter shares (Some Q) (P ++ r)) (sym same) (first_quorum R none l.has_just l.greater l.least)
 
     -- where something can, the least of it makes the first quorum after this one
-    pub first_from_tail : (tail : Tail) → IsTailFor choice P x (Some tail) → NoneBehind (P ++ x ∷ []) → IsFirstQuorumAfter shares (Some Q) (P ++ tail_names shares choice x tail)
+    pub first_from_tail : (tail : Tail) → IsTailFor choice P x (Some tail) → NoneBehind (P ++ x ∷ [])
+        → IsFirstQuorumAfter shares (Some Q) (P ++ tail_names shares choice x tail)
     first_from_tail Group can none = first_of_group can none
     first_from_tail LaterGroups can none = first_of_later can none

@@ -90,7 +90,8 @@ AllPairs-sublist R (keeps {x} {ys} {xs} s) h =
 AllPairs-sublist R (leaves {x} {ys} {xs} s) h = AllPairs-sublist R s (AllPairs-tail R x xs h)
 
 -- what holds of each two of each list, and of each of the one and each of the other, holds of each two of both joined
-pub AllPairs-append : {X : Type 0} (R : X → X → Type 0) (xs ys : List X) → AllPairs R xs → AllPairs R ys → ((x : X) → Contains xs x → All (R x) ys) → AllPairs R (xs ++ ys)
+pub AllPairs-append : {X : Type 0} (R : X → X → Type 0) (xs ys : List X) → AllPairs R xs → AllPairs R ys → ((x : X) → Contains xs x → All (R x) ys)
+    → AllPairs R (xs ++ ys)
 AllPairs-append R [] ys first second across = second
 AllPairs-append R (x ∷ xs) ys first second across =
     AllPairs-cons R x (xs ++ ys)
@@ -108,7 +109,8 @@ take-sublist zero xs = nil-sublist xs
 take-sublist (suc n) [] = none
 take-sublist (suc n) (x ∷ xs) = keeps (take-sublist n xs)
 
-cond-sublist : {X : Type 0} (x : X) {ys xs : List X} (b c : Bool) → (b ≡ true → c ≡ true) → IsSublist ys xs → IsSublist (cond b (x ∷ ys) ys) (cond c (x ∷ xs) xs)
+cond-sublist : {X : Type 0} (x : X) {ys xs : List X} (b c : Bool) → (b ≡ true → c ≡ true) → IsSublist ys xs
+    → IsSublist (cond b (x ∷ ys) ys) (cond c (x ∷ xs) xs)
 cond-sublist x true true implies s = keeps s
 cond-sublist x true false implies s = absurd (false≢true (implies refl))
 cond-sublist x false true implies s = leaves s

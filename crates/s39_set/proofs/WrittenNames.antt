@@ -54,7 +54,8 @@ name_text-without name low =
     (decimal-without name.0 43 low.0 (omega arith))
     (All-cons (λ b. is_plus b ≡ false) 46 (decimal name.1) refl (decimal-without name.1 43 low.1 (omega arith)))
 
-split_names : (name : ℕ × ℕ) (names : List (ℕ × ℕ)) → All InRange (name ∷ names) → slice_split is_plus (quorum_text (name ∷ names)) ≡ map name_text (name ∷ names)
+split_names : (name : ℕ × ℕ) (names : List (ℕ × ℕ)) → All InRange (name ∷ names)
+    → slice_split is_plus (quorum_text (name ∷ names)) ≡ map name_text (name ∷ names)
 split_names name [] low = slice_split_none is_plus (name_text name) (name_text-without name (All-head InRange name [] low))
 split_names name (next ∷ names) low =
     slice_split_at is_plus (name_text name) 43 (quorum_text (next ∷ names)) (name_text-without name (All-head InRange name (next ∷ names) low)) refl
@@ -90,7 +91,9 @@ pub record IsNext (part : List ℕ) (before : List (ℕ × ℕ)) (name : ℕ × 
   pub text : IsNameText part name
   pub later : All (λ earlier. name_cmp earlier name ≡ Less) before
 
-pub next_name : (text part : List ℕ) (before names : List (ℕ × ℕ)) (k : ℕ) → IsWrittenForm text names → AreNames before → map name_text before ≡ take k (slice_split is_plus text) → k < length (slice_split is_plus text) → part ≡ get_or (slice_split is_plus text) k part → IsNext part before (get_or names k (0, 0))
+pub next_name : (text part : List ℕ) (before names : List (ℕ × ℕ)) (k : ℕ) → IsWrittenForm text names → AreNames before
+    → map name_text before ≡ take k (slice_split is_plus text) → k < length (slice_split is_plus text) → part ≡ get_or (slice_split is_plus text) k part
+    → IsNext part before (get_or names k (0, 0))
 next_name text part before names k is are so_far inside here =
     let parts : slice_split is_plus text ≡ map name_text names = parts_of_written text names is in
     let l : length (slice_split is_plus text) ≡ length names = ap length parts ∙ length-map names name_text in

@@ -19,7 +19,8 @@ returns-in_default-clause-only c = λ names is.
     (YieldsList-at c.into_iter-name-iterator.ensures.into_iter_gives
     (YieldsList-from_slice_split _ is_plus c.args.text.now c.split-name-items.ensures.rest c.split-name-items.ensures.done c.split-name-items.ensures.closure
     (λ x b q k. search (rules, tests)))) in
-    let next = next_name c.args.text.now c.in-Some.name.now c.loop-name.quorum names _ is c.loop-name.invariant.are_names (c.loop-name.invariant.texts ∙ now.0) now.1 now.2 in
+    let next = next_name c.args.text.now c.in-Some.name.now c.loop-name.quorum names _ is c.loop-name.invariant.are_names
+    (c.loop-name.invariant.texts ∙ now.0) now.1 now.2 in
     let none : None ≡ Some (get_or names (length (map (λ w. w.now) c.loop-name.yielded)) (0, 0)) = c.in_default.ensures.only _ next.text in
     absurd (cc)
 
@@ -30,9 +31,11 @@ returns-then-not-is_before-clause-only c = λ names is.
     (YieldsList-at c.into_iter-name-iterator.ensures.into_iter_gives
     (YieldsList-from_slice_split _ is_plus c.args.text.now c.split-name-items.ensures.rest c.split-name-items.ensures.done c.split-name-items.ensures.closure
     (λ x b q k. search (rules, tests)))) in
-    let next = next_name c.args.text.now c.in-Some.name.now c.loop-name.quorum names _ is c.loop-name.invariant.are_names (c.loop-name.invariant.texts ∙ now.0) now.1 now.2 in
+    let next = next_name c.args.text.now c.in-Some.name.now c.loop-name.quorum names _ is c.loop-name.invariant.are_names
+    (c.loop-name.invariant.texts ∙ now.0) now.1 now.2 in
     let read : ℕ × ℕ = (c.in-Some-parse_name.group, c.in-Some-parse_name.member) in
-    let same = same_name c.in-Some.name.now read (get_or names (length (map (λ w. w.now) c.loop-name.yielded)) (0, 0)) c.in-Some-parse_name.ensures.name next.text in
+    let same = same_name c.in-Some.name.now read
+    (get_or names (length (map (λ w. w.now) c.loop-name.yielded)) (0, 0)) c.in-Some-parse_name.ensures.name next.text in
     absurd (false≢true (c.if-not-is_before.ensures.1 (subst (λ name. All (λ earlier. name_cmp earlier name ≡ Less) c.loop-name.quorum) (sym same) next.later)))
 
 pub loop-name-preserved : goal.loop-name-preserved
@@ -46,7 +49,8 @@ loop-name-preserved c =
           ap (map name_text) c.push.ensures ∙ map_push name_text c.loop-name.quorum read
           ∙ ap₂ (λ xs x. xs ++ x ∷ []) c.loop-name.invariant.texts (sym is.text_is)
           ∙ sym (map_push (λ part. part.now) c.loop-name.yielded c.in-Some.name);
-      are_names = subst AreNames (sym c.push.ensures) (AreNames-push c.loop-name.quorum read c.loop-name.invariant.are_names is.group is.member (c.if-not-is_before.ensures.0 refl));
+      are_names = subst AreNames (sym c.push.ensures)
+          (AreNames-push c.loop-name.quorum read c.loop-name.invariant.are_names is.group is.member (c.if-not-is_before.ensures.0 refl));
     }
 
 pub returns-clause-names : goal.returns-clause-names

@@ -40,7 +40,8 @@ loop-group-preserved c =
       | else-groups-required w ↦ (
           let same : first_passing (is_complete T N) required (group + 1) ≡ groups =
           elim w.else-groups-required.branch [
-            | else-groups-required-via-then-groups-required+else-is_complete w' ↦ first_passing_without (is_complete T N) required group (sym w'.is_complete.ensures ∙ w'.if-is_complete.false)
+            | else-groups-required-via-then-groups-required+else-is_complete w' ↦ first_passing_without (is_complete T N) required group
+                (sym w'.is_complete.ensures ∙ w'.if-is_complete.false)
             | else-groups-required-via-else-groups-required w' ↦ first_passing_full (is_complete T N) required group (omega arith)
           ] in
           record {

@@ -42,7 +42,8 @@ loop-member-preserved c =
           let same : first_below set group threshold (member + 1) ≡ chosen =
           elim w.else-is_at_hand.branch [
             | else-is_at_hand-via-then-is_at_hand+else-members-threshold w' ↦ first_below_full set group threshold member (omega arith)
-            | else-is_at_hand-via-else-is_at_hand w' ↦ first_below_without set group threshold member (sym c.is_at_hand.ensures.at_hand ∙ w'.if-is_at_hand.false)
+            | else-is_at_hand-via-else-is_at_hand w' ↦ first_below_without set group threshold member
+                (sym c.is_at_hand.ensures.at_hand ∙ w'.if-is_at_hand.false)
           ] in
           record {
             members_are = omega (arith, ap length same);

@@ -18,13 +18,17 @@ loop-group-preserved c =
     elim c.match-member_threshold.branch [
       | in-Some w ↦ (
           let value : Bool = nat_le w.in-Some.threshold w.count_members.result in
-          let threshold = complete_test shares c.requires.is_set c.args.at_hand.now c.requires.at_hand group w.in-Some.threshold c.loop-group-test.true (sym w.in-Some.ensures) in
+          let threshold =
+          complete_test shares c.requires.is_set c.args.at_hand.now c.requires.at_hand group w.in-Some.threshold c.loop-group-test.true
+          (sym w.in-Some.ensures) in
           let here : value ≡ test group = ap (λ n. nat_le w.in-Some.threshold n) w.count_members.ensures.members ∙ sym threshold in
           let new : c.match-member_threshold.complete ≡ set old group value = w.complete-is ∙ ap (λ k. set old k value) w.from.ensures in
           let lengths : length (set old group value) ≡ length old = length-set old group value in
           record {
-            complete_are = λ g below. ap (λ l. get_or l g false) new ∙ set_more old test group value (omega arith) c.loop-group.invariant.complete_are here g below;
-            rest = λ g from. ap (λ l. get_or l g false) new ∙ get_or-set_other old group g value false (omega arith) ∙ c.loop-group.invariant.rest g (omega arith);
+            complete_are =
+                λ g below. ap (λ l. get_or l g false) new ∙ set_more old test group value (omega arith) c.loop-group.invariant.complete_are here g below;
+            rest = λ g from. ap (λ l. get_or l g false) new ∙ get_or-set_other old group g value false (omega arith)
+                ∙ c.loop-group.invariant.rest g (omega arith);
             all_groups = ap length new ∙ lengths ∙ long;
             at_least = (let same = w.looks-is in omega (arith, w.count_members.ensures.at_least));
             at_most = (let same = w.looks-is in omega (arith, w.count_members.ensures.at_most));
@@ -37,7 +41,9 @@ loop-group-preserved c =
                 ap (λ l. get_or l g false) new
                 ∙ elim (cases_lt g group) [
                   | inl less ↦ c.loop-group.invariant.complete_are g less
-                  | inr here ↦ (let this : g ≡ group = omega arith in ap (λ k. get_or old k false) this ∙ c.loop-group.invariant.rest group (omega arith) ∙ sym none ∙ ap test (sym this))
+                  | inr here ↦
+                      (let this : g ≡ group =
+                      omega arith in ap (λ k. get_or old k false) this ∙ c.loop-group.invariant.rest group (omega arith) ∙ sym none ∙ ap test (sym this))
                 ];
             rest = λ g from. ap (λ l. get_or l g false) new ∙ c.loop-group.invariant.rest g (omega arith);
             all_groups = ap length new ∙ long;

@@ -38,7 +38,8 @@ returns-in-Some-clause-next c =
     let below : i < length Q = omega arith in
     let next : i + 1 ≡ c.loop-place.place = omega arith in
     let x = get_or Q i (0, 0) in
-    let first = first_from_tail shares (c.if-not-is_quorum.ensures.is_set refl) Q quorum c.of-choice.result c.of-choice.ensures.knows (take i Q) (drop (suc i) Q) x (parts_at Q i below)
+    let first = first_from_tail shares (c.if-not-is_quorum.ensures.is_set refl) Q quorum c.of-choice.result c.of-choice.ensures.knows (take i Q)
+    (drop (suc i) Q) x (parts_at Q i below)
     c.in-Some.tail c.in-Some.ensures.tail (subst (NoneWith shares Q) (front_at Q i c.loop-place.place next below) c.loop-place.invariant.none) in
     subst (λ q. IsFirstQuorumAfter shares (Some q) c.completed.result) c.pairs-names.ensures.same
     (subst (IsFirstQuorumAfter shares (Some Q)) (sym c.completed.ensures.names) first)
@@ -53,7 +54,8 @@ loop-place-preserved c =
     let next : i + 1 ≡ c.loop-place.place = omega arith in
     let x = get_or Q i (0, 0) in
     record {
-      none = none_from_tail shares (c.if-not-is_quorum.ensures.is_set refl) Q quorum c.of-choice.result c.of-choice.ensures.knows (take i Q) (drop (suc i) Q) x (parts_at Q i below)
+      none = none_from_tail shares (c.if-not-is_quorum.ensures.is_set refl) Q quorum c.of-choice.result c.of-choice.ensures.knows (take i Q) (drop (suc i) Q) x
+          (parts_at Q i below)
           c.in_default.ensures.tail (subst (NoneWith shares Q) (front_at Q i c.loop-place.place next below) c.loop-place.invariant.none);
       upto = omega arith;
       at_least = omega arith;

@@ -10,7 +10,8 @@ use Rattle.std.specs.List.{range_with_len}
 pub push-requires-clause-later : goal.push-requires-clause-later
 push-requires-clause-later c =
     subst (All (λ n. name_cmp n (c.args.group, c.loop-member.member) ≡ Less)) (sym c.loop-member.invariant.names_are)
-    (all_before_next (is_in c.args.masks.now c.args.group) c.args.wanted c.args.from c.loop-member.member c.args.group (omega arith) c.args.quorum.now c.requires.earlier)
+    (all_before_next (is_in c.args.masks.now c.args.group) c.args.wanted c.args.from c.loop-member.member c.args.group
+    (omega arith) c.args.quorum.now c.requires.earlier)
 
 pub loop-member-preserved : goal.loop-member-preserved
 loop-member-preserved c =
@@ -32,7 +33,8 @@ loop-member-preserved c =
                 ∙ append_assoc old (map (λ member. (c.args.group, member)) (first_from p many a j)) ((c.args.group, j) ∷ [])
                 ∙ ap (λ q. old ++ q) (sym (map_push (λ member. (c.args.group, member)) (first_from p many a j) j))
                 ∙ sym (ap names more);
-            members_are = w.members-is ∙ ap (λ n. n + 1) c.loop-member.invariant.members_are ∙ sym (length_push (first_from p many a j) j) ∙ sym (ap length more);
+            members_are =
+                w.members-is ∙ ap (λ n. n + 1) c.loop-member.invariant.members_are ∙ sym (length_push (first_from p many a j) j) ∙ sym (ap length more);
             at_least = omega arith;
             at_most = omega arith;
           })

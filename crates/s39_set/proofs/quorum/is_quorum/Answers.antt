@@ -13,7 +13,8 @@ returns-then-are_at_hand-clause-quorum c =
       λ h. quorum_from_just set c.has_just_the_members.ensures.is_set names (record {
         at_hand = record {
           ascending = c.pairs.ensures.names.ascending;
-          at_hand = All-same (Contains (map name_of set)) names c.pairs.result.now (sym c.pairs.ensures.same) (c.are_at_hand.ensures.at_hand.0 c.if-are_at_hand.true);
+          at_hand = All-same (Contains (map name_of set)) names c.pairs.result.now (sym c.pairs.ensures.same)
+              (c.are_at_hand.ensures.at_hand.0 c.if-are_at_hand.true);
         };
         just = subst (HasJustTheMembers set) c.pairs-then-are_at_hand.ensures.same (c.has_just_the_members.ensures.just.0 h);
       }),

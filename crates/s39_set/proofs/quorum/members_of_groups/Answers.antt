@@ -12,4 +12,10 @@ overflow_add-counts c =
     let here : get_or c.loop-group.counts group 0 ≡ length (names_in_group group (take c.loop-group.group-index names)) =
     c.loop-group.invariant.counted group (omega arith) in
     let past = take c.loop-group.group-index names in
-    omega (arith, length-filter (λ name. name.0 == group) past, count_by-le-length (λ name. name.0 == group) past, length-take-le c.loop-group.group-index names (omega arith))
+    omega (
+      arith,
+      length-filter (λ name. name.0 == group) past,
+      count_by-le-length (λ name. name.0 == group) past,
+      length-take-le c.loop-group.group-index names
+          (omega arith),
+    )

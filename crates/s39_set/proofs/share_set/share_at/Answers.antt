@@ -11,7 +11,8 @@ returns-then-member-lt-MAX_MEMBERS-clause-share c =
     c.as_ref.ensures.value
     ∙ get_or_default inside.places c.place_of.result c.index-set-place_of.result None below
     ∙ ap (λ k. get_or inside.places k None) c.place_of.ensures
-    ∙ sym (share_in_place inside.common inside.at_hand inside.member_thresholds inside.places c.set.invariant c.args.group c.args.member c.if-member-lt-MAX_MEMBERS.true)
+    ∙ sym (share_in_place inside.common inside.at_hand inside.member_thresholds inside.places c.set.invariant c.args.group c.args.member
+    c.if-member-lt-MAX_MEMBERS.true)
     ∙ ap (find (has_name c.args.group c.args.member)) c.set.view_is
 
 pub returns-else-group-lt-MAX_GROUPS-clause-share : goal.returns-else-group-lt-MAX_GROUPS-clause-share

@@ -27,8 +27,10 @@ loop-group-preserved c =
       | then-groups-wanted+then-self-from w ↦ (
           let passes : p j ≡ true = ap (λ k. get_or complete k false) (sym w.from.ensures) ∙ w.if-self-from.true in
           let more = first_from_more p many a j from passes (omega arith) in
-          let asked : w.unwrap_or-members.result ≡ unwrap_or (member_threshold_of c.args.set.now j) 0 = w.unwrap_or-members.ensures ∙ ap (λ o. unwrap_or o 0) w.member_threshold.ensures in
-          let added : c.if-groups-wanted.quorum ≡ c.loop-group.quorum ++ taken j = w.quorum-is ∙ w.push_members.ensures.names ∙ ap (λ n. c.loop-group.quorum ++ take n (members_from c.args.self.now.at_hand j 0)) asked in
+          let asked : w.unwrap_or-members.result ≡ unwrap_or (member_threshold_of c.args.set.now j) 0 =
+          w.unwrap_or-members.ensures ∙ ap (λ o. unwrap_or o 0) w.member_threshold.ensures in
+          let added : c.if-groups-wanted.quorum ≡ c.loop-group.quorum ++ taken j =
+          w.quorum-is ∙ w.push_members.ensures.names ∙ ap (λ n. c.loop-group.quorum ++ take n (members_from c.args.self.now.at_hand j 0)) asked in
           record {
             names_are =
                 added
@@ -40,20 +42,23 @@ loop-group-preserved c =
             earlier = subst (All (λ n. n.0 < j + 1)) (sym added)
                 (All-append (λ n. n.0 < j + 1) c.loop-group.quorum (taken j)
                 (All-weaker (λ n. n.0 < j) (λ n. n.0 < j + 1) (λ n less. omega arith) c.loop-group.quorum c.loop-group.invariant.earlier)
-                (All-weaker (λ n. n.0 ≡ j) (λ n. n.0 < j + 1) (λ n here. omega arith) (taken j) (members-group c.args.self.now.at_hand j (unwrap_or (member_threshold_of c.args.set.now j) 0))));
+                (All-weaker (λ n. n.0 ≡ j) (λ n. n.0 < j + 1) (λ n here. omega arith) (taken j)
+                (members-group c.args.self.now.at_hand j (unwrap_or (member_threshold_of c.args.set.now j) 0))));
             at_least = (let same = w.looks-is in omega (arith, w.push_members.ensures.at_least));
             at_most = (let same = w.looks-is in omega (arith, w.push_members.ensures.at_most));
           })
       | else-groups-wanted w ↦ (
           let same : first_from p many a (j + 1) ≡ first_from p many a j =
           elim w.else-groups-wanted.branch [
-            | else-groups-wanted-via-then-groups-wanted+else-self-from v ↦ first_from_without p many a j from (ap (λ k. get_or complete k false) (sym v.from.ensures) ∙ v.if-self-from.false)
+            | else-groups-wanted-via-then-groups-wanted+else-self-from v ↦ first_from_without p many a j from
+                (ap (λ k. get_or complete k false) (sym v.from.ensures) ∙ v.if-self-from.false)
             | else-groups-wanted-via-else-groups-wanted v ↦ first_from_full p many a j from (omega arith)
           ] in
           record {
             names_are = w.quorum-is ∙ c.loop-group.invariant.names_are ∙ sym (ap names same);
             groups_are = w.groups-is ∙ c.loop-group.invariant.groups_are ∙ sym (ap length same);
-            earlier = subst (All (λ n. n.0 < j + 1)) (sym w.quorum-is) (All-weaker (λ n. n.0 < j) (λ n. n.0 < j + 1) (λ n less. omega arith) c.loop-group.quorum c.loop-group.invariant.earlier);
+            earlier = subst (All (λ n. n.0 < j + 1)) (sym w.quorum-is)
+                (All-weaker (λ n. n.0 < j) (λ n. n.0 < j + 1) (λ n less. omega arith) c.loop-group.quorum c.loop-group.invariant.earlier);
             at_least = (let s = w.looks-is in omega arith);
             at_most = (let s = w.looks-is in omega arith);
           })

@@ -6,7 +6,8 @@ use Rattle.s39_set.proofs.next.Choice.push_groups.Given as goal
 
 abbrev pub invariant-loop-group : goal.invariant-loop-group
 invariant-loop-group l = record {
-  names_are : l.quorum ≡ l.fn.quorum ++ flat_map (members_taken l.set l.self.at_hand) (take l.wanted (filter (λ g. get_or l.self.complete g false) (range_with_len l.from (l.group - l.from))));
+  names_are : l.quorum ≡ l.fn.quorum ++ flat_map (members_taken l.set l.self.at_hand)
+      (take l.wanted (filter (λ g. get_or l.self.complete g false) (range_with_len l.from (l.group - l.from))));
   groups_are : l.groups ≡ length (take l.wanted (filter (λ g. get_or l.self.complete g false) (range_with_len l.from (l.group - l.from))));
   earlier : All (λ n. n.0 < l.group) l.quorum;
   at_least : l.fn.looks ≤ l.looks;

@@ -19,7 +19,9 @@ held masks share fields member b e f is = sym (is ∙ ap₂ (λ (x : ShareFields
 pub returns-in-Some-clause-repeat : goal.returns-in-Some-clause-repeat
 returns-in-Some-clause-repeat c = (
   (λ e. absurd (let bad : Err c.in-Some.error ≡ Ok Repeat = e in cc)),
-  (λ has_share. absurd (let bad : Some c.in-Some.error ≡ None = sym c.in-Some.is ∙ c.refusal.ensures.refusal ∙ not_refused c.args.self.now c.refusal.ensures.is_set c.args.share has_share in cc)),
+  (λ has_share. absurd
+      (let bad : Some c.in-Some.error ≡ None =
+      sym c.in-Some.is ∙ c.refusal.ensures.refusal ∙ not_refused c.args.self.now c.refusal.ensures.is_set c.args.share has_share in cc)),
 )
 
 pub returns-then-has-clause-repeat : goal.returns-then-has-clause-repeat
@@ -31,7 +33,8 @@ returns-then-has-clause-repeat c =
     let there = held inside.at_hand share c.fields.result.now c.member_index-member.result c.has.result
     c.fields.ensures.fields c.member_index-member.ensures c.has.ensures ∙ c.if-has.true in (
       (λ e. subst (λ l. Contains l share) c.self.view_is
-          (repeat_from_masks inside.common inside.at_hand inside.member_thresholds inside.places c.self.invariant share c.fields.ensures.in_range allowed there)),
+          (repeat_from_masks inside.common inside.at_hand inside.member_thresholds inside.places c.self.invariant share c.fields.ensures.in_range allowed
+          there)),
       (λ has_share. refl),
     )
 
@@ -58,7 +61,8 @@ module _ (c : goal.After-index-self-place_of) where
   empty : get_or c.self.inside.places c.place_of.result None ≡ None
   empty =
       ap (λ k. get_or c.self.inside.places k None) at
-      ∙ empty_place c.self.inside.common c.self.inside.at_hand c.self.inside.member_thresholds c.self.inside.places c.self.invariant c.args.share c.fields.ensures.in_range not_held
+      ∙ empty_place c.self.inside.common c.self.inside.at_hand c.self.inside.member_thresholds c.self.inside.places c.self.invariant c.args.share
+      c.fields.ensures.in_range not_held
 
   allowed : refusal_of (shares_at c.self.inside.places) c.args.share ≡ None
   allowed = ap (λ l. refusal_of l c.args.share) c.self.view_is ∙ sym c.refusal.ensures.refusal ∙ c.in_default.is
@@ -66,15 +70,19 @@ module _ (c : goal.After-index-self-place_of) where
   groups : length c.self.inside.member_thresholds ≡ most_groups
   groups = omega arith
 
-  kept : IsKept (Some (common_of c.args.share)) c.insert.new.self (set c.self.inside.member_thresholds c.args.share.group_index (Some c.args.share.member_threshold)) (set c.self.inside.places c.place_of.result (Some c.args.share))
+  kept : IsKept (Some (common_of c.args.share)) c.insert.new.self
+      (set c.self.inside.member_thresholds c.args.share.group_index (Some c.args.share.member_threshold))
+      (set c.self.inside.places c.place_of.result (Some c.args.share))
   kept =
-      kept_more c.self.inside.common c.self.inside.at_hand c.self.inside.member_thresholds c.self.inside.places c.self.invariant c.args.share c.fields.ensures.in_range
+      kept_more c.self.inside.common c.self.inside.at_hand c.self.inside.member_thresholds c.self.inside.places c.self.invariant c.args.share
+      c.fields.ensures.in_range
       allowed c.place_of.result at below empty groups c.insert.new.self (subst (AddsName c.self.inside.at_hand c.insert.new.self) name c.insert.ensures)
 
 pub invariant_of-self : goal.invariant_of-self
 invariant_of-self c =
     let group : c.args.share.group_index ≡ c.from.result = ap (λ (x : ShareFields). x.group_index) (sym c.fields.ensures.fields) ∙ sym c.from.ensures in
-    subst₂ (λ (common : Option Common) (thresholds : List (Option ℕ)). IsKept common c.insert.new.self thresholds (set c.self.inside.places c.place_of.result (Some c.args.share)))
+    subst₂ (λ (common : Option Common) (thresholds : List (Option ℕ)). IsKept common c.insert.new.self thresholds
+    (set c.self.inside.places c.place_of.result (Some c.args.share)))
     (ap Some (sym c.of.ensures))
     (ap₂ (λ (g t : ℕ). set c.self.inside.member_thresholds g (Some t)) group (sym c.member_threshold.ensures))
     (kept c)

@@ -9,7 +9,9 @@ returns-then-member-lt-MAX_MEMBERS-clause-at_hand c =
     let inside = c.self.inside in
     c.has.ensures
     ∙ c.self.invariant.at_hand_are c.args.group c.args.member c.if-group-lt-MAX_GROUPS.true c.if-member-lt-MAX_MEMBERS.true
-    ∙ ap is_some (sym (share_in_place inside.common inside.at_hand inside.member_thresholds inside.places c.self.invariant c.args.group c.args.member c.if-member-lt-MAX_MEMBERS.true))
+    ∙ ap is_some
+    (sym (share_in_place inside.common inside.at_hand inside.member_thresholds inside.places c.self.invariant c.args.group c.args.member
+    c.if-member-lt-MAX_MEMBERS.true))
     ∙ ap (λ shares. is_some (find (has_name c.args.group c.args.member) shares)) c.self.view_is
 
 pub returns-else-group-lt-MAX_GROUPS-clause-at_hand : goal.returns-else-group-lt-MAX_GROUPS-clause-at_hand

@@ -20,7 +20,9 @@ returns-then-threshold-member_threshold c =
     let threshold : member_threshold_of set share.group_index ≡ Some c.in-Some.threshold =
     ap (member_threshold_of set) (sym group) ∙ sym c.member_threshold.ensures ∙ c.in-Some.is in
     ap (λ g. Some (OtherMemberThreshold g)) group
-    ∙ sym (last_refusal-threshold set share (threshold-differs set c.share_at-held.ensures.is_set share c.in-Some.threshold threshold (λ e. c.if-threshold-member_threshold.true (e ∙ sym c.member_threshold-in-Some.ensures))))
+    ∙ sym (last_refusal-threshold set share
+    (threshold-differs set c.share_at-held.ensures.is_set share c.in-Some.threshold threshold
+    (λ e. c.if-threshold-member_threshold.true (e ∙ sym c.member_threshold-in-Some.ensures))))
 
 pub returns-then-ne : goal.returns-then-ne
 returns-then-ne c =
@@ -33,7 +35,9 @@ returns-then-ne c =
     let fails : some_differs (λ s. s.member_threshold) (filter (is_in_group share.group_index) set) share ≡ false =
     threshold-fails set is_set share c.member_threshold.result (c.member_threshold.ensures ∙ ap (member_threshold_of set) group)
     (λ t e. elim c.match-member_threshold.branch [
-      | in-Some+else-threshold-member_threshold w ↦ (let one : Some t ≡ Some w.in-Some.threshold = sym e ∙ w.in-Some.is in let same : t ≡ w.in-Some.threshold = cc in same ∙ w.if-threshold-member_threshold.false ∙ w.member_threshold-in-Some.ensures)
+      | in-Some+else-threshold-member_threshold w ↦
+          (let one : Some t ≡ Some w.in-Some.threshold = sym e ∙ w.in-Some.is in let same : t ≡ w.in-Some.threshold =
+          cc in same ∙ w.if-threshold-member_threshold.false ∙ w.member_threshold-in-Some.ensures)
       | in_default w ↦ absurd (let none : Some t ≡ None = sym e ∙ w.in_default.is in cc)
     ]) in
     let found : find (has_name share.group_index share.member_index) set ≡ Some held =
@@ -55,7 +59,9 @@ returns-else-ne c =
     let fails : some_differs (λ s. s.member_threshold) (filter (is_in_group share.group_index) set) share ≡ false =
     threshold-fails set is_set share c.member_threshold.result (c.member_threshold.ensures ∙ ap (member_threshold_of set) group)
     (λ t e. elim c.match-member_threshold.branch [
-      | in-Some+else-threshold-member_threshold w ↦ (let one : Some t ≡ Some w.in-Some.threshold = sym e ∙ w.in-Some.is in let same : t ≡ w.in-Some.threshold = cc in same ∙ w.if-threshold-member_threshold.false ∙ w.member_threshold-in-Some.ensures)
+      | in-Some+else-threshold-member_threshold w ↦
+          (let one : Some t ≡ Some w.in-Some.threshold = sym e ∙ w.in-Some.is in let same : t ≡ w.in-Some.threshold =
+          cc in same ∙ w.if-threshold-member_threshold.false ∙ w.member_threshold-in-Some.ensures)
       | in_default w ↦ absurd (let none : Some t ≡ None = sym e ∙ w.in_default.is in cc)
     ]) in
     let found : find (has_name share.group_index share.member_index) set ≡ Some held =
@@ -76,7 +82,9 @@ returns-in_default-held c =
     let fails : some_differs (λ s. s.member_threshold) (filter (is_in_group share.group_index) set) share ≡ false =
     threshold-fails set is_set share c.member_threshold.result (c.member_threshold.ensures ∙ ap (member_threshold_of set) group)
     (λ t e. elim c.match-member_threshold.branch [
-      | in-Some+else-threshold-member_threshold w ↦ (let one : Some t ≡ Some w.in-Some.threshold = sym e ∙ w.in-Some.is in let same : t ≡ w.in-Some.threshold = cc in same ∙ w.if-threshold-member_threshold.false ∙ w.member_threshold-in-Some.ensures)
+      | in-Some+else-threshold-member_threshold w ↦
+          (let one : Some t ≡ Some w.in-Some.threshold = sym e ∙ w.in-Some.is in let same : t ≡ w.in-Some.threshold =
+          cc in same ∙ w.if-threshold-member_threshold.false ∙ w.member_threshold-in-Some.ensures)
       | in_default w ↦ absurd (let none : Some t ≡ None = sym e ∙ w.in_default.is in cc)
     ]) in
     let found : find (has_name share.group_index share.member_index) set ≡ None =

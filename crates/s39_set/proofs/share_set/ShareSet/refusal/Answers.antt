@@ -9,7 +9,8 @@ returns-in-Some-refusal-clause-refusal c =
     let shares = shares_at c.self.inside.places in
     let share = c.args.share.now in
     let common : common_of_all shares ≡ Some c.in-Some.common = sym c.self.invariant.common_is ∙ c.in-Some.is in
-    sym (refusal-from_common shares c.self.invariant.is_set share c.in-Some.common c.in-Some-refusal.error common (sym c.refusal.ensures ∙ c.in-Some-refusal.is))
+    sym (refusal-from_common shares c.self.invariant.is_set share c.in-Some.common c.in-Some-refusal.error common
+    (sym c.refusal.ensures ∙ c.in-Some-refusal.is))
     ∙ ap (λ l. refusal_of l share) c.self.view_is
 
 pub returns-clause-refusal : goal.returns-clause-refusal
