@@ -11,3 +11,6 @@ pub mod Plans
 pub mod Promise
 pub mod EveryOutcome
 pub mod Agreeing
+pub mod PlanNumbers
+pub mod PlanTexts
+pub mod PlanReadings

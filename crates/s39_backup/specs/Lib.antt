@@ -3,6 +3,7 @@ pub mod Outcome
 pub mod GroupShares
 pub mod RecoverError
 pub mod Plan
+pub mod PlanText
 pub mod Created
 pub mod Building
 pub mod Memo

@@ -41,13 +41,13 @@ pub record IsPlanNumber (n : ℕ) : Type 0 where
 
 -- `TofN`
 abbrev pub members_text : Members → List ℕ
-members_text members = decimal members.threshold ++ codes "of" ++ decimal members.count
+members_text members = decimal members.threshold ++ (codes "of" ++ decimal members.count)
 
 -- the texts of groups, joined by commas
 abbrev pub groups_text : List Members → List ℕ
 groups_text [] = []
 groups_text (members ∷ []) = members_text members
-groups_text (members ∷ next ∷ more) = members_text members ++ codes "," ++ groups_text (next ∷ more)
+groups_text (members ∷ next ∷ more) = members_text members ++ (codes "," ++ groups_text (next ∷ more))
 
 -- The text is `TofN`, which is one group at group threshold 1, or `GT/T1ofN1,T2ofN2,..`, whatever the numbers.
 pub record HasPlanForm (text : List ℕ) (group_threshold : ℕ) (groups : List Members) : Type 0 where
@@ -55,7 +55,7 @@ pub record HasPlanForm (text : List ℕ) (group_threshold : ℕ) (groups : List 
   pub threshold_number : IsPlanNumber group_threshold
   pub thresholds : All (λ members. IsPlanNumber members.threshold) groups
   pub counts : All (λ members. IsPlanNumber members.count) groups
-  pub written : (text ≡ decimal group_threshold ++ codes "/" ++ groups_text groups)
+  pub written : (text ≡ decimal group_threshold ++ (codes "/" ++ groups_text groups))
       ⊎ ((group_threshold ≡ 1) × (length groups ≡ 1) × (text ≡ groups_text groups))
 
 -- what is read from a text of the form of a plan: the group threshold, and each group's members

@@ -2,6 +2,9 @@
 ghost use Rattle.std.specs.Prelude.{◌≡◌, ℕ, List, All, Contains, Result, Ok, None, replicate};
 ghost use Rattle.s39_kdf.specs.Limits.{longest_secret};
 ghost use Rattle.s39_set.specs.Names.{most_groups, most_members};
+ghost use Rattle.s39_backup.specs.declared.plan.Members.{Members};
+ghost use Rattle.s39_backup.specs.declared.plan_error.PlanError.{PlanError};
+ghost use Rattle.s39_backup.specs.Plan.{IsPlanReading};
 ghost use Rattle.s39_backup.specs.Created.{AreOfBackup, identifier_length, random_needed, most_random};
 ghost use Rattle.s39_words.specs.declared.ShareFields.{ShareFields};
 ghost use Rattle.s39_set.specs.ShareSet.{IsShareSet, refusal_of};
@@ -25,6 +28,12 @@ pub fn numbers()
     ensures most { random_needed most_groups
         (replicate most_groups (record { threshold = most_members; count = most_members }))
         longest_secret ≡ most_random }
+{}
+
+/// A text is at most one plan, or refused for one cause.
+pub fn one_plan_reading()
+    ensures { (text : List ℕ) (reading other : Result (ℕ × List Members) PlanError)
+        → IsPlanReading text reading → IsPlanReading text other → reading ≡ other }
 {}
 
 /// A quorum of a share set combines to one encrypted secret or mismatch.

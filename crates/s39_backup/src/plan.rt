@@ -1,11 +1,16 @@
 //! Plans: how many groups a backup has and how many of them are needed, and the same of the members of each group.
-ghost use Rattle.std.specs.Prelude.{◌≡◌, ◌≢◌, ℕ, ◌≤◌, length, All, Err, OnOk};
+ghost use Rattle.std.specs.Prelude.{◌≡◌, ℕ, ◌≤◌, List, length, All, Result, IfErr, OnOk};
+ghost use Rattle.std.specs.Result.{result_map_both};
 ghost use Rattle.s39_set.specs.Names.{most_groups};
 ghost use Rattle.s39_kdf.specs.Limits.{shortest_secret, longest_secret};
-ghost use Rattle.s39_backup.specs.Plan.{IsPlan, IsPlanNumber, IsGroup, HasEnoughMembers, IsOneOfMany, IsFirstRefusedGroup};
+ghost use Rattle.s39_backup.specs.Plan.{IsPlan, IsPlanNumber, IsGroup, IsPlanReading};
+ghost use Rattle.s39_backup.specs.PlanText.{RefusesAGroup};
+ghost use Rattle.s39_backup.specs.declared.plan.Members.{Members};
+ghost use Rattle.s39_backup.specs.declared.plan_error.PlanError.{PlanError};
 ghost use Rattle.s39_backup.specs.Created.{random_needed, most_random};
 
 use crate::creation::ID_BYTES;
+use crate::laws::one_plan_reading;
 use crate::plan_error::PlanError;
 use crate::plan_text::plan_form;
 use arrayvec::ArrayVec;
@@ -42,18 +47,16 @@ impl Plan {
     /// - `PlanGroups` where there are more than 16 groups, or fewer than `GT`;
     /// - then group by group, counted from 0: `PlanMembers` where `N` is above 16 or `T` above `N`, and `OneOfMany`
     ///   where `T` is 1 and `N` above 1.
-    pub fn parse(text: &str) -> Result<Plan, PlanError> {
-        let Some((group_threshold, groups)) = plan_form(text.as_bytes()) else {
-            return Err(PlanError::BadPlan);
-        };
-        if groups.count > MAX_SHARES || groups.count < usize::from(group_threshold) {
-            return Err(PlanError::PlanGroups);
-        }
-        check_groups(groups.first.as_slice())?;
-        Ok(Plan {
-            group_threshold,
-            groups: groups.first,
-        })
+    pub fn parse(text: &str) -> Result<Plan, PlanError>
+        ensures reading { IsPlanReading text.now (result_map_both
+            (λ plan. (plan.group_threshold, plan.groups.items)) (λ error. error) result) }
+        ensures only { (reading : Result (ℕ × List Members) PlanError)
+            → IsPlanReading text.now reading
+            → reading ≡ result_map_both
+            (λ plan. (plan.group_threshold, plan.groups.items)) (λ error. error) result }
+    {
+        one_plan_reading();
+        read_plan(text.as_bytes())
     }
 
     /// The number of random bytes that a backup of a secret of `n_bytes` bytes, from 16 to 128, takes: 2 for the
@@ -73,17 +76,30 @@ impl Plan {
     }
 }
 
+/// The plan of a text, or the first cause for which it is refused.
+fn read_plan(text: &[u8]) -> Result<Plan, PlanError>
+    ensures { IsPlanReading text.now (result_map_both
+        (λ plan. (plan.group_threshold, plan.groups.items)) (λ error. error) result) }
+{
+    let Some((group_threshold, groups)) = plan_form(text) else {
+        return Err(PlanError::BadPlan);
+    };
+    if groups.count > MAX_SHARES || groups.count < usize::from(group_threshold) {
+        return Err(PlanError::PlanGroups);
+    }
+    check_groups(groups.first.as_slice())?;
+    Ok(Plan {
+        group_threshold,
+        groups: groups.first,
+    })
+}
+
 /// The first group that a plan can't have, and why.
 fn check_groups(groups: &[Members]) -> Result<(), PlanError>
     requires few { length groups.now ≤ most_groups }
     requires thresholds { All (λ members. IsPlanNumber members.threshold) groups.now }
     ensures accepted { OnOk result (All IsGroup groups.now) }
-    ensures members { (group : ℕ) → result ≡ Err (PlanError.PlanMembers group)
-        → IsFirstRefusedGroup groups.now group (λ members. ¬ HasEnoughMembers members) }
-    ensures one_of_many { (group : ℕ) → result ≡ Err (PlanError.OneOfMany group)
-        → IsFirstRefusedGroup groups.now group
-        (λ members. HasEnoughMembers members × IsOneOfMany members) }
-    ensures others { (result ≢ Err PlanError.BadPlan) × (result ≢ Err PlanError.PlanGroups) }
+    ensures refused { IfErr result (RefusesAGroup groups.now) }
 {
     for (place, members) in groups.iter().enumerate() {
         if members.count > MAX_MEMBERS || members.threshold > members.count {

@@ -1,8 +1,8 @@
-//! The texts of plans.
-ghost use Rattle.std.specs.Prelude.{◌≡◌, ◌<◌, length, All, IfSome, min};
-ghost use Rattle.arrayvec.specs.ArrayVec.{array_vec_len};
-ghost use Rattle.s39_set.specs.Names.{most_groups};
-ghost use Rattle.s39_backup.specs.Plan.{IsPlanNumber};
+//! The texts of plans, read from the front.
+ghost use Rattle.std.specs.Prelude.{◌≡◌, ◌≢◌, ℕ, ◌+◌, ◌<◌, List, [], ◌∷◌, ◌++◌, length, None, IfSome};
+ghost use Rattle.s39_backup.specs.declared.plan.Members.{Members};
+ghost use Rattle.s39_backup.specs.Plan.{PlanForm};
+ghost use Rattle.s39_backup.specs.PlanText.{BeginsWithNoDigit, BeginsWithDigit, BeginsWithNumber, BeginsWithMembers, BeginsWithGroupThreshold, IsGroupsText, IsListOf, ListsGroupsOf, ListsPlanOf};
 
 use crate::plan::Members;
 use arrayvec::ArrayVec;
@@ -15,33 +15,39 @@ pub(crate) struct GroupList {
     pub(crate) first: ArrayVec<Members, MAX_SHARES>,
 }
 
+impl GroupList {
+    /// Appends a group, which is kept where it is among the first sixteen.
+    fn push(&mut self, members: Members)
+        requires { self.old.count < usize.MAX }
+        ensures count { self.new.count ≡ self.old.count + 1 }
+        ensures list { (groups : List Members) → IsListOf self.old groups
+            → IsListOf self.new (groups ++ members ∷ []) }
+    {
+        if self.first.len() < MAX_SHARES {
+            self.first.push(members);
+        }
+        self.count += 1;
+    }
+}
+
 /// The group threshold and the groups of a text of the form `TofN`, which is one group at group threshold 1, or
 /// `GT/T1ofN1,T2ofN2,..`; `None` where it has another form.
 pub(crate) fn plan_form(text: &[u8]) -> Option<(u8, GroupList)>
-    ensures threshold { IfSome result (λ form. IsPlanNumber form.0) }
-    ensures thresholds { IfSome result (λ form.
-        All (λ members. IsPlanNumber members.threshold) form.1.first.items) }
-    ensures groups { IfSome result (λ form.
-        array_vec_len form.1.first ≡ min form.1.count most_groups) }
+    ensures form { IfSome result (ListsPlanOf text.now) }
+    ensures none { result ≡ None → ¬ PlanForm text.now }
 {
-    if let Some((group_threshold, [b'/', groups @ ..])) = number(text) {
+    if let Some((group_threshold, groups)) = group_threshold(text) {
         let groups = group_list(groups)?;
         return Some((group_threshold, groups));
     }
     let groups = group_list(text)?;
-    if groups.count == 1 {
-        Some((1, groups))
-    } else {
-        None
-    }
+    (groups.count == 1).then_some((1, groups))
 }
 
 /// The groups of a text of the form `T1ofN1,T2ofN2,..`, at least one; `None` where it has another form.
 fn group_list(text: &[u8]) -> Option<GroupList>
-    ensures first { IfSome result (λ groups. array_vec_len groups.first ≡ min groups.count most_groups) }
-    ensures some { IfSome result (λ groups. 0 < groups.count) }
-    ensures thresholds { IfSome result (λ groups.
-        All (λ members. IsPlanNumber members.threshold) groups.first.items) }
+    ensures groups { IfSome result (ListsGroupsOf text.now) }
+    ensures none { result ≡ None → (groups : List Members) → ¬ IsGroupsText text.now groups }
 {
     let mut groups = GroupList {
         count: 0,
@@ -50,28 +56,34 @@ fn group_list(text: &[u8]) -> Option<GroupList>
     let mut rest = text;
     loop {
         let (members, others) = members(rest)?;
-        if groups.count < MAX_SHARES {
-            groups.first.push(members);
+        groups.push(members);
+        if others.is_empty() {
+            return Some(groups);
         }
-        groups.count += 1;
-        match others {
-            [] => return Some(groups),
-            [b',', next @ ..] => rest = next,
-            _ => return None,
-        }
+        rest = after(others, b",")?;
     }
+}
+
+/// The group threshold `GT/` with which a text begins, and what follows; `None` where it begins with none.
+fn group_threshold(text: &[u8]) -> Option<(u8, &[u8])>
+    ensures begins { IfSome result (λ found. BeginsWithGroupThreshold text.now found.0 found.1.now) }
+    ensures none { result ≡ None
+        → (n : ℕ) (rest : List ℕ) → ¬ BeginsWithGroupThreshold text.now n rest }
+{
+    let (group_threshold, rest) = number(text)?;
+    let rest = after(rest, b"/")?;
+    Some((group_threshold, rest))
 }
 
 /// The members `TofN` with which a text begins, and what follows; `None` where it begins with none.
 fn members(text: &[u8]) -> Option<(Members, &[u8])>
-    ensures thresholds { IfSome result (λ found. IsPlanNumber found.0.threshold) }
-    ensures counts { IfSome result (λ found. IsPlanNumber found.0.count) }
+    ensures begins { IfSome result (λ found. BeginsWithMembers text.now found.0 found.1.now) }
+    ensures none { result ≡ None
+        → (members : Members) (rest : List ℕ) → ¬ BeginsWithMembers text.now members rest }
     ensures shorter { IfSome result (λ found. length found.1.now < length text.now) }
 {
     let (threshold, rest) = number(text)?;
-    let [b'o', b'f', rest @ ..] = rest else {
-        return None;
-    };
+    let rest = after(rest, b"of")?;
     let (count, rest) = number(rest)?;
     Some((Members { threshold, count }, rest))
 }
@@ -79,18 +91,39 @@ fn members(text: &[u8]) -> Option<(Members, &[u8])>
 /// The number of one or two digits with which a text begins, and what follows, which doesn't begin with a digit;
 /// `None` where the text begins with no digit, with 0, or with more digits.
 fn number(text: &[u8]) -> Option<(u8, &[u8])>
-    ensures number { IfSome result (λ found. IsPlanNumber found.0) }
+    ensures begins { IfSome result (λ found. BeginsWithNumber text.now found.0 found.1.now) }
+    ensures none { result ≡ None
+        → (n : ℕ) (rest : List ℕ) → ¬ BeginsWithNumber text.now n rest }
     ensures shorter { IfSome result (λ found. length found.1.now < length text.now) }
 {
-    let (number, rest) = match text {
-        [tens @ b'1'..=b'9', ones @ b'0'..=b'9', rest @ ..] => {
-            (10 * (*tens - b'0') + (*ones - b'0'), rest)
-        }
-        [ones @ b'1'..=b'9', rest @ ..] => (*ones - b'0', rest),
-        _ => return None,
-    };
-    match rest {
-        [b'0'..=b'9', ..] => None,
-        _ => Some((number, rest)),
+    let (first, rest) = digit(text)?;
+    if first == 0 {
+        return None;
     }
+    let Some((second, after)) = digit(rest) else {
+        return Some((first, rest));
+    };
+    match digit(after) {
+        Some(_) => None,
+        None => Some((10 * first + second, after)),
+    }
+}
+
+/// The value of the digit with which a text begins, and what follows; `None` where it begins with none.
+fn digit(text: &[u8]) -> Option<(u8, &[u8])>
+    ensures begins { IfSome result (λ found. BeginsWithDigit text.now found.0 found.1.now) }
+    ensures none { result ≡ None → BeginsWithNoDigit text.now }
+{
+    match text {
+        [byte @ b'0'..=b'9', rest @ ..] => Some((*byte - b'0', rest)),
+        _ => None,
+    }
+}
+
+/// What follows these letters, with which a text begins; `None` where it doesn't begin with them.
+fn after<'a>(text: &'a [u8], letters: &[u8]) -> Option<&'a [u8]>
+    ensures rest { IfSome result (λ rest. text.now ≡ letters.now ++ rest.now) }
+    ensures none { result ≡ None → (rest : List ℕ) → text.now ≢ letters.now ++ rest }
+{
+    text.strip_prefix(letters)
 }

@@ -9,34 +9,33 @@ const SECRET: [u8; 16] = *b"\xbb\x54\xaa\xc4\xb8\x9d\xc8\x68\xba\x37\xd9\xcc\x21
 #[test]
 fn refused_plans(rt: HostRuntime) {
     let cases = [
-        ("1of3", 34),
-        ("3of2", 33),
-        ("2of17", 33),
-        ("3/1of1,1of1", 32),
-        ("1of1,1of1", 31),
-        ("0of1", 31),
-        ("02of3", 31),
-        ("2/2of3", 32),
+        ("1of3", PlanError::OneOfMany { group: 0 }),
+        ("3of2", PlanError::PlanMembers { group: 0 }),
+        ("2of17", PlanError::PlanMembers { group: 0 }),
+        ("3/1of1,1of1", PlanError::PlanGroups),
+        ("1of1,1of1", PlanError::BadPlan),
+        ("0of1", PlanError::BadPlan),
+        ("02of3", PlanError::BadPlan),
+        ("2/2of3", PlanError::PlanGroups),
         (
             "1/1of1,1of1,1of1,1of1,1of1,1of1,1of1,1of1,1of1,1of1,1of1,1of1,1of1,1of1,1of1,1of1,1of1",
-            32,
+            PlanError::PlanGroups,
         ),
-        ("0/1of1", 31),
-        ("1/1of1,", 31),
-        (" 1of1", 31),
-        ("100of1", 31),
-        ("", 31),
-        ("2/1of3,5of2", 34),
-        ("99of99", 33),
-        ("2/5of2,1of3", 33),
-        ("1/2of2,1of3", 34),
-        ("1/2of2/2of2", 31),
-        ("2of2x", 31),
-        ("1/", 31),
+        ("0/1of1", PlanError::BadPlan),
+        ("1/1of1,", PlanError::BadPlan),
+        (" 1of1", PlanError::BadPlan),
+        ("100of1", PlanError::BadPlan),
+        ("", PlanError::BadPlan),
+        ("2/1of3,5of2", PlanError::OneOfMany { group: 0 }),
+        ("99of99", PlanError::PlanMembers { group: 0 }),
+        ("2/5of2,1of3", PlanError::PlanMembers { group: 0 }),
+        ("1/2of2,1of3", PlanError::OneOfMany { group: 1 }),
+        ("1/2of2/2of2", PlanError::BadPlan),
+        ("2of2x", PlanError::BadPlan),
+        ("1/", PlanError::BadPlan),
     ];
-    for (text, code) in cases {
-        let refusal = Plan::parse(text).err();
-        assert_eq!(rt; refusal.map(|refusal| refusal.code()), Some(code));
+    for (text, refusal) in cases {
+        assert_eq!(rt; Plan::parse(text).err(), Some(refusal));
     }
 }
 

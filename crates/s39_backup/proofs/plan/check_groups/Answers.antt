@@ -7,28 +7,24 @@ use Rattle.s39_backup.proofs.Plans.{first_refused}
 use Rattle.s39_backup.proofs.plan.check_groups.Goals as goal
 use Rattle.s39_backup.proofs.plan.check_groups.Goals.{then-members-gt-MAX_MEMBERS-via-then-members-gt-MAX_MEMBERS, then-members-gt-MAX_MEMBERS-via-else-members-gt-MAX_MEMBERS+then-members, else-members-eq1-via-then-members-eq1+else-members-gt1, else-members-eq1-via-else-members-eq1}
 
-pub returns-then-members-gt-MAX_MEMBERS-clause-members : goal.returns-then-members-gt-MAX_MEMBERS-clause-members
-returns-then-members-gt-MAX_MEMBERS-clause-members c = λ group same.
+pub returns-then-members-gt-MAX_MEMBERS-clause-refused : goal.returns-then-members-gt-MAX_MEMBERS-clause-refused
+returns-then-members-gt-MAX_MEMBERS-clause-refused c =
     let blank : Members = record { threshold = 0; count = 0 } in
     let members = get_or c.args.groups.now c.loop-place.place blank in
-    let here : c.loop-place.place ≡ group = cc in
     let refused : ¬ HasEnoughMembers members =
     elim c.then-members-gt-MAX_MEMBERS.branch [
       | then-members-gt-MAX_MEMBERS-via-then-members-gt-MAX_MEMBERS w ↦ (λ enough. let few = enough.few in let many = w.if-members-gt-MAX_MEMBERS.true in omega arith)
       | then-members-gt-MAX_MEMBERS-via-else-members-gt-MAX_MEMBERS+then-members w ↦ (λ enough. let some = enough.enough in let above = w.if-members.true in omega arith)
     ] in
-    subst (λ (g : ℕ). IsFirstRefusedGroup c.args.groups.now g (λ m. ¬ HasEnoughMembers m)) here
-    (first_refused c.args.groups.now c.loop-place.place blank (λ m. ¬ HasEnoughMembers m) c.loop-place-test.true c.loop-place.invariant refused)
+    first_refused c.args.groups.now c.loop-place.place blank (λ m. ¬ HasEnoughMembers m) c.loop-place-test.true c.loop-place.invariant refused
 
-pub returns-then-members-gt1-clause-one_of_many : goal.returns-then-members-gt1-clause-one_of_many
-returns-then-members-gt1-clause-one_of_many c = λ group same.
+pub returns-then-members-gt1-clause-refused : goal.returns-then-members-gt1-clause-refused
+returns-then-members-gt1-clause-refused c =
     let blank : Members = record { threshold = 0; count = 0 } in
     let members = get_or c.args.groups.now c.loop-place.place blank in
-    let here : c.loop-place.place ≡ group = cc in
     let enough : HasEnoughMembers members = record { few = omega arith; enough = omega arith } in
     let one : IsOneOfMany members = (c.if-members-eq1.true, c.if-members-gt1.true) in
-    subst (λ (g : ℕ). IsFirstRefusedGroup c.args.groups.now g (λ m. HasEnoughMembers m × IsOneOfMany m)) here
-    (first_refused c.args.groups.now c.loop-place.place blank (λ m. HasEnoughMembers m × IsOneOfMany m) c.loop-place-test.true c.loop-place.invariant (enough, one))
+    first_refused c.args.groups.now c.loop-place.place blank (λ m. HasEnoughMembers m × IsOneOfMany m) c.loop-place-test.true c.loop-place.invariant (enough, one)
 
 pub loop-place-preserved : goal.loop-place-preserved
 loop-place-preserved c =
