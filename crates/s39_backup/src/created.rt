@@ -1,5 +1,5 @@
 //! The shares of a created backup.
-ghost use Rattle.std.specs.Prelude.{◌≡◌, ◌<◌, ◌≤◌, [], ◌∷◌, ◌++◌, length};
+ghost use Rattle.std.specs.Prelude.{◌≡◌, ◌<◌, ◌≤◌, [], ◌∷◌, ◌++◌, length, All};
 ghost use Rattle.s39_set.specs.Names.{most_names};
 ghost use Rattle.s39_words.specs.Share.{IsShare};
 
@@ -17,15 +17,17 @@ pub struct Created {
 }
 
 impl Model for Created {
-    ghost use Rattle.std.specs.Prelude.{List, ◌≤◌, take};
+    ghost use Rattle.std.specs.Prelude.{List, ◌≤◌, take, All};
     ghost use Rattle.s39_words.specs.declared.share.ShareFields.{ShareFields};
+    ghost use Rattle.s39_words.specs.Share.{IsShare};
     ghost use Rattle.s39_set.specs.Names.{most_names};
 
     ghost Value = { List ShareFields };
 
     ghost view = { λ created. take created.len created.places };
 
-    ghost invariant = { λ created. created.len ≤ most_names };
+    ghost invariant = { λ created.
+        (created.len ≤ most_names) × All IsShare (take created.len created.places) };
 }
 
 impl Created {
@@ -43,6 +45,7 @@ impl Created {
     pub fn shares(&self) -> &[Share]
         ensures shares { result.now ≡ self.now }
         ensures few { length self.now ≤ most_names }
+        ensures each { All IsShare result.now }
     {
         &self.places[..self.len]
     }
@@ -59,6 +62,8 @@ impl Created {
         requires { length self.old < most_names }
         ensures { self.new ≡ self.old ++ share ∷ [] }
     {
+        // `fields` tells a proof the ranges of the share's fields.
+        let _ = share.fields();
         self.places[self.len] = share;
         self.len += 1;
     }

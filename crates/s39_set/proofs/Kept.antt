@@ -70,7 +70,7 @@ has_one_more places k share below empty = record {
 }
 
 module _ (old : List ShareFields) (share : ShareFields) (new : List ShareFields) (more : HasOneMore old share new) where
-  Contains-more_cases : (s : ShareFields) → Contains new s → Contains old s ⊎ (share ≡ s)
+  pub Contains-more_cases : (s : ShareFields) → Contains new s → Contains old s ⊎ (share ≡ s)
   Contains-more_cases s has_s =
       ⊎_elim
       (λ (front : Contains more.before s). inl (subst (λ l. Contains l s) (sym more.old_is) (Contains-append_left more.before more.after s front)))

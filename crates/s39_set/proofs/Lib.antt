@@ -37,3 +37,5 @@ pub mod CompleteAtHand
 pub mod Step
 pub mod NextQuorum
 pub mod StepOf
+pub mod SameShares
+pub mod OneLack

@@ -9,3 +9,4 @@ pub mod Written
 pub mod Lack
 pub mod Steps
 pub mod Places
+pub mod SetFacts

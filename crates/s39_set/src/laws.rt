@@ -1,6 +1,7 @@
 //! Facts about the definitions, each the contract of a function that does nothing.
 ghost use Rattle.std.specs.Prelude.{◌≡◌, ◌↔◌, ◌⊎◌, ◌+◌, ◌++◌, ◌∷◌, [], ℕ, suc, List, Option, Some, None};
 ghost use Rattle.s39_words.specs.declared.share.ShareFields.{ShareFields};
+ghost use Rattle.s39_set.specs.SetFacts.{SameSharesRefuseTheSame, OneMoreIsAdded, SetsAreTheirShares, SetsHaveOneLack, SetsWithQuorumsHaveNone};
 ghost use Rattle.s39_set.specs.ShareSet.{IsShareSet, SharesThatAgreeJoin, SetsTakeShares};
 ghost use Rattle.s39_set.specs.Names.{most_groups, most_members, most_names};
 ghost use Rattle.s39_set.specs.Looks.{most_test_looks, most_step_looks};
@@ -93,4 +94,25 @@ pub fn shares_that_agree_join()
 /// A share that a set doesn't refuse is one of the set, or there is the set with that share more.
 pub fn sets_take_shares()
     ensures { SetsTakeShares }
+{}
+
+/// Whether and why shares refuse one depends on which shares they are, and not on their order or number.
+pub fn same_shares_refuse_the_same()
+    ensures { SameSharesRefuseTheSame }
+{}
+
+/// A list with one share more has the old shares and that one.
+pub fn one_more_is_added()
+    ensures { OneMoreIsAdded }
+{}
+
+/// Shares in the order of their names are known by which shares they are.
+pub fn sets_are_their_shares()
+    ensures { SetsAreTheirShares }
+{}
+
+/// A set has at most one cause for which it has no quorum, and none where it has a quorum.
+pub fn one_lack()
+    ensures one { SetsHaveOneLack }
+    ensures none { SetsWithQuorumsHaveNone }
 {}

@@ -1,6 +1,5 @@
 -- The set of an input.
 pub mod Collected
 pub mod OneSet
-pub mod AcceptedSets
 pub mod SomeSet
 pub mod BackupSets

@@ -9,6 +9,7 @@ use crate::device::Counting;
 use crate::fault::{LineRefusal, Stop};
 use crate::lines::{TakeLine, share_in, take_lines};
 use s39_set::ShareSet;
+use s39_set::laws::{one_more_is_added, same_shares_refuse_the_same};
 use std::io::Read;
 
 /// A set takes a line by adding the share that it holds.
@@ -51,6 +52,8 @@ pub(crate) fn set_of<R: Read>(input: &mut Counting<R>) -> Result<ShareSet, Stop<
     ensures failures { input.new.failures ≡ input.old.failures + stop_failures result }
     ensures is_set { IfOk result IsShareSet }
 {
+    same_shares_refuse_the_same();
+    one_more_is_added();
     let mut set = ShareSet::new();
     take_lines(input, &mut set)?;
     Ok(set)

@@ -85,18 +85,8 @@ pub fn run_create<R: Read, W: Write>(
     let mut created = Created::new();
     create(plan, secret, passphrase, options, &random, &mut created)?;
     let shares = created.shares();
-    are_shares(shares);
     write_mnemonics(output, shares)?;
     Ok(())
-}
-
-/// Tells a proof that shares have their fields in range; it does nothing.
-fn are_shares(shares: &[Share])
-    ensures { All IsShare shares.now }
-{
-    for share in shares {
-        let _ = share.fields();
-    }
 }
 
 /// The first bytes of an input, at most so many, by as few reads as the device gives them in.

@@ -1,6 +1,7 @@
 //! Facts about the definitions, each the contract of a function that does nothing.
-ghost use Rattle.std.specs.Prelude.{◌≡◌, ℕ, List, Result, Ok};
+ghost use Rattle.std.specs.Prelude.{◌≡◌, ℕ, List, Result, Ok, IfOk};
 ghost use Rattle.s39_words.specs.declared.ShareFields.{ShareFields};
+ghost use Rattle.s39_set.specs.ShareSet.{IsShareSet};
 ghost use Rattle.s39_tool.specs.declared.fault.Fault.{Fault};
 ghost use Rattle.s39_tool.specs.declared.fault.LineRefusal.{LineRefusal};
 ghost use Rattle.s39_tool.specs.declared.fault.Stop.{Stop};
@@ -17,7 +18,10 @@ use s39_backup::laws::{
     every_quorum_has_an_outcome, every_quorum_recovers, one_outcome, shares_of_a_backup_agree,
 };
 use s39_kdf::laws::passphrases_are_printable_or_not;
-use s39_set::laws::{quorum_or_lack, sets_take_shares};
+use s39_set::laws::{
+    one_first_quorum, one_lack, one_more_is_added, quorum_or_lack, same_shares_refuse_the_same,
+    sets_are_their_shares, sets_take_shares,
+};
 use s39_words::laws::{every_text_has_a_reading, one_reading};
 
 /// The code's limits are those of the definitions.
@@ -48,6 +52,7 @@ pub fn one_set()
     ensures { (input : Input) (answer another : Result (List ShareFields) (Stop LineRefusal))
         → IsReadAs input answer → IsReadAs input another → answer ≡ another }
 {
+    sets_are_their_shares();
     one_reading();
 }
 
@@ -60,6 +65,9 @@ pub fn one_recover_output()
         → (text ≡ other) × (answer ≡ another) }
 {
     passphrases_are_printable_or_not();
+    one_lack();
+    one_first_quorum();
+    accepted_inputs_are_share_sets();
     one_set();
     one_outcome();
 }
@@ -75,13 +83,24 @@ pub fn some_recover_output()
     every_quorum_has_an_outcome();
 }
 
-/// An input is read as something: a set of shares, or a refusal.
+/// An input is read as something: a share set, or a refusal.
 pub fn every_input_is_read()
     ensures { (input : Input)
-        → (answer : Result (List ShareFields) (Stop LineRefusal)) × IsReadAs input answer }
+        → (answer : Result (List ShareFields) (Stop LineRefusal))
+        × IsReadAs input answer × IfOk answer IsShareSet }
 {
     every_text_has_a_reading();
     sets_take_shares();
+    same_shares_refuse_the_same();
+    one_more_is_added();
+}
+
+/// What an input is accepted as is a share set.
+pub fn accepted_inputs_are_share_sets()
+    ensures { (input : Input) (set : List ShareFields) → IsReadAs input (Ok set) → IsShareSet set }
+{
+    every_input_is_read();
+    one_set();
 }
 
 /// Mnemonics of a created backup, in any order and with repeats, are read as the set of their shares.
@@ -103,6 +122,9 @@ pub fn created_backups_recover()
         → RecoversCreated passphrase input text answer }
 {
     passphrases_are_printable_or_not();
+    one_lack();
+    one_first_quorum();
+    accepted_inputs_are_share_sets();
     one_set();
     one_outcome();
     every_quorum_recovers();

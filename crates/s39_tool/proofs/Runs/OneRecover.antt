@@ -1,6 +1,6 @@
 -- An input has one output of `recover` with a passphrase.
 use Rattle.std.proofs.Common.{◌≡◌, ◌≢◌, ℕ, List, [], ◌∷◌, All, refl, sym, ap, ap₂, ◌∙◌, subst, ◌⊎◌, inl, inr, arith, Some}
-use Rattle.std.proofs.Common.{None, Result, Ok, Err, Ordering, Less, Equal, Greater}
+use Rattle.std.proofs.Common.{None, Option, Result, Ok, Err, Ordering, Less, Equal, Greater}
 use Rattle.std.specs.Ordering.{ordering_then, ordering_reverse, nat_cmp}
 use Rattle.std.proofs.lemmas.Bool.Decides.{nat_tests}
 use Rattle.std.proofs.lemmas.Cmp.{lists_total}
@@ -11,10 +11,9 @@ use Rattle.s39_set.specs.declared.set_lack.SetLack.{SetLack}
 use Rattle.s39_set.specs.declared.set_lack.SetLack.TheVariants.{NoShares, Incomplete}
 use Rattle.s39_set.specs.Names.{name_cmp, names_cmp}
 use Rattle.s39_set.specs.ShareSet.{IsShareSet}
-use Rattle.s39_set.specs.Quorums.{group_threshold_of, IsQuorum, IsLeastQuorum}
+use Rattle.s39_set.specs.Quorums.{IsQuorum, IsFirstQuorumAfter}
 use Rattle.s39_set.specs.Lack.{IsLack}
-use Rattle.s39_set.proofs.Ascending.{name_cmp_total}
-use Rattle.s39_set.proofs.SetQuorums.{no_lack-from_meets}
+use Rattle.s39_set.specs.SetFacts.{SetsHaveOneLack, SetsWithQuorumsHaveNone}
 use Rattle.s39_tool.specs.declared.fault.LineRefusal.{LineRefusal}
 use Rattle.s39_tool.specs.declared.fault.Stop.{Stop}
 use Rattle.s39_tool.specs.declared.fault.Refusal.TheVariants.{Passphrase, Lack as LackRefusal}
@@ -29,58 +28,6 @@ use Rattle.s39_backup.specs.Outcome.{IsOutcome}
 use Rattle.s39_backup.specs.Created.{AreOfBackup}
 use Rattle.s39_tool.specs.OfBackup.{HoldsMnemonicsOf, IsSecretOrLack, RecoversCreated}
 use Rattle.s39_tool.specs.Recover.{secret_line, fault_of_unrecovered, HasOutcome, IsUnrecovered, RefusesPassphrase, RefusesSet, RecoversSecret, IsRecoverOutput}
-use Rattle.s39_tool.proofs.Sets.AcceptedSets.{accepted_is_share_set}
-
--- ---- a set has one least quorum
-
-then-equal : (o p : Ordering) → ordering_then o p ≡ Equal → (o ≡ Equal) × (p ≡ Equal)
-then-equal Less p e = absurd (let bad : Less ≡ Equal = e in cc)
-then-equal Equal p e = (refl, e)
-then-equal Greater p e = absurd (let bad : Greater ≡ Equal = e in cc)
-
-nat_cmp-equal : (m n : ℕ) → nat_cmp m n ≡ Equal → m ≡ n
-nat_cmp-equal m n e = grind (arith, nat_tests)
-
-name_cmp-equal : (a b : ℕ × ℕ) → name_cmp a b ≡ Equal → a ≡ b
-name_cmp-equal a b e =
-    let parts = then-equal (nat_cmp a.0 b.0) (nat_cmp a.1 b.1) e in
-    ap₂ (λ (g m : ℕ). (g, m)) (nat_cmp-equal a.0 b.0 parts.0) (nat_cmp-equal a.1 b.1 parts.1)
-
-names_cmp-equal : (xs ys : List (ℕ × ℕ)) → names_cmp xs ys ≡ Equal → xs ≡ ys
-names_cmp-equal [] [] e = refl
-names_cmp-equal [] (y ∷ ys) e = absurd (let bad : Less ≡ Equal = e in cc)
-names_cmp-equal (x ∷ xs) [] e = absurd (let bad : Greater ≡ Equal = e in cc)
-names_cmp-equal (x ∷ xs) (y ∷ ys) e =
-    let parts = then-equal (name_cmp x y) (names_cmp xs ys) e in
-    ap₂ (λ (z : ℕ × ℕ) (zs : List (ℕ × ℕ)). z ∷ zs) (name_cmp-equal x y parts.0) (names_cmp-equal xs ys parts.1)
-
-equal_both_ways : (o p : Ordering) → p ≡ ordering_reverse o → o ≢ Greater → p ≢ Greater → o ≡ Equal
-equal_both_ways Less p e h k = absurd (k e)
-equal_both_ways Equal p e h k = refl
-equal_both_ways Greater p e h k = absurd (h refl)
-
--- a set has one least quorum
-pub least_quorum_once : (set : List ShareFields) (names others : List (ℕ × ℕ)) → IsLeastQuorum set names → IsLeastQuorum set others → names ≡ others
-least_quorum_once set names others p q =
-    names_cmp-equal names others
-    (equal_both_ways (names_cmp names others) (names_cmp others names) ((lists_total name_cmp_total).antisymm others names)
-    (p.least others q.quorum tt) (q.least names p.quorum tt))
-
--- ---- a set has one lack
-
--- a set has one lack
-pub lack_once : (set : List ShareFields) (lack other : SetLack) → IsLack set lack → IsLack set other → lack ≡ other
-lack_once set NoShares NoShares p q = refl
-lack_once set NoShares (Incomplete complete required) p q =
-    let bad : None ≡ Some required = sym (ap group_threshold_of p) ∙ q.required_is in
-    absurd (cc)
-lack_once set (Incomplete complete required) NoShares p q =
-    let bad : None ≡ Some required = sym (ap group_threshold_of q) ∙ p.required_is in
-    absurd (cc)
-lack_once set (Incomplete complete required) (Incomplete complete' required') p q =
-    let same : complete ≡ complete' = p.complete_is ∙ sym q.complete_is in
-    let thresholds : Some required ≡ Some required' = sym p.required_is ∙ q.required_is in
-    cc
 
 -- ---- a passphrase is refused once
 
@@ -101,6 +48,10 @@ Refuses passphrase input fault =
 
 -- each passphrase is refused once, each input is read as one thing, and each quorum has one outcome
 module _ (one_unprintable : PassphrasesHaveOneFirstUnprintable) (none_unprintable : PrintablePassphrasesHaveNone)
+    (one_lack : SetsHaveOneLack) (no_lack : SetsWithQuorumsHaveNone)
+    (one_first_quorum : (set : List ShareFields) (given : Option (List (ℕ × ℕ))) (names others : List (ℕ × ℕ))
+    → IsFirstQuorumAfter set given names → IsFirstQuorumAfter set given others → names ≡ others)
+    (accepted_is_share_set : (input : Input) (set : List ShareFields) → IsReadAs input (Ok set) → IsShareSet set)
     (one_set : (input : Input) (answer another : Result (List ShareFields) (Stop LineRefusal)) → IsReadAs input answer → IsReadAs input another
     → answer ≡ another)
     (one_outcome : (set : List ShareFields) (names : List (ℕ × ℕ)) (passphrase : List ℕ) (outcome other : Result (List ℕ) Mismatch) → IsShareSet set
@@ -110,22 +61,22 @@ module _ (one_unprintable : PassphrasesHaveOneFirstUnprintable) (none_unprintabl
   outcome_once : (set : List ShareFields) (passphrase : List ℕ) (outcome other : Result (List ℕ) Mismatch) → IsShareSet set
       → HasOutcome set passphrase outcome → HasOutcome set passphrase other → outcome ≡ other
   outcome_once set passphrase outcome other is p q =
-      let names = least_quorum_once set q.names p.names q.least p.least in
+      let names = one_first_quorum set None q.names p.names q.least p.least in
       one_outcome set p.names passphrase outcome other is p.least.quorum p.outcome_is
       (subst (λ n. IsOutcome set n passphrase other) names q.outcome_is)
 
   -- a set with a secret gives no refusal
   recovered_not_refused : (set : List ShareFields) (passphrase secret : List ℕ) (cause : Unrecovered) → IsShareSet set
       → HasOutcome set passphrase (Ok secret) → IsUnrecovered set passphrase cause → ⊥
-  recovered_not_refused set passphrase secret (Lack lack) is p q = no_lack-from_meets set p.names p.least.quorum.meets lack q
+  recovered_not_refused set passphrase secret (Lack lack) is p q = no_lack set p.names lack p.least.quorum q
   recovered_not_refused set passphrase secret (DigestMismatch mismatch) is p q =
       let both = outcome_once set passphrase (Ok secret) (Err mismatch) is p q in cc
 
   unrecovered_once : (set : List ShareFields) (passphrase : List ℕ) (c d : Unrecovered) → IsShareSet set → IsUnrecovered set passphrase c
       → IsUnrecovered set passphrase d → c ≡ d
-  unrecovered_once set passphrase (Lack lack) (Lack other) is p q = ap Lack (lack_once set lack other p q)
-  unrecovered_once set passphrase (Lack lack) (DigestMismatch mismatch) is p q = absurd (no_lack-from_meets set q.names q.least.quorum.meets lack p)
-  unrecovered_once set passphrase (DigestMismatch mismatch) (Lack lack) is p q = absurd (no_lack-from_meets set p.names p.least.quorum.meets lack q)
+  unrecovered_once set passphrase (Lack lack) (Lack other) is p q = ap Lack (one_lack set lack other p q)
+  unrecovered_once set passphrase (Lack lack) (DigestMismatch mismatch) is p q = absurd (no_lack set q.names lack q.least.quorum p)
+  unrecovered_once set passphrase (DigestMismatch mismatch) (Lack lack) is p q = absurd (no_lack set p.names lack p.least.quorum q)
   unrecovered_once set passphrase (DigestMismatch mismatch) (DigestMismatch other) is p q =
       let both = outcome_once set passphrase (Err mismatch) (Err other) is p q in cc
 

@@ -1,5 +1,6 @@
 -- An input has an output of `recover` with a passphrase.
 use Rattle.std.proofs.Common.{◌⊎◌, ℕ, List, [], All, inl, inr, refl, None, Result, Ok, Err}
+use Rattle.std.specs.Result.{IfOk}
 use Rattle.s39_kdf.specs.Limits.{IsPrintable}
 use Rattle.s39_kdf.specs.Passphrases.{PassphrasesArePrintableOrNot}
 use Rattle.s39_words.specs.declared.ShareFields.{ShareFields}
@@ -18,7 +19,6 @@ use Rattle.s39_tool.specs.Input.{Input}
 use Rattle.s39_tool.specs.Fault.{fault_of, fault_of_stop}
 use Rattle.s39_tool.specs.Accepted.{IsReadAs}
 use Rattle.s39_tool.specs.Recover.{secret_line, fault_of_unrecovered, HasOutcome, IsRecoverOutput}
-use Rattle.s39_tool.proofs.Sets.AcceptedSets.{accepted_is_share_set}
 use Rattle.s39_tool.proofs.Runs.Recovering.{refused_input, refused_set, recovered}
 
 abbrev HasOutput : List ℕ → Input → Type 0
@@ -26,7 +26,7 @@ HasOutput passphrase input = (text : List ℕ) × (answer : Result (Unit {0}) Fa
 
 -- every passphrase and every input is read as something, and every set has a least quorum, which has an outcome, or a lack
 module _ (printable_or_not : PassphrasesArePrintableOrNot)
-    (every_input_is_read : (input : Input) → (answer : Result (List ShareFields) (Stop LineRefusal)) × IsReadAs input answer)
+    (every_input_is_read : (input : Input) → (answer : Result (List ShareFields) (Stop LineRefusal)) × IsReadAs input answer × IfOk answer IsShareSet)
     (quorum_or_lack : (set : List ShareFields) → IsShareSet set
     → ((names : List (ℕ × ℕ)) × IsFirstQuorumAfter set None names) ⊎ ((lack : SetLack) × IsLack set lack))
     (every_quorum_has_an_outcome : (set : List ShareFields) (names : List (ℕ × ℕ)) (passphrase : List ℕ) → IsShareSet set → IsQuorum set names
@@ -43,10 +43,10 @@ module _ (printable_or_not : PassphrasesArePrintableOrNot)
   of_outcome printable set read (Err mismatch) has =
       ([], Err (fault_of_unrecovered (DigestMismatch mismatch)), refused_set passphrase printable input set (DigestMismatch mismatch) read has)
 
-  of_read : All IsPrintable passphrase → (read : Result (List ShareFields) (Stop LineRefusal)) → IsReadAs input read → HasOutput passphrase input
-  of_read printable (Err stop) read = ([], Err (fault_of_stop stop), refused_input passphrase printable input stop read)
-  of_read printable (Ok set) read =
-      let is = accepted_is_share_set input set read in
+  of_read : All IsPrintable passphrase → (read : Result (List ShareFields) (Stop LineRefusal)) → IsReadAs input read → IfOk read IsShareSet
+      → HasOutput passphrase input
+  of_read printable (Err stop) read is = ([], Err (fault_of_stop stop), refused_input passphrase printable input stop read)
+  of_read printable (Ok set) read is =
       elim (quorum_or_lack set is) [
         | inl (names, least) ↦
             let (outcome, has) = every_quorum_has_an_outcome set names passphrase is least.quorum in
@@ -58,7 +58,7 @@ module _ (printable_or_not : PassphrasesArePrintableOrNot)
   pub some_output : HasOutput passphrase input
   some_output =
       elim (printable_or_not passphrase) [
-        | inl printable ↦ let (answer, read) = every_input_is_read input in of_read printable answer read
+        | inl printable ↦ let (answer, read, is) = every_input_is_read input in of_read printable answer read is
         | inr (position, first) ↦ (
           [],
           Err (fault_of (Passphrase (record { position = position }))),

@@ -2,17 +2,14 @@
 use Rattle.std.proofs.Common.{◌≡◌, ℕ, List, ◌∷◌, ◌++◌, length, get_or, map, take, AllPairs, Contains, refl, sym, ap, ◌∙◌, subst, subst₂, inl, inr, arith}
 use Rattle.std.proofs.Common.{Option, Some, None, Result, Ok, Err}
 use Rattle.std.specs.List.{slice_get}
-use Rattle.std.specs.declared.cmp.Ordering.TheVariants.{Less}
 use Rattle.std.proofs.lemmas.List.{length-append, length-map, get_or_at, get_or-map, take_at}
 use Rattle.std.proofs.lemmas.List.Elements.{All-contains, filter_map-append}
 use Rattle.std.proofs.lemmas.Option.{slice_get-get_or}
 use Rattle.s39_words.specs.declared.ShareFields.{ShareFields}
 use Rattle.s39_words.specs.declared.WordError.{WordError}
 use Rattle.s39_words.specs.Reading.{Reads}
-use Rattle.s39_set.specs.Names.{name_cmp, IsAscending}
-use Rattle.s39_set.specs.ShareSet.{name_of, refusal_of}
-use Rattle.s39_set.proofs.Ascending.{name_cmp_one_way}
-use Rattle.s39_set.proofs.Sublists.{same_from_elements}
+use Rattle.s39_set.specs.ShareSet.{refusal_of}
+use Rattle.s39_set.specs.SetFacts.{SetsAreTheirShares}
 use Rattle.s39_tool.specs.declared.fault.LineRefusal.{LineRefusal}
 use Rattle.s39_tool.specs.declared.fault.Stop.{Stop}
 use Rattle.s39_tool.specs.Input.{Input}
@@ -21,23 +18,6 @@ use Rattle.s39_tool.specs.Accepted.{shares_in, IsSetOf, IsRefusedAmong, HoldToge
 use Rattle.s39_tool.proofs.Taking.Held.{AllZip-parts, holds_once, held_not_refused, refused_once, all_hold_once}
 use Rattle.s39_tool.proofs.Taking.Leads.{AreTakenOnce, leads_once}
 
--- ---- shares have one set
-
-shares_ascend : (set : List ShareFields) → IsAscending (map name_of set) → AllPairs (λ s t. name_cmp (name_of s) (name_of t) ≡ Less) set
-shares_ascend set names i j d before below =
-    let names_before : name_cmp (get_or (map name_of set) i (name_of d)) (get_or (map name_of set) j (name_of d)) ≡ Less =
-    names i j (name_of d) before (omega (arith, length-map set name_of)) in
-    let first : get_or (map name_of set) i (name_of d) ≡ name_of (get_or set i d) = get_or-map name_of set i d (name_of d) (omega arith) in
-    let second : get_or (map name_of set) j (name_of d) ≡ name_of (get_or set j d) = get_or-map name_of set j d (name_of d) below in
-    subst₂ (λ (a b : ℕ × ℕ). name_cmp a b ≡ Less) first second names_before
-
-set_once : (shares set other : List ShareFields) → IsSetOf shares set → IsSetOf shares other → set ≡ other
-set_once shares set other p q =
-    same_from_elements (λ s t. name_cmp (name_of s) (name_of t) ≡ Less) (λ s t. name_cmp_one_way (name_of s) (name_of t)) set other
-    (shares_ascend set p.ascending) (shares_ascend other q.ascending)
-    (λ k d below. All-contains (Contains set) shares (get_or other k d) p.all (q.only k d below))
-    (λ k d below. All-contains (Contains other) shares (get_or set k d) q.all (p.only k d below))
-
 -- ---- an input is read once
 
 slice_get_at : (xs : List ShareFields) (x : ShareFields) (after : List ShareFields) → slice_get (xs ++ x ∷ after) (length xs) ≡ Some x
@@ -45,8 +25,15 @@ slice_get_at xs x after =
     let longer = length-append xs (x ∷ after) in
     slice_get-get_or (xs ++ x ∷ after) (length xs) x (omega arith) ∙ ap Some (get_or_at xs x after x (length xs) refl)
 
+-- shares have one set
+set_once : SetsAreTheirShares → (shares set other : List ShareFields) → IsSetOf shares set → IsSetOf shares other → set ≡ other
+set_once sets shares set other p q =
+    sets set other p.ascending q.ascending
+    (λ k d below. All-contains (Contains set) shares (get_or other k d) p.all (q.only k d below))
+    (λ k d below. All-contains (Contains other) shares (get_or set k d) q.all (p.only k d below))
+
 -- no text is read as two things
-module _ (one_reading : (text : List ℕ) (r s : Result ShareFields WordError) → Reads text r → Reads text s → r ≡ s) where
+module _ (sets : SetsAreTheirShares) (one_reading : (text : List ℕ) (r s : Result ShareFields WordError) → Reads text r → Reads text s → r ≡ s) where
   shares_once : (lines : List (List ℕ)) (shares others : List ShareFields) → HoldTogether lines shares → HoldTogether lines others → shares ≡ others
   shares_once lines shares others p q = p.shares_are ∙ ap shares_in (all_hold_once one_reading lines p.held q.held p.holds q.holds) ∙ sym q.shares_are
 
@@ -88,7 +75,7 @@ module _ (one_reading : (text : List ℕ) (r s : Result ShareFields WordError) �
   pub read_once : (input : Input) (r s : Result (List ShareFields) (Stop LineRefusal)) → IsReadAs input r → IsReadAs input s → r ≡ s
   read_once input (Ok set) (Ok other) (shares, p, set_is) (others, q, other_is) =
       let same = leads_once HoldTogether IsRefusedAmong together_once input shares others (Ok tt) (Ok tt) p q in
-      ap Ok (set_once others set other (subst (λ l. IsSetOf l set) same.0 set_is) other_is)
+      ap Ok (set_once sets others set other (subst (λ l. IsSetOf l set) same.0 set_is) other_is)
   read_once input (Ok set) (Err stop) (shares, p, set_is) (others, q) =
       let same = leads_once HoldTogether IsRefusedAmong together_once input shares others (Ok tt) (Err stop) p q in let bad = same.1 in absurd (cc)
   read_once input (Err stop) (Ok other) (shares, p) (others, q, other_is) =
