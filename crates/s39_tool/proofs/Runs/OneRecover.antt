@@ -1,15 +1,10 @@
 -- An input has one output of `recover` with a passphrase.
-use Rattle.std.proofs.Common.{◌≡◌, ◌≢◌, ℕ, List, [], ◌∷◌, All, refl, sym, ap, ap₂, ◌∙◌, subst, ◌⊎◌, inl, inr, arith, Some}
-use Rattle.std.proofs.Common.{None, Option, Result, Ok, Err, Ordering, Less, Equal, Greater}
-use Rattle.std.specs.Ordering.{ordering_then, ordering_reverse, nat_cmp}
-use Rattle.std.proofs.lemmas.Bool.Decides.{nat_tests}
-use Rattle.std.proofs.lemmas.Cmp.{lists_total}
+use Rattle.std.proofs.Common.{◌≡◌, ℕ, List, All, refl, sym, ap, ◌∙◌, subst, ◌⊎◌, inl, inr}
+use Rattle.std.proofs.Common.{None, Option, Result, Ok, Err}
 use Rattle.s39_kdf.specs.Limits.{IsPrintable}
 use Rattle.s39_kdf.specs.Passphrases.{PassphrasesHaveOneFirstUnprintable, PrintablePassphrasesHaveNone}
 use Rattle.s39_words.specs.declared.ShareFields.{ShareFields}
 use Rattle.s39_set.specs.declared.set_lack.SetLack.{SetLack}
-use Rattle.s39_set.specs.declared.set_lack.SetLack.TheVariants.{NoShares, Incomplete}
-use Rattle.s39_set.specs.Names.{name_cmp, names_cmp}
 use Rattle.s39_set.specs.ShareSet.{IsShareSet}
 use Rattle.s39_set.specs.Quorums.{IsQuorum, IsFirstQuorumAfter}
 use Rattle.s39_set.specs.Lack.{IsLack}

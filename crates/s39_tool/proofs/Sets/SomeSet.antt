@@ -62,11 +62,17 @@ module _ (same_shares : SameSharesRefuseTheSame) (one_more : OneMoreIsAdded) whe
               | inl among ↦
                   inl (
                     set,
-                    collected_held same_shares one_more before line (Some share) set set c holds (record { joins = is; is_set = c.collected.is_set; added = inl (among, refl) }),
+                    collected_held same_shares one_more before line (Some share) set set c holds
+                        (record { joins = is; is_set = c.collected.is_set; added = inl (among, refl) }),
                     tt,
                   )
-              | inr (more, one_more, is_set) ↦
-                  inl (more, collected_held same_shares one_more before line (Some share) set more c holds (record { joins = is; is_set = is_set; added = inr one_more }), tt)
+              | inr (more, grows, is_set) ↦
+                  inl (
+                    more,
+                    collected_held same_shares one_more before line (Some share) set more c holds
+                        (record { joins = is; is_set = is_set; added = inr grows }),
+                    tt,
+                  )
             ]
 
     line_leads : (before : List (List ℕ)) (set : List ShareFields) (line : List ℕ) → IsCollectedOf before set → TakesOrRefuses before line set
