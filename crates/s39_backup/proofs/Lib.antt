@@ -14,3 +14,4 @@ pub mod Agreeing
 pub mod PlanNumbers
 pub mod PlanTexts
 pub mod PlanReadings
+pub mod Creations

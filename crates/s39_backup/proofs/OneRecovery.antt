@@ -31,7 +31,7 @@ abbrev pub of_fields : (id : ℕ) (extendable : Bool) (exponent : ℕ) → id < 
 of_fields id extendable exponent r t = record { id = id; extendable = extendable; exponent = exponent; id_in_range = r; exponent_in_range = t }
 
 -- parameters are known by their fields
-same_params : (p q : Params) → p.id ≡ q.id → p.extendable ≡ q.extendable → p.exponent ≡ q.exponent → p ≡ q
+pub same_params : (p q : Params) → p.id ≡ q.id → p.extendable ≡ q.extendable → p.exponent ≡ q.exponent → p ≡ q
 same_params p q id extendable exponent =
     subst
     (λ (i : ℕ). (j : i < 2 ^ 15) → p ≡ of_fields i q.extendable q.exponent j q.exponent_in_range)

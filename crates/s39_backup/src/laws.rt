@@ -1,11 +1,13 @@
 //! Facts about the definitions, each the contract of a function that does nothing.
-ghost use Rattle.std.specs.Prelude.{◌≡◌, ℕ, List, All, Contains, Result, Ok, None, replicate};
-ghost use Rattle.s39_kdf.specs.Limits.{longest_secret};
+ghost use Rattle.std.specs.Prelude.{◌≡◌, ℕ, List, length, All, Contains, Result, Ok, None, replicate};
+ghost use Rattle.s39_kdf.specs.Bytes.{AreBytes};
+ghost use Rattle.s39_kdf.specs.Limits.{longest_secret, IsSecretLength};
 ghost use Rattle.s39_set.specs.Names.{most_groups, most_members};
 ghost use Rattle.s39_backup.specs.declared.plan.Members.{Members};
+ghost use Rattle.s39_backup.specs.declared.options.Options.{Options};
 ghost use Rattle.s39_backup.specs.declared.plan_error.PlanError.{PlanError};
-ghost use Rattle.s39_backup.specs.Plan.{IsPlanReading};
-ghost use Rattle.s39_backup.specs.Created.{AreOfBackup, identifier_length, random_needed, most_random};
+ghost use Rattle.s39_backup.specs.Plan.{IsPlan, IsPlanReading};
+ghost use Rattle.s39_backup.specs.Created.{IsCreatedFrom, AreOfBackup, identifier_length, random_needed, most_random};
 ghost use Rattle.s39_words.specs.declared.ShareFields.{ShareFields};
 ghost use Rattle.s39_set.specs.ShareSet.{IsShareSet, refusal_of};
 ghost use Rattle.s39_set.specs.Quorums.{IsQuorum};
@@ -14,11 +16,11 @@ ghost use Rattle.s39_backup.specs.Combination.{IsCombination};
 ghost use Rattle.s39_backup.specs.Outcome.{IsOutcome};
 
 use crate::creation::ID_BYTES;
-use s39_kdf::laws::{encrypts_one_secret, one_encryption};
+use s39_kdf::laws::{encryption_keeps_length_and_bytes, encrypts_one_secret, one_encryption};
 use s39_set::laws::{quorums_are_exact, shares_that_agree_join};
 use s39_split::laws::{
-    any_shares_combine, secrets_are_like_their_shares, shares_combine, shares_combine_once,
-    shares_of_a_split,
+    any_shares_combine, needed_random_bytes, one_split, secrets_are_like_their_shares,
+    shares_combine, shares_combine_once, shares_of_a_split,
 };
 
 /// The program's constant is the number by which the definitions go, and the plan of sixteen groups of sixteen members,
@@ -29,6 +31,38 @@ pub fn numbers()
         (replicate most_groups (record { threshold = most_members; count = most_members }))
         longest_secret ≡ most_random }
 {}
+
+/// A secret, passphrase, plan, options and random bytes give one backup.
+pub fn one_created_backup()
+    ensures { (secret passphrase : List ℕ) (group_threshold : ℕ) (groups : List Members)
+        (options : Options) (random : List ℕ)
+        (shares other : List ShareFields)
+        → IsCreatedFrom secret passphrase group_threshold groups options random shares
+        → IsCreatedFrom secret passphrase group_threshold groups options random other
+        → shares ≡ other }
+{
+    needed_random_bytes();
+    shares_of_a_split();
+    one_split();
+    one_encryption();
+}
+
+/// A backup exists for each secret of an accepted length, passphrase, plan and options, and as many random bytes as it
+/// takes.
+pub fn every_backup_can_be_created()
+    ensures { (secret passphrase : List ℕ) (group_threshold : ℕ) (groups : List Members)
+        (options : Options) (random : List ℕ)
+        → IsPlan group_threshold groups
+        → IsSecretLength (length secret) → AreBytes secret → AreBytes random
+        → length random ≡ random_needed group_threshold groups (length secret)
+        → (shares : List ShareFields)
+        × IsCreatedFrom secret passphrase group_threshold groups options random shares }
+{
+    shares_of_a_split();
+    one_split();
+    one_encryption();
+    encryption_keeps_length_and_bytes();
+}
 
 /// A text is at most one plan, or refused for one cause.
 pub fn one_plan_reading()
