@@ -29,7 +29,8 @@ impl NotAQuorum {
 /// The first quorum of a set that comes after a given one, `None` where that is the last.
 ///
 /// The error is answered exactly where the given list isn't a quorum of the set. The call adds at most
-/// `MAX_STEP_LOOKS` to the looks, whose count the caller keeps at most `u64::MAX - MAX_STEP_LOOKS`.
+/// `MAX_STEP_LOOKS` to the looks, whose count the caller keeps at most `u64::MAX - MAX_STEP_LOOKS`; where it answers no
+/// error, at least one for each name of the quorum, and two for each name that there is.
 pub fn next_after(
     set: &ShareSet,
     quorum: &Quorum,
@@ -40,8 +41,8 @@ pub fn next_after(
     ensures not_a_quorum { OnErr result (¬ IsQuorum set.now quorum.now) }
     ensures next { IfOk result (λ next. IfSome next (IsFirstQuorumAfter set.now (Some quorum.now))) }
     ensures last { result ≡ Ok None → HasNoQuorumAfter set.now (Some quorum.now) }
-
     ensures at_least { looks.old ≤ looks.new }
+    ensures each_name { OnOk result (looks.old + length quorum.now + most_name_looks ≤ looks.new) }
     ensures at_most { looks.new ≤ looks.old + most_step_looks }
 {
     if !is_quorum(set, quorum, looks) {
@@ -174,7 +175,7 @@ impl Choice {
         requires is_set { IsShareSet set.now }
         requires looks { looks.old + most_choice_looks ≤ u64.MAX }
         ensures knows { Knows set.now names.now result }
-        ensures at_least { looks.old ≤ looks.new }
+        ensures at_least { looks.old + most_name_looks ≤ looks.new }
         ensures at_most { looks.new ≤ looks.old + most_choice_looks }
     {
         let at_hand = shares_at_hand(set, looks);
@@ -274,8 +275,7 @@ impl Choice {
 fn shares_at_hand(set: &ShareSet, looks: &mut Looks) -> Masks
     requires looks { looks.old + most_name_looks ≤ u64.MAX }
     ensures names { AreMasksOf result (map name_of set.now) }
-    ensures at_least { looks.old ≤ looks.new }
-    ensures at_most { looks.new ≤ looks.old + most_name_looks }
+    ensures looks { looks.new ≡ looks.old + most_name_looks }
 {
     let mut at_hand = Masks::new();
     for place in 0..MAX_NAMES {

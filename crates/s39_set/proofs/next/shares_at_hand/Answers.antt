@@ -18,13 +18,11 @@ loop-place-preserved c =
       | then-has w ↦ record {
         names_are = subst (λ masks. AreMasksBelow masks N (place + 1)) (sym w.at_hand-is)
             (below_more_yes c.loop-place.at_hand w.insert.new.self N place group member were at low (w.if-has.ensures.has.0 refl) w.insert.ensures);
-        at_least = omega arith;
-        at_most = omega arith;
+        counted = omega arith;
       }
       | else-has w ↦ record {
         names_are = subst (λ masks. AreMasksBelow masks N (place + 1)) (sym w.at_hand-is)
             (below_more_no c.loop-place.at_hand N place group member were at low (λ among. false≢true (w.if-has.ensures.has.1 among)));
-        at_least = omega arith;
-        at_most = omega arith;
+        counted = omega arith;
       }
     ]

@@ -1,4 +1,4 @@
-use Rattle.std.proofs.Common.{◌+◌, ◌*◌, ◌≤◌, map}
+use Rattle.std.proofs.Common.{◌≡◌, ◌+◌, ◌*◌, map}
 use Rattle.s39_set.specs.ShareSet.{name_of}
 use Rattle.s39_set.proofs.Inserted.{AreMasksBelow}
 use Rattle.s39_set.proofs.next.shares_at_hand.Given as goal
@@ -6,6 +6,5 @@ use Rattle.s39_set.proofs.next.shares_at_hand.Given as goal
 abbrev pub invariant-loop-place : goal.invariant-loop-place
 invariant-loop-place l = record {
   names_are : AreMasksBelow l.at_hand (map name_of l.set) l.place;
-  at_least : l.fn.looks ≤ l.looks;
-  at_most : l.looks ≤ l.fn.looks + 2 * l.place;
+  counted : l.looks ≡ l.fn.looks + 2 * l.place;
 }
