@@ -15,3 +15,4 @@ pub mod PlanNumbers
 pub mod PlanTexts
 pub mod PlanReadings
 pub mod Creations
+pub mod Causes

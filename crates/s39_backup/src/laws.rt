@@ -4,10 +4,11 @@ ghost use Rattle.s39_kdf.specs.Bytes.{AreBytes};
 ghost use Rattle.s39_kdf.specs.Limits.{longest_secret, IsSecretLength};
 ghost use Rattle.s39_set.specs.Names.{most_groups, most_members};
 ghost use Rattle.s39_backup.specs.declared.plan.Members.{Members};
+ghost use Rattle.s39_backup.specs.declared.create_error.CreateError.{CreateError};
 ghost use Rattle.s39_backup.specs.declared.options.Options.{Options};
 ghost use Rattle.s39_backup.specs.declared.plan_error.PlanError.{PlanError};
 ghost use Rattle.s39_backup.specs.Plan.{IsPlan, IsPlanReading};
-ghost use Rattle.s39_backup.specs.Created.{IsCreatedFrom, AreOfBackup, identifier_length, random_needed, most_random};
+ghost use Rattle.s39_backup.specs.Created.{IsCreatedFrom, IsCreation, AreOfBackup, identifier_length, random_needed, most_random};
 ghost use Rattle.s39_words.specs.declared.ShareFields.{ShareFields};
 ghost use Rattle.s39_set.specs.ShareSet.{IsShareSet, refusal_of};
 ghost use Rattle.s39_set.specs.Quorums.{IsQuorum};
@@ -62,6 +63,23 @@ pub fn every_backup_can_be_created()
     one_split();
     one_encryption();
     encryption_keeps_length_and_bytes();
+}
+
+/// A creation from bytes with a plan gives one thing: its shares, or the first cause for which it is refused.
+pub fn one_creation()
+    ensures exists { (secret passphrase : List ℕ) (group_threshold : ℕ) (groups : List Members)
+        (options : Options) (random : List ℕ)
+        → IsPlan group_threshold groups → AreBytes secret → AreBytes random
+        → (result : Result (List ShareFields) CreateError)
+        × IsCreation secret passphrase group_threshold groups options random result }
+    ensures once { (secret passphrase : List ℕ) (group_threshold : ℕ) (groups : List Members)
+        (options : Options) (random : List ℕ) (result other : Result (List ShareFields) CreateError)
+        → IsCreation secret passphrase group_threshold groups options random result
+        → IsCreation secret passphrase group_threshold groups options random other
+        → result ≡ other }
+{
+    one_created_backup();
+    every_backup_can_be_created();
 }
 
 /// A text is at most one plan, or refused for one cause.
