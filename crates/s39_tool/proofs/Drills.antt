@@ -3,3 +3,7 @@ pub mod Names
 pub mod Memos
 pub mod Drilling
 pub mod Output
+pub mod Complete
+pub mod OneDrill
+pub mod OneOutput
+pub mod SomeOutput

@@ -27,6 +27,7 @@ use Rattle.s39_tool.specs.Input.{Input}
 use Rattle.s39_tool.specs.Fault.{fault_of, fault_of_stop}
 use Rattle.s39_tool.specs.Accepted.{IsReadAs}
 use Rattle.s39_tool.specs.Recover.{RefusesPassphrase}
+use Rattle.s39_tool.specs.OfBackup.{HoldsMnemonicsOf}
 
 -- a quorum that is listed, and its outcome
 abbrev pub Listed : Type 0
@@ -116,6 +117,31 @@ IsDrillOutput passphrase after limit input text (Err fault) =
     × (RefusesPassphrase passphrase fault
     ⊎ ((stop : Stop LineRefusal) × All IsPrintable passphrase × IsReadAs input (Err stop) × (fault ≡ fault_of_stop stop))
     ⊎ RefusesDrill passphrase after input fault)
+
+-- The drill of a set whose quorums all give this secret: those after a given one, or all, each once, in order, at most
+-- as many as the limit, each with that secret; and then the last line.
+pub record ListsSecret (set : List ShareFields) (secret : List ℕ) (after : Option (List (ℕ × ℕ))) (limit : ℕ) (text : List ℕ) : Type 0 where
+  pub listed : List (List (ℕ × ℕ))
+  pub more : Option (List (ℕ × ℕ))
+  pub listing : IsListing set after limit listed
+  pub goes_on : GoesOn set (last_reached after listed) more
+  pub text_is : text ≡ flat_map (λ names. quorum_line (names, Ok secret)) listed ++ last_line more
+
+-- Where the set has a quorum, and what is given is one, just the quorums and that secret are listed, and no mismatch is
+-- answered; else nothing is written, and the answer is which of both isn't so.
+abbrev pub ListsSecretOrCause : List ShareFields → List ℕ → Option (List (ℕ × ℕ)) → ℕ → List ℕ → Result Done Fault → Type 0
+ListsSecretOrCause set secret after limit text (Ok done) =
+    ((lack : SetLack) → ¬ IsLack set lack) × IfSome after (IsQuorum set)
+    × ListsSecret set secret after limit text × (done.mismatches ≡ 0)
+ListsSecretOrCause set secret after limit text (Err fault) =
+    (text ≡ []) × ((cause : Undrilled) × IsUndrilled set after cause × (fault ≡ fault_of_undrilled cause))
+
+-- That is so of the set of the input's shares, where the input holds mnemonics of a backup that was created with this
+-- passphrase.
+abbrev pub DrillsCreated : List ℕ → Option (List (ℕ × ℕ)) → ℕ → Input → List ℕ → Result Done Fault → Type 0
+DrillsCreated passphrase after limit input text answer =
+    (secret : List ℕ) → HoldsMnemonicsOf passphrase secret input
+    → (set : List ShareFields) × IsReadAs input (Ok set) × ListsSecretOrCause set secret after limit text answer
 
 -- Within a run; no public contract cites this.
 

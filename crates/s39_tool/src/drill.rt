@@ -9,7 +9,7 @@ ghost use Rattle.s39_set.specs.Quorums.{IsQuorum, IsFirstQuorumAfter};
 ghost use Rattle.s39_set.specs.ShareSet.{IsShareSet};
 ghost use Rattle.s39_set.specs.Written.{name_text, quorum_text};
 ghost use Rattle.s39_backup.specs.Outcome.{AreParams, IsOutcome};
-ghost use Rattle.s39_tool.specs.Drill.{IsNext, IsUndrilled, StartsAt, IsDrillOutput, WritesDrill, shown, outcome_text, quorum_line, last_line};
+ghost use Rattle.s39_tool.specs.Drill.{IsNext, IsUndrilled, StartsAt, IsDrillOutput, DrillsCreated, WritesDrill, shown, outcome_text, quorum_line, last_line};
 ghost use Rattle.s39_tool.specs.declared.output.TheConstants.{LINE_BYTES};
 ghost use Rattle.s39_tool.specs.Fault.{fault_of};
 ghost use Rattle.s39_tool.specs.Runs.{Runs};
@@ -17,6 +17,7 @@ ghost use Rattle.s39_tool.specs.Runs.{Runs};
 use crate::collect::set_of;
 use crate::device::Counting;
 use crate::fault::{DeviceFailure, Fault, Refusal};
+use crate::laws::created_backups_drill;
 use crate::output::{Line, WriteFailed, push_field, push_hex, push_names, push_text, write_text};
 use s39_backup::laws::every_quorum_has_an_outcome;
 use s39_backup::{Memo, Mismatch, combine_quorum, params_of};
@@ -83,6 +84,34 @@ impl From<Undrilled> for Fault {
 /// A wrong passphrase isn't noticed: as a rule it gives other secrets. The caller keeps `limit` at least 1, and both
 /// `failures()` below `u64::MAX`.
 pub fn run_drill<R: Read, W: Write>(
+    passphrase: &[u8],
+    after: Option<&Quorum>,
+    limit: u32,
+    input: &mut Counting<R>,
+    output: &mut Counting<W>,
+) -> Result<Done, Fault>
+    requires some { 1 ≤ limit }
+    requires readable { input.old.failures < u64.MAX }
+    requires writable { output.old.failures < u64.MAX }
+    ensures runs { Runs R.remaining W.contents
+        (IsDrillOutput passphrase.now (option_copied after.entry) limit)
+        input.old input.new output.old output.new result }
+    // Of mnemonics of a created backup, with the passphrase of the creation: just the quorums, each with its secret.
+    ensures complete { Runs R.remaining W.contents
+        (DrillsCreated passphrase.now (option_copied after.entry) limit)
+        input.old input.new output.old output.new result }
+    // Of any devices.
+    ensures untouched { IfErr result (λ fault.
+        fault.refusal ≢ Refusal.Device DeviceFailure.Write → output.new ≡ output.old) }
+    ensures unread { (bad : BadPassphrase)
+        → result ≡ Err (fault_of (Refusal.Passphrase bad)) → input.new ≡ input.old }
+{
+    created_backups_drill();
+    drill(passphrase, after, limit, input, output)
+}
+
+/// The drill of an input, as `run_drill` gives it.
+fn drill<R: Read, W: Write>(
     passphrase: &[u8],
     after: Option<&Quorum>,
     limit: u32,

@@ -1,5 +1,5 @@
 //! Facts about the definitions, each the contract of a function that does nothing.
-ghost use Rattle.std.specs.Prelude.{◌≡◌, ℕ, List, Result, Ok, IfOk};
+ghost use Rattle.std.specs.Prelude.{◌≡◌, ℕ, List, Result, Ok, IfOk, ◌+◌, ◌++◌, suc, Option, Some};
 ghost use Rattle.s39_words.specs.declared.ShareFields.{ShareFields};
 ghost use Rattle.s39_set.specs.ShareSet.{IsShareSet};
 ghost use Rattle.s39_tool.specs.declared.fault.Fault.{Fault};
@@ -11,6 +11,8 @@ ghost use Rattle.s39_tool.specs.Input.{Input, longest_line};
 ghost use Rattle.s39_tool.specs.Accepted.{IsReadAs};
 ghost use Rattle.s39_tool.specs.Show.{IsShowOutput};
 ghost use Rattle.s39_tool.specs.Recover.{IsRecoverOutput};
+ghost use Rattle.s39_tool.specs.declared.drill.Done.{Done};
+ghost use Rattle.s39_tool.specs.Drill.{IsDrill, IsDrillOutput, DrillsCreated};
 ghost use Rattle.s39_tool.specs.OfBackup.{HoldsMnemonicsOf, RecoversCreated};
 ghost use Rattle.s39_backup.specs.Created.{AreOfBackup, most_random};
 
@@ -19,8 +21,8 @@ use s39_backup::laws::{
 };
 use s39_kdf::laws::passphrases_are_printable_or_not;
 use s39_set::laws::{
-    one_first_quorum, one_lack, one_more_is_added, quorum_or_lack, same_shares_refuse_the_same,
-    sets_are_their_shares, sets_take_shares,
+    listings_join, one_first_quorum, one_lack, one_listing, one_more_is_added, quorum_or_lack,
+    same_shares_refuse_the_same, sets_are_their_shares, sets_take_shares, walks_list_all,
 };
 use s39_words::laws::{every_text_has_a_reading, one_reading};
 
@@ -124,6 +126,90 @@ pub fn created_backups_recover()
     passphrases_are_printable_or_not();
     one_lack();
     one_first_quorum();
+    accepted_inputs_are_share_sets();
+    one_set();
+    one_outcome();
+    every_quorum_recovers();
+    mnemonics_of_a_backup_are_a_set();
+}
+
+/// A set has one drill with a passphrase, after a list of names or from its first quorum on, and up to a limit: one
+/// text, one answer whether more remain, and one number of mismatches.
+pub fn one_drill()
+    ensures once { (set : List ShareFields) (passphrase : List ℕ) (after : Option (List (ℕ × ℕ)))
+        (limit : ℕ) (text other : List ℕ) (more another : Option (List (ℕ × ℕ)))
+        (mismatches others : ℕ) → IsShareSet set
+        → IsDrill set passphrase after limit text more mismatches
+        → IsDrill set passphrase after limit other another others
+        → (text ≡ other) × (more ≡ another) × (mismatches ≡ others) }
+    ensures exists { (set : List ShareFields) (passphrase : List ℕ)
+        (after : Option (List (ℕ × ℕ))) (limit : ℕ) → IsShareSet set
+        → (text : List ℕ) × (more : Option (List (ℕ × ℕ))) × (mismatches : ℕ)
+        × IsDrill set passphrase after (suc limit) text more mismatches }
+{
+    one_outcome();
+    every_quorum_has_an_outcome();
+    listings_join();
+    one_listing();
+    walks_list_all();
+}
+
+/// The lines of a drill that ends with `more after` a quorum, followed by the drill after that quorum, are the drill up
+/// to both limits: its text, its last line, and the number of its mismatches.
+pub fn drills_join()
+    ensures { (set : List ShareFields) (passphrase : List ℕ) (after : Option (List (ℕ × ℕ)))
+        (limit extra : ℕ) (text others : List ℕ) (names : List (ℕ × ℕ))
+        (more : Option (List (ℕ × ℕ))) (mismatches later : ℕ)
+        → IsDrill set passphrase after limit text (Some names) mismatches
+        → IsDrill set passphrase (Some names) extra others more later
+        → IsDrill set passphrase after (limit + extra) (text ++ others) more (mismatches + later) }
+{
+    listings_join();
+}
+
+/// An input has one output of `drill` with a passphrase, a list of names after which it starts, or none, and a limit:
+/// one text, and one answer.
+pub fn one_drill_output()
+    ensures { (passphrase : List ℕ) (after : Option (List (ℕ × ℕ))) (limit : ℕ) (input : Input)
+        (text other : List ℕ) (answer another : Result Done Fault)
+        → IsDrillOutput passphrase after limit input text answer
+        → IsDrillOutput passphrase after limit input other another
+        → (text ≡ other) × (answer ≡ another) }
+{
+    passphrases_are_printable_or_not();
+    one_lack();
+    accepted_inputs_are_share_sets();
+    one_set();
+    one_listing();
+    one_outcome();
+}
+
+/// An input has an output of `drill`, where the limit is at least 1.
+pub fn some_drill_output()
+    ensures { (passphrase : List ℕ) (after : Option (List (ℕ × ℕ))) (limit : ℕ) (input : Input)
+        → (text : List ℕ) × (answer : Result Done Fault)
+        × IsDrillOutput passphrase after (suc limit) input text answer }
+{
+    passphrases_are_printable_or_not();
+    one_lack();
+    accepted_inputs_are_share_sets();
+    every_input_is_read();
+    quorum_or_lack();
+    every_quorum_has_an_outcome();
+    listings_join();
+    one_listing();
+    walks_list_all();
+}
+
+/// Of mnemonics of a created backup, an output of `drill` with the passphrase of the creation is just the quorums in
+/// order, each with the backup's secret, and no mismatch, or else why none is listed.
+pub fn created_backups_drill()
+    ensures { (passphrase : List ℕ) (after : Option (List (ℕ × ℕ))) (limit : ℕ) (input : Input)
+        (text : List ℕ) (answer : Result Done Fault)
+        → IsDrillOutput passphrase after limit input text answer
+        → DrillsCreated passphrase after limit input text answer }
+{
+    passphrases_are_printable_or_not();
     accepted_inputs_are_share_sets();
     one_set();
     one_outcome();

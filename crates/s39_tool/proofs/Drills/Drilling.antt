@@ -14,7 +14,7 @@ use Rattle.s39_tool.specs.Output.{WritesWhole, WritesPart}
 use Rattle.s39_tool.specs.Drill.{Listed, quorum_line, last_line, mismatches_in, IsDrill, IsNext, shown}
 use Rattle.s39_tool.proofs.Runs.Writing.{nothing_written, both_written, part_after}
 
-abbrev Names : Type 0
+abbrev pub Names : Type 0
 Names = List (ℕ × ℕ)
 
 -- what is known of listings and of outcomes
@@ -36,12 +36,14 @@ pub mismatch_most : (outcome : Result (List ℕ) Mismatch) → mismatch_in outco
 mismatch_most (Ok secret) = omega arith
 mismatch_most (Err mismatch) = omega arith
 
-mismatches-more : (names : Names) (outcome : Result (List ℕ) Mismatch) (lines : List Listed) → mismatch_in outcome + mismatches_in lines ≡ mismatches_in ((names, outcome) ∷ lines)
+mismatches-more : (names : Names) (outcome : Result (List ℕ) Mismatch) (lines : List Listed)
+    → mismatch_in outcome + mismatches_in lines ≡ mismatches_in ((names, outcome) ∷ lines)
 mismatches-more names (Ok secret) lines = omega arith
 mismatches-more names (Err mismatch) lines = omega arith
 
 -- no quorum is left
-pub drill_ends : (set : List ShareFields) (passphrase : List ℕ) (reached : Option Names) (limit : ℕ) → IsListing set reached limit [] → HasNoQuorumAfter set reached
+pub drill_ends : (set : List ShareFields) (passphrase : List ℕ) (reached : Option Names) (limit : ℕ) → IsListing set reached limit []
+    → HasNoQuorumAfter set reached
     → IsDrill set passphrase reached limit [] None 0
 drill_ends set passphrase reached limit listing none = record {
   lines = [];
@@ -96,7 +98,8 @@ module _ (laws : Laws) (set : List ShareFields) (passphrase : List ℕ) where
       pub mismatches : ℕ
       pub drill : IsDrill set passphrase reached limit text more mismatches
 
-    pub drill_from : (reached : Option Names) (names : Names) (limit : ℕ) → IsFirstQuorumAfter set reached names → SomeDrill (Some names) limit → SomeDrill reached (suc limit)
+    pub drill_from : (reached : Option Names) (names : Names) (limit : ℕ) → IsFirstQuorumAfter set reached names → SomeDrill (Some names) limit
+        → SomeDrill reached (suc limit)
     drill_from reached names limit first d =
         let (outcome, o) = laws.outcome set names passphrase is first.quorum in record {
           text = quorum_line (names, outcome) ++ d.text;
@@ -106,7 +109,13 @@ module _ (laws : Laws) (set : List ShareFields) (passphrase : List ℕ) where
         }
 
     drill_ended : (reached : Option Names) (limit : ℕ) → HasNoQuorumAfter set reached → SomeDrill reached limit
-    drill_ended reached limit none = record { text = []; more = None; mismatches = 0; drill = drill_ends set passphrase reached limit (laws.none set reached limit none) none }
+    drill_ended reached limit none = record {
+      text = [];
+      more = None;
+      mismatches = 0;
+      drill = drill_ends set passphrase reached limit
+          (laws.none set reached limit none) none;
+    }
 
     drill_or_end : (reached : Option Names) (limit : ℕ) → ((names : Names) → SomeDrill (Some names) limit) → (next : Option Names) × IsNext set reached next
         → SomeDrill reached (suc limit)
@@ -131,7 +140,8 @@ more_after names None = None
 more_after names (Some next) = Some names
 
 -- the drill after the last listed quorum has no line
-pub drill_over : (laws : Laws) (set : List ShareFields) (passphrase : List ℕ) → IsShareSet set → (names : Names) (next : Option Names) (left : ℕ) → IsNext set (Some names) next
+pub drill_over : (laws : Laws) (set : List ShareFields) (passphrase : List ℕ) → IsShareSet set → (names : Names) (next : Option Names) (left : ℕ)
+    → IsNext set (Some names) next
     → (left ≡ 0) ⊎ (is_some next ≡ false) → IsDrill set passphrase (Some names) left [] (more_after names next) 0
 drill_over laws set passphrase is names None left none over = drill_ends set passphrase (Some names) left (laws.none set (Some names) left none) none
 drill_over laws set passphrase is names (Some next) left first (inl reached) =
@@ -139,7 +149,8 @@ drill_over laws set passphrase is names (Some next) left first (inl reached) =
 drill_over laws set passphrase is names (Some next) left first (inr none) = absurd (let bad : true ≡ false = none in cc)
 
 -- and this is the last line
-pub last_line_is : (names : Names) (next : Option Names) (more : Bool) (line : List ℕ) → more ≡ is_some next → (more ≡ true → line ≡ last_line (Some names)) → (more ≡ false → line ≡ last_line None)
+pub last_line_is : (names : Names) (next : Option Names) (more : Bool) (line : List ℕ) → more ≡ is_some next → (more ≡ true
+    → line ≡ last_line (Some names)) → (more ≡ false → line ≡ last_line None)
     → line ≡ last_line (more_after names next)
 last_line_is names None more line is some none = none is
 last_line_is names (Some next) more line is some none = some is
@@ -153,7 +164,8 @@ zero-left : (n : ℕ) → n ≡ 0 + n
 zero-left n = omega arith
 
 -- of a drill that starts at this quorum, the text before another quorum is written
-pub record IsDrilling {W : Type 0} (contents : W → Option (List ℕ)) (old new : Counted W) (set : List ShareFields) (passphrase : List ℕ) (start : Names) (limit : ℕ)
+pub record IsDrilling {W : Type 0} (contents : W → Option (List ℕ)) (old new : Counted W) (set : List ShareFields) (passphrase : List ℕ)
+    (start : Names) (limit : ℕ)
     (quorum : Names) (left mismatches : ℕ) : Type 0 where
   pub text : List ℕ
   pub written : WritesWhole contents old text new
@@ -179,7 +191,8 @@ module _ {W : Type 0} (contents : W → Option (List ℕ)) (old : Counted W) (se
 
     -- the drill after the quorum is the rest of the drill
     joins : (after : Option Names) → IsFirstQuorumAfter set after start → (rest : List ℕ) (more : Option Names) (m : ℕ)
-        → IsDrill set passphrase (Some quorum) left rest more m → IsDrill set passphrase after limit ((d.text ++ line) ++ rest) more ((mismatches + mismatch_in outcome) + m)
+        → IsDrill set passphrase (Some quorum) left rest more m
+        → IsDrill set passphrase after limit ((d.text ++ line) ++ rest) more ((mismatches + mismatch_in outcome) + m)
     joins after first rest more m later =
         let (reached, from, then) = d.goes_on after first in
         let whole = then (line ++ rest) more (mismatch_in outcome + m) (drill_step laws set passphrase reached left quorum outcome rest more m from is later) in
@@ -189,7 +202,8 @@ module _ {W : Type 0} (contents : W → Option (List ℕ)) (old : Counted W) (se
 
     -- the write of its line failed
     pub drilling_fails : IsShareSet set → WritesPart contents new line after_line → (after : Option Names) → IsFirstQuorumAfter set after start
-        → (lines : List ℕ) × (more : Option Names) × (n : ℕ) × IsDrill set passphrase after limit lines more n × WritesPart contents old (lines ++ last_line more) after_line
+        → (lines : List ℕ) × (more : Option Names) × (n : ℕ) × IsDrill set passphrase after limit lines more n × WritesPart contents old
+        (lines ++ last_line more) after_line
     drilling_fails is_set part after first =
         let rest = some_drill laws set passphrase is_set quorum left in
         let whole = joins after first rest.text rest.more rest.mismatches rest.drill in
@@ -199,7 +213,8 @@ module _ {W : Type 0} (contents : W → Option (List ℕ)) (old : Counted W) (se
           rest.more,
           (mismatches + mismatch_in outcome) + rest.mismatches,
           whole,
-          subst (λ t. WritesPart contents old t after_line) same (part_after contents old new after_line d.text line (rest.text ++ last_line rest.more) d.written part),
+          subst (λ t. WritesPart contents old t after_line) same (part_after contents old new after_line d.text line
+              (rest.text ++ last_line rest.more) d.written part),
         )
 
     module _ (written : WritesWhole contents new line after_line) where
@@ -216,21 +231,25 @@ module _ {W : Type 0} (contents : W → Option (List ℕ)) (old : Counted W) (se
         goes_on = λ after from. (Some quorum, first, joins after from);
       }
 
-      module _ (more : Option Names) (last : IsDrill set passphrase (Some quorum) left [] more 0) (end : Counted W) (after : Option Names) (first : IsFirstQuorumAfter set after start) where
+      module _ (more : Option Names) (last : IsDrill set passphrase (Some quorum) left [] more 0) (end : Counted W) (after : Option Names)
+          (first : IsFirstQuorumAfter set after start) where
         whole : IsDrill set passphrase after limit (d.text ++ line) more (mismatches + mismatch_in outcome)
         whole =
             let n : (mismatches + mismatch_in outcome) + 0 ≡ mismatches + mismatch_in outcome = omega arith in
             subst (λ k. IsDrill set passphrase after limit (d.text ++ line) more k) n
-            (subst (λ t. IsDrill set passphrase after limit t more ((mismatches + mismatch_in outcome) + 0)) (append-nil (d.text ++ line)) (joins after first [] more 0 last))
+            (subst (λ t. IsDrill set passphrase after limit t more ((mismatches + mismatch_in outcome) + 0)) (append-nil (d.text ++ line))
+            (joins after first [] more 0 last))
 
         -- the last line is written
         pub drilling_ends : WritesWhole contents after_line (last_line more) end
-            → (lines : List ℕ) × (more : Option Names) × IsDrill set passphrase after limit lines more (mismatches + mismatch_in outcome) × WritesWhole contents old (lines ++ last_line more) end
+            → (lines : List ℕ) × (more : Option Names) × IsDrill set passphrase after limit lines more
+            (mismatches + mismatch_in outcome) × WritesWhole contents old (lines ++ last_line more) end
         drilling_ends w = (d.text ++ line, more, whole, both_written contents old after_line end (d.text ++ line) (last_line more) both w)
 
         -- its write failed
         pub drilling_fails_last : WritesPart contents after_line (last_line more) end
-            → (lines : List ℕ) × (more : Option Names) × (n : ℕ) × IsDrill set passphrase after limit lines more n × WritesPart contents old (lines ++ last_line more) end
+            → (lines : List ℕ) × (more : Option Names) × (n : ℕ) × IsDrill set passphrase after limit lines more n × WritesPart contents old
+            (lines ++ last_line more) end
         drilling_fails_last part = (
           d.text ++ line,
           more,

@@ -26,7 +26,7 @@ use Rattle.s39_tool.specs.Recover.{secret_line, fault_of_unrecovered, HasOutcome
 
 -- ---- a passphrase is refused once
 
-refusal_of_passphrase_once : PassphrasesHaveOneFirstUnprintable → (passphrase : List ℕ) (f g : Fault)
+pub refusal_of_passphrase_once : PassphrasesHaveOneFirstUnprintable → (passphrase : List ℕ) (f g : Fault)
     → RefusesPassphrase passphrase f → RefusesPassphrase passphrase g → f ≡ g
 refusal_of_passphrase_once one passphrase f g p q =
     let place = one passphrase p.bad.position q.bad.position p.first q.first in

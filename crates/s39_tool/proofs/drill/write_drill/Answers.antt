@@ -45,7 +45,8 @@ loop-outcome-preserved g c =
           (subst (λ n. IsDrilling g.W.Write.contents c.args.output.now c.loop-outcome.output c.args.set.now c.args.passphrase.now c.args.start c.args.limit
           c.loop-outcome.quorum n c.loop-outcome.mismatches) (omega (arith, inv.some)) inv.drilling)
           (subst (λ q. IsOutcome c.args.set.now c.loop-outcome.quorum q outcome) inv.passphrase c.outcome_of-outcome.ensures.outcome)
-          (subst (λ t. WritesWhole g.W.Write.contents c.loop-outcome.output t c.write_text.new.output) (c.as_slice.ensures.value ∙ c.quorum_line.ensures) c.in_ok-write_text.ensures)
+          (subst (λ t. WritesWhole g.W.Write.contents c.loop-outcome.output t c.write_text.new.output) (c.as_slice.ensures.value
+          ∙ c.quorum_line.ensures) c.in_ok-write_text.ensures)
           c.unwrap-quorum.result first);
       some = omega (arith, inv.some);
       counted = let few = mismatch_most outcome in omega (arith, inv.counted, inv.some);
@@ -73,7 +74,8 @@ returns-in_err-write_text g c =
     c.loop-outcome.quorum n c.loop-outcome.mismatches) (omega (arith, inv.some)) inv.drilling)
     (subst (λ q. IsOutcome c.args.set.now c.loop-outcome.quorum q outcome) inv.passphrase c.outcome_of-outcome.ensures.outcome)
     c.requires.is_set
-    (subst (λ t. WritesPart g.W.Write.contents c.loop-outcome.output t c.write_text.new.output) (c.as_slice.ensures.value ∙ c.quorum_line.ensures) c.in_err-write_text.ensures))
+    (subst (λ t. WritesPart g.W.Write.contents c.loop-outcome.output t c.write_text.new.output) (c.as_slice.ensures.value
+    ∙ c.quorum_line.ensures) c.in_err-write_text.ensures))
 
 pub returns-in_err-write_text-2 : goal.returns-in_err-write_text-2
 returns-in_err-write_text-2 g c =
@@ -102,7 +104,8 @@ returns-in_err-write_text-2 g c =
     (subst (λ n. IsDrilling g.W.Write.contents c.args.output.now c.loop-outcome.output c.args.set.now c.args.passphrase.now c.args.start c.args.limit
     c.loop-outcome.quorum n c.loop-outcome.mismatches) (omega (arith, inv.some)) inv.drilling)
     (subst (λ q. IsOutcome c.args.set.now c.loop-outcome.quorum q outcome) inv.passphrase c.outcome_of-outcome.ensures.outcome)
-    (subst (λ t. WritesWhole g.W.Write.contents c.loop-outcome.output t c.write_text.new.output) (c.as_slice.ensures.value ∙ c.quorum_line.ensures) c.in_ok-write_text.ensures)
+    (subst (λ t. WritesWhole g.W.Write.contents c.loop-outcome.output t c.write_text.new.output) (c.as_slice.ensures.value
+    ∙ c.quorum_line.ensures) c.in_ok-write_text.ensures)
     more last c.write_text-then-left-eq0.new.output after first
     (subst (λ t. WritesPart g.W.Write.contents c.write_text.new.output t c.write_text-then-left-eq0.new.output) line c.in_err-write_text-2.ensures))
 
@@ -134,6 +137,7 @@ returns-then-left-eq0 g c =
     (subst (λ n. IsDrilling g.W.Write.contents c.args.output.now c.loop-outcome.output c.args.set.now c.args.passphrase.now c.args.start c.args.limit
     c.loop-outcome.quorum n c.loop-outcome.mismatches) (omega (arith, inv.some)) inv.drilling)
     (subst (λ q. IsOutcome c.args.set.now c.loop-outcome.quorum q outcome) inv.passphrase c.outcome_of-outcome.ensures.outcome)
-    (subst (λ t. WritesWhole g.W.Write.contents c.loop-outcome.output t c.write_text.new.output) (c.as_slice.ensures.value ∙ c.quorum_line.ensures) c.in_ok-write_text.ensures)
+    (subst (λ t. WritesWhole g.W.Write.contents c.loop-outcome.output t c.write_text.new.output) (c.as_slice.ensures.value
+    ∙ c.quorum_line.ensures) c.in_ok-write_text.ensures)
     more last c.write_text-then-left-eq0.new.output after first
     (subst (λ t. WritesWhole g.W.Write.contents c.write_text.new.output t c.write_text-then-left-eq0.new.output) line c.in_ok-write_text-2.ensures))

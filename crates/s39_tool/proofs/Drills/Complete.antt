@@ -1,0 +1,116 @@
+-- A drill of mnemonics of a created backup.
+use Rattle.std.proofs.Common.{◌≡◌, ℕ, List, [], ◌∷◌, ◌++◌, map, take, All, refl, sym, ap, ap₂, ◌∙◌, subst, inl, inr, arith, Option, IfSome, Result, Ok, Err}
+use Rattle.std.specs.List.{flat_map}
+use Rattle.std.proofs.lemmas.List.Elements.{All-head, All-tail, All-take, All-contains_itself}
+use Rattle.s39_kdf.specs.Limits.{IsPrintable}
+use Rattle.s39_kdf.specs.Passphrases.{PrintablePassphrasesHaveNone}
+use Rattle.s39_words.specs.declared.ShareFields.{ShareFields}
+use Rattle.s39_set.specs.ShareSet.{IsShareSet}
+use Rattle.s39_set.specs.declared.set_lack.SetLack.{SetLack}
+use Rattle.s39_set.specs.Lack.{IsLack}
+use Rattle.s39_set.specs.Quorums.{IsQuorum}
+use Rattle.s39_set.specs.Listing.{IsListing}
+use Rattle.s39_backup.specs.declared.combination.Mismatch.{Mismatch}
+use Rattle.s39_backup.specs.Outcome.{IsOutcome}
+use Rattle.s39_backup.specs.Created.{AreOfBackup}
+use Rattle.s39_tool.specs.declared.fault.LineRefusal.{LineRefusal}
+use Rattle.s39_tool.specs.declared.fault.Stop.{Stop}
+use Rattle.s39_tool.specs.declared.fault.Fault.{Fault}
+use Rattle.s39_tool.specs.declared.drill.Done.{Done}
+use Rattle.s39_tool.specs.Input.{Input}
+use Rattle.s39_tool.specs.Accepted.{IsReadAs}
+use Rattle.s39_tool.specs.OfBackup.{HoldsMnemonicsOf}
+use Rattle.s39_tool.specs.Drill.{Listed, quorum_line, last_line, mismatches_in, IsDrill, IsUndrilled, IsDrillOutput, ListsSecret, ListsSecretOrCause, DrillsCreated}
+use Rattle.s39_tool.proofs.Drills.Drilling.{Names}
+
+-- listed names are quorums
+pub listed_quorums : (set : List ShareFields) (after : Option Names) (limit : ℕ) (listed : List Names) → IsListing set after limit listed
+    → All (IsQuorum set) listed
+listed_quorums set after limit listed l =
+    subst (All (IsQuorum set)) (sym l.listed_are)
+    (All-take (IsQuorum set) limit l.all (λ k d below. ((l.all_are.each _).0 (All-contains_itself l.all k d below)).0))
+
+-- these quorums, each with the secret
+abbrev pub with_secret : List ℕ → List Names → List Listed
+with_secret secret listed = map (λ names. (names, Ok secret)) listed
+
+secret_text : (secret : List ℕ) (listed : List Names) → flat_map quorum_line (with_secret secret listed) ≡ flat_map (λ names. quorum_line
+    (names, Ok secret)) listed
+secret_text secret [] = refl
+secret_text secret (names ∷ listed) = ap (λ t. quorum_line (names, Ok secret) ++ t) (secret_text secret listed)
+
+no_mismatches : (secret : List ℕ) (listed : List Names) → mismatches_in (with_secret secret listed) ≡ 0
+no_mismatches secret [] = refl
+no_mismatches secret (names ∷ listed) = no_mismatches secret listed
+
+module _ (none_unprintable : PrintablePassphrasesHaveNone)
+    (accepted_is_share_set : (input : Input) (set : List ShareFields) → IsReadAs input (Ok set) → IsShareSet set)
+    (one_set : (input : Input) (answer another : Result (List ShareFields) (Stop LineRefusal)) → IsReadAs input answer → IsReadAs input another
+    → answer ≡ another)
+    (one_outcome : (set : List ShareFields) (names : Names) (passphrase : List ℕ) (outcome other : Result (List ℕ) Mismatch) → IsShareSet set
+    → IsQuorum set names
+    → IsOutcome set names passphrase outcome → IsOutcome set names passphrase other → outcome ≡ other)
+    (every_quorum_recovers : (set : List ShareFields) (names : Names) (passphrase secret : List ℕ) → IsShareSet set → IsQuorum set names
+    → AreOfBackup set passphrase secret → IsOutcome set names passphrase (Ok secret)) where
+  same_set : (input : Input) (set other : List ShareFields) → IsReadAs input (Ok set) → IsReadAs input (Ok other) → other ≡ set
+  same_set input set other p q = let both = one_set input (Ok set) (Ok other) p q in cc
+
+  not_accepted_and_refused : (input : Input) (set : List ShareFields) (stop : Stop LineRefusal) → IsReadAs input (Ok set) → IsReadAs input (Err stop) → ⊥
+  not_accepted_and_refused input set stop p q = let both = one_set input (Ok set) (Err stop) p q in cc
+
+  module _ (set : List ShareFields) (passphrase secret : List ℕ) (is : IsShareSet set) (backup : AreOfBackup set passphrase secret) where
+    lines_have_secret : (lines : List Listed) → All (IsQuorum set) (map (λ line. line.0) lines) → All (λ line. IsOutcome set line.0 passphrase line.1) lines
+        → lines ≡ with_secret secret (map (λ line. line.0) lines)
+    lines_have_secret [] quorums outcomes = refl
+    lines_have_secret ((names, outcome) ∷ lines) quorums outcomes =
+        let quorum = All-head (IsQuorum set) names (map (λ line. line.0) lines) quorums in
+        let first = All-head (λ (line : Listed). IsOutcome set line.0 passphrase line.1) (names, outcome) lines outcomes in
+        let same : outcome ≡ Ok secret =
+        one_outcome set names passphrase outcome (Ok secret) is quorum first (every_quorum_recovers set names passphrase secret is quorum backup) in
+        ap₂ (λ (o : Result (List ℕ) Mismatch) (ls : List Listed). (names, o) ∷ ls) same
+        (lines_have_secret lines (All-tail (IsQuorum set) names (map (λ line. line.0) lines) quorums)
+        (All-tail (λ (line : Listed). IsOutcome set line.0 passphrase line.1) (names, outcome) lines outcomes))
+
+    -- a drill of shares of a created backup lists its secret
+    lists_secret : (after : Option Names) (limit : ℕ) (text lines : List ℕ) (more : Option Names) (mismatches : ℕ)
+        → IsDrill set passphrase after limit lines more mismatches
+        → text ≡ lines ++ last_line more → ListsSecret set secret after limit text × (mismatches ≡ 0)
+    lists_secret after limit text lines more mismatches d is_text =
+        let listed = map (λ line. line.0) d.lines in
+        let same = lines_have_secret d.lines (listed_quorums set after limit listed d.listing) d.outcomes in (
+          record {
+            listed = listed;
+            more = more;
+            listing = d.listing;
+            goes_on = d.goes_on;
+            text_is = is_text ∙ ap (λ t. t ++ last_line more) (d.text_is ∙ ap (flat_map quorum_line) same ∙ secret_text secret listed);
+          },
+          d.mismatches_are ∙ ap mismatches_in same ∙ no_mismatches secret listed,
+        )
+
+  module _ (passphrase secret : List ℕ) (after : Option Names) (limit : ℕ) (input : Input) (set : List ShareFields) (text : List ℕ)
+      (printable : All IsPrintable passphrase) (read : IsReadAs input (Ok set)) (backup : AreOfBackup set passphrase secret) where
+    complete : (answer : Result Done Fault) → IsDrillOutput passphrase after limit input text answer → ListsSecretOrCause set secret after limit text answer
+    complete (Ok done) p =
+        let same = same_set input set p.set read p.read in
+        let drill = subst (λ s. IsDrill s passphrase after limit p.lines p.more done.mismatches) same p.drill in
+        let (lists, none) = lists_secret set passphrase secret
+        (accepted_is_share_set input set read) backup after limit text p.lines p.more done.mismatches drill p.text_is in (
+          subst (λ s. (lack : SetLack) → ¬ IsLack s lack) same p.no_lack,
+          subst (λ s. IfSome after (IsQuorum s)) same p.cursor,
+          lists,
+          none,
+        )
+    complete (Err fault) (nothing, inl q) = absurd (none_unprintable passphrase q.bad.position printable q.first)
+    complete (Err fault) (nothing, inr (inl (stop, printable', q, is))) = absurd (not_accepted_and_refused input set stop read q)
+    complete (Err fault) (nothing, inr (inr q)) =
+        (nothing, (q.cause, subst (λ s. IsUndrilled s after q.cause) (same_set input set q.set read q.read) q.refused, q.fault_is))
+
+  -- what `drill` gives of mnemonics of a created backup
+  pub drills_created : ((passphrase secret : List ℕ) (input : Input) → HoldsMnemonicsOf passphrase secret input
+      → (set : List ShareFields) × IsReadAs input (Ok set) × AreOfBackup set passphrase secret)
+      → (passphrase : List ℕ) (after : Option Names) (limit : ℕ) (input : Input) (text : List ℕ) (answer : Result Done Fault)
+      → IsDrillOutput passphrase after limit input text answer → DrillsCreated passphrase after limit input text answer
+  drills_created are_a_set passphrase after limit input text answer output secret mnemonics =
+      let (set, read, backup) = are_a_set passphrase secret input mnemonics in
+      (set, read, complete passphrase secret after limit input set text mnemonics.created.0 read backup answer output)
