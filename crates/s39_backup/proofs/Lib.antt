@@ -16,3 +16,4 @@ pub mod PlanTexts
 pub mod PlanReadings
 pub mod Creations
 pub mod Causes
+pub mod EveryReading

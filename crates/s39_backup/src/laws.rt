@@ -88,6 +88,12 @@ pub fn one_plan_reading()
         → IsPlanReading text reading → IsPlanReading text other → reading ≡ other }
 {}
 
+/// Every text is a plan, or refused.
+pub fn every_text_has_a_plan_reading()
+    ensures { (text : List ℕ)
+        → (reading : Result (ℕ × List Members) PlanError) × IsPlanReading text reading }
+{}
+
 /// A quorum of a share set combines to one encrypted secret or mismatch.
 pub fn one_combination()
     ensures { (set : List ShareFields) (names : List (ℕ × ℕ))
