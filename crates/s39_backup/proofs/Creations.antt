@@ -1,22 +1,20 @@
 -- A backup exists for all that a creation accepts, and is one.
-use Rattle.std.proofs.Common.{◌≡◌, ◌≢◌, ℕ, zero, suc, ◌+◌, ◌-◌, ◌*◌, ◌%◌, ◌^◌, ◌<◌, ◌≤◌, List, [], ◌∷◌, ◌++◌, length, take, drop, sum_by, All, Result, Ok, Err, ◌⊎◌, inl, inr, refl, sym, ap, ap₂, subst, ◌∙◌, arith, length-append, length-drop}
-use Rattle.std.specs.Prelude.{slice_index}
+use Rattle.std.proofs.Common.{◌≡◌, ℕ, ◌+◌, ◌%◌, ◌^◌, ◌<◌, ◌≤◌, List, [], ◌∷◌, ◌++◌, length, take, drop, sum_by, All, refl, sym, ap, ap₂, subst, ◌∙◌, arith, length-append, length-drop}
 use Rattle.std.specs.List.{concat}
 use Rattle.std.proofs.Math.Seq.{take-append_seam, drop-append_seam}
-use Rattle.std.proofs.lemmas.Bool.{cases_lt}
 use Rattle.std.proofs.lemmas.List.{length-take-le, take-append-drop}
 use Rattle.std.proofs.lemmas.List.Elements.{All-drop, All-head, All-tail, All-take}
 use Rattle.std.proofs.lemmas.List.Sums.{sum_by-cons}
 use Rattle.s39_kdf.specs.declared.params.Params.{Params}
 use Rattle.s39_kdf.specs.Bytes.{AreBytes}
-use Rattle.s39_kdf.specs.Limits.{shortest_secret, IsSecretLength}
+use Rattle.s39_kdf.specs.Limits.{IsSecretLength}
 use Rattle.s39_kdf.specs.Cipher.{IsEncryption, SecretsHaveOneEncryption, EncryptionKeepsLengthAndBytes}
 use Rattle.s39_split.specs.Sharing.{digest_length, random_needed as level_random_needed, IsSplit, SplitsTakeTheBytesNeeded, SharesAreAsLong, SharesAreBytes, HaveASplit, HaveOneSplit}
 use Rattle.s39_words.specs.declared.share.ShareFields.{ShareFields}
 use Rattle.s39_backup.specs.declared.plan.Members.{Members}
 use Rattle.s39_backup.specs.declared.options.Options.{Options}
 use Rattle.s39_backup.specs.Plan.{IsPlan, IsGroup}
-use Rattle.s39_backup.specs.Created.{identifier_of, random_needed, AreCreatedParams, AreSplitAmong, created_groups, IsCreatedFrom}
+use Rattle.s39_backup.specs.Created.{identifier_of, random_needed, AreSplitAmong, created_groups, IsCreatedFrom}
 use Rattle.s39_backup.proofs.Creating.{no_bytes}
 use Rattle.s39_backup.proofs.OneRecovery.{of_fields, same_params}
 
@@ -50,7 +48,8 @@ module _ (takes : SplitsTakeTheBytesNeeded) (as_long : SharesAreAsLong) (split_o
   members_once (g ∷ gs) (s ∷ ss) (p ∷ ps) others (v ∷ vs) more is also whole = absurd also
   members_once groups shares pieces others values more is also whole = absurd is
 
-  module _ (encrypts_once : SecretsHaveOneEncryption) (secret passphrase : List ℕ) (group_threshold : ℕ) (groups : List Members) (options : Options) (random : List ℕ) where
+  module _ (encrypts_once : SecretsHaveOneEncryption) (secret passphrase : List ℕ) (group_threshold : ℕ) (groups : List Members)
+      (options : Options) (random : List ℕ) where
     pub backup_once : (shares other : List ShareFields) → IsCreatedFrom secret passphrase group_threshold groups options random shares
         → IsCreatedFrom secret passphrase group_threshold groups options random other → shares ≡ other
     backup_once shares other is also =
@@ -67,7 +66,8 @@ module _ (takes : SplitsTakeTheBytesNeeded) (as_long : SharesAreAsLong) (split_o
         (ap length encryption.halves ∙ length-append encryption.h0 encryption.h1) encryption.same_length in
         let (result, of_result, only) = encrypts_once passphrase is.params secret even in
         let encrypted : also.encrypted ≡ is.encrypted =
-        only also.encrypted (subst (λ (p : Params). IsEncryption secret passphrase p also.encrypted) (sym params) also.encryption) ∙ sym (only is.encrypted is.encryption) in
+        only also.encrypted (subst (λ (p : Params). IsEncryption secret passphrase p also.encrypted) (sym params) also.encryption)
+        ∙ sym (only is.encrypted is.encryption) in
         let split : IsSplit group_threshold (length groups) is.encrypted also.group_piece also.group_shares =
         subst (λ e. IsSplit group_threshold (length groups) e also.group_piece also.group_shares) encrypted also.groups_split in
         let long : length is.group_piece ≡ length also.group_piece =
@@ -100,7 +100,8 @@ module _ (have_split : HaveASplit) where
     members_split : (groups : List Members) (shares : List (List ℕ)) (random : List ℕ) → All IsGroup groups → length shares ≡ length groups
         → All (λ share. length share ≡ n) shares → All AreBytes shares → AreBytes random
         → length random ≡ sum_by (λ members. level_random_needed members.threshold n) groups → HaveSplits groups shares random
-    members_split [] [] random each as_many lengths bytes random_bytes needed = record { pieces = []; values = []; consumed = no_bytes random needed; split = tt }
+    members_split [] [] random each as_many lengths bytes random_bytes needed =
+        record { pieces = []; values = []; consumed = no_bytes random needed; split = tt }
     members_split [] (s ∷ ss) random each as_many lengths bytes random_bytes needed = absurd (omega arith)
     members_split (g ∷ gs) [] random each as_many lengths bytes random_bytes needed = absurd (omega arith)
     members_split (g ∷ gs) (s ∷ ss) random each as_many lengths bytes random_bytes needed =

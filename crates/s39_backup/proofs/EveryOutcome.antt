@@ -179,7 +179,8 @@ module _ (set : List ShareFields) (names : List (ℕ × ℕ)) (quorum : IsExactQ
   pub outcome_exists : TextsHaveOneSecret → (passphrase : List ℕ) → (outcome : Result (List ℕ) Mismatch) × IsOutcome set names passphrase outcome
   outcome_exists texts passphrase = by has_combination.combination has_combination.is_combination has_combination.as_long
     where
-      by : (combination : Result (List ℕ) Mismatch) → IsCombination set names combination → IfOk combination (λ encrypted. length encrypted ≡ value_bytes_of set)
+      by : (combination : Result (List ℕ) Mismatch) → IsCombination set names combination
+          → IfOk combination (λ encrypted. length encrypted ≡ value_bytes_of set)
           → (outcome : Result (List ℕ) Mismatch) × IsOutcome set names passphrase outcome
       by (Err mismatch) is long = (Err mismatch, is)
       by (Ok encrypted) is long =

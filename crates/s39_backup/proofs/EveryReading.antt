@@ -1,5 +1,5 @@
 -- Every text is read as a plan, or refused.
-use Rattle.std.proofs.Common.{◌≡◌, ◌≢◌, ℕ, zero, suc, ◌+◌, ◌-◌, ◌*◌, ◌<◌, ◌≤◌, Bool, true, false, List, [], ◌∷◌, ◌++◌, length, All, Result, Ok, Err, ◌⊎◌, inl, inr, refl, sym, ap, subst, ◌∙◌, arith}
+use Rattle.std.proofs.Common.{◌≡◌, ◌≢◌, ℕ, zero, suc, ◌+◌, ◌-◌, ◌*◌, ◌<◌, ◌≤◌, List, [], ◌∷◌, ◌++◌, length, All, Result, Ok, Err, ◌⊎◌, inl, inr, refl, sym, ap, subst, ◌∙◌, arith}
 use Rattle.std.specs.Prelude.{◌==◌}
 use Rattle.std.specs.Fmt.{decimal}
 use Rattle.std.proofs.lemmas.Bool.{cases_lt, cases_Bool, eqb-true, eq-eqb, false≢true}
@@ -8,7 +8,7 @@ use Rattle.s39_set.specs.Names.{most_groups, most_members}
 use Rattle.s39_backup.specs.declared.plan.Members.{Members}
 use Rattle.s39_backup.specs.declared.plan_error.PlanError.{PlanError}
 use Rattle.s39_backup.specs.declared.plan_error.PlanError.TheVariants.{BadPlan, PlanGroups, PlanMembers, OneOfMany}
-use Rattle.s39_backup.specs.Plan.{IsPlanNumber, HasEnoughMembers, IsOneOfMany, IsGroup, HasEnoughGroups, IsPlan, IsFirstRefusedGroup, HasPlanForm, PlanForm, IsPlanReading}
+use Rattle.s39_backup.specs.Plan.{IsPlanNumber, HasEnoughMembers, IsOneOfMany, IsGroup, HasEnoughGroups, IsFirstRefusedGroup, PlanForm, IsPlanReading}
 use Rattle.s39_backup.specs.PlanText.{BeginsWithNoDigit, BeginsWithDigit, BeginsWithNumber, BeginsWithMembers, BeginsWithGroupThreshold, IsGroupsText, RefusesAGroup}
 use Rattle.s39_backup.proofs.PlanNumbers.{number_once, number-one, number-two, no_number-none, no_number-zero, no_number-three}
 use Rattle.s39_backup.proofs.PlanTexts.{behind_threshold, threshold-number, number-threshold, members-threshold, members-count, numbers-members, members-shorter, one_group, more_groups, read-none, no_groups-members, no_groups-behind, read-more, groups_once, form_with_threshold, form_of_one, no_form-threshold, no_form-alone}

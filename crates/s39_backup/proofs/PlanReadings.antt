@@ -1,5 +1,5 @@
 -- A text has one reading as a plan.
-use Rattle.std.proofs.Common.{◌≡◌, ◌≢◌, ℕ, ◌+◌, ◌<◌, ◌≤◌, List, [], ◌∷◌, ◌++◌, length, All, Result, Ok, Err, ◌⊎◌, inl, inr, refl, sym, ap, ap₂, subst, ◌∙◌, arith}
+use Rattle.std.proofs.Common.{◌≡◌, ℕ, List, [], ◌∷◌, ◌++◌, length, All, Result, Ok, Err, ◌⊎◌, inl, inr, refl, sym, ap, ap₂, subst, ◌∙◌, arith}
 use Rattle.std.proofs.lemmas.List.Elements.{All-head, All-tail, All-same}
 use Rattle.s39_backup.specs.declared.plan.Members.{Members}
 use Rattle.s39_backup.specs.declared.plan_error.PlanError.{PlanError}
@@ -18,7 +18,8 @@ pub one_of_many_is_refused : (members : Members) → HasEnoughMembers members ×
 one_of_many_is_refused members refused is = is.not_one_of_many refused.1
 
 -- all groups of a plan are accepted
-none_refused : (groups before : List Members) (members : Members) (after : List Members) → groups ≡ before ++ members ∷ after → All IsGroup groups → IsGroup members
+none_refused : (groups before : List Members) (members : Members) (after : List Members) → groups ≡ before ++ members ∷ after → All IsGroup groups
+    → IsGroup members
 none_refused groups [] members after parts all = All-head IsGroup members after (All-same IsGroup (members ∷ after) groups (sym parts) all)
 none_refused [] (b ∷ bs) members after parts all = absurd (let l : 0 ≡ length (b ∷ (bs ++ members ∷ after)) = ap length parts in omega arith)
 none_refused (g ∷ gs) (b ∷ bs) members after parts all =
@@ -104,7 +105,8 @@ module _ (group_threshold : ℕ) (groups : List Members) where
       ap (λ (n : ℕ). OneOfMany n)
       (first_once groups (λ m. HasEnoughMembers m × IsOneOfMany m) (λ m. HasEnoughMembers m × IsOneOfMany m) one_of_many_is_refused one_of_many_is_refused g h r.1 s.1).place_is
 
-  read_once : (reading other : Result (ℕ × List Members) PlanError) → IsReadAs group_threshold groups reading → IsReadAs group_threshold groups other → reading ≡ other
+  read_once : (reading other : Result (ℕ × List Members) PlanError) → IsReadAs group_threshold groups reading → IsReadAs group_threshold groups other
+      → reading ≡ other
   read_once (Ok plan) (Ok other) r s = ap (λ (p : ℕ × List Members). Ok p) (same_plan plan other (r.0 ∙ sym s.0) (r.1 ∙ sym s.1))
   read_once (Ok plan) (Err error) r s = absurd (accepted_once plan error r.2 s)
   read_once (Err error) (Ok plan) r s = absurd (accepted_once plan error s.2 r)
@@ -122,7 +124,8 @@ pub record IsReadForm (text : List ℕ) (reading : Result (ℕ × List Members) 
   pub plan : PlanForm text
   pub read_as : IsReadAs plan.group_threshold plan.groups reading
 
-reading_cases : (text : List ℕ) (reading : Result (ℕ × List Members) PlanError) → IsPlanReading text reading → IsRefusedForm text reading ⊎ IsReadForm text reading
+reading_cases : (text : List ℕ) (reading : Result (ℕ × List Members) PlanError) → IsPlanReading text reading
+    → IsRefusedForm text reading ⊎ IsReadForm text reading
 reading_cases text (Ok plan) is =
     inr (record { plan = record { group_threshold = plan.0; groups = plan.1; form = is.0 }; read_as = (refl, refl, is.1) })
 reading_cases text (Err BadPlan) is = inl (record { no_form = is; reading_is = refl })
@@ -144,7 +147,8 @@ module _ (text : List ℕ) (group_threshold : ℕ) (groups : List Members) (form
   reading-refused (PlanMembers group) enough refused = (read_form, enough, refused)
   reading-refused (OneOfMany group) enough refused = (read_form, enough, refused)
 
-pub reading_once : (text : List ℕ) (reading other : Result (ℕ × List Members) PlanError) → IsPlanReading text reading → IsPlanReading text other → reading ≡ other
+pub reading_once : (text : List ℕ) (reading other : Result (ℕ × List Members) PlanError) → IsPlanReading text reading → IsPlanReading text other
+    → reading ≡ other
 reading_once text reading other is also =
     elim (reading_cases text reading is) [
       | inl none ↦ elim (reading_cases text other also) [

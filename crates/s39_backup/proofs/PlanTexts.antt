@@ -1,9 +1,9 @@
 -- The groups of a plan's text, read from the front.
-use Rattle.std.proofs.Common.{◌≡◌, ◌≢◌, ℕ, ◌+◌, ◌<◌, ◌≤◌, Bool, true, false, List, [], ◌∷◌, ◌++◌, length, get_or, take, min, All, Option, Some, None, ◌⊎◌, inl, inr, refl, sym, ap, ap₂, subst, ◌∙◌, arith}
+use Rattle.std.proofs.Common.{◌≡◌, ◌≢◌, ℕ, ◌+◌, ◌<◌, ◌≤◌, Bool, true, false, List, [], ◌∷◌, ◌++◌, length, get_or, take, min, Option, Some, None, ◌⊎◌, inl, inr, refl, sym, ap, ap₂, subst, ◌∙◌, arith}
 use Rattle.std.specs.Prelude.{IfSome, ◌==◌}
 use Rattle.std.specs.Bool.{then_some}
 use Rattle.std.specs.Fmt.{decimal}
-use Rattle.std.proofs.lemmas.Bool.{cases_lt, eqb-true, eq-eqb}
+use Rattle.std.proofs.lemmas.Bool.{eqb-true, eq-eqb}
 use Rattle.std.proofs.lemmas.List.{append_assoc, append-nil, length-append, length-take, take-append-le, take_all}
 use Rattle.std.proofs.lemmas.List.Elements.{All-cons, All-head, All-nil, All-tail}
 use Rattle.s39_set.specs.Names.{most_groups}
@@ -21,7 +21,8 @@ threshold-number text n rest is = record { number = is.number; text_is = is.text
 pub number-threshold : (text : List ℕ) (n : ℕ) (after rest : List ℕ) → BeginsWithNumber text n after → after ≡ 47 ∷ rest → BeginsWithGroupThreshold text n rest
 number-threshold text n after rest is slash = record { number = is.number; text_is = is.text_is ∙ ap (λ xs. decimal n ++ xs) slash }
 
-pub threshold_once : (text : List ℕ) (m n : ℕ) (rest others : List ℕ) → BeginsWithGroupThreshold text m rest → BeginsWithGroupThreshold text n others → AreSame m n rest others
+pub threshold_once : (text : List ℕ) (m n : ℕ) (rest others : List ℕ) → BeginsWithGroupThreshold text m rest → BeginsWithGroupThreshold text n others
+    → AreSame m n rest others
 threshold_once text m n rest others is also =
     let same = number_once text m n (47 ∷ rest) (47 ∷ others) (threshold-number text m rest is) (threshold-number text n others also) in
     let behind = same.rest_is in

@@ -1,8 +1,8 @@
-use Rattle.std.proofs.Common.{◌≡◌, ◌≤◌, ℕ, get_or, All, subst, arith}
+use Rattle.std.proofs.Common.{◌≤◌, get_or, All, subst, arith}
 use Rattle.std.proofs.lemmas.List.{take_all}
 use Rattle.std.proofs.lemmas.List.Elements.{All-more}
 use Rattle.s39_backup.specs.declared.plan.Members.{Members}
-use Rattle.s39_backup.specs.Plan.{IsGroup, HasEnoughMembers, IsOneOfMany, IsFirstRefusedGroup}
+use Rattle.s39_backup.specs.Plan.{IsGroup, HasEnoughMembers, IsOneOfMany}
 use Rattle.s39_backup.proofs.Plans.{first_refused}
 use Rattle.s39_backup.proofs.plan.check_groups.Goals as goal
 use Rattle.s39_backup.proofs.plan.check_groups.Goals.{then-members-gt-MAX_MEMBERS-via-then-members-gt-MAX_MEMBERS, then-members-gt-MAX_MEMBERS-via-else-members-gt-MAX_MEMBERS+then-members, else-members-eq1-via-then-members-eq1+else-members-gt1, else-members-eq1-via-else-members-eq1}

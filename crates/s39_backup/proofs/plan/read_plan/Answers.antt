@@ -1,6 +1,6 @@
-use Rattle.std.proofs.Common.{◌≡◌, ◌≤◌, length, refl, sym, ap, subst, ◌∙◌, arith}
+use Rattle.std.proofs.Common.{◌≡◌, subst, ◌∙◌, arith}
 use Rattle.std.proofs.lemmas.Result.{err_from_is_err_and}
-use Rattle.s39_backup.specs.Plan.{HasEnoughGroups, IsPlanReading}
+use Rattle.s39_backup.specs.Plan.{HasEnoughGroups}
 use Rattle.s39_backup.specs.PlanText.{RefusesAGroup}
 use Rattle.s39_backup.proofs.PlanTexts.{list-few}
 use Rattle.s39_backup.proofs.PlanReadings.{reading-groups, reading-refused}

@@ -1,4 +1,4 @@
-use Rattle.std.proofs.Common.{refl, sym, subst}
+use Rattle.std.proofs.Common.{refl, subst}
 use Rattle.s39_backup.specs.PlanText.{BeginsWithDigit}
 use Rattle.s39_backup.proofs.PlanNumbers.{number-one, number-two, no_number-none, no_number-zero, no_number-three}
 use Rattle.s39_backup.proofs.plan_text.number.Goals as goal
