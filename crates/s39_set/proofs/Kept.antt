@@ -30,7 +30,8 @@ use Rattle.s39_set.proofs.Refusals.{has_name-is, has_name-own}
 name_cmp-from_places : (a b : ℕ × ℕ) → a.1 < most_members → b.1 < most_members → place_of a < place_of b → name_cmp a b ≡ Less
 name_cmp-from_places (g, m) (h, n) low also_low before = grind (arith, nat_tests)
 
-pub ascending-places : (b : ℕ) (places : List (Option ShareFields)) → OwnPlaces b places → All (λ share. share.member_index < most_members) (shares_at places) → IsAscending (map name_of (shares_at places))
+pub ascending-places : (b : ℕ) (places : List (Option ShareFields)) → OwnPlaces b places → All (λ share. share.member_index < most_members) (shares_at places)
+    → IsAscending (map name_of (shares_at places))
 ascending-places b [] own low = AllPairs-nil (λ x y. name_cmp x y ≡ Less)
 ascending-places b (None ∷ places) own low = ascending-places (suc b) places (own_places-tail b None places own) low
 ascending-places b (Some share ∷ places) own low =
@@ -48,12 +49,14 @@ ascending-places b (Some share ∷ places) own low =
 
 -- ---- one share more
 
-shares_at-set : (places : List (Option ShareFields)) (k : ℕ) (share : ShareFields) → k < length places → shares_at (set places k (Some share)) ≡ shares_at (take k places) ++ share ∷ shares_at (drop (suc k) places)
+shares_at-set : (places : List (Option ShareFields)) (k : ℕ) (share : ShareFields) → k < length places
+    → shares_at (set places k (Some share)) ≡ shares_at (take k places) ++ share ∷ shares_at (drop (suc k) places)
 shares_at-set places k share below =
     ap shares_at (set_split places k (Some share) below)
     ∙ filter_map-append (λ (place : Option ShareFields). place) (take k places) (Some share ∷ drop (suc k) places)
 
-shares_at-split : (places : List (Option ShareFields)) (k : ℕ) → k < length places → get_or places k None ≡ None → shares_at places ≡ shares_at (take k places) ++ shares_at (drop (suc k) places)
+shares_at-split : (places : List (Option ShareFields)) (k : ℕ) → k < length places → get_or places k None ≡ None
+    → shares_at places ≡ shares_at (take k places) ++ shares_at (drop (suc k) places)
 shares_at-split places k below empty =
     let rest : drop k places ≡ None ∷ drop (suc k) places =
     drop_more places k None below ∙ ap₂ (λ (p : Option ShareFields) (n : ℕ). p ∷ drop n places) empty (add-one k) in
@@ -61,7 +64,8 @@ shares_at-split places k below empty =
     ∙ filter_map-append (λ (place : Option ShareFields). place) (take k places) (None ∷ drop (suc k) places)
 
 -- the share is put among the others
-pub has_one_more : (places : List (Option ShareFields)) (k : ℕ) (share : ShareFields) → k < length places → get_or places k None ≡ None → HasOneMore (shares_at places) share (shares_at (set places k (Some share)))
+pub has_one_more : (places : List (Option ShareFields)) (k : ℕ) (share : ShareFields) → k < length places → get_or places k None ≡ None
+    → HasOneMore (shares_at places) share (shares_at (set places k (Some share)))
 has_one_more places k share below empty = record {
   before = shares_at (take k places);
   after = shares_at (drop (suc k) places);
@@ -82,7 +86,8 @@ module _ (old : List ShareFields) (share : ShareFields) (new : List ShareFields)
       (Contains-append_cases more.before (share ∷ more.after) s (subst (λ l. Contains l s) more.new_is has_s))
 
   Contains-more : Contains new share
-  Contains-more = subst (λ l. Contains l share) (sym more.new_is) (Contains-append_right more.before (share ∷ more.after) share (Contains-head share more.after))
+  Contains-more =
+      subst (λ l. Contains l share) (sym more.new_is) (Contains-append_right more.before (share ∷ more.after) share (Contains-head share more.after))
 
   pub All-more : (P : ShareFields → Type 0) → All P old → P share → All P new
   All-more P each here k d below =
@@ -114,7 +119,8 @@ module _ (old : List ShareFields) (share : ShareFields) (new : List ShareFields)
   threshold-other : (group : ℕ) → share.group_index ≢ group → member_threshold_of new group ≡ member_threshold_of old group
   threshold-other group apart =
       ap (λ l. member_threshold_of l group) more.new_is
-      ∙ ap (option_map (λ (s : ShareFields). s.member_threshold)) (find-insert_other (is_in_group group) more.before more.after share (ne_eqb share.group_index group apart))
+      ∙ ap (option_map (λ (s : ShareFields). s.member_threshold))
+      (find-insert_other (is_in_group group) more.before more.after share (ne_eqb share.group_index group apart))
       ∙ ap (λ l. member_threshold_of l group) (sym more.old_is)
 
 unfoldable common_fields : ℕ → Bool → ℕ → ℕ → ℕ → ℕ → Common
@@ -133,7 +139,8 @@ common-fields_of s = refl
 
 common_of-agrees : (s t : ShareFields) → Agrees s t → common_of s ≡ common_of t
 common_of-agrees s t h =
-    let same : common_fields s.id s.extendable s.exponent s.group_threshold s.group_count (length s.value.items) ≡ common_fields t.id t.extendable t.exponent t.group_threshold t.group_count (length t.value.items) = cc in
+    let same : common_fields s.id s.extendable s.exponent s.group_threshold s.group_count
+    (length s.value.items) ≡ common_fields t.id t.extendable t.exponent t.group_threshold t.group_count (length t.value.items) = cc in
     sym (common-fields_of s) ∙ same ∙ common-fields_of t
 
 common_of_all-is : (shares : List ShareFields) (share : ShareFields) → IsShareSet shares → Contains shares share → Some (common_of share) ≡ common_of_all shares
@@ -143,7 +150,8 @@ common_of_all-is (first ∷ others) share is has_share =
 
 -- ---- what is kept
 
-module _ (common : Option Common) (masks : Masks) (thresholds : List (Option ℕ)) (places : List (Option ShareFields)) (kept : IsKept common masks thresholds places) where
+module _ (common : Option Common) (masks : Masks) (thresholds : List (Option ℕ)) (places : List (Option ShareFields))
+    (kept : IsKept common masks thresholds places) where
   pub own_places : OwnPlaces 0 places
   own_places k =
       IfSome-map (λ share. place_of (name_of share) ≡ k) (λ share. place_of (name_of share) ≡ 0 + k) (get_or places k None)
@@ -153,8 +161,11 @@ module _ (common : Option Common) (masks : Masks) (thresholds : List (Option ℕ
   low_members = All-weaker IsShare (λ share. share.member_index < most_members) (λ s h. h.member_index) (shares_at places) kept.is_set.each
 
   -- a name's share stands at its place
-  pub share_in_place : (group member : ℕ) → member < most_members → find (has_name group member) (shares_at places) ≡ get_or places (place_of (group, member)) None
-  share_in_place group member low = find-place 0 places group member own_places low_members low (place_of (group, member)) (let e : place_of (group, member) ≡ 0 + place_of (group, member) = omega arith in e)
+  pub share_in_place : (group member : ℕ) → member < most_members
+      → find (has_name group member) (shares_at places) ≡ get_or places (place_of (group, member)) None
+  share_in_place group member low =
+      find-place 0 places group member own_places low_members low (place_of (group, member))
+      (let e : place_of (group, member) ≡ 0 + place_of (group, member) = omega arith in e)
 
   -- no share has an index past the most
   pub no_share_past : (group member : ℕ) → (most_groups ≤ group) ⊎ (most_members ≤ member) → find (has_name group member) (shares_at places) ≡ None
@@ -173,15 +184,18 @@ module _ (common : Option Common) (masks : Masks) (thresholds : List (Option ℕ
       by : (g m : ℕ) → (m == member) ≡ false → ((g == group) && (m == member)) ≡ false
       by g m h = and_right (g == group) (m == member) h
 
-  module _ (share : ShareFields) (is : IsShare share) (allowed : refusal_of (shares_at places) share ≡ None) (k : ℕ) (at : k ≡ place_of (name_of share)) (below : k < length places) (empty : get_or places k None ≡ None) (groups : length thresholds ≡ most_groups) where
+  module _ (share : ShareFields) (is : IsShare share) (allowed : refusal_of (shares_at places) share ≡ None) (k : ℕ) (at : k ≡ place_of (name_of share))
+      (below : k < length places) (empty : get_or places k None ≡ None) (groups : length thresholds ≡ most_groups) where
     new : List (Option ShareFields)
     new = set places k (Some share)
 
     own_more : (j : ℕ) → IfSome (get_or (set places k (Some share)) j None) (λ s. place_of (name_of s) ≡ j)
     own_more j =
         ⊎_elim
-        (λ (same : j ≡ k). subst (λ (o : Option ShareFields). IfSome o (λ s. place_of (name_of s) ≡ j)) (sym (ap (λ n. get_or (set places k (Some share)) n None) same ∙ get_or-set_same places k (Some share) None below)) (sym at ∙ sym same))
-        (λ (apart : j ≡ k → ⊥). subst (λ (o : Option ShareFields). IfSome o (λ s. place_of (name_of s) ≡ j)) (sym (get_or-set_other places k j (Some share) None apart)) (kept.own_place j))
+        (λ (same : j ≡ k). subst (λ (o : Option ShareFields). IfSome o (λ s. place_of (name_of s) ≡ j))
+        (sym (ap (λ n. get_or (set places k (Some share)) n None) same ∙ get_or-set_same places k (Some share) None below)) (sym at ∙ sym same))
+        (λ (apart : j ≡ k → ⊥). subst (λ (o : Option ShareFields). IfSome o (λ s. place_of (name_of s) ≡ j))
+        (sym (get_or-set_other places k j (Some share) None apart)) (kept.own_place j))
         (cases_eq j k)
 
     -- a mask with the share's name more says which places have a share
@@ -218,10 +232,12 @@ module _ (common : Option Common) (masks : Masks) (thresholds : List (Option ℕ
         let joins = joins_from_none old share allowed in
         let each : All IsShare shares = All-more old share shares more IsShare kept.is_set.each is in
         let own : OwnPlaces 0 (set places k (Some share)) =
-        λ j. IfSome-map (λ s. place_of (name_of s) ≡ j) (λ s. place_of (name_of s) ≡ 0 + j) (get_or (set places k (Some share)) j None) (λ s here. omega arith) (own_more j) in
+        λ j. IfSome-map (λ s. place_of (name_of s) ≡ j) (λ s. place_of (name_of s) ≡ 0 + j) (get_or (set places k (Some share)) j None) (λ s here. omega arith)
+        (own_more j) in
         let is_set : IsShareSet shares = record {
           each = each;
-          ascending = ascending-places 0 (set places k (Some share)) own (All-weaker IsShare (λ s. s.member_index < most_members) (λ s h. h.member_index) shares each);
+          ascending = ascending-places 0 (set places k (Some share)) own
+              (All-weaker IsShare (λ s. s.member_index < most_members) (λ s h. h.member_index) shares each);
           agree = agree-more old share shares more kept.is_set joins;
         } in
         record {
@@ -256,7 +272,8 @@ module _ (common : Option Common) (masks : Masks) (thresholds : List (Option ℕ
         by (Some s) h = absurd (false≢true (sym h))
 
     -- where one stands there, and the share isn't refused, it is that share
-    pub repeat_from_masks : refusal_of (shares_at places) share ≡ None → is_in masks share.group_index share.member_index ≡ true → Contains (shares_at places) share
+    pub repeat_from_masks : refusal_of (shares_at places) share ≡ None → is_in masks share.group_index share.member_index ≡ true
+        → Contains (shares_at places) share
     repeat_from_masks allowed held = by (get_or places (place_of (name_of share)) None) refl (from_masks true held)
       where
         by : (o : Option ShareFields) → get_or places (place_of (name_of share)) None ≡ o → is_some o ≡ true → Contains (shares_at places) share
@@ -274,7 +291,8 @@ module _ (common : Option Common) (masks : Masks) (thresholds : List (Option ℕ
     new_from_masks not_held has_share =
         let test = has_name share.group_index share.member_index in
         let found : find test (shares_at places) ≡ None = share_in_place share.group_index share.member_index is.member_index ∙ empty_place not_held in
-        false≢true (sym (All-contains (λ s. test s ≡ false) (shares_at places) share (none-passes test (shares_at places) found) has_share) ∙ has_name-own share)
+        false≢true (sym (All-contains (λ s. test s ≡ false) (shares_at places) share (none-passes test (shares_at places) found) has_share)
+        ∙ has_name-own share)
 
 -- ---- no share
 
