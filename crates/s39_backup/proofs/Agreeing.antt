@@ -11,7 +11,7 @@ use Rattle.s39_backup.specs.Created.{IsCreatedFrom, AreOfBackup}
 use Rattle.s39_backup.proofs.Promise.{IsCreatedShare, in_created_groups, split_at_place}
 
 -- what holds of each element holds of the one at a place
-All-at : {X : Type 0} (P : X → Type 0) (xs : List X) (k : ℕ) (x : X) → All P xs → slice_get xs k ≡ Some x → P x
+pub All-at : {X : Type 0} (P : X → Type 0) (xs : List X) (k : ℕ) (x : X) → All P xs → slice_get xs k ≡ Some x → P x
 All-at P xs k x all at = subst P (get_or_from_slice_get xs k x x at) (all k x (slice_get_within xs k x at))
 
 some_same : {X : Type 0} (x y : X) → Some x ≡ Some y → x ≡ y
@@ -31,7 +31,7 @@ module _ (set : List ShareFields) (passphrase secret : List ℕ) (backup : AreOf
       (subst (λ xs. Contains xs share) created.shares_are (All-contains (Contains backup.shares) set share backup.belong among))
 
   -- values are as long as the encrypted secret
-  long : (share : ShareFields) → IsOne share → length share.value.items ≡ length created.encrypted
+  pub long : (share : ShareFields) → IsOne share → length share.value.items ≡ length created.encrypted
   long share is =
       let at = split_at_place backup.groups created.group_shares created.pieces created.values is.place is.members is.others created.members_split
       is.group_is is.values_are in

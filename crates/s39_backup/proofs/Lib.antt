@@ -17,3 +17,4 @@ pub mod PlanReadings
 pub mod Creations
 pub mod Causes
 pub mod EveryReading
+pub mod SharesCreated

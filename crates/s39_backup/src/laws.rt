@@ -10,6 +10,7 @@ ghost use Rattle.s39_backup.specs.declared.plan_error.PlanError.{PlanError};
 ghost use Rattle.s39_backup.specs.Plan.{IsPlan, IsPlanReading};
 ghost use Rattle.s39_backup.specs.Created.{IsCreatedFrom, IsCreation, AreOfBackup, identifier_length, random_needed, most_random};
 ghost use Rattle.s39_words.specs.declared.ShareFields.{ShareFields};
+ghost use Rattle.s39_words.specs.Share.{IsShare};
 ghost use Rattle.s39_set.specs.ShareSet.{IsShareSet, refusal_of};
 ghost use Rattle.s39_set.specs.Quorums.{IsQuorum};
 ghost use Rattle.s39_backup.specs.declared.combination.Mismatch.{Mismatch};
@@ -62,6 +63,19 @@ pub fn every_backup_can_be_created()
     shares_of_a_split();
     one_split();
     one_encryption();
+    encryption_keeps_length_and_bytes();
+}
+
+/// What a backup consists of are shares: their fields are in range.
+pub fn created_shares_are_shares()
+    ensures { (secret passphrase : List ℕ) (group_threshold : ℕ) (groups : List Members)
+        (options : Options) (random : List ℕ) (shares : List ShareFields)
+        → IsPlan group_threshold groups
+        → IsSecretLength (length secret) → AreBytes secret → AreBytes random
+        → IsCreatedFrom secret passphrase group_threshold groups options random shares
+        → All IsShare shares }
+{
+    shares_of_a_split();
     encryption_keeps_length_and_bytes();
 }
 

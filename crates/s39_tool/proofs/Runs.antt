@@ -7,3 +7,4 @@ pub mod Recovering
 pub mod OneRecover
 pub mod SomeRecover
 pub mod Creating
+pub mod OneCreate

@@ -9,6 +9,9 @@ ghost use Rattle.s39_tool.specs.declared.creating.TheConstants.{MAX_RANDOM_BYTES
 ghost use Rattle.s39_tool.specs.declared.lines.TheConstants.{MAX_LINE_BYTES};
 ghost use Rattle.s39_tool.specs.Input.{Input, longest_line};
 ghost use Rattle.s39_tool.specs.Accepted.{IsReadAs};
+ghost use Rattle.s39_kdf.specs.Bytes.{AreBytes};
+ghost use Rattle.s39_backup.specs.Plan.{IsPlan};
+ghost use Rattle.s39_tool.specs.Create.{Asked, IsCreateOutput};
 ghost use Rattle.s39_tool.specs.Show.{IsShowOutput};
 ghost use Rattle.s39_tool.specs.Recover.{IsRecoverOutput};
 ghost use Rattle.s39_tool.specs.declared.drill.Done.{Done};
@@ -17,14 +20,17 @@ ghost use Rattle.s39_tool.specs.OfBackup.{HoldsMnemonicsOf, RecoversCreated};
 ghost use Rattle.s39_backup.specs.Created.{AreOfBackup, most_random};
 
 use s39_backup::laws::{
-    every_quorum_has_an_outcome, every_quorum_recovers, one_outcome, shares_of_a_backup_agree,
+    created_shares_are_shares, every_quorum_has_an_outcome, every_quorum_recovers, one_creation,
+    one_outcome, shares_of_a_backup_agree,
 };
 use s39_kdf::laws::passphrases_are_printable_or_not;
 use s39_set::laws::{
     listings_join, one_first_quorum, one_lack, one_listing, one_more_is_added, quorum_or_lack,
     same_shares_refuse_the_same, sets_are_their_shares, sets_take_shares, walks_list_all,
 };
-use s39_words::laws::{every_text_has_a_reading, one_reading};
+use s39_words::laws::{
+    every_share_has_a_printed_form, every_text_has_a_reading, one_printed_form, one_reading,
+};
 
 /// The code's limits are those of the definitions.
 pub fn numbers()
@@ -215,4 +221,22 @@ pub fn created_backups_drill()
     one_outcome();
     every_quorum_recovers();
     mnemonics_of_a_backup_are_a_set();
+
+/// An input has one output of `create` for what is asked: one text, and one answer. It has one for every plan, all bytes
+/// of a secret, and all bytes of the input.
+pub fn one_create_output()
+    ensures once { (asked : Asked) (input : Input) (text other : List ℕ)
+        (answer another : Result (Unit {0}) Fault)
+        → IsCreateOutput asked input text answer
+        → IsCreateOutput asked input other another
+        → (text ≡ other) × (answer ≡ another) }
+    ensures exists { (asked : Asked) (input : Input)
+        → IsPlan asked.group_threshold asked.groups → AreBytes asked.secret → AreBytes input.bytes
+        → (text : List ℕ) × (answer : Result (Unit {0}) Fault) × IsCreateOutput asked input text answer }
+{
+    passphrases_are_printable_or_not();
+    one_creation();
+    created_shares_are_shares();
+    one_printed_form();
+    every_share_has_a_printed_form();
 }
