@@ -221,6 +221,7 @@ pub fn created_backups_drill()
     one_outcome();
     every_quorum_recovers();
     mnemonics_of_a_backup_are_a_set();
+}
 
 /// An input has one output of `create` for what is asked: one text, and one answer. It has one for every plan, all bytes
 /// of a secret, and all bytes of the input.

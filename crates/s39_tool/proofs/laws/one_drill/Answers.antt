@@ -1,4 +1,4 @@
-use Rattle.s39_tool.proofs.Drills.Drilling.{Laws, some_drill_of}
+use Rattle.s39_tool.proofs.Drills.Drilling.{some_drill_of}
 use Rattle.s39_tool.proofs.Drills.OneDrill.{one_drill}
 use Rattle.s39_tool.proofs.laws.one_drill.Goals as goal
 

@@ -1,4 +1,3 @@
-use Rattle.s39_tool.proofs.Drills.Drilling.{Laws}
 use Rattle.s39_tool.proofs.Drills.SomeOutput.{some_drill_output}
 use Rattle.s39_tool.proofs.laws.some_drill_output.Goals as goal
 
