@@ -1,5 +1,5 @@
 -- A drill of mnemonics of a created backup.
-use Rattle.std.proofs.Common.{◌≡◌, ℕ, List, [], ◌∷◌, ◌++◌, map, take, All, refl, sym, ap, ap₂, ◌∙◌, subst, inl, inr, arith, Option, IfSome, Result, Ok, Err}
+use Rattle.std.proofs.Common.{◌≡◌, ℕ, List, [], ◌∷◌, ◌++◌, map, All, refl, sym, ap, ap₂, ◌∙◌, subst, inl, inr, Option, IfSome, Result, Ok, Err}
 use Rattle.std.specs.List.{flat_map}
 use Rattle.std.proofs.lemmas.List.Elements.{All-head, All-tail, All-take, All-contains_itself}
 use Rattle.s39_kdf.specs.Limits.{IsPrintable}

@@ -1,11 +1,11 @@
 -- An input has one output of `drill`, and has one.
-use Rattle.std.proofs.Common.{◌≡◌, ◌≢◌, ℕ, suc, ◌≤◌, ◌<◌, List, [], ◌∷◌, ◌++◌, All, Contains, refl, sym, ap, ap₂, ◌∙◌, subst, ◌⊎◌, inl, inr, arith, Option, Some, None, IfSome, Result, Ok, Err}
+use Rattle.std.proofs.Common.{◌≡◌, ℕ, List, ◌++◌, All, refl, sym, ap, ap₂, ◌∙◌, subst, ◌⊎◌, inl, inr, Option, IfSome, Result, Ok, Err}
 use Rattle.s39_kdf.specs.Limits.{IsPrintable}
-use Rattle.s39_kdf.specs.Passphrases.{PassphrasesHaveOneFirstUnprintable, PrintablePassphrasesHaveNone, PassphrasesArePrintableOrNot}
+use Rattle.s39_kdf.specs.Passphrases.{PassphrasesHaveOneFirstUnprintable, PrintablePassphrasesHaveNone}
 use Rattle.s39_words.specs.declared.ShareFields.{ShareFields}
 use Rattle.s39_set.specs.declared.set_lack.SetLack.{SetLack}
 use Rattle.s39_set.specs.ShareSet.{IsShareSet}
-use Rattle.s39_set.specs.Quorums.{IsQuorum, IsFirstQuorumAfter}
+use Rattle.s39_set.specs.Quorums.{IsQuorum}
 use Rattle.s39_set.specs.Lack.{IsLack}
 use Rattle.s39_set.specs.Listing.{IsListing}
 use Rattle.s39_set.specs.SetFacts.{SetsHaveOneLack}
@@ -13,13 +13,12 @@ use Rattle.s39_backup.specs.declared.combination.Mismatch.{Mismatch}
 use Rattle.s39_backup.specs.Outcome.{IsOutcome}
 use Rattle.s39_tool.specs.declared.fault.LineRefusal.{LineRefusal}
 use Rattle.s39_tool.specs.declared.fault.Stop.{Stop}
-use Rattle.s39_tool.specs.declared.fault.Refusal.TheVariants.{Passphrase}
 use Rattle.s39_tool.specs.declared.fault.Fault.{Fault}
 use Rattle.s39_tool.specs.declared.drill.Done.{Done}
 use Rattle.s39_tool.specs.declared.drill.Undrilled.{Undrilled}
 use Rattle.s39_tool.specs.declared.drill.Undrilled.TheVariants.{Lack, NotAQuorum}
 use Rattle.s39_tool.specs.Input.{Input}
-use Rattle.s39_tool.specs.Fault.{fault_of, fault_of_stop}
+use Rattle.s39_tool.specs.Fault.{fault_of_stop}
 use Rattle.s39_tool.specs.Accepted.{IsReadAs}
 use Rattle.s39_tool.specs.Recover.{RefusesPassphrase}
 use Rattle.s39_tool.specs.Drill.{last_line, IsDrill, IsUndrilled, fault_of_undrilled, RefusesDrill, DrillsSet, IsDrillOutput}

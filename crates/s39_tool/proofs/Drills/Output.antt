@@ -1,5 +1,5 @@
 -- The output of `drill`.
-use Rattle.std.proofs.Common.{◌≡◌, ℕ, List, [], ◌++◌, inl, inr, refl, All, Option, Some, IfSome, Result, Ok, Err}
+use Rattle.std.proofs.Common.{◌≡◌, ℕ, List, [], ◌++◌, inl, inr, refl, All, Option, IfSome, Ok, Err}
 use Rattle.s39_kdf.specs.Limits.{IsPrintable}
 use Rattle.s39_words.specs.declared.ShareFields.{ShareFields}
 use Rattle.s39_set.specs.declared.set_lack.SetLack.{SetLack}

@@ -1,4 +1,4 @@
-use Rattle.std.proofs.Common.{◌≡◌, ◌∙◌, [], inl, refl, ap, ◌+◌, ◌++◌, sym, subst, arith, None, Some, Ok}
+use Rattle.std.proofs.Common.{◌∙◌, [], inl, refl, ap, ◌+◌, ◌++◌, sym, subst, arith, None, Ok}
 use Rattle.std.specs.Option.{option_copied}
 use Rattle.std.proofs.lemmas.Result.{err_from_is_err_and}
 use Rattle.s39_set.specs.Quorums.{IsFirstQuorumAfter, HasNoQuorumAfter}

@@ -1,4 +1,3 @@
-use Rattle.std.proofs.Common.{◌≡◌, Ok, Err, sym, ◌∙◌}
 use Rattle.s39_tool.proofs.drill.start_of.Goals as goal
 
 pub returns-in-None-clause-start : goal.returns-in-None-clause-start

@@ -1,9 +1,9 @@
-use Rattle.std.proofs.Common.{◌≡◌, ℕ, suc, ◌+◌, ◌-◌, List, Option, ◌⊎◌, inl, inr, Some, is_some, not, Bool, true, false, refl, sym, ap, ◌∙◌, subst, arith}
+use Rattle.std.proofs.Common.{◌≡◌, ◌+◌, ◌-◌, ◌⊎◌, inl, inr, Some, is_some, not, false, sym, ap, ◌∙◌, subst, arith}
 use Rattle.std.proofs.lemmas.Result.{err_from_is_err_and}
 use mir.Val.{bool_byte}
 use Rattle.s39_backup.specs.Outcome.{IsOutcome}
 use Rattle.s39_tool.specs.Output.{WritesWhole, WritesPart}
-use Rattle.s39_tool.specs.Drill.{quorum_line, last_line, shown, IsNext, IsDrill}
+use Rattle.s39_tool.specs.Drill.{last_line, shown, IsNext}
 use Rattle.s39_tool.proofs.Drills.Drilling.{Laws, IsDrilling, mismatch_in, mismatch_is, mismatch_most, more_after, drill_over, last_line_is, drilling_starts, drilling_fails, drilling_goes_on, drilling_ends, drilling_fails_last}
 use Rattle.s39_set.specs.Quorums.{IsFirstQuorumAfter}
 use Rattle.s39_tool.proofs.drill.write_drill.Goals as goal
