@@ -1,5 +1,5 @@
 //! The lines of an input, and what they hold.
-ghost use Rattle.std.specs.Prelude.{◌≡◌, ℕ, ◌+◌, ◌<◌, ◌≤◌, List, [], ◌∷◌, ◌++◌, length, find, not, Bool, true, Ok, Err, IfOk, IfErr, OnOk, min};
+ghost use Rattle.std.specs.Prelude.{◌≡◌, ◌≢◌, ℕ, ◌+◌, ◌<◌, ◌≤◌, List, [], ◌∷◌, ◌++◌, All, length, find, not, Bool, true, Ok, Err, IfOk, IfErr, OnOk, min};
 ghost use Rattle.std.specs.Io.KnownBytes.{Consumes};
 ghost use Rattle.s39_words.specs.Spelling.{is_separator};
 ghost use Rattle.s39_tool.specs.Fault.{stop_failures};
@@ -11,6 +11,7 @@ ghost use Rattle.s39_tool.specs.Runs.{OfInput};
 use crate::device::Counting;
 use crate::fault::{LineRefusal, RefusedLine, Stop};
 use arrayvec::ArrayVec;
+use memchr::memchr;
 use s39_words::{Share, parse};
 use std::io::Read;
 
@@ -96,51 +97,73 @@ struct Unfinished {
     number: u64,
 }
 
+/// Takes the line with this number, and goes on to the next number.
+fn take_numbered<T: TakeLine>(
+    taker: &mut T,
+    line: &[u8],
+    number: &mut u64,
+) -> Result<(), RefusedLine<T::Refusal>>
+    requires ready { T.can_take taker.old }
+    requires short { length line.now ≤ longest_line }
+    ensures taken { OnOk result (T.takes taker.old line.now (Ok tt) taker.new) }
+    ensures next { OnOk result (number.new ≡ min (number.old + 1) u64.MAX) }
+    ensures refused { IfErr result (λ refused.
+        T.takes taker.old line.now (Err refused.refusal) taker.new
+        × (refused.number ≡ number.old)) }
+    ensures ready { OnOk result (T.can_take taker.new) }
+{
+    if let Err(refusal) = taker.take_line(line) {
+        return Err(RefusedLine {
+            number: *number,
+            refusal,
+        });
+    }
+    *number = number.saturating_add(1);
+    Ok(())
+}
+
 impl Unfinished {
-    /// Takes the line as it is, and begins the next.
-    fn end<T: TakeLine>(&mut self, taker: &mut T) -> Result<(), RefusedLine<T::Refusal>>
-        requires { T.can_take taker.old }
-        ensures taken { OnOk result (T.takes taker.old self.old.line.items (Ok tt) taker.new) }
-        ensures next { OnOk result ((self.new.line.items ≡ [])
-            × (self.new.number ≡ min (self.old.number + 1) u64.MAX)) }
-        ensures refused { IfErr result (λ refused.
-            T.takes taker.old self.old.line.items (Err refused.refusal) taker.new
-            × (refused.number ≡ self.old.number)) }
-        ensures ready { OnOk result (T.can_take taker.new) }
+    /// Keeps a part of the line, which no line feed is in.
+    fn keep<T: TakeLine>(&mut self, part: &[u8]) -> Result<(), RefusedLine<T::Refusal>>
+        requires { All (λ b. b ≢ 10) part.now }
+        ensures taken { (came : List ℕ) (first : T) (now : T)
+            → IsMidway T.takes came self.old.line.items self.old.number first now
+            → ReachesOrStops T.takes (came ++ part.now) self.new.line.items self.new.number
+            first now result }
+        ensures kept { OnOk result ((self.new.line.items ≡ self.old.line.items ++ part.now)
+            × (self.new.number ≡ self.old.number)) }
     {
-        if let Err(refusal) = taker.take_line(&self.line) {
-            return Err(RefusedLine {
+        if self.line.try_extend_from_slice(part).is_ok() {
+            Ok(())
+        } else {
+            Err(RefusedLine {
                 number: self.number,
-                refusal,
-            });
+                refusal: T::too_long(),
+            })
         }
-        self.line.clear();
-        self.number = self.number.saturating_add(1);
-        Ok(())
     }
 
-    fn take_byte<T: TakeLine>(
+    /// Takes the line that a line feed ends after this part, and begins the next. A line that lies in one piece of
+    /// the input is lent and not copied.
+    fn end_line<T: TakeLine>(
         &mut self,
-        byte: u8,
+        part: &[u8],
         taker: &mut T,
     ) -> Result<(), RefusedLine<T::Refusal>>
-        requires { T.can_take taker.old }
+        requires ready { T.can_take taker.old }
+        requires part { All (λ b. b ≢ 10) part.now }
         ensures taken { (came : List ℕ) (first : T)
             → IsMidway T.takes came self.old.line.items self.old.number first taker.old
-            → ReachesOrStops T.takes (came ++ byte ∷ []) self.new.line.items self.new.number
+            → ReachesOrStops T.takes (came ++ part.now ++ 10 ∷ []) self.new.line.items self.new.number
             first taker.new result }
         ensures ready { OnOk result (T.can_take taker.new) }
     {
-        if byte == b'\n' {
-            return self.end(taker);
+        if self.line.is_empty() && part.len() <= MAX_LINE_BYTES {
+            return take_numbered(taker, part, &mut self.number);
         }
-        if self.line.is_full() {
-            return Err(RefusedLine {
-                number: self.number,
-                refusal: T::too_long(),
-            });
-        }
-        self.line.push(byte);
+        self.keep::<T>(part)?;
+        take_numbered(taker, &self.line, &mut self.number)?;
+        self.line.clear();
         Ok(())
     }
 
@@ -156,10 +179,12 @@ impl Unfinished {
             first taker.new result }
         ensures ready { OnOk result (T.can_take taker.new) }
     {
-        for byte in piece {
-            self.take_byte(*byte, taker)?;
+        let mut rest = piece;
+        while let Some(end) = memchr(b'\n', rest) {
+            self.end_line(&rest[..end], taker)?;
+            rest = &rest[end + 1..];
         }
-        Ok(())
+        self.keep::<T>(rest)
     }
 }
 
@@ -188,7 +213,7 @@ pub(crate) fn take_lines<R: Read, T: TakeLine>(
     let mut piece = [0; PIECE];
     'reads: loop {
         match input.read(&mut piece) {
-            Ok(0) => return Ok(unfinished.end(taker)?),
+            Ok(0) => return Ok(take_numbered(taker, &unfinished.line, &mut unfinished.number)?),
             Ok(count) => unfinished.take_piece(&piece[..count], taker)?,
             Err(_) => return Err(Stop::ReadFailed),
         }

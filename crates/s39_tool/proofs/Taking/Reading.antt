@@ -2,6 +2,7 @@
 use Rattle.std.proofs.Common.{◌≡◌, ℕ, ◌+◌, ◌-◌, ◌^◌, min, ◌<◌, ◌≤◌, Bool, true, false, List, [], ◌∷◌, ◌++◌, length, take, drop, get_or, suc, subst, refl, sym, ap, ◌∙◌, ◌⊎◌, inl, inr, append_assoc, arith, Option, Result, Ok, Err, OnOk, IfErr}
 use Rattle.std.proofs.lemmas.List.{append-nil, length-append, take-append-drop}
 use Rattle.std.proofs.Math.Seq.{drop-cons}
+use Rattle.std.specs.Prelude.{◌≢◌, All}
 use Rattle.std.specs.Io.KnownBytes.{Consumes}
 use Rattle.s39_tool.specs.declared.fault.RefusedLine.{RefusedLine}
 use Rattle.s39_tool.specs.declared.fault.Stop.TheVariants.{AtLine, ReadFailed}
@@ -9,7 +10,7 @@ use Rattle.s39_tool.specs.Device.{Counted}
 use Rattle.s39_tool.specs.Input.{longest_line, parts_of, lines_of}
 use Rattle.s39_tool.specs.Fault.{line_number}
 use Rattle.s39_tool.specs.Midway.{TakesLines, StopsAtLine, RunsOver, IsMidway, StopsWithin, ReachesOrStops}
-use Rattle.s39_tool.proofs.Taking.Parts.{parts_of-more, parts_of-other, first_part, finished_parts-keeps, finished_parts-drops}
+use Rattle.s39_tool.proofs.Taking.Parts.{parts_of-more, parts_of-part, parts_of-onto, first_part, finished_parts-keeps, finished_parts-drops}
 
 module _ {S C : Type 0} (takes : S → List ℕ → Result (Unit {0}) C → S → Type 0) where
   -- one more line is taken
@@ -35,7 +36,7 @@ module _ {S C : Type 0} (takes : S → List ℕ → Result (Unit {0}) C → S �
   midway_at_start s = record { lines = []; taken = refl; parts = refl; short = omega arith; number_is = refl }
 
   -- a line feed ends the line
-  midway_after_line : (came u : List ℕ) (number next : ℕ) (old mid new : S) → IsMidway takes came u number old mid → takes mid u (Ok tt) new
+  pub midway_after_line : (came u : List ℕ) (number next : ℕ) (old mid new : S) → IsMidway takes came u number old mid → takes mid u (Ok tt) new
       → next ≡ min (number + 1) (2 ^ 64 - 1) → IsMidway takes (came ++ 10 ∷ []) [] next old new
   midway_after_line came u number next old mid new m t n = record {
     lines = m.lines ++ u ∷ [];
@@ -45,20 +46,19 @@ module _ {S C : Type 0} (takes : S → List ℕ → Result (Unit {0}) C → S �
     number_is = let l = length-append m.lines (u ∷ []) in let i = m.number_is in rw l (omega arith);
   }
 
-  -- another byte goes onto it
-  pub midway_after_byte : (came u : List ℕ) (b number : ℕ) (old new : S) → IsMidway takes came u number old new → (b ≡ 10 → ⊥) → length u < longest_line
-      → IsMidway takes (came ++ b ∷ []) (u ++ b ∷ []) number old new
-  midway_after_byte came u b number old new m other room =
-      let one = parts_of-other b [] [] [] other refl in record {
-        lines = m.lines;
-        taken = m.taken;
-        parts = parts_of-more came (b ∷ []) m.lines u (b ∷ []) [] m.parts one;
-        short = rw length-append (omega arith);
-        number_is = m.number_is;
-      }
+  -- a part that no line feed is in goes onto it
+  pub midway_after_part : (came u part : List ℕ) (number : ℕ) (old new : S) → IsMidway takes came u number old new → All (λ b. b ≢ 10) part → length u + length part ≤ longest_line
+      → IsMidway takes (came ++ part) (u ++ part) number old new
+  midway_after_part came u part number old new m free room = record {
+    lines = m.lines;
+    taken = m.taken;
+    parts = parts_of-more came part m.lines u part [] m.parts (parts_of-part part free);
+    short = rw length-append room;
+    number_is = m.number_is;
+  }
 
   -- the line that a line feed ends is refused
-  stops_after_line : (came u : List ℕ) (refused : RefusedLine C) (number : ℕ) (old mid new : S) → IsMidway takes came u number old mid
+  pub stops_after_line : (came u : List ℕ) (refused : RefusedLine C) (number : ℕ) (old mid new : S) → IsMidway takes came u number old mid
       → takes mid u (Err refused.refusal) new → refused.number ≡ number → StopsWithin takes (came ++ 10 ∷ []) old new refused
   stops_after_line came u refused number old mid new m r n rest ended =
       let first = first_part rest in
@@ -67,37 +67,36 @@ module _ {S C : Type 0} (takes : S → List ℕ → Result (Unit {0}) C → S �
       let some : 0 < length (parts_of rest) = rw first.2 (omega arith) in
       rw append_assoc (stops (came ++ (10 ∷ rest)) ended m.lines u (parts_of rest) refused old mid new line (inl some) m.taken r (n ∙ m.number_is))
 
-  -- a byte more than the longest line has stops the run, whatever follows
-  pub stops_too_long : (came u : List ℕ) (b number : ℕ) (refused : RefusedLine C) (old new : S) → IsMidway takes came u number old new → (b ≡ 10 → ⊥) → length u ≡ longest_line
-      → ((line : List ℕ) → longest_line < length line → takes new line (Err refused.refusal) new) → refused.number ≡ number
-      → StopsWithin takes (came ++ b ∷ []) old new refused
-  stops_too_long came u b number refused old new m other full refuses n rest ended =
+  -- a part that makes the line longer than the longest stops the run, whatever follows
+  pub stops_too_long : (came u part : List ℕ) (number : ℕ) (refused : RefusedLine C) (old new : S) → IsMidway takes came u number old new → All (λ b. b ≢ 10) part
+      → longest_line < length u + length part → ((line : List ℕ) → longest_line < length line → takes new line (Err refused.refusal) new) → refused.number ≡ number
+      → StopsWithin takes (came ++ part) old new refused
+  stops_too_long came u part number refused old new m free full refuses n rest ended =
       let first = first_part rest in
-      let line = u ++ b ∷ first.0 in
-      let parts : parts_of (came ++ (b ∷ rest)) ≡ m.lines ++ line ∷ first.1 =
-      parts_of-more came (b ∷ rest) m.lines u (b ∷ first.0) first.1 m.parts (parts_of-other b rest first.0 first.1 other first.2) in
-      let long : longest_line < length line = rw length-append (omega arith) in
-      rw append_assoc (stops (came ++ (b ∷ rest)) ended m.lines line first.1 refused old new new parts (inr long) m.taken (refuses line long) (n ∙ m.number_is))
+      let line = u ++ (part ++ first.0) in
+      let parts : parts_of (came ++ (part ++ rest)) ≡ m.lines ++ line ∷ first.1 =
+      parts_of-more came (part ++ rest) m.lines u (part ++ first.0) first.1 m.parts (parts_of-onto part rest first.0 first.1 free first.2) in
+      let long : longest_line < length line = rw (length-append u (part ++ first.0), length-append part first.0) (omega arith) in
+      rw append_assoc (stops (came ++ (part ++ rest)) ended m.lines line first.1 refused old new new parts (inr long) m.taken (refuses line long) (n ∙ m.number_is))
 
-  -- what is left of the line once a line feed ended it
-  pub reaches_after_line : (came u next_u : List ℕ) (b number next : ℕ) (answer : Result (Unit {0}) (RefusedLine C)) (old mid new : S) → b ≡ 10
-      → OnOk answer (takes mid u (Ok tt) new) → OnOk answer ((next_u ≡ []) × (next ≡ min (number + 1) (2 ^ 64 - 1)))
-      → IfErr answer (λ refused. takes mid u (Err refused.refusal) new × (refused.number ≡ number))
-      → IsMidway takes came u number old mid → ReachesOrStops takes (came ++ b ∷ []) next_u next old new answer
-  reaches_after_line came u next_u b number next (Ok _) old mid new e t n r m = rw (e, n.0) (midway_after_line came u number next old mid new m t n.1)
-  reaches_after_line came u next_u b number next (Err refused) old mid new e t n r m = rw e (stops_after_line came u refused number old mid new m r.0 r.1)
+  -- what stops the run stops it whatever comes besides
+  pub stops_further : (came more : List ℕ) (refused : RefusedLine C) (old new : S) → StopsWithin takes came old new refused → StopsWithin takes (came ++ more) old new refused
+  stops_further came more refused old new h rest ended =
+      subst (λ bytes. StopsAtLine takes (lines_of (record { bytes = bytes; ended = ended })) old new refused) (sym (append_assoc came more rest)) (h (more ++ rest) ended)
+
+  -- what is left of the line once a line feed after a part of it ended it
+  pub reaches_after_part : (came part u next_u : List ℕ) (number next : ℕ) (answer : Result (Unit {0}) (RefusedLine C)) (old mid new : S)
+      → OnOk answer (takes mid u (Ok tt) new) → OnOk answer (next ≡ min (number + 1) (2 ^ 64 - 1))
+      → IfErr answer (λ refused. takes mid u (Err refused.refusal) new × (refused.number ≡ number)) → next_u ≡ []
+      → IsMidway takes (came ++ part) u number old mid → ReachesOrStops takes (came ++ part ++ 10 ∷ []) next_u next old new answer
+  reaches_after_part came part u next_u number next (Ok _) old mid new t n r e m = rw e (midway_after_line (came ++ part) u number next old mid new m t n)
+  reaches_after_part came part u next_u number next (Err refused) old mid new t n r e m = stops_after_line (came ++ part) u refused number old mid new m r.0 r.1
 
   -- what stops the run within a piece stops it within the whole piece
-  pub stops_in_piece : (came piece : List ℕ) (k : ℕ) (refused : RefusedLine C) (old new : S) → k < length piece
-      → StopsWithin takes ((came ++ take k piece) ++ get_or piece k 0 ∷ []) old new refused → StopsWithin takes (came ++ piece) old new refused
-  stops_in_piece came piece k refused old new lt h rest ended =
-      let front = take k piece in
-      let back = drop (suc k) piece in
-      let b = get_or piece k 0 in
-      let split : front ++ (b ∷ back) ≡ piece = ap (λ l. front ++ l) (sym (drop-cons piece k 0 lt)) ∙ take-append-drop k piece in
-      let whole : ((came ++ front) ++ b ∷ []) ++ back ≡ came ++ piece = simp append_assoc (ap (λ l. came ++ l) split) in
-      let all : ((came ++ front) ++ b ∷ []) ++ (back ++ rest) ≡ (came ++ piece) ++ rest = sym (append_assoc ((came ++ front) ++ b ∷ []) back rest) ∙ ap (λ l. l ++ rest) whole in
-      subst (λ bytes. StopsAtLine takes (lines_of (record { bytes = bytes; ended = ended })) old new refused) all (h (back ++ rest) ended)
+  pub stops_in_piece : (came piece begun rest : List ℕ) (refused : RefusedLine C) (old new : S) → piece ≡ begun ++ rest → StopsWithin takes (came ++ begun) old new refused
+      → StopsWithin takes (came ++ piece) old new refused
+  stops_in_piece came piece begun rest refused old new e h =
+      subst (λ bytes. StopsWithin takes bytes old new refused) (append_assoc came begun rest ∙ ap (λ bytes. came ++ bytes) (sym e)) (stops_further (came ++ begun) rest refused old new h)
 
   -- the input ended: its last line is taken as it is, or refused
   pub runs_to_end : (came u : List ℕ) (number : ℕ) (old mid new : S) → IsMidway takes came u number old mid → takes mid u (Ok tt) new
