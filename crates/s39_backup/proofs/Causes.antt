@@ -95,7 +95,7 @@ secret_length_or_not n =
       ]
     ]
 
-same_or_not : (m n : ℕ) → (m ≡ n) ⊎ (m ≢ n)
+pub same_or_not : (m n : ℕ) → (m ≡ n) ⊎ (m ≢ n)
 same_or_not m n =
     elim (cases_lt m n) [
       | inl less ↦ inr (λ same. omega arith)

@@ -146,7 +146,8 @@ module _ (have_split : HaveASplit) where
         let piece : length (take k levels) ≡ k = length-take-le k levels (omega arith) in
         let piece_bytes : AreBytes (take k levels) = All-take (λ b. b < 256) k levels levels_bytes in
         let left : length (drop k levels) ≡ others = length-drop k levels ∙ omega arith in
-        let (group_shares, split) = have_split group_threshold (length groups) encrypted (take k levels) plan.positive plan.enough.enough plan.enough.few (omega arith)
+        let (group_shares, split) =
+        have_split group_threshold (length groups) encrypted (take k levels) plan.positive plan.enough.enough plan.enough.few (omega arith)
         encrypted_bytes piece_bytes (piece ∙ ap (level_random_needed group_threshold) (sym encrypted_long)) in
         let lengths : All (λ share. length share ≡ n) group_shares =
         λ i d within. as_long group_threshold (length groups) encrypted (take k levels) group_shares split i d within ∙ encrypted_long in

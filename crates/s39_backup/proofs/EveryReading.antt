@@ -10,6 +10,7 @@ use Rattle.s39_backup.specs.declared.plan_error.PlanError.{PlanError}
 use Rattle.s39_backup.specs.declared.plan_error.PlanError.TheVariants.{BadPlan, PlanGroups, PlanMembers, OneOfMany}
 use Rattle.s39_backup.specs.Plan.{IsPlanNumber, HasEnoughMembers, IsOneOfMany, IsGroup, HasEnoughGroups, IsFirstRefusedGroup, PlanForm, IsPlanReading}
 use Rattle.s39_backup.specs.PlanText.{BeginsWithNoDigit, BeginsWithDigit, BeginsWithNumber, BeginsWithMembers, BeginsWithGroupThreshold, IsGroupsText, RefusesAGroup}
+use Rattle.s39_backup.proofs.Causes.{same_or_not}
 use Rattle.s39_backup.proofs.PlanNumbers.{number_once, number-one, number-two, no_number-none, no_number-zero, no_number-three}
 use Rattle.s39_backup.proofs.PlanTexts.{behind_threshold, threshold-number, number-threshold, members-threshold, members-count, numbers-members, members-shorter, one_group, more_groups, read-none, no_groups-members, no_groups-behind, read-more, groups_once, form_with_threshold, form_of_one, no_form-threshold, no_form-alone}
 use Rattle.s39_backup.proofs.PlanReadings.{reading-groups, reading-refused}
@@ -93,7 +94,8 @@ byte_or_not byte (x ∷ xs) =
 -- the threshold of a group with which a text begins stands before the rest of its members
 behind : (text : List ℕ) (n : ℕ) (after : List ℕ) → BeginsWithNumber text n after → (members : Members) (rest : List ℕ) → BeginsWithMembers text members rest
     → after ≡ behind_threshold members rest
-behind text n after begins members rest is = (number_once text n members.threshold after (behind_threshold members rest) begins (members-threshold text members rest is)).rest_is
+behind text n after begins members rest is =
+    (number_once text n members.threshold after (behind_threshold members rest) begins (members-threshold text members rest is)).rest_is
 
 members_or_not : (text : List ℕ) → FindsMembers text ⊎ ((members : Members) (rest : List ℕ) → BeginsWithMembers text members rest → ⊥)
 members_or_not text =
@@ -127,8 +129,13 @@ threshold_or_not text =
     elim (number_or_not text) [
       | inr none ↦ inr (λ n rest is. none n (47 ∷ rest) (threshold-number text n rest is))
       | inl first ↦ elim (byte_or_not 47 first.rest) [
-        | inr none ↦ inr (λ n rest is. none rest (number_once text first.number n first.rest (47 ∷ rest) first.begins (threshold-number text n rest is)).rest_is)
-        | inl slash ↦ inl (record { number = first.number; rest = slash.rest; begins = number-threshold text first.number first.rest slash.rest first.begins slash.text_is })
+        | inr none ↦ inr (λ n rest is.
+            none rest (number_once text first.number n first.rest (47 ∷ rest) first.begins (threshold-number text n rest is)).rest_is)
+        | inl slash ↦ inl (record {
+          number = first.number;
+          rest = slash.rest;
+          begins = number-threshold text first.number first.rest slash.rest first.begins slash.text_is;
+        })
       ]
     ]
 
@@ -142,14 +149,20 @@ groups_or_not (suc k) text short =
     elim (members_or_not text) [
       | inr none ↦ inr (no_groups-members text text [] (read-none text) none)
       | inl first ↦ elim (nothing_or_more first.rest) [
-        | inl end ↦ inl (record { groups = first.members ∷ []; is_text = one_group text first.members (subst (BeginsWithMembers text first.members) end first.begins) })
+        | inl end ↦ inl (record {
+          groups = first.members ∷ [];
+          is_text = one_group text first.members (subst (BeginsWithMembers text first.members) end first.begins);
+        })
         | inr some ↦ elim (byte_or_not 44 first.rest) [
           | inr no_comma ↦ inr (no_groups-behind text text [] (read-none text) first.members first.rest first.begins some no_comma)
           | inl comma ↦ (
               let begins : BeginsWithMembers text first.members (44 ∷ comma.rest) = subst (BeginsWithMembers text first.members) comma.text_is first.begins in
               let less : length (44 ∷ comma.rest) < length text = members-shorter text first.members (44 ∷ comma.rest) begins in
               elim (groups_or_not k comma.rest (omega arith)) [
-                | inl others ↦ inl (record { groups = first.members ∷ others.groups; is_text = more_groups text first.members others.groups comma.rest begins others.is_text })
+                | inl others ↦ inl (record {
+                  groups = first.members ∷ others.groups;
+                  is_text = more_groups text first.members others.groups comma.rest begins others.is_text;
+                })
                 | inr none ↦ inr (λ groups is.
                     let (others, parts, left) = (read-more text text [] (read-none text) first.members comma.rest begins).leaves_others groups is in
                     none others left)
@@ -170,20 +183,13 @@ form_or_not text =
         | inr none ↦ inr (no_form-threshold text threshold.number threshold.rest threshold.begins none)
       ]
       | inr no_threshold ↦ elim (groups_or_not (suc (length text)) text (omega arith)) [
-        | inl found ↦ elim (one_or_not (length found.groups)) [
+        | inl found ↦ elim (same_or_not (length found.groups) 1) [
           | inl one ↦ inl (record { group_threshold = 1; groups = found.groups; form = form_of_one text found.groups found.is_text one })
           | inr other ↦ inr (no_form-alone text no_threshold (λ groups is one. other (ap length (groups_once text found.groups groups found.is_text is) ∙ one)))
         ]
         | inr none ↦ inr (no_form-alone text no_threshold (λ groups is one. none groups is))
       ]
     ]
-  where
-    one_or_not : (n : ℕ) → (n ≡ 1) ⊎ (n ≢ 1)
-    one_or_not n =
-        elim (cases_Bool (n == 1)) [
-          | inl same ↦ inl (eqb-true n 1 same)
-          | inr other ↦ inr (λ same. false≢true (sym other ∙ eq-eqb n 1 same))
-        ]
 
 -- ---- the groups of a plan
 
@@ -248,7 +254,8 @@ groups_refusal (g ∷ gs) numbers =
     shifted : IsGroup g → (error : PlanError) → RefusesAGroup gs error → HasRefusal (g ∷ gs)
     shifted group BadPlan refuses = absurd refuses
     shifted group PlanGroups refuses = absurd refuses
-    shifted group (PlanMembers place) refuses = record { error = PlanMembers (suc place); refuses = later_refused g gs place (λ m. ¬ HasEnoughMembers m) group refuses }
+    shifted group (PlanMembers place) refuses =
+        record { error = PlanMembers (suc place); refuses = later_refused g gs place (λ m. ¬ HasEnoughMembers m) group refuses }
     shifted group (OneOfMany place) refuses =
         record { error = OneOfMany (suc place); refuses = later_refused g gs place (λ m. HasEnoughMembers m × IsOneOfMany m) group refuses }
 

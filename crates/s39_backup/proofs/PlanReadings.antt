@@ -33,7 +33,8 @@ pub record AreSameGroup (place other : ℕ) (members another : Members) : Type 0
 
 same_parts : (before others : List Members) (members another : Members) (after rest : List Members) → before ++ members ∷ after ≡ others ++ another ∷ rest
     → All IsGroup before → ¬ IsGroup members → All IsGroup others → ¬ IsGroup another → AreSameGroup (length before) (length others) members another
-same_parts [] [] members another after rest parts accepted refused accepted' refused' = let same : members ≡ another = cc in record { place_is = refl; members_are = same }
+same_parts [] [] members another after rest parts accepted refused accepted' refused' =
+    let same : members ≡ another = cc in record { place_is = refl; members_are = same }
 same_parts [] (o ∷ os) members another after rest parts accepted refused accepted' refused' =
     let same : o ≡ members = cc in
     absurd (refused (subst (λ (m : Members). IsGroup m) same (All-head IsGroup o os accepted')))
@@ -47,7 +48,8 @@ same_parts (b ∷ bs) (o ∷ os) members another after rest parts accepted refus
     record { place_is = omega arith; members_are = same.members_are }
 
 module _ (groups : List Members) (IsRefused IsRefused' : Members → Type 0)
-    (not_group : (members : Members) → IsRefused members → IsGroup members → ⊥) (not_group' : (members : Members) → IsRefused' members → IsGroup members → ⊥) where
+    (not_group : (members : Members) → IsRefused members → IsGroup members → ⊥)
+    (not_group' : (members : Members) → IsRefused' members → IsGroup members → ⊥) where
   first_once : (place other : ℕ) (first : IsFirstRefusedGroup groups place IsRefused) (second : IsFirstRefusedGroup groups other IsRefused')
       → AreSameGroup place other first.members second.members
   first_once place other first second =
@@ -92,18 +94,21 @@ module _ (group_threshold : ℕ) (groups : List Members) where
   refused_once (PlanMembers g) (OneOfMany h) r s =
       let first = r.1 in
       let second = s.1 in
-      let same = first_once groups (λ m. ¬ HasEnoughMembers m) (λ m. HasEnoughMembers m × IsOneOfMany m) enough_is_refused one_of_many_is_refused g h first second in
+      let same = first_once groups (λ m. ¬ HasEnoughMembers m) (λ m. HasEnoughMembers m × IsOneOfMany m)
+      enough_is_refused one_of_many_is_refused g h first second in
       absurd (first.refused (subst (λ (m : Members). HasEnoughMembers m) (sym same.members_are) second.refused.0))
   refused_once (OneOfMany g) BadPlan r s = absurd s
   refused_once (OneOfMany g) PlanGroups r s = absurd (s r.0)
   refused_once (OneOfMany g) (PlanMembers h) r s =
       let first = r.1 in
       let second = s.1 in
-      let same = first_once groups (λ m. HasEnoughMembers m × IsOneOfMany m) (λ m. ¬ HasEnoughMembers m) one_of_many_is_refused enough_is_refused g h first second in
+      let same = first_once groups (λ m. HasEnoughMembers m × IsOneOfMany m) (λ m. ¬ HasEnoughMembers m)
+      one_of_many_is_refused enough_is_refused g h first second in
       absurd (second.refused (subst (λ (m : Members). HasEnoughMembers m) same.members_are first.refused.0))
   refused_once (OneOfMany g) (OneOfMany h) r s =
       ap (λ (n : ℕ). OneOfMany n)
-      (first_once groups (λ m. HasEnoughMembers m × IsOneOfMany m) (λ m. HasEnoughMembers m × IsOneOfMany m) one_of_many_is_refused one_of_many_is_refused g h r.1 s.1).place_is
+      (first_once groups (λ m. HasEnoughMembers m × IsOneOfMany m) (λ m. HasEnoughMembers m × IsOneOfMany m)
+      one_of_many_is_refused one_of_many_is_refused g h r.1 s.1).place_is
 
   read_once : (reading other : Result (ℕ × List Members) PlanError) → IsReadAs group_threshold groups reading → IsReadAs group_threshold groups other
       → reading ≡ other

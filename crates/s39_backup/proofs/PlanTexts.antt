@@ -221,7 +221,8 @@ module _ (text rest : List ℕ) (done : List Members) (before : AreReadBefore te
     pub read-more : (next : List ℕ) → BeginsWithMembers rest members (44 ∷ next) → AreReadBefore text next (done ++ members ∷ [])
     read-more next begins = record {
       with_others = λ others is.
-          subst (IsGroupsText text) (sym (append_assoc done (members ∷ []) others)) (before.with_others (members ∷ others) (more_groups rest members others next begins is));
+          subst (IsGroupsText text) (sym (append_assoc done (members ∷ []) others))
+          (before.with_others (members ∷ others) (more_groups rest members others next begins is));
       leaves_others = λ groups is.
           let (others, parts, left) = before.leaves_others groups is in
           elim (groups_cases rest others left) [

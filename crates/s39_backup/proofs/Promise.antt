@@ -4,7 +4,7 @@ use Rattle.std.specs.Prelude.{IsSomeAnd, ◌==◌, nat_lt}
 use Rattle.std.specs.List.{AllZip, enumerate_from, range_with_len, slice_get, zip}
 use Rattle.std.specs.Option.{option_map, option_map_or}
 use Rattle.std.proofs.lemmas.List.{length-map}
-use Rattle.std.proofs.lemmas.List.Elements.{All-contains, All-head, All-map, All-tail, Contains-append_cases, filter_passes}
+use Rattle.std.proofs.lemmas.List.Elements.{All-cons, All-contains, All-head, All-map, All-tail, Contains-append_cases, filter_passes}
 use Rattle.std.proofs.lemmas.Bool.{and_parts, eqb-true, ltb-true}
 use Rattle.std.proofs.lemmas.List.Kept.{AllPairs-filter}
 use Rattle.std.proofs.lemmas.Slice.Zip.{firsts-zip}
@@ -126,10 +126,6 @@ split_at_place [] [] [] [] place members others all group_is values_are = absurd
 split_at_place gs ss ps vs place members others all group_is values_are = absurd all
 
 -- ---- lists
-
-All-cons : {X : Type 0} (P : X → Type 0) (x : X) (xs : List X) → P x → All P xs → All P (x ∷ xs)
-All-cons P x xs first rest zero d below = first
-All-cons P x xs first rest (suc k) d below = rest k d (omega arith)
 
 -- what is true of each element and of what a function gives of it is true of the two lists
 all_zip_map : {X Y : Type 0} (R : X → Y → Type 0) (f : X → Y) (xs : List X) → All (λ x. R x (f x)) xs → AllZip R xs (map f xs)

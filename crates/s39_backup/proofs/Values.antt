@@ -74,7 +74,8 @@ value_bytes-long set share is among =
 pub bytes-value_of : (set : List ShareFields) (name : ℕ × ℕ) → IsShareSet set → Contains (map name_of set) name → AreBytes (value_of set name)
 bytes-value_of set name is among =
     let has = has_share set name among in
-    subst AreBytes (sym (ap (λ found. option_map_or (λ s. s.value.items) found []) has.found)) (All-contains IsShare set has.share is.each has.among).value.bytes
+    subst AreBytes (sym (ap (λ found. option_map_or (λ s. s.value.items) found []) has.found))
+    (All-contains IsShare set has.share is.each has.among).value.bytes
 
 pub length-value_of : (set : List ShareFields) (name : ℕ × ℕ) → IsShareSet set → Contains (map name_of set) name
     → length (value_of set name) ≡ value_bytes_of set

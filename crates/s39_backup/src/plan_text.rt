@@ -66,7 +66,8 @@ fn group_list(text: &[u8]) -> Option<GroupList>
 
 /// The group threshold `GT/` with which a text begins, and what follows; `None` where it begins with none.
 fn group_threshold(text: &[u8]) -> Option<(u8, &[u8])>
-    ensures begins { IfSome result (λ found. BeginsWithGroupThreshold text.now found.0 found.1.now) }
+    ensures begins { IfSome result (λ found.
+        BeginsWithGroupThreshold text.now found.0 found.1.now) }
     ensures none { result ≡ None
         → (n : ℕ) (rest : List ℕ) → ¬ BeginsWithGroupThreshold text.now n rest }
 {

@@ -13,8 +13,10 @@ returns-then-members-gt-MAX_MEMBERS-clause-refused c =
     let members = get_or c.args.groups.now c.loop-place.place blank in
     let refused : ¬ HasEnoughMembers members =
     elim c.then-members-gt-MAX_MEMBERS.branch [
-      | then-members-gt-MAX_MEMBERS-via-then-members-gt-MAX_MEMBERS w ↦ (λ enough. let few = enough.few in let many = w.if-members-gt-MAX_MEMBERS.true in omega arith)
-      | then-members-gt-MAX_MEMBERS-via-else-members-gt-MAX_MEMBERS+then-members w ↦ (λ enough. let some = enough.enough in let above = w.if-members.true in omega arith)
+      | then-members-gt-MAX_MEMBERS-via-then-members-gt-MAX_MEMBERS w ↦
+          (λ enough. let few = enough.few in let many = w.if-members-gt-MAX_MEMBERS.true in omega arith)
+      | then-members-gt-MAX_MEMBERS-via-else-members-gt-MAX_MEMBERS+then-members w ↦
+          (λ enough. let some = enough.enough in let above = w.if-members.true in omega arith)
     ] in
     first_refused c.args.groups.now c.loop-place.place blank (λ m. ¬ HasEnoughMembers m) c.loop-place-test.true c.loop-place.invariant refused
 
@@ -24,7 +26,8 @@ returns-then-members-gt1-clause-refused c =
     let members = get_or c.args.groups.now c.loop-place.place blank in
     let enough : HasEnoughMembers members = record { few = omega arith; enough = omega arith } in
     let one : IsOneOfMany members = (c.if-members-eq1.true, c.if-members-gt1.true) in
-    first_refused c.args.groups.now c.loop-place.place blank (λ m. HasEnoughMembers m × IsOneOfMany m) c.loop-place-test.true c.loop-place.invariant (enough, one)
+    first_refused c.args.groups.now c.loop-place.place blank (λ m. HasEnoughMembers m × IsOneOfMany m)
+    c.loop-place-test.true c.loop-place.invariant (enough, one)
 
 pub loop-place-preserved : goal.loop-place-preserved
 loop-place-preserved c =

@@ -28,7 +28,8 @@ returns-in_err-check_groups c =
     let same = c.from.ensures in
     let enough : HasEnoughGroups c.in-Some.group_threshold listed.groups = record { few = omega arith; enough = omega arith } in
     let short : c.in-Some.groups.first.items ≡ listed.groups = list-few c.in-Some.groups listed.groups listed.is_list few in
-    let refused = subst (λ groups. RefusesAGroup groups c.in_err-check_groups.field-0.0) (c.as_slice.ensures.value ∙ short) c.in_err-check_groups.ensures.refused in
+    let refused = subst (λ groups. RefusesAGroup groups c.in_err-check_groups.field-0.0)
+    (c.as_slice.ensures.value ∙ short) c.in_err-check_groups.ensures.refused in
     let error = err_from_is_err_and c.from_residual.result c.from_residual.ensures.1 in
     rw (error.1, error.2)
     (reading-refused c.args.text.now c.in-Some.group_threshold listed.groups listed.has_form c.in_err-check_groups.field-0.0 enough refused)

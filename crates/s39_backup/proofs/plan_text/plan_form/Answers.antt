@@ -11,4 +11,5 @@ returns-clause-form c = alone-found c.args.text.now c.in_ok-groups-2.groups c.th
 
 pub returns-clause-none : goal.returns-clause-none
 returns-clause-none c = λ none.
-    alone-none c.args.text.now c.in_ok-groups-2.groups c.then_some.result c.in_ok-groups-2.ensures.groups c.then_some.ensures none (c.in_default.ensures.none refl)
+    alone-none c.args.text.now c.in_ok-groups-2.groups c.then_some.result c.in_ok-groups-2.ensures.groups
+    c.then_some.ensures none (c.in_default.ensures.none refl)
