@@ -1,5 +1,6 @@
 -- The shares of a backup, as they are created one after the other.
-use Rattle.std.proofs.Common.{◌≡◌, ℕ, suc, ◌+◌, ◌*◌, ◌<◌, ◌≤◌, List, [], ◌∷◌, ◌++◌, length, get_or, take, drop, map, sum_by, All, refl, sym, ap, subst, ◌∙◌, arith}
+use Rattle.std.proofs.Common.{◌≡◌, ℕ, suc, ◌+◌, ◌*◌, ◌<◌, ◌≤◌, List, [], ◌∷◌, ◌++◌, length, get_or, take, drop, map, sum_by, All, refl, sym, ap, subst, ◌∙◌}
+use Rattle.std.proofs.Common.{arith}
 use Rattle.std.specs.List.{concat, enumerate_from}
 use Rattle.std.proofs.lemmas.List.{length-map, length-take-le, length-append, take_more, map_push, append_assoc, append-nil}
 use Rattle.std.proofs.lemmas.List.Sums.{sum_by-cons}
@@ -30,12 +31,15 @@ module _ (params : Params) (group_threshold group_count : ℕ) where
       ap (created_group params group_threshold group_count group members) more
       ∙ ap (map (λ s. created_share params group_threshold group_count group members s.0 s.1)) (enumerate_from-push 0 before value)
       ∙ map_push (λ s. created_share params group_threshold group_count group members s.0 s.1) (enumerate_from 0 before) (0 + length before, value)
-      ∙ ap (λ (k : ℕ). created_group params group_threshold group_count group members before ++ created_share params group_threshold group_count group members k value ∷ []) count
+      ∙ ap (λ (k : ℕ). created_group params group_threshold group_count group members before ++ created_share params group_threshold group_count group
+      members k value ∷ []) count
 
   -- the shares of one group more
-  pub created_groups-push : (group : ℕ) (groups : List Members) (values : List (List (List ℕ))) (members : Members) (more : List (List ℕ)) → length values ≡ length groups
+  pub created_groups-push : (group : ℕ) (groups : List Members) (values : List (List (List ℕ))) (members : Members) (more : List (List ℕ))
+      → length values ≡ length groups
       → created_groups params group_threshold group_count group (groups ++ members ∷ []) (values ++ more ∷ [])
-      ≡ created_groups params group_threshold group_count group groups values ++ created_group params group_threshold group_count (group + length groups) members more
+      ≡ created_groups params group_threshold group_count group groups values ++ created_group params group_threshold group_count
+      (group + length groups) members more
   created_groups-push group [] [] members more same =
       let here : group ≡ group + 0 = omega arith in
       append-nil (created_group params group_threshold group_count group members more)
@@ -51,12 +55,14 @@ module _ (params : Params) (group_threshold group_count : ℕ) where
       ∙ sym (append_assoc first others (created_group params group_threshold group_count (group + length (g ∷ gs)) members more))
 
 -- each group has its values
-pub length-split_among : (groups : List Members) (shares pieces : List (List ℕ)) (values : List (List (List ℕ))) → AreSplitAmong groups shares pieces values → length values ≡ length groups
+pub length-split_among : (groups : List Members) (shares pieces : List (List ℕ)) (values : List (List (List ℕ))) → AreSplitAmong groups shares pieces values
+    → length values ≡ length groups
 length-split_among [] [] [] [] all = refl
 length-split_among (g ∷ gs) (s ∷ ss) (p ∷ ps) (v ∷ vs) all = let rest = length-split_among gs ss ps vs all.1 in omega arith
 length-split_among gs ss ps vs all = absurd all
 
-pub split_among-push : (groups : List Members) (shares pieces : List (List ℕ)) (values : List (List (List ℕ))) (members : Members) (share piece : List ℕ) (more : List (List ℕ))
+pub split_among-push : (groups : List Members) (shares pieces : List (List ℕ)) (values : List (List (List ℕ))) (members : Members) (share piece : List ℕ)
+    (more : List (List ℕ))
     → AreSplitAmong groups shares pieces values → IsSplit members.threshold members.count share piece more
     → AreSplitAmong (groups ++ members ∷ []) (shares ++ share ∷ []) (pieces ++ piece ∷ []) (values ++ more ∷ [])
 split_among-push [] [] [] [] members share piece more all one = (one, tt)
@@ -97,7 +103,8 @@ module _ (params : Params) (group_threshold group_count : ℕ) (groups : List Me
     enough_left n lengths all =
         let next : suc group ≡ group + 1 = omega arith in
         before.left n lengths all
-        ∙ ap (sum_by (λ members. random_needed members.threshold n)) (drop-cons groups group d within ∙ ap (λ (m : ℕ). get_or groups group d ∷ drop m groups) next)
+        ∙ ap (sum_by (λ members. random_needed members.threshold n)) (drop-cons groups group d within
+        ∙ ap (λ (m : ℕ). get_or groups group d ∷ drop m groups) next)
         ∙ sum_by-cons (λ members. random_needed members.threshold n) (get_or groups group d) (drop (group + 1) groups)
 
     -- the shares of one group more
@@ -112,7 +119,8 @@ module _ (params : Params) (group_threshold group_count : ℕ) (groups : List Me
         let share = get_or group_shares group e in
         let has : group < length group_shares = omega arith in
         let some : length (take group groups) ≡ group = length-take-le group groups (omega arith) in
-        let as_long : length before.values ≡ length (take group groups) = length-split_among (take group groups) (take group group_shares) before.pieces before.values before.split in
+        let as_long : length before.values ≡ length (take group groups) =
+        length-split_among (take group groups) (take group group_shares) before.pieces before.values before.split in
         let place : 0 + length (take group groups) ≡ group = omega arith in
         record {
           pieces = before.pieces ++ piece ∷ [];
@@ -122,7 +130,8 @@ module _ (params : Params) (group_threshold group_count : ℕ) (groups : List Me
           split = rw (take_more groups group d within, take_more group_shares group e has)
               (split_among-push (take group groups) (take group group_shares) before.pieces before.values members share piece values before.split split);
           shares_are = is ∙ ap (λ xs. xs ++ created_group params group_threshold group_count group members values) before.shares_are
-              ∙ ap (λ (g : ℕ). created_groups params group_threshold group_count 0 (take group groups) before.values ++ created_group params group_threshold group_count g members values) (sym place)
+              ∙ ap (λ (g : ℕ). created_groups params group_threshold group_count 0
+              (take group groups) before.values ++ created_group params group_threshold group_count g members values) (sym place)
               ∙ sym (created_groups-push params group_threshold group_count 0 (take group groups) before.values members values as_long)
               ∙ ap (λ gs. created_groups params group_threshold group_count 0 gs (before.values ++ values ∷ [])) (sym (take_more groups group d within));
           room = room;

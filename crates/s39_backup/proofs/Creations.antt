@@ -1,5 +1,6 @@
 -- A backup exists for all that a creation accepts, and is one.
-use Rattle.std.proofs.Common.{◌≡◌, ℕ, ◌+◌, ◌%◌, ◌^◌, ◌<◌, ◌≤◌, List, [], ◌∷◌, ◌++◌, length, take, drop, sum_by, All, refl, sym, ap, ap₂, subst, ◌∙◌, arith, length-append, length-drop}
+use Rattle.std.proofs.Common.{◌≡◌, ℕ, ◌+◌, ◌%◌, ◌^◌, ◌<◌, ◌≤◌, List, [], ◌∷◌, ◌++◌, length, take, drop, sum_by, All, refl, sym, ap, ap₂, subst, ◌∙◌, arith}
+use Rattle.std.proofs.Common.{length-append, length-drop}
 use Rattle.std.specs.List.{concat}
 use Rattle.std.proofs.Math.Seq.{take-append_seam, drop-append_seam}
 use Rattle.std.proofs.lemmas.List.{length-take-le, take-append-drop}
@@ -9,7 +10,8 @@ use Rattle.s39_kdf.specs.declared.params.Params.{Params}
 use Rattle.s39_kdf.specs.Bytes.{AreBytes}
 use Rattle.s39_kdf.specs.Limits.{IsSecretLength}
 use Rattle.s39_kdf.specs.Cipher.{IsEncryption, SecretsHaveOneEncryption, EncryptionKeepsLengthAndBytes}
-use Rattle.s39_split.specs.Sharing.{digest_length, random_needed as level_random_needed, IsSplit, SplitsTakeTheBytesNeeded, SharesAreAsLong, SharesAreBytes, HaveASplit, HaveOneSplit}
+use Rattle.s39_split.specs.Sharing.{digest_length, random_needed as level_random_needed, IsSplit, SplitsTakeTheBytesNeeded, SharesAreAsLong, SharesAreBytes}
+use Rattle.s39_split.specs.Sharing.{HaveASplit, HaveOneSplit}
 use Rattle.s39_words.specs.declared.share.ShareFields.{ShareFields}
 use Rattle.s39_backup.specs.declared.plan.Members.{Members}
 use Rattle.s39_backup.specs.declared.options.Options.{Options}

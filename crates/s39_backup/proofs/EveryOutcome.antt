@@ -1,5 +1,6 @@
 -- Every quorum combines to something, where shares do, and so it has an outcome, where a text is the encryption of a secret.
-use Rattle.std.proofs.Common.{◌≡◌, ℕ, ◌<◌, ◌%◌, List, [], ◌∷◌, ◌++◌, length, get_or, map, All, Contains, Option, Some, None, Result, Ok, Err, ◌⊎◌, inl, inr, nat_lt, refl, ap, subst, ◌∙◌, arith}
+use Rattle.std.proofs.Common.{◌≡◌, ℕ, ◌<◌, ◌%◌, List, [], ◌∷◌, ◌++◌, length, get_or, map, All, Contains, Option, Some, None, Result, Ok, Err, ◌⊎◌, inl, inr}
+use Rattle.std.proofs.Common.{nat_lt, refl, ap, subst, ◌∙◌, arith}
 use Rattle.std.specs.Prelude.{IfOk, IsSomeAnd}
 use Rattle.std.specs.List.{range_with_len}
 use Rattle.std.proofs.lemmas.Bool.{ltb-true}
@@ -18,7 +19,8 @@ use Rattle.s39_backup.specs.Combination.{value_of, member_shares, groups_of, Gro
 use Rattle.s39_backup.specs.Outcome.{AreParams, IsOutcome}
 use Rattle.s39_backup.specs.GroupShares.{value_bytes_of, IsExactQuorum, AreGroupShares}
 use Rattle.s39_backup.proofs.Values.{bytes-value_of}
-use Rattle.s39_backup.proofs.Levels.{some_share, level-one_length, group_at_hand, member_threshold_is, members_of_one_level, group_combines, group_threshold_is, value_bytes-even, groups_of_one_level, all_combine, groups_combine}
+use Rattle.s39_backup.proofs.Levels.{some_share, level-one_length, group_at_hand, member_threshold_is, members_of_one_level, group_combines}
+use Rattle.s39_backup.proofs.Levels.{group_threshold_is, value_bytes-even, groups_of_one_level, all_combine, groups_combine}
 use Rattle.s39_backup.proofs.OneRecovery.{of_fields}
 
 -- the shares of a set have parameters

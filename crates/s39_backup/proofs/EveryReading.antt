@@ -1,5 +1,6 @@
 -- Every text is read as a plan, or refused.
-use Rattle.std.proofs.Common.{◌≡◌, ◌≢◌, ℕ, zero, suc, ◌+◌, ◌-◌, ◌*◌, ◌<◌, ◌≤◌, List, [], ◌∷◌, ◌++◌, length, All, Result, Ok, Err, ◌⊎◌, inl, inr, refl, sym, ap, subst, ◌∙◌, arith}
+use Rattle.std.proofs.Common.{◌≡◌, ◌≢◌, ℕ, zero, suc, ◌+◌, ◌-◌, ◌*◌, ◌<◌, ◌≤◌, List, [], ◌∷◌, ◌++◌, length, All, Result, Ok, Err, ◌⊎◌, inl, inr, refl, sym}
+use Rattle.std.proofs.Common.{ap, subst, ◌∙◌, arith}
 use Rattle.std.specs.Prelude.{◌==◌}
 use Rattle.std.specs.Fmt.{decimal}
 use Rattle.std.proofs.lemmas.Bool.{cases_lt, cases_Bool, eqb-true, eq-eqb, false≢true}
@@ -9,10 +10,13 @@ use Rattle.s39_backup.specs.declared.plan.Members.{Members}
 use Rattle.s39_backup.specs.declared.plan_error.PlanError.{PlanError}
 use Rattle.s39_backup.specs.declared.plan_error.PlanError.TheVariants.{BadPlan, PlanGroups, PlanMembers, OneOfMany}
 use Rattle.s39_backup.specs.Plan.{IsPlanNumber, HasEnoughMembers, IsOneOfMany, IsGroup, HasEnoughGroups, IsFirstRefusedGroup, PlanForm, IsPlanReading}
-use Rattle.s39_backup.specs.PlanText.{BeginsWithNoDigit, BeginsWithDigit, BeginsWithNumber, BeginsWithMembers, BeginsWithGroupThreshold, IsGroupsText, RefusesAGroup}
+use Rattle.s39_backup.specs.PlanText.{BeginsWithNoDigit, BeginsWithDigit, BeginsWithNumber, BeginsWithMembers, BeginsWithGroupThreshold, IsGroupsText}
+use Rattle.s39_backup.specs.PlanText.{RefusesAGroup}
 use Rattle.s39_backup.proofs.Causes.{same_or_not}
 use Rattle.s39_backup.proofs.PlanNumbers.{number_once, number-one, number-two, no_number-none, no_number-zero, no_number-three}
-use Rattle.s39_backup.proofs.PlanTexts.{behind_threshold, threshold-number, number-threshold, members-threshold, members-count, numbers-members, members-shorter, one_group, more_groups, read-none, no_groups-members, no_groups-behind, read-more, groups_once, form_with_threshold, form_of_one, no_form-threshold, no_form-alone}
+use Rattle.s39_backup.proofs.PlanTexts.{behind_threshold, threshold-number, number-threshold, members-threshold, members-count, numbers-members}
+use Rattle.s39_backup.proofs.PlanTexts.{members-shorter, one_group, more_groups, read-none, no_groups-members, no_groups-behind, read-more, groups_once}
+use Rattle.s39_backup.proofs.PlanTexts.{form_with_threshold, form_of_one, no_form-threshold, no_form-alone}
 use Rattle.s39_backup.proofs.PlanReadings.{reading-groups, reading-refused}
 
 -- ---- what a text begins with, if anything

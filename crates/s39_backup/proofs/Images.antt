@@ -5,7 +5,8 @@ use Rattle.std.proofs.lemmas.List.{length-map, get_or-map}
 use Rattle.std.proofs.lemmas.List.Elements.{All-head, All-tail}
 
 -- what is true of the images of the elements is true of the list of the images
-pub AllPairs-map : {X Y : Type 0} (R : Y → Y → Type 0) (f : X → Y) (xs : List X) → ((i j : ℕ) (d : X) → i < j → j < length xs → R (f (get_or xs i d)) (f (get_or xs j d)))
+pub AllPairs-map : {X Y : Type 0} (R : Y → Y → Type 0) (f : X → Y) (xs : List X)
+    → ((i j : ℕ) (d : X) → i < j → j < length xs → R (f (get_or xs i d)) (f (get_or xs j d)))
     → (d : X) → AllPairs R (map f xs)
 AllPairs-map R f xs h d i j e before within =
     let count : length (map f xs) ≡ length xs = length-map xs f in
@@ -22,6 +23,7 @@ pub zip-parts : {X Y : Type 0} (pairs : List (X × Y)) → zip (map (λ p. p.0) 
 zip-parts [] = refl
 zip-parts (p ∷ ps) = ap (λ rest. p ∷ rest) (zip-parts ps)
 
-pub AllZip-parts : {X Y : Type 0} (R : X → Y → Type 0) (pairs : List (X × Y)) → All (λ p. R p.0 p.1) pairs → AllZip R (map (λ p. p.0) pairs) (map (λ p. p.1) pairs)
+pub AllZip-parts : {X Y : Type 0} (R : X → Y → Type 0) (pairs : List (X × Y)) → All (λ p. R p.0 p.1) pairs
+    → AllZip R (map (λ p. p.0) pairs) (map (λ p. p.1) pairs)
 AllZip-parts R [] h = tt
 AllZip-parts R (p ∷ ps) h = (All-head (λ q. R q.0 q.1) p ps h, AllZip-parts R ps (All-tail (λ q. R q.0 q.1) p ps h))

@@ -1,5 +1,6 @@
 -- The shares of a group of a quorum, and those of its groups.
-use Rattle.std.proofs.Common.{◌≡◌, ◌≢◌, ℕ, ◌+◌, ◌-◌, ◌%◌, ◌<◌, ◌≤◌, ◌==◌, Bool, false, List, [], ◌∷◌, ◌++◌, length, get_or, take, filter, map, All, AllPairs, Contains, Option, Some, None, Less, nat_lt, nat_le, cond, inl, inr, refl, sym, ap, subst, ◌∙◌, arith}
+use Rattle.std.proofs.Common.{◌≡◌, ◌≢◌, ℕ, ◌+◌, ◌-◌, ◌%◌, ◌<◌, ◌≤◌, ◌==◌, Bool, false, List, [], ◌∷◌, ◌++◌, length, get_or, take, filter, map, All, AllPairs}
+use Rattle.std.proofs.Common.{Contains, Option, Some, None, Less, nat_lt, nat_le, cond, inl, inr, refl, sym, ap, subst, ◌∙◌, arith}
 use Rattle.std.specs.Prelude.{IsSomeAnd}
 use Rattle.std.specs.List.{range_with_len, zip}
 use Rattle.std.specs.Option.{option_map_or}
@@ -55,7 +56,8 @@ same_group : (a b : ℕ × ℕ) (group : ℕ) → a.0 ≡ group → b.0 ≡ grou
 same_group a b group first second less same = grind (arith, nat_tests)
 
 -- a group has a share for each of its names
-pub length-member_shares : (set : List ShareFields) (names : List (ℕ × ℕ)) (group : ℕ) → length (member_shares set names group) ≡ length (names_in_group group names)
+pub length-member_shares : (set : List ShareFields) (names : List (ℕ × ℕ)) (group : ℕ)
+    → length (member_shares set names group) ≡ length (names_in_group group names)
 length-member_shares set names group = length-map (names_in_group group names) (λ name. (name.1, value_of set name))
 
 module _ (set : List ShareFields) (names : List (ℕ × ℕ)) (quorum : IsExactQuorum set names) where
@@ -152,7 +154,8 @@ module _ (set : List ShareFields) (names : List (ℕ × ℕ)) (quorum : IsExactQ
   group_threshold_is =
       quorum.exact.just.groups
       ∙ ap (λ groups. Some (length groups))
-      (filter_same (is_complete (member_threshold_of set) names) (λ group. nat_lt 0 (length (names_in_group group names))) (range_with_len 0 most_groups) complete_here)
+      (filter_same (is_complete (member_threshold_of set) names) (λ group. nat_lt 0 (length (names_in_group group names)))
+      (range_with_len 0 most_groups) complete_here)
 
   -- the values have an even length
   pub value_bytes-even : value_bytes_of set % 2 ≡ 0

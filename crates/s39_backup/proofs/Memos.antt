@@ -8,7 +8,8 @@ use Rattle.s39_backup.specs.declared.memo.Deciphered.{Deciphered}
 use Rattle.s39_backup.specs.Memo.{most_kept, newest, AreDeciphered, entries_of}
 
 -- a value that nothing was deciphered of isn't among those that are kept
-pub not_among : (kept : List Deciphered) (b : List ℕ) → All (λ entry. entry.encrypted.items ≢ b) kept → Contains (map (λ entry. entry.0) (entries_of kept)) b → ⊥
+pub not_among : (kept : List Deciphered) (b : List ℕ) → All (λ entry. entry.encrypted.items ≢ b) kept → Contains (map (λ entry. entry.0) (entries_of kept)) b
+    → ⊥
 not_among kept b none (k, below, here) =
     let blank : Deciphered = record { encrypted = record { items = [] }; secret = record { items = [] } } in
     let no_entry : List ℕ × List ℕ = (b, []) in
@@ -25,11 +26,13 @@ found_entry kept k d encrypted secret within first second =
     let entry : List ℕ × List ℕ = (encrypted, secret) in (
       k,
       omega (arith, length-map {B = List ℕ × List ℕ} kept (λ entry. (entry.encrypted.items, entry.secret.items))),
-      get_or-map {Y = List ℕ × List ℕ} (λ entry. (entry.encrypted.items, entry.secret.items)) kept k d entry within ∙ ap₂ (λ (x y : List ℕ). (x, y)) first second,
+      get_or-map {Y = List ℕ × List ℕ} (λ entry. (entry.encrypted.items, entry.secret.items)) kept k d entry within
+          ∙ ap₂ (λ (x y : List ℕ). (x, y)) first second,
     )
 
 -- and the value among those that are kept
-pub among-first : (entries : List (List ℕ × List ℕ)) (encrypted secret : List ℕ) → Contains entries (encrypted, secret) → Contains (map (λ entry. entry.0) entries) encrypted
+pub among-first : (entries : List (List ℕ × List ℕ)) (encrypted secret : List ℕ) → Contains entries (encrypted, secret)
+    → Contains (map (λ entry. entry.0) entries) encrypted
 among-first entries encrypted secret (k, below, here) =
     let entry : List ℕ × List ℕ = (encrypted, secret) in (
       k,
@@ -42,5 +45,6 @@ pub newest-deciphered : (passphrase : List ℕ) (params : Params) (entries : Lis
     → AreDeciphered passphrase params entries → IsEncryption secret passphrase params encrypted
     → AreDeciphered passphrase params (newest (entries ++ (encrypted, secret) ∷ []))
 newest-deciphered passphrase params entries encrypted secret all one =
-    All-drop (λ entry. IsEncryption entry.1 passphrase params entry.0) (length (entries ++ (encrypted, secret) ∷ []) - most_kept) (entries ++ (encrypted, secret) ∷ [])
+    All-drop (λ entry. IsEncryption entry.1 passphrase params entry.0) (length (entries ++ (encrypted, secret) ∷ []) - most_kept)
+    (entries ++ (encrypted, secret) ∷ [])
     (All-push (λ entry. IsEncryption entry.1 passphrase params entry.0) entries (encrypted, secret) all one)

@@ -1,5 +1,6 @@
 -- A quorum combines to one thing, where shares do, and so it has one outcome, where a text encrypts one secret.
-use Rattle.std.proofs.Common.{◌≡◌, ◌≢◌, ℕ, ◌<◌, ◌^◌, Bool, List, [], ◌∷◌, ◌++◌, length, map, All, AllPairs, Option, Some, None, Result, Ok, Err, nat_lt, refl, sym, ap, ap₂, subst, ◌∙◌, arith}
+use Rattle.std.proofs.Common.{◌≡◌, ◌≢◌, ℕ, ◌<◌, ◌^◌, Bool, List, [], ◌∷◌, ◌++◌, length, map, All, AllPairs, Option, Some, None, Result, Ok, Err, nat_lt, refl}
+use Rattle.std.proofs.Common.{sym, ap, ap₂, subst, ◌∙◌, arith}
 use Rattle.std.proofs.Math.Bridge.{le_prop}
 use Rattle.std.specs.Prelude.{IsSomeAnd, IfOk, IfErr, IsOkAnd, MatchResult}
 use Rattle.arrayvec.specs.ArrayVec.{ArrayVec}
@@ -98,7 +99,8 @@ module _ (set : List ShareFields) (names : List (ℕ × ℕ)) (quorum : IsExactQ
       let has : ℕ → Bool = λ group. nat_lt 0 (length (names_in_group group names)) in
       let low : All (λ pair. pair.0 < most_groups) pairs =
       All-from_map (λ group. group < most_groups) (λ p. p.0) pairs
-      (All-same (λ group. group < most_groups) (map (λ p. p.0) pairs) groups firsts (All-filter has (λ group. group < most_groups) (range_with_len 0 most_groups) (range-below most_groups))) in
+      (All-same (λ group. group < most_groups) (map (λ p. p.0) pairs) groups firsts
+      (All-filter has (λ group. group < most_groups) (range_with_len 0 most_groups) (range-below most_groups))) in
       let some : 0 < length pairs = omega (arith, some_group set names quorum) in
       combine_once (length groups) pairs outcome other some
       (λ k d within. (let l = low k d within in omega arith))
@@ -147,7 +149,8 @@ module _ (set : List ShareFields) (names : List (ℕ × ℕ)) (quorum : IsExactQ
   -- where all groups combine, none is the first that is refused
   none_mismatches : (shares : List (List ℕ)) (group : ℕ) → AllCombine set names (groups_of names) shares → MismatchesInGroup set names group → ⊥
   none_mismatches shares group all m =
-      not_refused m.before m.after group shares (All-same (λ g. 0 < length (names_in_group g names)) (m.before ++ group ∷ m.after) (groups_of names) (sym m.parts) have_names)
+      not_refused m.before m.after group shares (All-same (λ g. 0 < length (names_in_group g names)) (m.before ++ group ∷ m.after) (groups_of names)
+      (sym m.parts) have_names)
       (subst (λ groups. AllCombine set names groups shares) m.parts all) m.refused
 
   -- where the group shares combine, they aren't refused
@@ -156,18 +159,21 @@ module _ (set : List ShareFields) (names : List (ℕ × ℕ)) (quorum : IsExactQ
       → GroupsCombine set (groups_of names) others None → ⊥
   groups_not_refused shares others encrypted all combined all_others refused =
       let same : others ≡ shares = shares_once (groups_of names) others shares have_names all_others all in
-      let both : Some encrypted ≡ None = groups_once shares (Some encrypted) None all combined (subst (λ xs. GroupsCombine set (groups_of names) xs None) same refused) in
+      let both : Some encrypted ≡ None = groups_once shares (Some encrypted) None all combined
+      (subst (λ xs. GroupsCombine set (groups_of names) xs None) same refused) in
       cc
 
   encrypted_once : (encrypted other : List ℕ) → IsCombination set names (Ok encrypted) → IsCombination set names (Ok other) → encrypted ≡ other
   encrypted_once encrypted other r s =
       let shares : s.shares ≡ r.shares = shares_once (groups_of names) s.shares r.shares have_names s.groups r.groups in
       let both : Some encrypted ≡ Some other =
-      groups_once r.shares (Some encrypted) (Some other) r.groups r.combined (subst (λ xs. GroupsCombine set (groups_of names) xs (Some other)) shares s.combined) in
+      groups_once r.shares (Some encrypted) (Some other) r.groups r.combined
+      (subst (λ xs. GroupsCombine set (groups_of names) xs (Some other)) shares s.combined) in
       cc
 
   -- a quorum combines to one thing
-  pub combination_once : (combination other : Result (List ℕ) Mismatch) → IsCombination set names combination → IsCombination set names other → combination ≡ other
+  pub combination_once : (combination other : Result (List ℕ) Mismatch) → IsCombination set names combination → IsCombination set names other
+      → combination ≡ other
   combination_once (Ok encrypted) (Ok other) r s = ap (λ x. Ok x) (encrypted_once encrypted other r s)
   combination_once (Ok encrypted) (Err (InGroup group)) r s = absurd (none_mismatches r.shares group r.groups s)
   combination_once (Ok encrypted) (Err OfGroups) r s = absurd (groups_not_refused r.shares s.shares encrypted r.groups r.combined s.groups s.refused)
@@ -194,7 +200,8 @@ module _ (set : List ShareFields) (names : List (ℕ × ℕ))
       encrypts_once passphrase r.params secret other r.encrypted r.secret_is
       (subst (λ p. IsEncryption other passphrase p r.encrypted) params (subst (IsEncryption other passphrase s.params) encrypted s.secret_is))
 
-  pub outcome_once : (outcome other : Result (List ℕ) Mismatch) → IsOutcome set names passphrase outcome → IsOutcome set names passphrase other → outcome ≡ other
+  pub outcome_once : (outcome other : Result (List ℕ) Mismatch) → IsOutcome set names passphrase outcome → IsOutcome set names passphrase other
+      → outcome ≡ other
   outcome_once (Ok secret) (Ok other) r s = ap (λ x. Ok x) (secret_once secret other r s)
   outcome_once (Ok secret) (Err mismatch) r s = let both = once (Ok r.encrypted) (Err mismatch) r.combined s in cc
   outcome_once (Err mismatch) (Ok secret) r s = let both = once (Err mismatch) (Ok s.encrypted) r s.combined in cc
@@ -220,7 +227,8 @@ only_combination set names once encrypted is (Err m) combined refused =
 pub only_outcome : (set : List ShareFields) (names : List (ℕ × ℕ)) (passphrase : List ℕ)
     → ((outcome other : Result (List ℕ) Mismatch) → IsOutcome set names passphrase outcome → IsOutcome set names passphrase other → outcome ≡ other)
     → (secret : List ℕ) → IsOutcome set names passphrase (Ok secret)
-    → (result : Result (ArrayVec ℕ) Mismatch) → IfOk result (λ s. IsOutcome set names passphrase (Ok s.items)) → IfErr result (λ m. IsOutcome set names passphrase (Err m))
+    → (result : Result (ArrayVec ℕ) Mismatch) → IfOk result (λ s. IsOutcome set names passphrase (Ok s.items))
+    → IfErr result (λ m. IsOutcome set names passphrase (Err m))
     → IsOkAnd result (λ s. s.items ≡ secret)
 only_outcome set names passphrase once secret is (Ok s) recovered refused =
     let same : Ok s.items ≡ Ok secret = once (Ok s.items) (Ok secret) recovered is in
@@ -230,6 +238,7 @@ only_outcome set names passphrase once secret is (Err m) recovered refused =
     absurd (cc)
 
 -- a success stays one where only the error is changed
-pub stays_ok : {T E F : Type 0} (r : Result T E) (s : Result T F) (P : T → Type 0) (Q : E → Type 0) → IsOkAnd r P → MatchResult r (λ x. s ≡ Ok x) Q → IsOkAnd s P
+pub stays_ok : {T E F : Type 0} (r : Result T E) (s : Result T F) (P : T → Type 0) (Q : E → Type 0) → IsOkAnd r P → MatchResult r (λ x. s ≡ Ok x) Q
+    → IsOkAnd s P
 stays_ok (Ok x) s P Q holds same = subst (λ t. IsOkAnd t P) (sym same) holds
 stays_ok (Err e) s P Q holds same = absurd holds

@@ -1,5 +1,6 @@
 -- The groups of a plan's text, read from the front.
-use Rattle.std.proofs.Common.{◌≡◌, ◌≢◌, ℕ, ◌+◌, ◌<◌, ◌≤◌, Bool, true, false, List, [], ◌∷◌, ◌++◌, length, get_or, take, min, Option, Some, None, ◌⊎◌, inl, inr, refl, sym, ap, ap₂, subst, ◌∙◌, arith}
+use Rattle.std.proofs.Common.{◌≡◌, ◌≢◌, ℕ, ◌+◌, ◌<◌, ◌≤◌, Bool, true, false, List, [], ◌∷◌, ◌++◌, length, get_or, take, min, Option, Some, None, ◌⊎◌, inl}
+use Rattle.std.proofs.Common.{inr, refl, sym, ap, ap₂, subst, ◌∙◌, arith}
 use Rattle.std.specs.Prelude.{IfSome, ◌==◌}
 use Rattle.std.specs.Bool.{then_some}
 use Rattle.std.specs.Fmt.{decimal}
@@ -10,7 +11,8 @@ use Rattle.s39_set.specs.Names.{most_groups}
 use Rattle.s39_backup.specs.declared.plan.Members.{Members}
 use Rattle.s39_backup.specs.declared.plan_text.GroupList.{GroupList}
 use Rattle.s39_backup.specs.Plan.{IsPlanNumber, members_text, groups_text, HasPlanForm, PlanForm}
-use Rattle.s39_backup.specs.PlanText.{BeginsWithNumber, BeginsWithMembers, BeginsWithGroupThreshold, IsGroupsText, AreReadBefore, IsListOf, ListsGroupsOf, ListsPlanOf}
+use Rattle.s39_backup.specs.PlanText.{BeginsWithNumber, BeginsWithMembers, BeginsWithGroupThreshold, IsGroupsText, AreReadBefore, IsListOf, ListsGroupsOf}
+use Rattle.s39_backup.specs.PlanText.{ListsPlanOf}
 use Rattle.s39_backup.proofs.PlanNumbers.{AreSame, number_once}
 
 -- ---- the group threshold

@@ -1,5 +1,6 @@
 -- Each quorum of a created backup's shares recovers its secret.
-use Rattle.std.proofs.Common.{◌≡◌, ◌≢◌, ℕ, zero, suc, ◌+◌, ◌<◌, List, [], ◌∷◌, length, get_or, find, map, All, AllPairs, Contains, Option, Some, None, inl, inr, refl, sym, ap, subst, ◌∙◌, arith}
+use Rattle.std.proofs.Common.{◌≡◌, ◌≢◌, ℕ, zero, suc, ◌+◌, ◌<◌, List, [], ◌∷◌, length, get_or, find, map, All, AllPairs, Contains, Option, Some, None, inl}
+use Rattle.std.proofs.Common.{inr, refl, sym, ap, subst, ◌∙◌, arith}
 use Rattle.std.specs.Prelude.{IsSomeAnd, ◌==◌, nat_lt}
 use Rattle.std.specs.List.{AllZip, enumerate_from, range_with_len, slice_get, zip}
 use Rattle.std.specs.Option.{option_map, option_map_or}
@@ -61,7 +62,8 @@ module _ (params : Params) (group_threshold group_count : ℕ) where
   in_created_groups [] values start share (k, below, here) = absurd (omega arith)
   in_created_groups (g ∷ gs) [] start share (k, below, here) = absurd (omega arith)
   in_created_groups (g ∷ gs) (v ∷ vs) start share among =
-      elim (Contains-append_cases (created_group params group_threshold group_count start g v) (created_groups params group_threshold group_count (start + 1) gs vs) share among) [
+      elim (Contains-append_cases (created_group params group_threshold group_count start g v)
+      (created_groups params group_threshold group_count (start + 1) gs vs) share among) [
         | inl first ↦
             let (member, value, at, is) = in_created_group start g v 0 share first in
             let here : start ≡ start + 0 = omega arith in
@@ -107,8 +109,10 @@ pub record IsSplitAt (groups : List Members) (shares : List (List ℕ)) (place :
 some_same : {X : Type 0} (x y : X) → Some x ≡ Some y → x ≡ y
 some_same x y e = cc
 
-pub split_at_place : (groups : List Members) (shares pieces : List (List ℕ)) (values : List (List (List ℕ))) (place : ℕ) (members : Members) (others : List (List ℕ))
-    → AreSplitAmong groups shares pieces values → slice_get groups place ≡ Some members → slice_get values place ≡ Some others → IsSplitAt groups shares place members others
+pub split_at_place : (groups : List Members) (shares pieces : List (List ℕ)) (values : List (List (List ℕ))) (place : ℕ) (members : Members)
+    (others : List (List ℕ))
+    → AreSplitAmong groups shares pieces values → slice_get groups place ≡ Some members → slice_get values place ≡ Some others
+    → IsSplitAt groups shares place members others
 split_at_place (g ∷ gs) (s ∷ ss) (p ∷ ps) (v ∷ vs) zero members others all group_is values_are =
     let same_group : g ≡ members = some_same g members group_is in
     let same_values : v ≡ others = some_same v others values_are in
@@ -186,7 +190,8 @@ module _ (set : List ShareFields) (names : List (ℕ × ℕ)) (quorum : IsExactQ
       → member_threshold_of set group ≡ Some threshold → threshold ≡ members.threshold
   threshold_of_plan group threshold members group_is e = by (find (is_in_group group) set) refl e
     where
-      by : (found : Option ShareFields) → find (is_in_group group) set ≡ found → option_map (λ share. share.member_threshold) found ≡ Some threshold → threshold ≡ members.threshold
+      by : (found : Option ShareFields) → find (is_in_group group) set ≡ found → option_map (λ share. share.member_threshold) found ≡ Some threshold
+          → threshold ≡ members.threshold
       by None here h = absurd (let none : None ≡ Some threshold = h in cc)
       by (Some share) here h =
           let is = share_of share (Contains-find (is_in_group group) set share here) in
@@ -208,7 +213,8 @@ module _ (set : List ShareFields) (names : List (ℕ × ℕ)) (quorum : IsExactQ
       let ns = names_in_group group names in
       let chosen = member_shares set names group in
       let first = named group (get_or ns 0 (0, 0)) (in_group set names quorum group 0 (0, 0) some) (group_at_hand set names quorum group 0 (0, 0) some) in
-      let at = split_at_place backup.groups created.group_shares created.pieces created.values group first.members first.others created.members_split first.group_is first.values_are in
+      let at = split_at_place backup.groups created.group_shares created.pieces created.values group first.members first.others created.members_split
+      first.group_is first.values_are in
       let level = members_of_one_level set names quorum group some in
       let belong : All (λ s. slice_get first.others s.0 ≡ Some s.1) chosen =
       All-map (λ s. slice_get first.others s.0 ≡ Some s.1) (λ name. (name.1, value_of set name)) ns
@@ -239,7 +245,8 @@ module _ (set : List ShareFields) (names : List (ℕ × ℕ)) (quorum : IsExactQ
   unfolding share_at
   share_at-is group at = ap (λ o. option_map_or (λ share. share) o []) at.share_is
 
-  all_at : All (λ group. (slice_get created.group_shares group ≡ Some (share_at group)) × GroupCombines set names group (Some (share_at group))) (groups_of names)
+  all_at : All (λ group. (slice_get created.group_shares group ≡ Some (share_at group)) × GroupCombines set names group (Some (share_at group)))
+      (groups_of names)
   all_at k d within =
       let group = get_or (groups_of names) k d in
       let at = group_share group (have_names k d within) in

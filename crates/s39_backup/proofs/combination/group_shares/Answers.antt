@@ -59,4 +59,5 @@ loop-group-preserved c =
 pub returns-clause-shares : goal.returns-clause-shares
 returns-clause-shares c =
     let all : c.loop-group.group ≡ most_groups = omega arith in
-    subst (λ n. AreGroupShares c.args.set.now c.args.names.now (groups_below c.args.names.now n) (indexed_bytes c.loop-group.shares.items)) all c.loop-group.invariant
+    subst (λ n. AreGroupShares c.args.set.now c.args.names.now (groups_below c.args.names.now n) (indexed_bytes c.loop-group.shares.items)) all
+    c.loop-group.invariant

@@ -30,7 +30,15 @@ returns c =
       groups_split =
           let split = c.split.ensures.shares in
           let number = split.number in
-          record { positive = split.positive; enough = omega arith; few = omega arith; number = omega arith; one_needed = split.one_needed; more_needed = split.more_needed };
+          record {
+            positive = split.positive;
+            enough = omega arith;
+            few = omega arith;
+            number = omega arith;
+            one_needed = split.one_needed;
+            more_needed =
+                split.more_needed;
+          };
       members_split = subst (λ groups. AreSplitAmong groups (bytes_of c.split.new.out) built.pieces built.values) c.deref.ensures.0 built.split;
       shares_are = built.shares_are
           ∙ ap₂ (λ (n : ℕ) groups. created_groups c.params_from-params.result c.args.plan.now.group_threshold n 0 groups built.values)

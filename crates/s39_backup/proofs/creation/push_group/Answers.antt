@@ -16,14 +16,16 @@ loop-member-preserved c =
     let before = created_group h.params h.group_threshold h.group_count c.args.group c.args.members (bytes_of (take member values)) in
     let is : c.share_of.result ≡ share =
     c.share_of.ensures
-    ∙ ap (created_share h.params h.group_threshold h.group_count c.args.group c.args.members member) (c.as_slice.ensures.value ∙ ap (λ v. v.items) c.value-item.is) in
+    ∙ ap (created_share h.params h.group_threshold h.group_count c.args.group c.args.members member)
+    (c.as_slice.ensures.value ∙ ap (λ v. v.items) c.value-item.is) in
     record {
       shares_are = c.push.ensures
           ∙ ap (λ (s : ShareFields). c.loop-member.out ++ s ∷ []) is
           ∙ ap (λ xs. xs ++ share ∷ []) c.loop-member.invariant.shares_are
           ∙ append_assoc c.args.out.now before (share ∷ [])
           ∙ ap (λ xs. c.args.out.now ++ xs)
-          (sym (created_group-more h.params h.group_threshold h.group_count c.args.group c.args.members values member c.value-item.result c.loop-member-test.true));
+          (sym (created_group-more h.params h.group_threshold h.group_count c.args.group c.args.members values member c.value-item.result
+          c.loop-member-test.true));
       room = let room = c.loop-member.invariant.room in
           omega (arith, simp length-append at (ap length c.push.ensures));
     }

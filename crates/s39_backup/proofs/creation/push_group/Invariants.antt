@@ -6,6 +6,7 @@ use Rattle.s39_backup.proofs.creation.push_group.Given as goal
 
 abbrev pub invariant-loop-member : goal.invariant-loop-member
 invariant-loop-member l = record {
-  shares_are : l.out ≡ l.initial.out ++ created_group l.header.params l.header.group_threshold l.header.group_count l.group l.members (bytes_of (take l.member l.value-items));
+  shares_are : l.out ≡ l.initial.out ++ created_group l.header.params l.header.group_threshold l.header.group_count l.group l.members
+      (bytes_of (take l.member l.value-items));
   room : length l.out ≤ most_members * l.group + l.member;
 }

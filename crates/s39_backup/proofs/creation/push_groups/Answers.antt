@@ -11,7 +11,8 @@ use Rattle.s39_backup.proofs.creation.push_groups.Goals as goal
 pub loop-group-init : goal.loop-group-init
 loop-group-init c =
     let header = c.args.header.now in
-    subst (AreCreatedBefore header.params header.group_threshold header.group_count c.args.groups.now (bytes_of c.args.group_shares.now) c.args.random.now 0 c.args.random.now)
+    subst (AreCreatedBefore header.params header.group_threshold header.group_count c.args.groups.now
+    (bytes_of c.args.group_shares.now) c.args.random.now 0 c.args.random.now)
     (sym c.clear.ensures)
     (created_before-none header.params header.group_threshold header.group_count c.args.groups.now (bytes_of c.args.group_shares.now) c.args.random.now)
 
@@ -46,7 +47,8 @@ loop-group-preserved c =
     created_before-more header.params header.group_threshold header.group_count c.args.groups.now (bytes_of shares) c.args.random.now
     group c.loop-group.rest.now c.loop-group.out blank [] c.loop-group.invariant c.loop-group-test.true count
     c.split_at.result.0.now c.split_at.result.1.now c.push_group.ensures.shares.0 c.push_group.new.out
-    (sym (take-append-drop c.random_needed-needed.result c.loop-group.rest.now) ∙ ap₂ (λ xs ys. xs ++ ys) (sym c.split_at.ensures.front) (sym c.split_at.ensures.back))
+    (sym (take-append-drop c.random_needed-needed.result c.loop-group.rest.now)
+    ∙ ap₂ (λ xs ys. xs ++ ys) (sym c.split_at.ensures.front) (sym c.split_at.ensures.back))
     (c.split_at.ensures.front_len ∙ c.random_needed-needed.ensures ∙ ap (random_needed members.threshold) (c.len.ensures.value ∙ ap length share_is))
     (subst (λ s. IsSplit members.threshold members.count s c.split_at.result.0.now c.push_group.ensures.shares.0) share_is c.push_group.ensures.shares.1)
     c.push_group.ensures.shares.2

@@ -21,7 +21,8 @@ loop-entry-preserved c =
     let here = c.as_slice.result.now in
     let wanted = c.as_slice-in-loop-entry.result.now in
     let differs : here ≢ wanted = not_from_Decides (bytes_eq here wanted) (bytes_eq-Decides here wanted) (sym c.eq.ensures ∙ c.if-eq.false) in
-    All-more (λ e. e.encrypted.items ≢ c.args.encrypted.now.items) c.args.kept.now c.loop-entry.entry-index c.entry-item.result c.loop-entry-test.true c.loop-entry.invariant
+    All-more (λ e. e.encrypted.items ≢ c.args.encrypted.now.items) c.args.kept.now c.loop-entry.entry-index c.entry-item.result c.loop-entry-test.true
+    c.loop-entry.invariant
     (λ same. differs (c.as_slice.ensures.value ∙ ap (λ e. e.encrypted.items) c.entry-item.is ∙ same ∙ sym c.as_slice-in-loop-entry.ensures.value))
 
 pub returns-clause-missing : goal.returns-clause-missing

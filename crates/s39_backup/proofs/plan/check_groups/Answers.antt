@@ -5,7 +5,9 @@ use Rattle.s39_backup.specs.declared.plan.Members.{Members}
 use Rattle.s39_backup.specs.Plan.{IsGroup, HasEnoughMembers, IsOneOfMany}
 use Rattle.s39_backup.proofs.Plans.{first_refused}
 use Rattle.s39_backup.proofs.plan.check_groups.Goals as goal
-use Rattle.s39_backup.proofs.plan.check_groups.Goals.{then-members-gt-MAX_MEMBERS-via-then-members-gt-MAX_MEMBERS, then-members-gt-MAX_MEMBERS-via-else-members-gt-MAX_MEMBERS+then-members, else-members-eq1-via-then-members-eq1+else-members-gt1, else-members-eq1-via-else-members-eq1}
+use Rattle.s39_backup.proofs.plan.check_groups.Goals.{then-members-gt-MAX_MEMBERS-via-then-members-gt-MAX_MEMBERS}
+use Rattle.s39_backup.proofs.plan.check_groups.Goals.{then-members-gt-MAX_MEMBERS-via-else-members-gt-MAX_MEMBERS+then-members}
+use Rattle.s39_backup.proofs.plan.check_groups.Goals.{else-members-eq1-via-then-members-eq1+else-members-gt1, else-members-eq1-via-else-members-eq1}
 
 pub returns-then-members-gt-MAX_MEMBERS-clause-refused : goal.returns-then-members-gt-MAX_MEMBERS-clause-refused
 returns-then-members-gt-MAX_MEMBERS-clause-refused c =

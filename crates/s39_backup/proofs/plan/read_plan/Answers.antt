@@ -5,7 +5,8 @@ use Rattle.s39_backup.specs.PlanText.{RefusesAGroup}
 use Rattle.s39_backup.proofs.PlanTexts.{list-few}
 use Rattle.s39_backup.proofs.PlanReadings.{reading-groups, reading-refused}
 use Rattle.s39_backup.proofs.plan.read_plan.Goals as goal
-use Rattle.s39_backup.proofs.plan.read_plan.Goals.{then-groups-gt-MAX_SHARES-via-then-groups-gt-MAX_SHARES, then-groups-gt-MAX_SHARES-via-else-groups-gt-MAX_SHARES+then-groups-from}
+use Rattle.s39_backup.proofs.plan.read_plan.Goals.{then-groups-gt-MAX_SHARES-via-then-groups-gt-MAX_SHARES}
+use Rattle.s39_backup.proofs.plan.read_plan.Goals.{then-groups-gt-MAX_SHARES-via-else-groups-gt-MAX_SHARES+then-groups-from}
 
 pub returns-then-groups-gt-MAX_SHARES : goal.returns-then-groups-gt-MAX_SHARES
 returns-then-groups-gt-MAX_SHARES c =
