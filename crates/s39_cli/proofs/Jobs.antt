@@ -1,23 +1,32 @@
 -- What the words of a command line give.
-use Rattle.std.proofs.Common.{◌≡◌, ◌⊎◌, ◌∙◌, ⊎_elim, Bool, inl, inr, refl, sym, ap, subst, true, false, true≢false, List, [], ◌∷◌, Option, Some, None, is_some, Bor, Global}
-use Rattle.std.specs.Prelude.{Box, option_map, unwrap_or}
+use Rattle.std.proofs.Common.{◌≡◌, ◌⊎◌, ◌∙◌, ◌<◌, ⊎_elim, ℕ, arith, codes, Bool, inl, inr, refl, sym, ap, subst, true, false, true≢false, List, [], ◌∷◌, Option, Some, None, is_some, Bor, Global}
+use Rattle.std.specs.Prelude.{Box, option_map, slice_get, unwrap_or}
+use Rattle.std.specs.Option.{option_map_or}
+use Rattle.std.specs.Str.Parse.{ParsesUnsigned, ExplainsUnsignedError, HasUnsignedDigitsIfOk}
+use Rattle.std.specs.Str.{bytes_eq}
+use Rattle.std.proofs.lemmas.Slice.Eq.{bytes_eq-Decides}
+use Rattle.clap.specs.Simple.{filled, with_index}
 use Rattle.std.specs.Box.{box_value}
-use Rattle.clap.specs.Words.{App, HasMatchesOf, IsAmong, Kinds, Row, Text, fault_of, has_subcommand, is_simple, is_simple_and_free, subcommand_name_of, subcommand_of, subcommand_rows, subcommand_rows_of, takes}
+use Rattle.clap.specs.Words.{App, HasMatchesOf, IsAmong, Kinds, ReadsOne, Row, Rule, Text, fault_of, first_of, first_value, has_subcommand, one_of, one_text, rows_of, is_simple, is_simple_and_free, subcommand_name_of, subcommand_of, subcommand_rows, subcommand_rows_of, takes}
 use Rattle.clap.specs.declared.error.kind.ErrorKind.{ErrorKind}
 use Rattle.clap.specs.declared.error.kind.ErrorKind.TheVariants.{DisplayHelp, DisplayVersion, OutOfMemory}
 use Rattle.clap.specs.declared.parser.matches.ArgMatches.{ArgMatches}
 use Rattle.clap.specs.declared.parser.matches.ArgMatches.TheViews.{out-ArgMatches, out-SubCommand}
 use Rattle.clap.specs.declared.parser.matches.SubCommand.{SubCommand}
+use Rattle.clap.specs.declared.parser.matches.Found.{Found}
+use Rattle.clap.proofs.CallerLemmas.{some_of_text}
+use Rattle.clap.proofs.WalkLemmas.{first_value-rows, one_text-rows}
 use Rattle.s39_clap.specs.Faults.{is_mistake, is_settled_app}
-use Rattle.s39_clap.specs.Found.{EntersOne}
+use Rattle.s39_clap.specs.Found.{EntersOne, HasNumber, IsFilled}
 use Rattle.s39_clap.proofs.Agreement.{faultless_taken, one_request_or_mistakes, request_alone}
 use Rattle.s39_clap.proofs.Entered.{enters_some, taken_enters_one}
-use Rattle.s39_cli.specs.Command.{AnswersKind, AnswersWords, AsksForText, commands, shamir_app}
+use Rattle.s39_clap.proofs.Values.{flag_said, has_value, number_read}
+use Rattle.s39_cli.specs.Command.{AnswersKind, AnswersWords, AsksForText, commands, exponent_rule, extendable_rule, flag_text, plan_rule, secret_rule, shamir_app, text_or_empty}
 use Rattle.s39_cli.specs.declared.command.NoJob.{NoJob}
 use Rattle.s39_cli.specs.declared.command.NoJob.TheVariants.{Help, Refused, Memory}
 
 -- the text of an option, or another text in place of none
-pub text_or : (found : Option (Bor Text)) (other : Bor Text) → (unwrap_or found other).now ≡ unwrap_or (option_map (λ text. text.now) found) other.now
+text_or : (found : Option (Bor Text)) (other : Bor Text) → (unwrap_or found other).now ≡ unwrap_or (option_map (λ text. text.now) found) other.now
 text_or None other = refl
 text_or (Some text) other = refl
 
@@ -49,6 +58,79 @@ name_of_rows m = go (out-ArgMatches m).subcommand
 simple : is_simple shamir_app ≡ true
 unfolding shamir_app
 simple = refl
+
+same_entered : (f g : Text × List Row) → Some f ≡ Some g → (f.0 ≡ g.0) × (f.1 ≡ g.1)
+same_entered f g same = (cc, cc)
+
+other_name : (a b : Text) → bytes_eq a b ≡ false → a ≡ b → ⊥
+other_name a b differ same = true≢false (sym ((bytes_eq-Decides a b).1 same) ∙ differ)
+
+-- the arguments of `create`, built
+create_rules : List Rule
+unfolding shamir_app
+create_rules = option_map_or (λ s. s.rules) (slice_get commands 1) []
+
+-- words that enter `create` have values for its arguments
+create_filled : (rows : List Row) → EntersOne commands (Some (codes "create", rows)) → IsFilled create_rules rows
+unfolding shamir_app create_rules
+create_filled rows (inl show) = absurd (other_name (codes "create") (codes "show") refl (same_entered _ _ show.1).0)
+create_filled rows (inr (inl create)) = subst (IsFilled create_rules) (sym (same_entered _ _ create.1).1) create.2
+create_filled rows (inr (inr (inl recover))) = absurd (other_name (codes "create") (codes "recover") refl (same_entered _ _ recover.1).0)
+create_filled rows (inr (inr (inr none))) = absurd none
+
+-- what was found enters `create`
+abbrev EntersCreate : Found → Type 0
+EntersCreate f = EntersOne commands (Some (codes "create", rows_of f))
+
+-- a getter of a text that is there has one
+some_of_rows : (f : Found) (id : Text) (got : Option (Bor Text)) (text : Text) → option_map (λ t. t.now) got ≡ first_value f id
+    → first_of id (rows_of f) ≡ Some text → is_some got ≡ true
+some_of_rows f id got text given first = some_of_text (λ t. t.now) got _ (given ∙ first_value-rows f id) (ap is_some first)
+
+pub plan_there : (f : Found) (got : Option (Bor Text)) → EntersCreate f → option_map (λ t. t.now) got ≡ first_value f (codes "plan") → is_some got ≡ true
+unfolding shamir_app create_rules
+plan_there f got enters given =
+    let value = has_value create_rules (rows_of f) (with_index 1 (filled plan_rule)) (codes "plan") refl refl (create_filled (rows_of f) enters) in
+    some_of_rows f (codes "plan") got value.0 given value.1.first
+
+pub secret_there : (f : Found) (got : Option (Bor Text)) → EntersCreate f → option_map (λ t. t.now) got ≡ first_value f (codes "master-secret")
+    → is_some got ≡ true
+unfolding shamir_app create_rules
+secret_there f got enters given =
+    let value = has_value create_rules (rows_of f) (with_index 2 (filled secret_rule)) (codes "master-secret") refl refl (create_filled (rows_of f) enters) in
+    some_of_rows f (codes "master-secret") got value.0 given value.1.first
+
+-- the number that a getter of a `u8` reads of the exponent
+pub exponent_there : (f : Found) (got : Option ℕ) → EntersCreate f
+    → ((t : Text) → one_text f (codes "exponent") ≡ Some t → ReadsOne (λ bs r. ParsesUnsigned 8 10 bs r × ExplainsUnsignedError 10 bs r × HasUnsignedDigitsIfOk bs r) t got)
+    → (n : ℕ) × (got ≡ Some n) × (n < 16) × HasNumber (codes "exponent") (rows_of f) n
+unfolding shamir_app create_rules
+exponent_there f got enters reads =
+    let read = number_read _ (λ bs r. ParsesUnsigned 8 10 bs r × ExplainsUnsignedError 10 bs r × HasUnsignedDigitsIfOk bs r) 8 0 15 create_rules (rows_of f)
+    (with_index 2 (filled exponent_rule)) (codes "exponent") got refl refl refl (create_filled (rows_of f) enters) (λ u x gives. gives.0) (omega arith)
+    (λ u has. reads u (one_text-rows f (codes "exponent") ∙ has)) in
+    (read.0, read.1, omega arith, read.4)
+
+pub extendable_there : (f : Found) (said : Bool) → EntersCreate f → (one_text f (codes "extendable") ≡ Some (codes "true") → said ≡ true)
+    → (one_text f (codes "extendable") ≡ Some (codes "false") → said ≡ false) → one_of (codes "extendable") (rows_of f) ≡ Some (flag_text said)
+unfolding shamir_app create_rules
+extendable_there f said enters is_true is_false =
+    let rows = one_text-rows f (codes "extendable") in
+    ⊎_elim (λ there. there ∙ ap (λ b. Some (flag_text b)) (sym (is_true (rows ∙ there))))
+    (λ missing. missing ∙ ap (λ b. Some (flag_text b)) (sym (is_false (rows ∙ missing))))
+    (flag_said create_rules (rows_of f) (with_index 2 (filled extendable_rule)) (codes "extendable") refl refl refl (create_filled (rows_of f) enters))
+
+-- a text that is got is what is found
+pub found_of_rows : (f : Found) (id : Text) (got : Option (Bor Text)) (text : Bor Text) → option_map (λ t. t.now) got ≡ first_value f id → got ≡ Some text
+    → first_of id (rows_of f) ≡ Some text.now
+found_of_rows f id got text given some = sym (first_value-rows f id) ∙ sym given ∙ ap (option_map (λ (t : Bor Text). t.now)) some
+
+-- and the empty text is in place of none
+pub or_empty_of_rows : (f : Found) (id : Text) (got : Option (Bor Text)) (text other : Bor Text) → option_map (λ t. t.now) got ≡ first_value f id
+    → text ≡ unwrap_or got other → other.now ≡ [] → text.now ≡ text_or_empty id (rows_of f)
+or_empty_of_rows f id got text other given is empty =
+    ap (λ (t : Bor Text). t.now) is ∙ text_or got other ∙ ap (unwrap_or (option_map (λ (t : Bor Text). t.now) got)) empty
+    ∙ ap (λ (o : Option Text). unwrap_or o []) (given ∙ first_value-rows f id)
 
 -- what a parse met is what the words give
 rows_given : (a : App) (words : List Text) (m : ArgMatches) → a ≡ shamir_app → HasMatchesOf a words m → subcommand_rows_of m ≡ subcommand_of shamir_app words

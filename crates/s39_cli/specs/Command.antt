@@ -1,10 +1,14 @@
 -- The command line.
-use Rattle.std.specs.Prelude.{◌≡◌, ◌≢◌, ◌⊎◌, true, false, List, [], ◌∷◌, codes, Some, unwrap_or}
-use Rattle.clap.specs.Words.{App, Row, Rule, Shape, Text, built, fault_of, first_of, new_app, new_rule, subcommand_of, takes, with_rule, with_subcommand}
+use Rattle.std.specs.Prelude.{◌≡◌, ◌≢◌, ◌⊎◌, ◌<◌, ◌^◌, ℕ, Bool, true, false, List, [], ◌∷◌, codes, if◌then◌else◌, pos, Some, unwrap_or}
+use Rattle.clap.specs.Words.{App, Row, Rule, Shape, Text, built, fault_of, first_of, new_app, new_rule, one_of, subcommand_of, takes, with_rule, with_subcommand}
+use Rattle.clap.specs.declared.builder.action.ArgAction.TheVariants.{SetTrue}
+use Rattle.clap.specs.declared.builder.value_parser.ValueParser.TheVariants.{Signed}
 use Rattle.clap.specs.declared.error.kind.ErrorKind.{ErrorKind}
 use Rattle.clap.specs.declared.error.kind.ErrorKind.TheVariants.{DisplayHelp, DisplayVersion, OutOfMemory}
+use Rattle.s39_clap.specs.Found.{HasNumber}
+use Rattle.s39_words.specs.Layout.{exponent_bits}
 use Rattle.s39_cli.specs.declared.command.Job.{Job}
-use Rattle.s39_cli.specs.declared.command.Job.TheVariants.{Show, Recover}
+use Rattle.s39_cli.specs.declared.command.Job.TheVariants.{Show, Create, Recover}
 use Rattle.s39_cli.specs.declared.command.NoJob.{NoJob}
 use Rattle.s39_cli.specs.declared.command.NoJob.TheVariants.{Help, Refused, Memory}
 
@@ -19,7 +23,43 @@ passphrase_rule = record (new_rule (codes "passphrase")) {
   value_names = 1;
 }
 
--- the command `recover`, with that option
+-- the plan, which has to be given
+abbrev pub plan_rule : Rule
+plan_rule = record (new_rule (codes "plan")) {
+  value_names = 1;
+  required = true;
+}
+
+-- the option `--master-secret HEX`, which has to be given
+abbrev pub secret_rule : Rule
+secret_rule = record (new_rule (codes "master-secret")) {
+  long = Some (codes "master-secret");
+  value_names = 1;
+  required = true;
+}
+
+-- the option `--exponent E`, a number from 0 to 15, by default 0
+abbrev pub exponent_rule : Rule
+exponent_rule = record (new_rule (codes "exponent")) {
+  long = Some (codes "exponent");
+  value_names = 1;
+  defaults = codes "0" ∷ [];
+  parser = Some (Signed (pos 0) (pos 15));
+}
+
+-- the flag `--extendable`
+abbrev pub extendable_rule : Rule
+extendable_rule = record (new_rule (codes "extendable")) {
+  long = Some (codes "extendable");
+  action = Some SetTrue;
+}
+
+-- the command `create`, with these and the passphrase
+abbrev pub create_app : App
+create_app = with_rule (with_rule (with_rule (with_rule (with_rule (new_app (codes "create"))
+    plan_rule) secret_rule) passphrase_rule) exponent_rule) extendable_rule
+
+-- the command `recover`, with the passphrase
 abbrev pub recover_app : App
 recover_app = with_rule (new_app (codes "recover")) passphrase_rule
 
@@ -33,20 +73,35 @@ shamir_top = record (new_app (codes "shamir")).top {
 
 -- the program with its commands
 unfoldable pub shamir_app : App
-shamir_app = with_subcommand
-    (with_subcommand (record { top = shamir_top; subs = [] }) show_app.top) recover_app.top
+shamir_app = with_subcommand (with_subcommand (with_subcommand
+    (record { top = shamir_top; subs = [] }) show_app.top) create_app.top) recover_app.top
 
 -- its commands, built
 abbrev pub commands : List Shape
 commands = (built shamir_app).subs
 
+-- whether a flag is said, as text
+abbrev pub flag_text : Bool → Text
+flag_text said = if said then codes "true" else codes "false"
+
 -- the text that is found for an id, and the empty text where none is
 abbrev pub text_or_empty : Text → List Row → Text
 text_or_empty id rows = unwrap_or (first_of id rows) []
 
+-- what is found for the arguments of `create` gives these values
+pub record GivesCreate (rows : List Row) (plan secret passphrase : Text) (exponent : ℕ)
+    (extendable : Bool) : Type 0 where
+  pub plan_given : first_of (codes "plan") rows ≡ Some plan
+  pub secret_given : first_of (codes "master-secret") rows ≡ Some secret
+  pub passphrase_or_empty : passphrase ≡ text_or_empty (codes "passphrase") rows
+  pub exponent_number : HasNumber (codes "exponent") rows exponent
+  pub extendable_said : one_of (codes "extendable") rows ≡ Some (flag_text extendable)
+
 -- the command of this name, with what is found for its arguments, gives the job
 abbrev pub Gives : Text → List Row → Job → Type 0
 Gives name rows Show = name ≡ codes "show"
+Gives name rows (Create plan secret passphrase exponent extendable) = (name ≡ codes "create")
+    × GivesCreate rows plan.now secret.now passphrase.now exponent extendable
 Gives name rows (Recover passphrase) =
     (name ≡ codes "recover") × (passphrase.now ≡ text_or_empty (codes "passphrase") rows)
 
@@ -54,6 +109,11 @@ Gives name rows (Recover passphrase) =
 abbrev pub GivesJob : List Text → Job → Type 0
 GivesJob words job = (name : Text) × (rows : List Row)
     × (subcommand_of shamir_app words ≡ Some (name, rows)) × Gives name rows job
+
+-- the numbers among a job's values are in their ranges
+abbrev pub IsInRange : Job → Type 0
+IsInRange (Create plan secret passphrase exponent extendable) = exponent < 2 ^ exponent_bits
+IsInRange job = Unit {0}
 
 -- the words ask for help or for the version, and nothing before that is wrong with them
 abbrev pub AsksForText : List Text → Type 0

@@ -1,12 +1,13 @@
 //! The command line.
-ghost use Rattle.std.specs.Prelude.{◌≡◌, false, Some, true, map, IfOk, IfErr, OnOk};
-ghost use Rattle.clap.specs.Words.{app_of, found_of, kind_of, rows_of, rule_of, takes};
+ghost use Rattle.std.specs.Prelude.{◌≡◌, [], codes, false, Some, true, map, IfOk, IfErr, OnOk};
+ghost use Rattle.clap.specs.Words.{app_of, found_of, kind_of, rows_of, rule_of, takes, with_rule};
 ghost use Rattle.clap.specs.declared.builder.Command.TheViews.{out-Command};
 ghost use Rattle.s39_clap.specs.Found.{EntersOne};
-ghost use Rattle.s39_cli.specs.Command.{commands, passphrase_rule, recover_app, shamir_app, Gives, GivesJob, AnswersKind, AnswersWords};
+ghost use Rattle.s39_cli.specs.Command.{commands, plan_rule, secret_rule, passphrase_rule, exponent_rule, extendable_rule, show_app, create_app, recover_app, shamir_top, shamir_app, text_or_empty, Gives, GivesJob, IsInRange, AnswersKind, AnswersWords};
 
+use clap::builder::ValueParser;
 use clap::error::ErrorKind;
-use clap::{Arg, ArgMatches, Command, Error};
+use clap::{Arg, ArgAction, ArgMatches, Command, Error};
 use std::alloc::{AllocError, Global};
 
 /// A command of the program, with its values.
@@ -14,6 +15,19 @@ use std::alloc::{AllocError, Global};
 pub enum Job<'a> {
     /// Shows the fields of the mnemonics on standard input.
     Show,
+    /// Creates a backup from a secret and the random bytes on standard input.
+    Create {
+        /// The text of the plan.
+        plan: &'a str,
+        /// The text of the secret in hexadecimal.
+        secret: &'a str,
+        /// The passphrase as it was given, and the empty text where none was.
+        passphrase: &'a str,
+        /// The iteration exponent, 0 to 15, and 0 where none was given.
+        exponent: u8,
+        /// Whether the extendable backup flag was given.
+        extendable: bool,
+    },
     /// Recovers the secret from the mnemonics on standard input.
     Recover {
         /// The passphrase as it was given, and the empty text where none was.
@@ -45,6 +59,30 @@ impl From<AllocError> for NoJob {
 /// The version that `--version` answers.
 const VERSION: &str = "1.0.0";
 
+/// The greatest iteration exponent.
+const MAX_EXPONENT: i64 = 15;
+
+fn plan<'a>(alloc: Global) -> Arg<'a>
+    ensures rule { rule_of result ≡ plan_rule }
+    ensures local { result.global ≡ false }
+{
+    Arg::new(alloc, "plan")
+        .value_name("PLAN")
+        .required(true)
+        .help("The plan of the groups: TofN, or GT/T1ofN1,T2ofN2,..")
+}
+
+fn master_secret<'a>(alloc: Global) -> Arg<'a>
+    ensures rule { rule_of result ≡ secret_rule }
+    ensures local { result.global ≡ false }
+{
+    Arg::new(alloc, "master-secret")
+        .long("master-secret")
+        .value_name("HEX")
+        .required(true)
+        .help("The secret in hexadecimal, 16 to 128 bytes and an even number of them")
+}
+
 fn passphrase<'a>(alloc: Global) -> Arg<'a>
     ensures rule { rule_of result ≡ passphrase_rule }
     ensures local { result.global ≡ false }
@@ -53,6 +91,50 @@ fn passphrase<'a>(alloc: Global) -> Arg<'a>
         .long("passphrase")
         .value_name("TEXT")
         .help("The passphrase of the backup, by default empty")
+}
+
+fn exponent<'a>(alloc: Global) -> Arg<'a>
+    ensures rule { rule_of result ≡ exponent_rule }
+    ensures local { result.global ≡ false }
+{
+    Arg::new(alloc, "exponent")
+        .long("exponent")
+        .value_name("E")
+        .default_value("0")
+        .value_parser(ValueParser::signed(0, MAX_EXPONENT))
+        .help("The iteration exponent, 0 to 15: a recovery takes 10,000 * 2^E iterations")
+}
+
+fn extendable<'a>(alloc: Global) -> Arg<'a>
+    ensures rule { rule_of result ≡ extendable_rule }
+    ensures local { result.global ≡ false }
+{
+    Arg::new(alloc, "extendable")
+        .long("extendable")
+        .action(ArgAction::SetTrue)
+        .help("Leaves the identifier out of the encryption")
+}
+
+fn create<'a>(alloc: Global) -> Result<Command<'a>, AllocError>
+    ensures app { IfOk result (λ command. app_of command ≡ create_app) }
+    ensures local { IfOk result (λ command. (out-Command command).has_globals ≡ false) }
+{
+    let command = Command::new(alloc, "create")
+        .about("Creates a backup from a secret and the random bytes on standard input")
+        .arg(plan(alloc))?
+        .arg(master_secret(alloc))?
+        .arg(passphrase(alloc))?;
+    with_options(alloc, command)
+}
+
+/// The command with the options of a creation.
+fn with_options<'a>(alloc: Global, command: Command<'a>) -> Result<Command<'a>, AllocError>
+    requires { (out-Command command).has_globals ≡ false }
+    ensures app { IfOk result (λ with_options. app_of with_options
+        ≡ with_rule (with_rule (app_of command.entry) exponent_rule) extendable_rule) }
+    ensures local { IfOk result (λ with_options. (out-Command with_options).has_globals ≡ false) }
+{
+    command.arg(exponent(alloc))?.arg(extendable(alloc))
 }
 
 fn recover<'a>(alloc: Global) -> Result<Command<'a>, AllocError>
@@ -64,19 +146,34 @@ fn recover<'a>(alloc: Global) -> Result<Command<'a>, AllocError>
         .arg(passphrase(alloc))
 }
 
-#[tactic(auto, unfolding(crate::specs::Command::shamir_app))]
-fn shamir<'a>(alloc: Global) -> Result<Command<'a>, AllocError>
-    ensures { IfOk result (λ command. app_of command ≡ shamir_app) }
+fn show<'a>(alloc: Global) -> Command<'a>
+    ensures app { app_of result ≡ show_app }
+    ensures local { (out-Command result).has_globals ≡ false }
 {
-    let show = Command::new(alloc, "show").about(
+    Command::new(alloc, "show").about(
         "Shows the fields of the mnemonics on standard input, a line for each",
-    );
+    )
+}
+
+/// The program without its commands.
+fn top<'a>(alloc: Global) -> Command<'a>
+    ensures app { app_of result ≡ record { top = shamir_top; subs = [] } }
+    ensures local { (out-Command result).has_globals ≡ false }
+{
     Command::new(alloc, "shamir")
         .about("SLIP-0039 backups of a secret")
         .version(VERSION)
         .subcommand_required(true)
         .disable_help_subcommand(true)
-        .subcommand(show)?
+}
+
+#[tactic(auto, unfolding(crate::specs::Command::shamir_app))]
+fn shamir<'a>(alloc: Global) -> Result<Command<'a>, AllocError>
+    ensures { IfOk result (λ command. app_of command ≡ shamir_app) }
+{
+    top(alloc)
+        .subcommand(show(alloc))?
+        .subcommand(create(alloc)?)?
         .subcommand(recover(alloc)?)
 }
 
@@ -94,16 +191,41 @@ fn no_job(alloc: Global, error: &Error) -> NoJob
     }
 }
 
+/// The passphrase that was found, and the empty text where none was.
+fn passphrase_of<'a>(options: &ArgMatches<'a>) -> &'a str
+    ensures { result.now ≡ text_or_empty (codes "passphrase") (rows_of (found_of options.now)) }
+{
+    options.get_str("passphrase").unwrap_or("")
+}
+
+/// The job `create`, from what was found for its arguments.
+#[tactic(auto, unfolding(crate::specs::Command::shamir_app))]
+fn create_job<'a>(options: &ArgMatches<'a>) -> Job<'a>
+    requires { EntersOne commands (Some (codes "create", rows_of (found_of options.now))) }
+    ensures gives { Gives (codes "create") (rows_of (found_of options.now)) result }
+    ensures range { IsInRange result }
+{
+    Job::Create {
+        plan: options.get_str("plan").unwrap(),
+        secret: options.get_str("master-secret").unwrap(),
+        passphrase: passphrase_of(options),
+        exponent: options.get_one("exponent").unwrap(),
+        extendable: options.get_flag("extendable"),
+    }
+}
+
 /// The job of the command with this name, from what was found for its arguments.
 #[tactic(auto, unfolding(crate::specs::Command::shamir_app))]
 fn job_of<'a>(name: &str, options: &ArgMatches<'a>) -> Job<'a>
     requires { EntersOne commands (Some (name.now, rows_of (found_of options.now))) }
-    ensures { Gives name.now (rows_of (found_of options.now)) result }
+    ensures gives { Gives name.now (rows_of (found_of options.now)) result }
+    ensures range { IsInRange result }
 {
     match name {
         "show" => Job::Show,
+        "create" => create_job(options),
         "recover" => Job::Recover {
-            passphrase: options.get_str("passphrase").unwrap_or(""),
+            passphrase: passphrase_of(options),
         },
         _ => unreachable!(),
     }
@@ -116,6 +238,7 @@ fn job_of<'a>(name: &str, options: &ArgMatches<'a>) -> Job<'a>
 pub fn read_words<'a>(alloc: Global, words: &'a [&'a str]) -> Result<Job<'a>, NoJob>
     // The command and its values are those that the words give, by `clap`'s definition of a simple command.
     ensures job { IfOk result (GivesJob (map (λ word. word.now) words.now)) }
+    ensures range { IfOk result IsInRange }
     // Where that definition takes the words, only memory can be wanting.
     ensures memory { takes shamir_app (map (λ word. word.now) words.now) ≡ true
         → IfErr result (λ error. error ≡ NoJob.Memory) }

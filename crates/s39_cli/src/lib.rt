@@ -5,6 +5,7 @@
 mod command;
 mod status;
 mod text;
+mod work;
 
 pub use command::{Job, NoJob, read_words};
 pub use status::{no_memory, no_words, program};

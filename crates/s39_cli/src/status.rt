@@ -1,8 +1,10 @@
 //! The program: a command line, a reader and two writers.
+ghost use Rattle.s39_cli.specs.Command.{IsInRange};
 
 use crate::command::{Job, NoJob, read_words};
 use crate::text::FaultText;
-use s39_tool::{Counting, DeviceFailure, Fault, Refusal, run_recover, run_show};
+use crate::work::{Unready, Work};
+use s39_tool::{Counting, DeviceFailure, Fault, Refusal};
 use std::alloc::Global;
 use std::io;
 use std::io::{BufWriter, ErrorKind, Read, Write};
@@ -23,7 +25,7 @@ const NO_MEMORY: u8 = 4;
 /// |---|---|
 /// | 0 | the command is done, or help was asked for and written |
 /// | 1 | the run stopped at a refusal that isn't a device's |
-/// | 2 | the command line is refused |
+/// | 2 | the command line is refused, or the master secret isn't hexadecimal |
 /// | 3 | a read or a write failed |
 /// | 4 | there is no memory |
 ///
@@ -54,21 +56,37 @@ fn run<R: Read + Drop, W: Write + Drop, E: Write>(
     input: R,
     output: W,
     errors: &mut E,
-) -> u8 {
+) -> u8
+    requires { IsInRange job }
+{
+    let work = match Work::of(alloc, job) {
+        Ok(work) => work,
+        Err(unready) => return refuse(unready, errors),
+    };
     let Ok(output) = BufWriter::new(alloc, output) else {
         return no_memory(errors);
     };
     let mut input = Counting::new(input);
     let mut output = Counting::new(output);
-    let answer = match job {
-        Job::Show => run_show(&mut input, &mut output),
-        Job::Recover { passphrase } => {
-            run_recover(passphrase.as_bytes(), &mut input, &mut output)
-        }
-    };
+    let answer = work.run(&mut input, &mut output);
     match flushed(answer, output.into_inner()) {
         Ok(()) => DONE,
         Err(fault) => report(fault, errors),
+    }
+}
+
+/// Says why a command can't be begun, and gives the exit status.
+fn refuse<E: Write>(unready: Unready, errors: &mut E) -> u8 {
+    match unready {
+        Unready::Secret => {
+            let _ = errors.write_all(b"shamir: master secret isn't hexadecimal\n");
+            NO_JOB
+        }
+        Unready::Plan(error) => {
+            let _ = writeln!(errors, "{}", FaultText::from(error));
+            REFUSED
+        }
+        Unready::Memory => no_memory(errors),
     }
 }
 

@@ -2,7 +2,7 @@
 
 use s39_kdf::BadPassphrase;
 use s39_set::{SetError, SetLack};
-use s39_tool::{DeviceFailure, Fault, LineRefusal, Mismatch, Refusal};
+use s39_tool::{DeviceFailure, Fault, LineRefusal, Mismatch, PlanError, Refusal};
 use s39_words::WordError;
 use thiserror::Error;
 
@@ -39,6 +39,14 @@ pub enum RefusalText {
     NoShares,
     #[error("incomplete: {complete} of {required} groups")]
     Incomplete { complete: u8, required: u8 },
+    #[error("bad plan")]
+    BadPlan,
+    #[error("bad number of groups in plan")]
+    PlanGroups,
+    #[error("bad number of members in plan group {0}")]
+    PlanMembers(u8),
+    #[error("one of many in plan group {0}")]
+    OneOfMany(u8),
     #[error("passphrase byte {0} not printable")]
     Passphrase(usize),
     #[error("secret of {0} bytes")]
@@ -99,6 +107,17 @@ impl From<SetLack> for RefusalText {
     }
 }
 
+impl From<PlanError> for RefusalText {
+    fn from(error: PlanError) -> RefusalText {
+        match error {
+            PlanError::BadPlan => RefusalText::BadPlan,
+            PlanError::PlanGroups => RefusalText::PlanGroups,
+            PlanError::PlanMembers { group } => RefusalText::PlanMembers(group),
+            PlanError::OneOfMany { group } => RefusalText::OneOfMany(group),
+        }
+    }
+}
+
 impl From<BadPassphrase> for RefusalText {
     fn from(bad: BadPassphrase) -> RefusalText {
         RefusalText::Passphrase(bad.position)
@@ -149,6 +168,15 @@ impl From<Fault> for FaultText {
         match fault.line {
             Some(line) => FaultText::AtLine { line, code, text },
             None => FaultText::Anywhere { code, text },
+        }
+    }
+}
+
+impl From<PlanError> for FaultText {
+    fn from(error: PlanError) -> FaultText {
+        FaultText::Anywhere {
+            code: error.code(),
+            text: RefusalText::from(error),
         }
     }
 }

@@ -29,7 +29,7 @@ returns-clause-job c =
     let a = app_of c.in_ok-command.command in
     let rows = rows_of (found_of c.in-Some.options.now) in
     let met = met_is a words c.in-Ok.matches c.in-Some.name.now rows c.in_ok-command.ensures c.in-Ok.ensures.matches c.in-Some.ensures.name c.in-Some.ensures.rows in
-    (c.in-Some.name.now, rows, met, c.job_of.ensures)
+    (c.in-Some.name.now, rows, met, c.job_of.ensures.gives)
 
 pub returns-clause-taken : goal.returns-clause-taken
 returns-clause-taken c =
