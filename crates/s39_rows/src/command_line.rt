@@ -13,8 +13,51 @@ fn reads_the_command_line(rt: HostRuntime) -> Result<(), Fail> {
         passphrase: "TREZOR",
     };
     let dashed = Job::Recover { passphrase: "-x" };
-    let jobs: [(&[&str], Job); 7] = [
+    let plain = Job::Create {
+        plan: "1of1",
+        secret: "00",
+        passphrase: "",
+        exponent: 0,
+        extendable: false,
+    };
+    let full = Job::Create {
+        plan: "2of3",
+        secret: "zz",
+        passphrase: "TREZOR",
+        exponent: 15,
+        extendable: true,
+    };
+    let jobs: [(&[&str], Job); 10] = [
         (&["shamir", "show"], Job::Show),
+        (
+            &["shamir", "create", "1of1", "--master-secret", "00"],
+            plain,
+        ),
+        (
+            &[
+                "shamir",
+                "create",
+                "--exponent=0",
+                "--master-secret=00",
+                "1of1",
+            ],
+            plain,
+        ),
+        (
+            &[
+                "shamir",
+                "create",
+                "--extendable",
+                "--exponent",
+                "15",
+                "2of3",
+                "--passphrase",
+                "TREZOR",
+                "--master-secret",
+                "zz",
+            ],
+            full,
+        ),
         (&["shamir", "recover"], empty),
         (&["shamir", "recover", "--passphrase", "TREZOR"], trezor),
         (&["shamir", "recover", "--passphrase=TREZOR"], trezor),
@@ -25,7 +68,37 @@ fn reads_the_command_line(rt: HostRuntime) -> Result<(), Fail> {
     for (words, job) in jobs {
         assert_eq!(rt; read_words(alloc, words).ok(), Some(job));
     }
-    let refused: [&[&str]; 9] = [
+    let refused: [&[&str]; 17] = [
+        &["shamir", "create"],
+        &["shamir", "create", "1of1"],
+        &["shamir", "create", "--master-secret", "00"],
+        &["shamir", "create", "1of1", "1of1", "--master-secret", "00"],
+        &[
+            "shamir",
+            "create",
+            "1of1",
+            "--master-secret",
+            "00",
+            "--exponent",
+            "16",
+        ],
+        &[
+            "shamir",
+            "create",
+            "1of1",
+            "--master-secret",
+            "00",
+            "--exponent=-1",
+        ],
+        &[
+            "shamir",
+            "create",
+            "1of1",
+            "--master-secret",
+            "00",
+            "--extendable=true",
+        ],
+        &["shamir", "recover", "--extendable"],
         &["shamir"],
         &["shamir", "reveal"],
         &["shamir", "show", "--verbose"],

@@ -4,6 +4,8 @@
 #[cfg(test)]
 mod command_line;
 #[cfg(test)]
+mod create;
+#[cfg(test)]
 mod devices;
 #[cfg(test)]
 mod recover;

@@ -12,11 +12,27 @@ Usage: shamir <COMMAND>
 
 Commands:
   show     Shows the fields of the mnemonics on standard input, a line for each
+  create   Creates a backup from a secret and the random bytes on standard input
   recover  Recovers the secret from the mnemonics on standard input
 
 Options:
   -h, --help     Print help
   -V, --version  Print version
+";
+
+const HELP_OF_CREATE: &str = "Creates a backup from a secret and the random bytes on standard input
+
+Usage: shamir create [OPTIONS] --master-secret <HEX> <PLAN>
+
+Arguments:
+  <PLAN>  The plan of the groups: TofN, or GT/T1ofN1,T2ofN2,..
+
+Options:
+      --master-secret <HEX>  The secret in hexadecimal, 16 to 128 bytes and an even number of them
+      --passphrase <TEXT>    The passphrase of the backup, by default empty
+      --exponent <E>         The iteration exponent, 0 to 15: a recovery takes 10,000 * 2^E iterations [default: 0]
+      --extendable           Leaves the identifier out of the encryption
+  -h, --help                 Print help
 ";
 
 const HELP_OF_RECOVER: &str = "Recovers the secret from the mnemonics on standard input
@@ -31,7 +47,8 @@ Options:
 #[test]
 fn answers_help_and_the_version(rt: HostRuntime) {
     let alloc = rt.alloc();
-    let cases: [(&[&str], &str); 5] = [
+    let cases: [(&[&str], &str); 6] = [
+        (&["shamir", "create", "--help"], HELP_OF_CREATE),
         (&["shamir", "--help"], HELP),
         (&["shamir", "-h"], HELP),
         (&["shamir", "recover", "--help"], HELP_OF_RECOVER),
@@ -53,10 +70,26 @@ fn answers_help_and_the_version(rt: HostRuntime) {
 #[test]
 fn says_why_words_are_refused(rt: HostRuntime) {
     let alloc = rt.alloc();
-    let cases: [(&[&str], &str); 4] = [
+    let cases: [(&[&str], &str); 6] = [
+        (
+            &["shamir", "create", "1of1"],
+            "error: the following required arguments were not provided:\n  --master-secret <HEX>\n\nUsage: shamir create --master-secret <HEX> <PLAN>\n\nFor more information, try '--help'.\n",
+        ),
+        (
+            &[
+                "shamir",
+                "create",
+                "1of1",
+                "--master-secret",
+                "00",
+                "--exponent",
+                "16",
+            ],
+            "error: invalid value '16' for '--exponent <E>': 16 is not in 0..=15\n\nFor more information, try '--help'.\n",
+        ),
         (
             &["shamir"],
-            "error: 'shamir' requires a subcommand but one was not provided\n  [subcommands: show, recover]\n\nUsage: shamir <COMMAND>\n\nFor more information, try '--help'.\n",
+            "error: 'shamir' requires a subcommand but one was not provided\n  [subcommands: show, create, recover]\n\nUsage: shamir <COMMAND>\n\nFor more information, try '--help'.\n",
         ),
         (
             &["shamir", "list"],

@@ -3,7 +3,7 @@
 use s39_cli::FaultText;
 use s39_kdf::BadPassphrase;
 use s39_set::{SetError, SetLack};
-use s39_tool::{Fault, LineRefusal, Mismatch, Refusal};
+use s39_tool::{Fault, LineRefusal, Mismatch, PlanError, Refusal};
 use std::test::Fail;
 
 #[test]
@@ -70,6 +70,30 @@ fn names_refusals_of_shares(rt: HostRuntime) -> Result<(), Fail> {
         let told = format!(in alloc; "{}", FaultText::from(Fault { line, refusal }))?;
         let wanted = format!(in alloc; "shamir: {text}")?;
         assert_eq!(rt; told.as_str(), wanted.as_str());
+    }
+    Ok(())
+}
+
+#[test]
+fn names_refusals_of_plans(rt: HostRuntime) -> Result<(), Fail> {
+    let alloc = rt.alloc();
+    for (error, text) in [
+        (PlanError::BadPlan, "shamir: 31 bad plan"),
+        (
+            PlanError::PlanGroups,
+            "shamir: 32 bad number of groups in plan",
+        ),
+        (
+            PlanError::PlanMembers { group: 15 },
+            "shamir: 33 bad number of members in plan group 15",
+        ),
+        (
+            PlanError::OneOfMany { group: 9 },
+            "shamir: 34 one of many in plan group 9",
+        ),
+    ] {
+        let told = format!(in alloc; "{}", FaultText::from(error))?;
+        assert_eq!(rt; told.as_str(), text);
     }
     Ok(())
 }

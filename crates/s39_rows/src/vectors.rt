@@ -67,19 +67,30 @@ pub fn expect_run(
     alloc: Global,
     wanted: (&str, &str, u8),
 ) {
+    expect_bytes(rt, words, input.as_bytes(), alloc, wanted);
+}
+
+/// Likewise on any bytes.
+pub fn expect_bytes(
+    rt: &impl Abort,
+    words: &[&str],
+    input: &[u8],
+    alloc: Global,
+    wanted: (&str, &str, u8),
+) {
     let (output, errors, status) = wanted;
     let mut written = Vec::new(alloc);
     let mut told = Vec::new(alloc);
-    let answer = program(alloc, words, input.as_bytes(), &mut written, &mut told);
+    let answer = program(alloc, words, input, &mut written, &mut told);
     assert_eq!(rt;
         written.as_slice(),
         output.as_bytes(),
-        "the output for {input}"
+        "the output for {words:?}"
     );
     assert_eq!(rt;
         told.as_slice(),
         errors.as_bytes(),
-        "the message for {input}"
+        "the message for {words:?}"
     );
-    assert_eq!(rt; answer, status, "the status for {input}");
+    assert_eq!(rt; answer, status, "the status for {words:?}");
 }

@@ -1,0 +1,268 @@
+//! The worked examples of `create`, from the command line to the mnemonics or the message, and the status.
+
+use crate::vectors::{
+    EXTENDABLE_ONE_OF_ONE, LONGEST_ONE_OF_ONE, LONGEST_ONE_OF_ONE_SECRET, ONE_OF_ONE,
+    ONE_OF_ONE_256_BITS, ONE_OF_ONE_SECRET, RECOVER, SHOW, expect_bytes, expect_run,
+};
+use s39_cli::program;
+use sha2::{Digest, Sha256};
+use std::alloc::{AllocError, Global};
+use std::test::Fail;
+
+const SECRET: &str = "bb54aac4b89dc868ba37d9cc21b2cece";
+
+/// The words of a creation with the passphrase of the vectors.
+fn create<'a>(plan: &'a str, secret: &'a str) -> [&'a str; 7] {
+    [
+        "shamir",
+        "create",
+        plan,
+        "--master-secret",
+        secret,
+        "--passphrase",
+        "TREZOR",
+    ]
+}
+
+/// The mnemonics of `2/2of3,1of1,1of1` from the random bytes 0 to 25; another program computes them.
+const FIVE: [&str; 5] = [
+    "academic aluminum acrobat leaf buyer drink heat negative damage union purchase photo inmate training amazing yield bucket wrote mule cluster",
+    "academic aluminum acrobat lily august piece column laser headset unusual blimp nuclear sweater criminal credit eyebrow trouble silent axis skin",
+    "academic aluminum acrobat lungs dive behavior mobile ting perfect ultimate weapon join paper involve clinic acrobat jerky preach gross usual",
+    "academic aluminum beard leader chest elite grant group club deploy increase divorce puny cylinder romp frequent crush ruler erode bucket",
+    "academic aluminum ceramic leader cylinder decorate mobile devote echo finger program firm starting dwarf grumpy harvest enforce raisin sprinkle phantom",
+];
+
+const RANDOM: [u8; 26] = [
+    0, 1, 2, 3, 4, 5, 6, 7, 8, 9, 10, 11, 12, 13, 14, 15, 16, 17, 18, 19, 20, 21, 22, 23, 24, 25,
+];
+
+/// Lines of a text each.
+fn lines(alloc: Global, texts: &[&str]) -> Result<String, AllocError> {
+    let mut all = String::new(alloc);
+    for text in texts {
+        all.push_str(text)?;
+        all.push('\n')?;
+    }
+    Ok(all)
+}
+
+#[test]
+fn creates_the_vectors(rt: HostRuntime) -> Result<(), Fail> {
+    let alloc = rt.alloc();
+    let long = "989baf9dcaad5b10ca33dfd8cc75e42477025dce88ae83e75a230086a0e00e92";
+    let longest = LONGEST_ONE_OF_ONE_SECRET.trim_end();
+    for (secret, random, mnemonic) in [
+        (SECRET, [0x1F, 0x09], ONE_OF_ONE),
+        (long, [0x71, 0xF4], ONE_OF_ONE_256_BITS),
+        (longest, [0x1F, 0x09], LONGEST_ONE_OF_ONE),
+    ] {
+        let wanted = lines(alloc, &[mnemonic])?;
+        let wanted = (wanted.as_str(), "", 0);
+        expect_bytes(&rt, &create("1of1", secret), &random, alloc, wanted);
+    }
+    let few = "shamir: 43 random bytes: 2 needed\n";
+    for random in [[].as_slice(), &[0x1F], &[0x1F, 0x09, 0x00]] {
+        expect_bytes(&rt, &create("1of1", SECRET), random, alloc, ("", few, 1));
+    }
+    Ok(())
+}
+
+#[test]
+fn creates_what_each_quorum_recovers(rt: HostRuntime) -> Result<(), Fail> {
+    let alloc = rt.alloc();
+    let words = create("2/2of3,1of1,1of1", SECRET);
+    let wanted = lines(alloc, &FIVE)?;
+    expect_bytes(&rt, &words, &RANDOM, alloc, (wanted.as_str(), "", 0));
+    let [a, b, c, d, e] = FIVE;
+    let quorums: [&[&str]; 7] = [
+        &[a, b, d],
+        &[a, b, e],
+        &[a, c, d],
+        &[a, c, e],
+        &[b, c, d],
+        &[b, c, e],
+        &[d, e],
+    ];
+    for quorum in quorums {
+        let input = lines(alloc, quorum)?;
+        expect_run(
+            &rt,
+            &RECOVER,
+            input.as_str(),
+            alloc,
+            (ONE_OF_ONE_SECRET, "", 0),
+        );
+    }
+    Ok(())
+}
+
+const SEVENTEEN_GROUPS: &str =
+    "1/1of1,1of1,1of1,1of1,1of1,1of1,1of1,1of1,1of1,1of1,1of1,1of1,1of1,1of1,1of1,1of1,1of1";
+
+#[test]
+fn refuses_plans(rt: HostRuntime) {
+    let alloc = rt.alloc();
+    let cases = [
+        ("1of3", "34 one of many in plan group 0"),
+        ("3of2", "33 bad number of members in plan group 0"),
+        ("2of17", "33 bad number of members in plan group 0"),
+        ("3/1of1,1of1", "32 bad number of groups in plan"),
+        ("1of1,1of1", "31 bad plan"),
+        ("0of1", "31 bad plan"),
+        ("02of3", "31 bad plan"),
+        ("16of16", "43 random bytes: 238 needed"),
+        ("1/3of5", "43 random bytes: 30 needed"),
+        ("3of5", "43 random bytes: 30 needed"),
+        ("2/2of3", "32 bad number of groups in plan"),
+        (SEVENTEEN_GROUPS, "32 bad number of groups in plan"),
+        ("0/1of1", "31 bad plan"),
+        ("1/1of1,", "31 bad plan"),
+        (" 1of1", "31 bad plan"),
+        ("100of1", "31 bad plan"),
+        ("", "31 bad plan"),
+        ("2/1of3,5of2", "34 one of many in plan group 0"),
+        ("99of99", "33 bad number of members in plan group 0"),
+        ("2/1of1,1of3", "34 one of many in plan group 1"),
+    ];
+    for (plan, text) in cases {
+        let mut written = Vec::new(alloc);
+        let mut told = Vec::new(alloc);
+        let words = create(plan, SECRET);
+        let status = program(alloc, &words, b"".as_slice(), &mut written, &mut told);
+        assert_eq!(rt; (written.is_empty(), status), (true, 1), "{plan}");
+        let told = told.as_slice().strip_prefix(b"shamir: ");
+        let told = told.and_then(|told| told.strip_suffix(b"\n"));
+        assert_eq!(rt; told, Some(text.as_bytes()), "{plan}");
+    }
+}
+
+#[test]
+fn refuses_secrets_and_passphrases(rt: HostRuntime) {
+    let alloc = rt.alloc();
+    let no_hex = "shamir: master secret isn't hexadecimal\n";
+    for (plan, secret) in [
+        ("3of2", "zz"),
+        ("1of1", "abc"),
+        ("1of1", "bb 4"),
+        ("1of3", "é"),
+    ] {
+        expect_run(&rt, &create(plan, secret), "", alloc, ("", no_hex, 2));
+    }
+    let short = &SECRET[..28];
+    for (secret, bytes) in [
+        (short, 14),
+        ("", 0),
+        ("00112233445566778899aabbccddeeff00", 17),
+    ] {
+        let mut told = Vec::new(alloc);
+        let words = create("1of1", secret);
+        let status = program(alloc, &words, b"".as_slice(), Vec::new(alloc), &mut told);
+        assert_eq!(rt; status, 1);
+        let wanted = match bytes {
+            14 => "shamir: 42 secret of 14 bytes\n",
+            17 => "shamir: 42 secret of 17 bytes\n",
+            _ => "shamir: 42 secret of 0 bytes\n",
+        };
+        assert_eq!(rt; told.as_slice(), wanted.as_bytes());
+    }
+    let unprintable = [
+        "shamir",
+        "create",
+        "1of1",
+        "--master-secret",
+        short,
+        "--passphrase",
+        "a\x07",
+    ];
+    let message = "shamir: 41 passphrase byte 2 not printable\n";
+    expect_run(&rt, &unprintable, "", alloc, ("", message, 1));
+}
+
+#[test]
+fn creates_extendable_backups(rt: HostRuntime) -> Result<(), Fail> {
+    let alloc = rt.alloc();
+    let mut secret = Vec::new(alloc);
+    let input = EXTENDABLE_ONE_OF_ONE.as_bytes();
+    let status = program(alloc, &RECOVER, input, &mut secret, Vec::new(alloc));
+    assert_eq!(rt; (status, secret.len()), (0, 33));
+    let secret = std::str::from_utf8(secret.as_slice())?.trim_end();
+    let words = [
+        "shamir",
+        "create",
+        "1of1",
+        "--extendable",
+        "--exponent",
+        "3",
+        "--master-secret",
+        secret,
+        "--passphrase",
+        "TREZOR",
+    ];
+    let wanted = lines(alloc, &[EXTENDABLE_ONE_OF_ONE])?;
+    for random in [[0x71, 0x5B], [0xF1, 0x5B]] {
+        expect_bytes(&rt, &words, &random, alloc, (wanted.as_str(), "", 0));
+    }
+    let mut other = Vec::new(alloc);
+    let zeros = [0, 0];
+    let status = program(alloc, &words, zeros.as_slice(), &mut other, Vec::new(alloc));
+    assert_eq!(rt; status, 0);
+    let shown =
+        "identifier 0 extendable 1 exponent 3 group 0 group-threshold 1 group-count 1 member 0 member-threshold 1 value 9e8773c7313b11d3bfe219291976433b\n";
+    expect_bytes(&rt, &SHOW, other.as_slice(), alloc, (shown, "", 0));
+    Ok(())
+}
+
+#[test]
+fn creates_the_longest_secret(rt: HostRuntime) -> Result<(), Fail> {
+    let alloc = rt.alloc();
+    let zeros = "00".repeat(alloc, 128)?;
+    let words = create("1of1", zeros.as_str());
+    let mut mnemonic = Vec::new(alloc);
+    let random = [0, 0];
+    let status = program(
+        alloc,
+        &words,
+        random.as_slice(),
+        &mut mnemonic,
+        Vec::new(alloc),
+    );
+    assert_eq!(rt; status, 0);
+    let spaces = mnemonic.iter().filter(|byte| **byte == b' ').count();
+    assert_eq!(rt; spaces, 109);
+    let secret = lines(alloc, &[zeros.as_str()])?;
+    let wanted = (secret.as_str(), "", 0);
+    expect_bytes(&rt, &RECOVER, mnemonic.as_slice(), alloc, wanted);
+    Ok(())
+}
+
+const MOST: &str =
+    "16/16of16,16of16,16of16,16of16,16of16,16of16,16of16,16of16,16of16,16of16,16of16,16of16,16of16,16of16,16of16,16of16";
+
+const MOST_RANDOM_BYTES: u32 = 32_574;
+
+/// The SHA-256 of the 256 lines that another program computes.
+const MOST_LINES_DIGEST: [u8; 32] = [
+    0x64, 0x0D, 0x62, 0x27, 0x2B, 0x7D, 0xF0, 0xF6, 0x79, 0x83, 0x9C, 0xB0, 0x32, 0x87, 0xDB, 0x80,
+    0xCA, 0x42, 0x9E, 0x5E, 0x87, 0xEC, 0x3E, 0xA4, 0xA8, 0x7C, 0x24, 0x75, 0x40, 0xCC, 0xAF, 0xD5,
+];
+
+#[test]
+fn creates_the_most_mnemonics(rt: HostRuntime) -> Result<(), Fail> {
+    let alloc = rt.alloc();
+    let zeros = "00".repeat(alloc, 128)?;
+    let words = ["shamir", "create", MOST, "--master-secret", zeros.as_str()];
+    let mut random = Vec::new(alloc);
+    for i in 0..MOST_RANDOM_BYTES {
+        random.push(((7 * i + 3) % 256) as u8)?;
+    }
+    let mut written = Vec::new(alloc);
+    let mut told = Vec::new(alloc);
+    let status = program(alloc, &words, random.as_slice(), &mut written, &mut told);
+    assert_eq!(rt; (status, told.is_empty()), (0, true));
+    assert_eq!(rt; Sha256::digest(written.as_slice()), MOST_LINES_DIGEST);
+    let few = &random.as_slice()[1..];
+    let message = "shamir: 43 random bytes: 32574 needed\n";
+    expect_bytes(&rt, &words, few, alloc, ("", message, 1));
+    Ok(())
+}
