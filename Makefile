@@ -1,6 +1,7 @@
 # shamir: `make` proves and builds, `make test` is the merge gate.
 #
-#   make check       the fast checks: commands and tables of the documents (make test ends with them)
+#   make check       the fast checks: commands and tables of the documents, the manual page, completions
+#                    (make test ends with them)
 #   make faults      lets each growth, read and write of the program fail in turn
 #   make compare     compares made cases with a plain reading of the standard in Python
 #   make bench       measures
@@ -12,7 +13,12 @@ VERSION = 1.0.0
 # The crate of the program: the one that has a main, but for the bench.
 PROGRAM = $(filter-out s39_bench,$(patsubst crates/%/src/main.rt,%,$(wildcard crates/*/src/main.rt)))
 BIN = $(DESTDIR)$(PREFIX)/bin
-DOCUMENTS = $(DESTDIR)$(PREFIX)/share/doc/shamir
+SHARE = $(DESTDIR)$(PREFIX)/share
+MANUAL = $(SHARE)/man/man1
+BASH = $(SHARE)/bash-completion/completions
+ZSH = $(SHARE)/zsh/site-functions
+FISH = $(SHARE)/fish/vendor_completions.d
+DOCUMENTS = $(SHARE)/doc/shamir
 
 .PHONY: all test check bench faults compare install uninstall dist clean
 
@@ -30,6 +36,8 @@ check: shamir
 	@test "$$(./shamir --version)" = "shamir $(VERSION)"
 	@tools/recipes
 	@tools/texts
+	@tools/manual
+	@tools/completions
 
 faults: shamir
 	@tools/faults
@@ -42,13 +50,18 @@ bench: shamir
 	@python3 tools/bench
 
 install: shamir
-	install -d $(BIN) $(DOCUMENTS)/docs
+	install -d $(BIN) $(MANUAL) $(BASH) $(ZSH) $(FISH) $(DOCUMENTS)/docs $(DOCUMENTS)/examples
 	install -m 755 shamir $(BIN)/shamir
-	install -m 644 README.md SECURITY.md NOTICE $(DOCUMENTS)
+	install -m 644 man/shamir.1 $(MANUAL)/shamir.1
+	install -m 644 completions/shamir.bash $(BASH)/shamir
+	install -m 644 completions/_shamir $(ZSH)/_shamir
+	install -m 644 completions/shamir.fish $(FISH)/shamir.fish
+	install -m 644 README.md CHANGELOG.md SECURITY.md NOTICE $(DOCUMENTS)
 	install -m 644 docs/*.md $(DOCUMENTS)/docs
+	install -m 644 examples/*.txt $(DOCUMENTS)/examples
 
 uninstall:
-	rm -f $(BIN)/shamir
+	rm -f $(BIN)/shamir $(MANUAL)/shamir.1 $(BASH)/shamir $(ZSH)/_shamir $(FISH)/shamir.fish
 	rm -rf $(DOCUMENTS)
 
 dist:

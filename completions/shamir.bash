@@ -1,0 +1,39 @@
+# Completion of shamir for bash: source this file, or install it as PREFIX/share/bash-completion/completions/shamir.
+# A plan, a secret and a passphrase are the owner's to say: nothing is offered for them, and no files.
+
+_shamir() {
+    local word=${COMP_WORDS[COMP_CWORD]} previous=${COMP_WORDS[COMP_CWORD - 1]}
+    local command='' said=' ' options at
+    COMPREPLY=()
+    for ((at = 1; at < COMP_CWORD; at++)); do
+        [[ -n $command || ${COMP_WORDS[at]} == -* ]] || command=${COMP_WORDS[at]}
+        said+="${COMP_WORDS[at]} "
+    done
+    # Behind an equals sign, which may be a word of its own, stands the value of the option before it.
+    if [[ $word == = ]]; then
+        word=''
+    elif [[ $previous == = ]]; then
+        previous=${COMP_WORDS[COMP_CWORD - 2]}
+    fi
+    case $previous in
+    --exponent)
+        mapfile -t COMPREPLY < <(compgen -W '0 1 2 3 4 5 6 7 8 9 10 11 12 13 14 15' -- "$word")
+        return
+        ;;
+    --master-secret | --passphrase) return ;;
+    esac
+    case $command in
+    '') options='create show recover --help --version' ;;
+    create) options='--master-secret --passphrase --exponent --extendable --help' ;;
+    recover) options='--passphrase --help' ;;
+    show) options='--help' ;;
+    *) return ;;
+    esac
+    for at in $options; do
+        # Options are offered behind a dash, and none twice.
+        [[ $at == "$word"* && $said != *" $at "* && ($word == -* || $at != -*) ]] && COMPREPLY+=("$at")
+    done
+    return 0
+}
+
+complete -F _shamir shamir
