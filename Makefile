@@ -43,7 +43,7 @@ faults: shamir
 	@tools/faults
 
 compare: shamir
-	@tools/compare --kinds show,recover
+	@tools/compare --kinds show,create,recover
 
 bench: shamir
 	cd crates/s39_bench && $(RT) run > /dev/null
