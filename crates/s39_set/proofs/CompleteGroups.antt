@@ -9,7 +9,7 @@ use Rattle.std.proofs.lemmas.List.FromFn.{get_or-range_with_len, length-range_wi
 use Rattle.std.proofs.lemmas.List.Kept.{AllPairs-filter}
 use Rattle.s39_set.specs.Names.{names_in_group, most_groups}
 use Rattle.s39_set.specs.Groups.{is_complete, complete_groups}
-use Rattle.s39_set.proofs.Sublists.{IsSublist, length-sublist, filter_weaker, filter-sublist, Contains-filter, same_from_part, same_from_elements}
+use Rattle.s39_set.proofs.Sublists.{IsSublist, length-sublist, filter_weaker, filter-sublist, Contains-filter, same_from_elements}
 
 groups_one_way : (a b : ℕ) → a < b → b < a → ⊥
 groups_one_way a b before after = omega arith
@@ -17,11 +17,6 @@ groups_one_way a b before after = omega arith
 -- ascending groups are known by which groups they are
 pub same_groups : (xs ys : List ℕ) → AllPairs (λ a b. a < b) xs → AllPairs (λ a b. a < b) ys → All (Contains xs) ys → All (Contains ys) xs → xs ≡ ys
 same_groups = same_from_elements (λ a b. a < b) groups_one_way
-
--- no fewer of them than there are, are all of them
-pub same_groups_from_length : (xs ys : List ℕ) → AllPairs (λ a b. a < b) xs → AllPairs (λ a b. a < b) ys → All (Contains xs) ys → length xs ≤ length ys
-    → xs ≡ ys
-same_groups_from_length = same_from_part (λ a b. a < b) groups_one_way
 
 -- the numbers of a range ascend
 pub range-ascending : (n : ℕ) → AllPairs (λ a b. a < b) (range_with_len 0 n)
