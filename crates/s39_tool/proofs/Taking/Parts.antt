@@ -56,7 +56,8 @@ parts_of-more came more lines u f qs e h = rw (parts_of-append came more, e, h) 
 
 -- a part that no line feed is in
 pub parts_of-part : (part : List ℕ) → All (λ b. b ≢ 10) part → parts_of part ≡ part ∷ []
-parts_of-part part free = slice_split_none is_line_feed part (All-weaker (λ b. b ≢ 10) (λ b. is_line_feed b ≡ false) (λ b other. grind (arith, nat_tests)) part free)
+parts_of-part part free = slice_split_none is_line_feed part (All-weaker (λ b. b ≢ 10) (λ b. is_line_feed b ≡ false)
+    (λ b other. grind (arith, nat_tests)) part free)
 
 pub parts_of-onto : (part rest f : List ℕ) (fs : List (List ℕ)) → All (λ b. b ≢ 10) part → parts_of rest ≡ f ∷ fs → parts_of (part ++ rest) ≡ (part ++ f) ∷ fs
 parts_of-onto part rest f fs free e = parts_of-more part rest [] part f fs (parts_of-part part free) e
@@ -72,7 +73,8 @@ done_to piece done rest end e within feed =
     ∙ sym (append_assoc done (take end rest ++ 10 ∷ []) (drop (end + 1) rest)) ∙ ap (λ bs. (done ++ (take end rest ++ 10 ∷ [])) ++ bs) (sym left)
 
 -- a part that a line feed ended, or that is too long, stays
-pub finished_parts-keeps : (xs : List (List ℕ)) (y : List ℕ) (ys : List (List ℕ)) → (0 < length ys) ⊎ (longest_line < length y) → (zs : List (List ℕ)) × (finished_parts (xs ++ y ∷ ys) ≡ xs ++ y ∷ zs)
+pub finished_parts-keeps : (xs : List (List ℕ)) (y : List ℕ) (ys : List (List ℕ)) → (0 < length ys) ⊎ (longest_line < length y)
+    → (zs : List (List ℕ)) × (finished_parts (xs ++ y ∷ ys) ≡ xs ++ y ∷ zs)
 finished_parts-keeps [] y [] (inl h) = absurd (omega arith)
 finished_parts-keeps [] y [] (inr h) = let long : ltb longest_line (length y) ≡ true = grind (arith, nat_tests) in ([], rw long refl)
 finished_parts-keeps [] y (z ∷ zs) h = (finished_parts (z ∷ zs), refl)

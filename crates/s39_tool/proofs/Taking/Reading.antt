@@ -47,7 +47,8 @@ module _ {S C : Type 0} (takes : S → List ℕ → Result (Unit {0}) C → S �
   }
 
   -- a part that no line feed is in goes onto it
-  pub midway_after_part : (came u part : List ℕ) (number : ℕ) (old new : S) → IsMidway takes came u number old new → All (λ b. b ≢ 10) part → length u + length part ≤ longest_line
+  pub midway_after_part : (came u part : List ℕ) (number : ℕ) (old new : S) → IsMidway takes came u number old new → All (λ b. b ≢ 10) part
+      → length u + length part ≤ longest_line
       → IsMidway takes (came ++ part) (u ++ part) number old new
   midway_after_part came u part number old new m free room = record {
     lines = m.lines;
@@ -62,14 +63,17 @@ module _ {S C : Type 0} (takes : S → List ℕ → Result (Unit {0}) C → S �
       → takes mid u (Err refused.refusal) new → refused.number ≡ number → StopsWithin takes (came ++ 10 ∷ []) old new refused
   stops_after_line came u refused number old mid new m r n rest ended =
       let first = first_part rest in
-      let parts : parts_of (came ++ (10 ∷ rest)) ≡ m.lines ++ (u ++ []) ∷ parts_of rest = parts_of-more came (10 ∷ rest) m.lines u [] (parts_of rest) m.parts refl in
+      let parts : parts_of (came ++ (10 ∷ rest)) ≡ m.lines ++ (u ++ []) ∷ parts_of rest =
+      parts_of-more came (10 ∷ rest) m.lines u [] (parts_of rest) m.parts refl in
       let line : parts_of (came ++ (10 ∷ rest)) ≡ m.lines ++ u ∷ parts_of rest = rw append-nil at parts in
       let some : 0 < length (parts_of rest) = rw first.2 (omega arith) in
       rw append_assoc (stops (came ++ (10 ∷ rest)) ended m.lines u (parts_of rest) refused old mid new line (inl some) m.taken r (n ∙ m.number_is))
 
   -- a part that makes the line longer than the longest stops the run, whatever follows
-  pub stops_too_long : (came u part : List ℕ) (number : ℕ) (refused : RefusedLine C) (old new : S) → IsMidway takes came u number old new → All (λ b. b ≢ 10) part
-      → longest_line < length u + length part → ((line : List ℕ) → longest_line < length line → takes new line (Err refused.refusal) new) → refused.number ≡ number
+  pub stops_too_long : (came u part : List ℕ) (number : ℕ) (refused : RefusedLine C) (old new : S) → IsMidway takes came u number old new
+      → All (λ b. b ≢ 10) part
+      → longest_line < length u + length part → ((line : List ℕ) → longest_line < length line → takes new line (Err refused.refusal) new)
+      → refused.number ≡ number
       → StopsWithin takes (came ++ part) old new refused
   stops_too_long came u part number refused old new m free full refuses n rest ended =
       let first = first_part rest in
@@ -77,12 +81,15 @@ module _ {S C : Type 0} (takes : S → List ℕ → Result (Unit {0}) C → S �
       let parts : parts_of (came ++ (part ++ rest)) ≡ m.lines ++ line ∷ first.1 =
       parts_of-more came (part ++ rest) m.lines u (part ++ first.0) first.1 m.parts (parts_of-onto part rest first.0 first.1 free first.2) in
       let long : longest_line < length line = rw (length-append u (part ++ first.0), length-append part first.0) (omega arith) in
-      rw append_assoc (stops (came ++ (part ++ rest)) ended m.lines line first.1 refused old new new parts (inr long) m.taken (refuses line long) (n ∙ m.number_is))
+      rw append_assoc (stops (came ++ (part ++ rest)) ended m.lines line first.1 refused old new new parts (inr long) m.taken (refuses line long)
+      (n ∙ m.number_is))
 
   -- what stops the run stops it whatever comes besides
-  pub stops_further : (came more : List ℕ) (refused : RefusedLine C) (old new : S) → StopsWithin takes came old new refused → StopsWithin takes (came ++ more) old new refused
+  pub stops_further : (came more : List ℕ) (refused : RefusedLine C) (old new : S) → StopsWithin takes came old new refused
+      → StopsWithin takes (came ++ more) old new refused
   stops_further came more refused old new h rest ended =
-      subst (λ bytes. StopsAtLine takes (lines_of (record { bytes = bytes; ended = ended })) old new refused) (sym (append_assoc came more rest)) (h (more ++ rest) ended)
+      subst (λ bytes. StopsAtLine takes (lines_of (record { bytes = bytes; ended = ended })) old new refused) (sym (append_assoc came more rest))
+      (h (more ++ rest) ended)
 
   -- what is left of the line once a line feed after a part of it ended it
   pub reaches_after_part : (came part u next_u : List ℕ) (number next : ℕ) (answer : Result (Unit {0}) (RefusedLine C)) (old mid new : S)
@@ -93,10 +100,12 @@ module _ {S C : Type 0} (takes : S → List ℕ → Result (Unit {0}) C → S �
   reaches_after_part came part u next_u number next (Err refused) old mid new t n r e m = stops_after_line (came ++ part) u refused number old mid new m r.0 r.1
 
   -- what stops the run within a piece stops it within the whole piece
-  pub stops_in_piece : (came piece begun rest : List ℕ) (refused : RefusedLine C) (old new : S) → piece ≡ begun ++ rest → StopsWithin takes (came ++ begun) old new refused
+  pub stops_in_piece : (came piece begun rest : List ℕ) (refused : RefusedLine C) (old new : S) → piece ≡ begun ++ rest
+      → StopsWithin takes (came ++ begun) old new refused
       → StopsWithin takes (came ++ piece) old new refused
   stops_in_piece came piece begun rest refused old new e h =
-      subst (λ bytes. StopsWithin takes bytes old new refused) (append_assoc came begun rest ∙ ap (λ bytes. came ++ bytes) (sym e)) (stops_further (came ++ begun) rest refused old new h)
+      subst (λ bytes. StopsWithin takes bytes old new refused) (append_assoc came begun rest ∙ ap (λ bytes. came ++ bytes) (sym e))
+      (stops_further (came ++ begun) rest refused old new h)
 
   -- the input ended: its last line is taken as it is, or refused
   pub runs_to_end : (came u : List ℕ) (number : ℕ) (old mid new : S) → IsMidway takes came u number old mid → takes mid u (Ok tt) new

@@ -7,14 +7,17 @@ pub returns-in_err-take_lines-clause-read : goal.returns-in_err-take_lines-claus
 returns-in_err-take_lines-clause-read g c =
     let p = err_from_is_err_and c.from_residual.result c.from_residual.ensures.1 in
     rw (p.1, p.2) (OfInput-map g.R.Read.remaining c.args.input.now c.take_lines.new.input _ _ c.in_err-take_lines.ensures.runs
-    (λ input runs. runs_refused c.same_shares_refuse_the_same.ensures c.one_more_is_added.ensures input c.new-set.result c.take_lines.new.taker c.in_err-take_lines.field-0.0 c.new-set.ensures runs))
+    (λ input runs. runs_refused c.same_shares_refuse_the_same.ensures c.one_more_is_added.ensures input c.new-set.result c.take_lines.new.taker
+    c.in_err-take_lines.field-0.0 c.new-set.ensures runs))
 
 pub returns-clause-read : goal.returns-clause-read
 returns-clause-read g c =
     OfInput-map g.R.Read.remaining c.args.input.now c.take_lines.new.input _ _ c.in_ok-take_lines.ensures.runs
-    (λ input runs. (runs_accepted c.same_shares_refuse_the_same.ensures c.one_more_is_added.ensures input c.new-set.result c.take_lines.new.taker c.new-set.ensures runs).0)
+    (λ input runs. (runs_accepted c.same_shares_refuse_the_same.ensures c.one_more_is_added.ensures input c.new-set.result c.take_lines.new.taker
+    c.new-set.ensures runs).0)
 
 pub returns-clause-is_set : goal.returns-clause-is_set
 returns-clause-is_set g c =
     let (came, ended, runs) = c.in_ok-take_lines.ensures.came in
-    (runs_accepted c.same_shares_refuse_the_same.ensures c.one_more_is_added.ensures (record { bytes = came; ended = ended }) c.new-set.result c.take_lines.new.taker c.new-set.ensures runs).1
+    (runs_accepted c.same_shares_refuse_the_same.ensures c.one_more_is_added.ensures (record { bytes = came; ended = ended }) c.new-set.result
+    c.take_lines.new.taker c.new-set.ensures runs).1

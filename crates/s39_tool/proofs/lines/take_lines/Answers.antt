@@ -38,8 +38,10 @@ returns-in-Ok-eq0-clause-runs g c =
     of_end g.R.Read.remaining c.args.input.now c.read.new.self reading.came _
     (consumed_nothing _ _ _ reading.came c.read.new.buf c.in-Ok-eq0.field-0 reading.consumed read.bytes.0 c.in-Ok-eq0.field-0-test)
     (omega (arith, read.reads, reading.few_reads)) (read.bytes.1 c.in-Ok-eq0.field-0-test room) (omega (arith, read.failures, reading.no_failure))
-    (runs_to_end g.T.TakeLine.takes reading.came c.reads.unfinished.line.items c.reads.unfinished.number c.args.taker.now c.reads.taker c.take_numbered.new.taker
-    reading.midway (subst (λ line. g.T.TakeLine.takes c.reads.taker line (Ok tt) c.take_numbered.new.taker) c.deref.ensures.0 c.in_ok-take_numbered-in-Ok-eq0.ensures.taken))
+    (runs_to_end g.T.TakeLine.takes reading.came c.reads.unfinished.line.items c.reads.unfinished.number c.args.taker.now c.reads.taker
+    c.take_numbered.new.taker
+    reading.midway (subst (λ line. g.T.TakeLine.takes c.reads.taker line (Ok tt) c.take_numbered.new.taker) c.deref.ensures.0
+    c.in_ok-take_numbered-in-Ok-eq0.ensures.taken))
 
 pub returns-in-Ok-eq0-clause-came : goal.returns-in-Ok-eq0-clause-came
 returns-in-Ok-eq0-clause-came g c =
@@ -47,7 +49,9 @@ returns-in-Ok-eq0-clause-came g c =
       reading.came,
       true,
       runs_to_end g.T.TakeLine.takes reading.came c.reads.unfinished.line.items c.reads.unfinished.number
-          c.args.taker.now c.reads.taker c.take_numbered.new.taker reading.midway (subst (λ line. g.T.TakeLine.takes c.reads.taker line (Ok tt) c.take_numbered.new.taker) c.deref.ensures.0 c.in_ok-take_numbered-in-Ok-eq0.ensures.taken),
+          c.args.taker.now c.reads.taker c.take_numbered.new.taker reading.midway
+          (subst (λ line. g.T.TakeLine.takes c.reads.taker line (Ok tt) c.take_numbered.new.taker) c.deref.ensures.0
+          c.in_ok-take_numbered-in-Ok-eq0.ensures.taken),
     )
 
 pub returns-in_err-take_piece-in-Ok-clause-runs : goal.returns-in_err-take_piece-in-Ok-clause-runs

@@ -17,5 +17,6 @@ returns-else-is_ok-clause-taken g c = λ came first now m.
     let line = c.args.self.now.line.items in
     let part = c.args.part.now in
     let full : 1024 < length line + length part = search rules in
-    stops_too_long g.T.TakeLine.takes came line part c.args.self.now.number (record { number = c.args.self.now.number; refusal = c.too_long.result }) first now m c.requires full
+    stops_too_long g.T.TakeLine.takes came line part c.args.self.now.number (record { number = c.args.self.now.number; refusal = c.too_long.result })
+    first now m c.requires full
     (λ line long. subst (λ r. g.T.TakeLine.takes now line (Err r) now) (sym c.too_long.ensures) (g.met.T.TakeLine.refuses_long now line long)) refl

@@ -20,7 +20,8 @@ returns-in_err-end_line-clause-taken g c = λ came first m.
     let bytes : ((came ++ done) ++ part) ++ 10 ∷ [] ≡ came ++ (done ++ (part ++ 10 ∷ [])) =
     append_assoc (came ++ done) part (10 ∷ []) ∙ append_assoc came done (part ++ 10 ∷ []) in
     rw (p.1, p.2)
-    (stops_in_piece g.T.TakeLine.takes came c.args.piece.now (done ++ (part ++ 10 ∷ [])) (take (length rest - (end + 1)) (drop (end + 1) rest)) c.in_err-end_line.field-0.0 first c.end_line.new.taker
+    (stops_in_piece g.T.TakeLine.takes came c.args.piece.now (done ++ (part ++ 10 ∷ [])) (take (length rest - (end + 1)) (drop (end + 1) rest))
+    c.in_err-end_line.field-0.0 first c.end_line.new.taker
     (done_to c.args.piece.now done rest end c.loop-end.invariant.taken.1 c.in-Some.ensures.0.high feed)
     (subst (λ bytes. StopsWithin g.T.TakeLine.takes bytes first c.end_line.new.taker c.in_err-end_line.field-0.0) bytes stopped))
 
