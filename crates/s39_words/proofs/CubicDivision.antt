@@ -19,15 +19,23 @@ module _ {F : Type 0} (f : Operations F) (axioms : IsField f) (g2 g1 g0 : F) whe
   product_parts : (q : List F) → (a : F) × (b : F) × (c : F) × (rest : List F) × (product_of f q divisor ≡ a ∷ b ∷ c ∷ rest)
   product_parts [] = (f.zero, f.zero, f.zero, [], refl)
   product_parts (c ∷ q) =
-      let p = product_parts q in
-      (f.add (f.mul c f.one) f.zero, f.add (f.mul c g2) p.0, f.add (f.mul c g1) p.1, f.add (f.mul c g0) p.2 ∷ p.3, ap (λ s. sum_of f (f.mul c f.one ∷ f.mul c g2 ∷ f.mul c g1 ∷ f.mul c g0 ∷ []) (f.zero ∷ s)) p.4)
+      let p = product_parts q in (
+        f.add (f.mul c f.one) f.zero,
+        f.add (f.mul c g2) p.0,
+        f.add (f.mul c g1) p.1,
+        f.add (f.mul c g0) p.2 ∷ p.3,
+        ap (λ s. sum_of f (f.mul c f.one ∷ f.mul c g2 ∷ f.mul c g1 ∷ f.mul c g0 ∷ []) (f.zero ∷ s)) p.4,
+      )
 
   -- the product with a first coefficient of the quotient
-  product_cons : (c : F) (q : List F) (a b d : F) (rest : List F) → f.IsElement c → product_of f q divisor ≡ a ∷ b ∷ d ∷ rest → product_of f (c ∷ q) divisor ≡ c ∷ f.add (f.mul c g2) a ∷ f.add (f.mul c g1) b ∷ f.add (f.mul c g0) d ∷ rest
+  product_cons : (c : F) (q : List F) (a b d : F) (rest : List F) → f.IsElement c
+      → product_of f q divisor ≡ a ∷ b ∷ d ∷ rest → product_of f (c ∷ q) divisor ≡ c ∷ f.add (f.mul c g2) a ∷ f.add (f.mul c g1) b ∷ f.add (f.mul c g0) d ∷ rest
   product_cons c q a b d rest element e =
-      ap (λ s. sum_of f (f.mul c f.one ∷ f.mul c g2 ∷ f.mul c g1 ∷ f.mul c g0 ∷ []) (f.zero ∷ s)) e ∙ ap (λ s. s ∷ f.add (f.mul c g2) a ∷ f.add (f.mul c g1) b ∷ f.add (f.mul c g0) d ∷ rest) (axioms.add_zero (f.mul c f.one) ∙ axioms.mul_one c element)
+      ap (λ s. sum_of f (f.mul c f.one ∷ f.mul c g2 ∷ f.mul c g1 ∷ f.mul c g0 ∷ []) (f.zero ∷ s)) e
+      ∙ ap (λ s. s ∷ f.add (f.mul c g2) a ∷ f.add (f.mul c g1) b ∷ f.add (f.mul c g0) d ∷ rest) (axioms.add_zero (f.mul c f.one) ∙ axioms.mul_one c element)
 
-  next_multiple : (r2 r1 r0 c : F) (rest : List F) → IsMultiple f (r2 ∷ r1 ∷ r0 ∷ c ∷ rest) divisor → IsMultiple f (f.add r1 (f.mul r2 g2) ∷ f.add r0 (f.mul r2 g1) ∷ f.add c (f.mul r2 g0) ∷ rest) divisor
+  next_multiple : (r2 r1 r0 c : F) (rest : List F) → IsMultiple f (r2 ∷ r1 ∷ r0 ∷ c ∷ rest) divisor
+      → IsMultiple f (f.add r1 (f.mul r2 g2) ∷ f.add r0 (f.mul r2 g1) ∷ f.add c (f.mul r2 g0) ∷ rest) divisor
   next_multiple r2 r1 r0 c rest ([], elements, e) = absurd cc
   next_multiple r2 r1 r0 c rest (d ∷ q, elements, e) =
       let p = product_parts q in
@@ -40,7 +48,8 @@ module _ {F : Type 0} (f : Operations F) (axioms : IsField f) (g2 g1 g0 : F) whe
   add_around : (x y : F) → f.add x (f.add y x) ≡ y
   add_around x y = axioms.add_commutes x (f.add y x) ∙ ap (λ s. f.add s x) (axioms.add_commutes y x) ∙ add_twice x y
 
-  earlier_multiple : (r2 r1 r0 c : F) (rest : List F) → f.IsElement r2 → IsMultiple f (f.add r1 (f.mul r2 g2) ∷ f.add r0 (f.mul r2 g1) ∷ f.add c (f.mul r2 g0) ∷ rest) divisor → IsMultiple f (r2 ∷ r1 ∷ r0 ∷ c ∷ rest) divisor
+  earlier_multiple : (r2 r1 r0 c : F) (rest : List F) → f.IsElement r2
+      → IsMultiple f (f.add r1 (f.mul r2 g2) ∷ f.add r0 (f.mul r2 g1) ∷ f.add c (f.mul r2 g0) ∷ rest) divisor → IsMultiple f (r2 ∷ r1 ∷ r0 ∷ c ∷ rest) divisor
   earlier_multiple r2 r1 r0 c rest element (q, elements, e) =
       let whole = product_cons r2 q (f.add r1 (f.mul r2 g2)) (f.add r0 (f.mul r2 g1)) (f.add c (f.mul r2 g0)) rest element (sym e) in
       let h1 = add_around (f.mul r2 g2) r1 in
@@ -49,7 +58,8 @@ module _ {F : Type 0} (f : Operations F) (axioms : IsField f) (g2 g1 g0 : F) whe
       (r2 ∷ q, All-cons f.IsElement r2 q element elements, cc)
 
   -- A step of the division: what begins with r2 is a multiple exactly where it is one without r2 times the divisor.
-  pub multiple_step : (r2 r1 r0 c : F) (rest : List F) → f.IsElement r2 → IsMultiple f (r2 ∷ r1 ∷ r0 ∷ c ∷ rest) divisor ↔ IsMultiple f (f.add r1 (f.mul r2 g2) ∷ f.add r0 (f.mul r2 g1) ∷ f.add c (f.mul r2 g0) ∷ rest) divisor
+  pub multiple_step : (r2 r1 r0 c : F) (rest : List F) → f.IsElement r2 → IsMultiple f (r2 ∷ r1 ∷ r0 ∷ c ∷ rest) divisor
+      ↔ IsMultiple f (f.add r1 (f.mul r2 g2) ∷ f.add r0 (f.mul r2 g1) ∷ f.add c (f.mul r2 g0) ∷ rest) divisor
   multiple_step r2 r1 r0 c rest element = (next_multiple r2 r1 r0 c rest, earlier_multiple r2 r1 r0 c rest element)
 
   all_zero : (a b c : F) → IsMultiple f (a ∷ b ∷ c ∷ []) divisor → (a ≡ f.zero) × (b ≡ f.zero) × (c ≡ f.zero)

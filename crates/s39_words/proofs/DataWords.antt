@@ -16,13 +16,21 @@ use Rattle.s39_words.proofs.Digits.{bits-below, number-bits-below, number-below,
 use Rattle.s39_words.proofs.Pieces.{length-pieces, length-joined, joined-below, pieces-below, joined-pieces, pieces-joined, cut-joined, joined-cut, length-cut, cut-below, take-add, take-joined, all_zeros}
 
 -- fields that are equal one by one
-pub same_fields : (f g : ShareFields) → f.id ≡ g.id → f.extendable ≡ g.extendable → f.exponent ≡ g.exponent → f.group_index ≡ g.group_index → f.group_threshold ≡ g.group_threshold → f.group_count ≡ g.group_count → f.member_index ≡ g.member_index → f.member_threshold ≡ g.member_threshold → f.value.items ≡ g.value.items → f ≡ g
+pub same_fields : (f g : ShareFields) → f.id ≡ g.id → f.extendable ≡ g.extendable → f.exponent ≡ g.exponent → f.group_index ≡ g.group_index
+    → f.group_threshold ≡ g.group_threshold → f.group_count ≡ g.group_count → f.member_index ≡ g.member_index → f.member_threshold ≡ g.member_threshold
+    → f.value.items ≡ g.value.items → f ≡ g
 same_fields f g a b c d e h i j k =
     ap (λ x. record f { id = x }) a
     ∙ ap (λ x. record f { id = g.id; extendable = x }) b
     ∙ ap (λ x. record f { id = g.id; extendable = g.extendable; exponent = x }) c
     ∙ ap (λ x. record f { id = g.id; extendable = g.extendable; exponent = g.exponent; group_index = x }) d
-    ∙ ap (λ x. record g { group_threshold = x; group_count = f.group_count; member_index = f.member_index; member_threshold = f.member_threshold; value = f.value }) e
+    ∙ ap (λ x. record g {
+      group_threshold = x;
+      group_count = f.group_count;
+      member_index = f.member_index;
+      member_threshold = f.member_threshold;
+      value = f.value;
+    }) e
     ∙ ap (λ x. record g { group_count = x; member_index = f.member_index; member_threshold = f.member_threshold; value = f.value }) h
     ∙ ap (λ x. record g { member_index = x; member_threshold = f.member_threshold; value = f.value }) i
     ∙ ap (λ x. record g { member_threshold = x; value = f.value }) j
@@ -44,7 +52,8 @@ length-header f = refl
 header-below : (f : ShareFields) → All (λ b. b < 2) (header_bits f)
 header-below f =
     let P : ℕ → Type 0 = λ b. b < 2 in
-    let more : (xs : List ℕ) (w n : ℕ) → All (λ b. b < 2) xs → All (λ b. b < 2) (xs ++ bits w n) = λ xs w n h. All-append (λ b. b < 2) xs (bits w n) h (bits-below w n) in
+    let more : (xs : List ℕ) (w n : ℕ) → All (λ b. b < 2) xs → All (λ b. b < 2) (xs ++ bits w n) =
+    λ xs w n h. All-append (λ b. b < 2) xs (bits w n) h (bits-below w n) in
     let a = bits 15 f.id ++ bits 1 (flag_bit f.extendable) in
     let b = a ++ bits 4 f.exponent in
     let c = b ++ bits 4 f.group_index in
@@ -65,7 +74,8 @@ module _ (f : ShareFields) where
   length-digits =
       length-append (header_bits f ++ padding_bits (length (value_bits f.value.items))) (value_bits f.value.items)
       ∙ ap (λ n. length (header_bits f ++ padding_bits (length (value_bits f.value.items))) + n) length-value
-      ∙ ap (λ n. n + 8 * length f.value.items) (length-append (header_bits f) (padding_bits (length (value_bits f.value.items))) ∙ ap (λ n. 40 + n) length-padding)
+      ∙ ap (λ n. n + 8 * length f.value.items) (length-append (header_bits f) (padding_bits (length (value_bits f.value.items)))
+      ∙ ap (λ n. 40 + n) length-padding)
 
   digits-below : All (λ b. b < 2) (digits f)
   digits-below =
@@ -121,7 +131,8 @@ module _ (f : ShareFields) (ok : IsShare f) (checksum : List ℕ) (three : lengt
         at_most = omega (arith, length-words);
       }
 
-  all_bits : bits_of_words (data_words f ++ checksum) ≡ header_bits f ++ (padding_bits (length (value_bits f.value.items)) ++ (value_bits f.value.items ++ bits_of_words checksum))
+  all_bits : bits_of_words (data_words f ++ checksum) ≡ header_bits f ++ (padding_bits
+      (length (value_bits f.value.items)) ++ (value_bits f.value.items ++ bits_of_words checksum))
   all_bits =
       flat_map-append (bits 10) (data_words f) checksum
       ∙ ap (λ xs. xs ++ bits_of_words checksum) (data_bits f)
@@ -163,7 +174,8 @@ module _ (f : ShareFields) (ok : IsShare f) (checksum : List ℕ) (three : lengt
   at_padding =
       ap (λ n. take n (drop 40 (bits_of_words (data_words f ++ checksum)))) padding_length-is
       ∙ ap (λ ds. take (padding_before (length f.value.items)) (drop 40 ds)) all_bits
-      ∙ take_at (padding_bits (length (value_bits f.value.items))) (value_bits f.value.items ++ bits_of_words checksum) (padding_before (length f.value.items)) (length-padding f)
+      ∙ take_at (padding_bits (length (value_bits f.value.items))) (value_bits f.value.items ++ bits_of_words checksum)
+      (padding_before (length f.value.items)) (length-padding f)
 
   pub padding_zero : All (λ b. b ≡ 0) (padding_of (data_words f ++ checksum))
   padding_zero =
@@ -177,8 +189,11 @@ module _ (f : ShareFields) (ok : IsShare f) (checksum : List ℕ) (three : lengt
   at_value =
       ap (λ k. pieces 8 k (drop (40 + padding_length (length (data_words f ++ checksum))) (bits_of_words (data_words f ++ checksum)))) byte_count-is
       ∙ ap (λ p. pieces 8 (length f.value.items) (drop (40 + p) (bits_of_words (data_words f ++ checksum)))) padding_length-is
-      ∙ ap (λ ds. pieces 8 (length f.value.items) (drop (40 + padding_before (length f.value.items)) ds)) (all_bits ∙ sym (append_assoc (header_bits f) (padding_bits (length (value_bits f.value.items))) (value_bits f.value.items ++ bits_of_words checksum)))
-      ∙ ap (pieces 8 (length f.value.items)) (drop_at (header_bits f ++ padding_bits (length (value_bits f.value.items))) (value_bits f.value.items ++ bits_of_words checksum) (40 + padding_before (length f.value.items)) before_value)
+      ∙ ap (λ ds. pieces 8 (length f.value.items) (drop (40 + padding_before (length f.value.items)) ds))
+      (all_bits ∙ sym (append_assoc (header_bits f) (padding_bits (length (value_bits f.value.items)))
+      (value_bits f.value.items ++ bits_of_words checksum)))
+      ∙ ap (pieces 8 (length f.value.items)) (drop_at (header_bits f ++ padding_bits (length (value_bits f.value.items)))
+      (value_bits f.value.items ++ bits_of_words checksum) (40 + padding_before (length f.value.items)) before_value)
       ∙ pieces-joined 8 f.value.items (bits_of_words checksum) ok.value.bytes
 
   -- the fields are those in the words
@@ -187,15 +202,19 @@ module _ (f : ShareFields) (ok : IsShare f) (checksum : List ℕ) (three : lengt
       let a = ok.group_threshold in
       let b = ok.threshold_in_count in
       let c = ok.member_threshold in
-      same_fields (fields_at (data_words f ++ checksum)) f at_id flag-is at_exponent at_group_index (omega (arith, at_group_threshold)) (omega (arith, at_group_count)) at_member_index (omega (arith, at_member_threshold)) at_value
+      same_fields (fields_at (data_words f ++ checksum)) f at_id flag-is at_exponent at_group_index (omega (arith, at_group_threshold))
+      (omega (arith, at_group_count)) at_member_index (omega (arith, at_member_threshold)) at_value
 
 -- the words are those of one share alone
-pub same_from_data_words : (f g : ShareFields) (c d : List ℕ) → IsShare f → IsShare g → length c ≡ 3 → length d ≡ 3 → data_words f ++ c ≡ data_words g ++ d → f ≡ g
+pub same_from_data_words : (f g : ShareFields) (c d : List ℕ) → IsShare f → IsShare g → length c ≡ 3 → length d ≡ 3
+    → data_words f ++ c ≡ data_words g ++ d → f ≡ g
 same_from_data_words f g c d p q k l e = sym (fields-are f p c k) ∙ ap fields_at e ∙ fields-are g q d l
 
 -- ---- from words to their share
 
-chained : (ds a b c d e f g h : List ℕ) → a ≡ take 15 ds → take 15 ds ++ b ≡ take 16 ds → take 16 ds ++ c ≡ take 20 ds → take 20 ds ++ d ≡ take 24 ds → take 24 ds ++ e ≡ take 28 ds → take 28 ds ++ f ≡ take 32 ds → take 32 ds ++ g ≡ take 36 ds → take 36 ds ++ h ≡ take 40 ds → a ++ b ++ c ++ d ++ e ++ f ++ g ++ h ≡ take 40 ds
+chained : (ds a b c d e f g h : List ℕ) → a ≡ take 15 ds → take 15 ds ++ b ≡ take 16 ds → take 16 ds ++ c ≡ take 20 ds → take 20 ds ++ d ≡ take 24 ds
+    → take 24 ds ++ e ≡ take 28 ds → take 28 ds ++ f ≡ take 32 ds → take 32 ds ++ g ≡ take 36 ds → take 36 ds ++ h ≡ take 40 ds
+    → a ++ b ++ c ++ d ++ e ++ f ++ g ++ h ≡ take 40 ds
 chained ds a b c d e f g h p1 p2 p3 p4 p5 p6 p7 p8 =
     ap (λ x. x ++ b ++ c ++ d ++ e ++ f ++ g ++ h) p1
     ∙ ap (λ x. x ++ c ++ d ++ e ++ f ++ g ++ h) p2
@@ -213,19 +232,22 @@ module _ (ws : List ℕ) (count : IsWordCount (length ws)) where
   -- the digits of the number at a place are the digits there
   bits-at : (place width : ℕ) → place + width ≤ 10 * length ws → bits width (number_at ws place width) ≡ take width (drop place (bits_of_words ws))
   bits-at place width h =
-      let l : length (take width (drop place (bits_of_words ws))) ≡ width = length-take-le width (drop place (bits_of_words ws)) (omega (arith, length-drop place (bits_of_words ws), length-bits_of_words)) in
+      let l : length (take width (drop place (bits_of_words ws))) ≡ width =
+      length-take-le width (drop place (bits_of_words ws)) (omega (arith, length-drop place (bits_of_words ws), length-bits_of_words)) in
       let b : All (λ b. b < 2) (take width (drop place (bits_of_words ws))) =
       All-take (λ b. b < 2) width (drop place (bits_of_words ws)) (All-drop (λ b. b < 2) place (bits_of_words ws) (joined-below 10 ws)) in
       subst (λ w. bits w (number_at ws place width) ≡ take width (drop place (bits_of_words ws))) l (bits-number (take width (drop place (bits_of_words ws))) b)
 
   pub number_at-below : (place width : ℕ) → place + width ≤ 10 * length ws → number_at ws place width < 2 ^ width
   number_at-below place width h =
-      let l : length (take width (drop place (bits_of_words ws))) ≡ width = length-take-le width (drop place (bits_of_words ws)) (omega (arith, length-drop place (bits_of_words ws), length-bits_of_words)) in
+      let l : length (take width (drop place (bits_of_words ws))) ≡ width =
+      length-take-le width (drop place (bits_of_words ws)) (omega (arith, length-drop place (bits_of_words ws), length-bits_of_words)) in
       let b : All (λ b. b < 2) (take width (drop place (bits_of_words ws))) =
       All-take (λ b. b < 2) width (drop place (bits_of_words ws)) (All-drop (λ b. b < 2) place (bits_of_words ws) (joined-below 10 ws)) in
       subst (λ w. number_at ws place width < 2 ^ w) l (number-below (take width (drop place (bits_of_words ws))) b)
 
-  joins : (place width n : ℕ) → place + width ≤ 10 * length ws → n ≡ number_at ws place width → take place (bits_of_words ws) ++ bits width n ≡ take (place + width) (bits_of_words ws)
+  joins : (place width n : ℕ) → place + width ≤ 10 * length ws → n ≡ number_at ws place width
+      → take place (bits_of_words ws) ++ bits width n ≡ take (place + width) (bits_of_words ws)
   joins place width n h e =
       ap (λ k. take place (bits_of_words ws) ++ bits width k) e
       ∙ ap (λ xs. take place (bits_of_words ws) ++ xs) (bits-at place width h)
@@ -253,7 +275,8 @@ module _ (ws : List ℕ) (count : IsWordCount (length ws)) where
       let b = count.at_most in
       let c = count.padding in
       record {
-        bytes = pieces-below 8 (byte_count (length ws)) (drop (40 + padding_length (length ws)) (bits_of_words ws)) (All-drop (λ b. b < 2) (40 + padding_length (length ws)) (bits_of_words ws) (joined-below 10 ws)) value-room;
+        bytes = pieces-below 8 (byte_count (length ws)) (drop (40 + padding_length (length ws)) (bits_of_words ws))
+            (All-drop (λ b. b < 2) (40 + padding_length (length ws)) (bits_of_words ws) (joined-below 10 ws)) value-room;
         even = ap (λ n. n % 2) length-share_value_at ∙ count-even;
         at_least = omega (arith, length-share_value_at, value-whole);
         at_most = omega (arith, length-share_value_at, value-whole);
@@ -284,7 +307,9 @@ module _ (ws : List ℕ) (count : IsWordCount (length ws)) where
     header-is =
         let room = words-at_least in
         let B = bits_of_words ws in
-        chained B (bits 15 (number_at ws 0 15)) (bits 1 (flag_bit (flag_of ws))) (bits 4 (number_at ws 16 4)) (bits 4 (number_at ws 20 4)) (bits 4 (stored_group_threshold ws + 1 - 1)) (bits 4 (stored_group_count ws + 1 - 1)) (bits 4 (number_at ws 32 4)) (bits 4 (number_at ws 36 4 + 1 - 1))
+        chained B (bits 15 (number_at ws 0 15)) (bits 1 (flag_bit (flag_of ws))) (bits 4 (number_at ws 16 4)) (bits 4 (number_at ws 20 4))
+        (bits 4 (stored_group_threshold ws + 1 - 1)) (bits 4 (stored_group_count ws + 1 - 1)) (bits 4 (number_at ws 32 4))
+        (bits 4 (number_at ws 36 4 + 1 - 1))
         (joins 0 15 (number_at ws 0 15) (omega arith) refl)
         (joins 15 1 (flag_bit (flag_of ws)) (omega arith) (flag-bit (number_at ws 15 1) (number_at-below 15 1 (omega arith))))
         (joins 16 4 (number_at ws 16 4) (omega arith) refl)
@@ -303,7 +328,8 @@ module _ (ws : List ℕ) (count : IsWordCount (length ws)) where
     length-padding_of : length (padding_of ws) ≡ padding_length (length ws)
     length-padding_of =
         let a = count.padding in
-        length-take-le (padding_length (length ws)) (drop 40 (bits_of_words ws)) (omega (arith, length-drop 40 (bits_of_words ws), length-bits_of_words, words-at_least))
+        length-take-le (padding_length (length ws)) (drop 40 (bits_of_words ws))
+        (omega (arith, length-drop 40 (bits_of_words ws), length-bits_of_words, words-at_least))
 
     padding-is : padding_bits (length (value_bits (share_value_at ws))) ≡ padding_of ws
     padding-is =
@@ -312,7 +338,8 @@ module _ (ws : List ℕ) (count : IsWordCount (length ws)) where
         ∙ sym (all_zeros (padding_of ws) padding)
 
     value-is : value_bits (share_value_at ws) ≡ take (8 * byte_count (length ws)) (drop (40 + padding_length (length ws)) (bits_of_words ws))
-    value-is = joined-pieces 8 (byte_count (length ws)) (drop (40 + padding_length (length ws)) (bits_of_words ws)) (All-drop (λ b. b < 2) (40 + padding_length (length ws)) (bits_of_words ws) (joined-below 10 ws)) value-room
+    value-is = joined-pieces 8 (byte_count (length ws)) (drop (40 + padding_length (length ws)) (bits_of_words ws))
+        (All-drop (λ b. b < 2) (40 + padding_length (length ws)) (bits_of_words ws) (joined-below 10 ws)) value-room
 
     digits-are : digits (fields_at ws) ≡ take (10 * (length ws - 3)) (bits_of_words ws)
     digits-are =
@@ -334,7 +361,8 @@ module _ (ws : List ℕ) (count : IsWordCount (length ws)) where
 -- ---- the padding, as one number
 module _ (ws : List ℕ) where
   padding-below : All (λ b. b < 2) (padding_of ws)
-  padding-below = All-take (λ b. b < 2) (padding_length (length ws)) (drop 40 (bits_of_words ws)) (All-drop (λ b. b < 2) 40 (bits_of_words ws) (joined-below 10 ws))
+  padding-below = All-take (λ b. b < 2) (padding_length (length ws)) (drop 40 (bits_of_words ws))
+      (All-drop (λ b. b < 2) 40 (bits_of_words ws) (joined-below 10 ws))
 
   pub padding_from_number : number_at ws 40 (padding_length (length ws)) ≡ 0 → All (λ b. b ≡ 0) (padding_of ws)
   padding_from_number e = zeros_from_number (padding_of ws) padding-below e
@@ -362,7 +390,16 @@ module _ (f : ShareFields) where
   pub written-room : (i : ℕ) → IsShare f → i < length f.value.items → length (written_until i) + 8 ≤ 1070
   written-room i ok l =
       let high : length f.value.items ≤ 128 = ok.value.at_most in
-      omega (arith, length-append (before) (value_bits (take i f.value.items)), length-append (header_bits f) (padding_bits (length (value_bits f.value.items))), length-header f, length-padding f, length-joined 8 (take i f.value.items), length-take-le i f.value.items (omega arith))
+      omega (
+        arith,
+        length-append (before) (value_bits (take i f.value.items)),
+        length-append (header_bits f)
+            (padding_bits (length (value_bits f.value.items))),
+        length-header f,
+        length-padding f,
+        length-joined 8 (take i f.value.items),
+        length-take-le i f.value.items (omega arith),
+      )
 
   pub written-all : (i : ℕ) → length f.value.items ≤ i → cut_in_tens (written_until i) ≡ data_words f
   written-all i l = ap (λ bs. cut_in_tens (before ++ value_bits bs)) (take_all i f.value.items l)

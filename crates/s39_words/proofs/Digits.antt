@@ -54,9 +54,6 @@ number_after b n (d ∷ ds) =
     let e : number_from_digits_after b (n * b + d) ds ≡ n * b ^ suc (length ds) + number_from_digits_after b (0 * b + d) ds = omega (arith, p, q, m) in
     e
 
-pub number-append : (b : ℕ) (xs ys : List ℕ) → number_from_digits b (xs ++ ys) ≡ number_from_digits b xs * b ^ length ys + number_from_digits b ys
-number-append b xs ys = number_after_append b 0 xs ys ∙ number_after b (number_from_digits b xs) ys
-
 number-cons : (b d : ℕ) (ds : List ℕ) → number_from_digits b (d ∷ ds) ≡ d * b ^ length ds + number_from_digits b ds
 number-cons b d ds = number_after b (0 * b + d) ds ∙ ap (λ x. x * b ^ length ds + number_from_digits b ds) (omega arith)
 
@@ -71,10 +68,6 @@ number-bits (suc w) n =
 
 pub number-bits-below : (w n : ℕ) → n < 2 ^ w → number_from_digits 2 (bits w n) ≡ n
 number-bits-below w n h = number-bits w n ∙ mod-eq_of_lt h
-
--- equal digits come from equal numbers
-pub same_from_bits : (w a b : ℕ) → a < 2 ^ w → b < 2 ^ w → bits w a ≡ bits w b → a ≡ b
-same_from_bits w a b p q e = sym (number-bits-below w a p) ∙ ap (number_from_digits 2) e ∙ number-bits-below w b q
 
 -- a number of so many digits
 pub number-below : (ds : List ℕ) → All (λ b. b < 2) ds → number_from_digits 2 ds < 2 ^ length ds

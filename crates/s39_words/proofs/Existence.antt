@@ -26,7 +26,18 @@ use Rattle.s39_words.proofs.Printed.{IsPrinted-joined}
 -- a word in front of words that have indices, or a first one that has none
 first_or_later : (w : List ℕ) (ws : List (List ℕ)) (o : Option ℕ) → index_of w ≡ o → ((p : ℕ) × IsFirstUnknown ws p) ⊎ ((is : List ℕ) × HaveIndices ws is)
     → ((p : ℕ) × IsFirstUnknown (w ∷ ws) p) ⊎ ((is : List ℕ) × HaveIndices (w ∷ ws) is)
-first_or_later w ws None e later = inl (1, record { before = []; word = w; after = ws; parts = refl; position_is = refl; known = All-nil (λ v. IsSome (index_of v)); unknown = e })
+first_or_later w ws None e later = inl (
+  1,
+  record {
+    before = [];
+    word = w;
+    after = ws;
+    parts = refl;
+    position_is = refl;
+    known = All-nil (λ v. IsSome (index_of v));
+    unknown = e;
+  },
+)
 first_or_later w ws (Some i) e (inl (p, u)) = inl (
   suc p,
   record {

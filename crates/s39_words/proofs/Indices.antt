@@ -42,7 +42,8 @@ indices_below (w ∷ ws) (i ∷ is) h =
     let tails : map index_of ws ≡ map Some is = cc in
     All-cons IsIndex i is (index_below w i head) (indices_below ws is tails)
 
-unknown_after : (before : List (List ℕ)) (word : List ℕ) (after : List (List ℕ)) (is : List ℕ) → index_of word ≡ None → HaveIndices (before ++ word ∷ after) is → ⊥
+unknown_after : (before : List (List ℕ)) (word : List ℕ) (after : List (List ℕ)) (is : List ℕ) → index_of word ≡ None
+    → HaveIndices (before ++ word ∷ after) is → ⊥
 unknown_after [] word after [] unknown h = cc
 unknown_after [] word after (i ∷ is) unknown h = cc
 unknown_after (w ∷ ws) word after [] unknown h = cc
@@ -56,7 +57,9 @@ unknown_excludes_indices ws p is h k =
     unknown_after h.before h.word h.after is h.unknown (subst (λ xs. HaveIndices xs is) h.parts k)
 
 -- two words that are each the first unknown one have as many before them
-first_unknown_lengths : (xs ys : List (List ℕ)) (x y : List ℕ) (xs' ys' : List (List ℕ)) → xs ++ x ∷ xs' ≡ ys ++ y ∷ ys' → All (λ w. IsSome (index_of w)) xs → All (λ w. IsSome (index_of w)) ys → index_of x ≡ None → index_of y ≡ None → length xs ≡ length ys
+first_unknown_lengths : (xs ys : List (List ℕ)) (x y : List ℕ) (xs' ys' : List (List ℕ))
+    → xs ++ x ∷ xs' ≡ ys ++ y ∷ ys' → All (λ w. IsSome (index_of w)) xs → All (λ w. IsSome (index_of w)) ys → index_of x ≡ None → index_of y ≡ None
+    → length xs ≡ length ys
 first_unknown_lengths [] [] x y xs' ys' e hx hy nx ny = refl
 first_unknown_lengths [] (v ∷ ys) x y xs' ys' e hx hy nx ny =
     let same : x ≡ v = cc in
@@ -107,7 +110,9 @@ length_push : (xs : List ℕ) (x n : ℕ) → n ≡ length xs → n + 1 ≡ leng
 length_push xs x n e = simp length-append (omega arith)
 
 -- one more word, where its index is kept if there is room
-pub keep_more : {E : Type 0} (ws : List (List ℕ)) (v v' : ArrayVec ℕ) (n : ℕ) (w : List ℕ) (i : ℕ) (r : Result (Unit {0}) E) → KeepIndices ws v.items n → index_of w ≡ Some i → OnOk r (v'.items ≡ v.items ++ i ∷ []) → OnErr r (v' ≡ v) → (IsOk r ↔ (length v.items < most_words)) → KeepIndices (ws ++ w ∷ []) v'.items (n + 1)
+pub keep_more : {E : Type 0} (ws : List (List ℕ)) (v v' : ArrayVec ℕ) (n : ℕ) (w : List ℕ) (i : ℕ) (r : Result (Unit {0}) E) → KeepIndices ws v.items n
+    → index_of w ≡ Some i → OnOk r (v'.items ≡ v.items ++ i ∷ []) → OnErr r (v' ≡ v) → (IsOk r ↔ (length v.items < most_words))
+    → KeepIndices (ws ++ w ∷ []) v'.items (n + 1)
 keep_more ws v v' n w i (Ok u) h e ok err room = record {
   all = h.all ++ i ∷ [];
   known = indices_more ws h.all w i h.known e;
@@ -140,9 +145,6 @@ pub record KeepsWords (text rest kept : List ℕ) (n : ℕ) : Type 0 where
   pub done : List (List ℕ)
   pub parts : words_of text ≡ done ++ words_of rest
   pub keeps : KeepIndices done kept n
-
-pub keeps_none : (text rest : List ℕ) → words_of rest ≡ words_of text → KeepsWords text rest [] 0
-keeps_none text rest same = record { done = []; parts = sym same; keeps = keep_none }
 
 -- one word more, and the separators behind it
 pub keeps_word : {E : Type 0} (text rest after next word : List ℕ) (v v' : ArrayVec ℕ) (n i : ℕ) (r : Result (Unit {0}) E) → KeepsWords text rest v.items n

@@ -18,10 +18,6 @@ use Rattle.s39_words.proofs.Listed.{IsListed}
 
 -- ---- the words of words joined by single spaces
 
--- a letter or a space
-abbrev IsPrintedByte : ℕ → Type 0
-IsPrintedByte c = to_ascii_lowercase c ≡ c
-
 letter_stays : (c : ℕ) → IsLetter c → to_ascii_lowercase c ≡ c
 letter_stays c h = (lowercase_is c).2 (omega arith)
 
@@ -29,7 +25,8 @@ joined_bytes : (words : List (List ℕ)) → All IsListed words → All (λ c. t
 joined_bytes [] all = All-nil (λ c. to_ascii_lowercase c ≡ c)
 joined_bytes (w ∷ []) all = All-weaker IsLetter (λ c. to_ascii_lowercase c ≡ c) letter_stays w (All-head IsListed w [] all).letters
 joined_bytes (w ∷ v ∷ ws) all =
-    All-append (λ c. to_ascii_lowercase c ≡ c) w (32 ∷ join_with_byte 32 (v ∷ ws)) (All-weaker IsLetter (λ c. to_ascii_lowercase c ≡ c) letter_stays w (All-head IsListed w (v ∷ ws) all).letters)
+    All-append (λ c. to_ascii_lowercase c ≡ c) w (32 ∷ join_with_byte 32 (v ∷ ws))
+    (All-weaker IsLetter (λ c. to_ascii_lowercase c ≡ c) letter_stays w (All-head IsListed w (v ∷ ws) all).letters)
     (All-cons (λ c. to_ascii_lowercase c ≡ c) 32 (join_with_byte 32 (v ∷ ws)) refl (joined_bytes (v ∷ ws) (All-tail IsListed w (v ∷ ws) all)))
 
 no_separator : (c : ℕ) → IsLetter c → is_separator c ≡ false
@@ -38,7 +35,8 @@ no_separator c h = grind (arith, nat_tests)
 joined_parts : (w : List ℕ) (words : List (List ℕ)) → All IsListed (w ∷ words) → slice_split is_separator (join_with_byte 32 (w ∷ words)) ≡ w ∷ words
 joined_parts w [] all = slice_split_none is_separator w (All-weaker IsLetter (λ c. is_separator c ≡ false) no_separator w (All-head IsListed w [] all).letters)
 joined_parts w (v ∷ ws) all =
-    slice_split_at is_separator w 32 (join_with_byte 32 (v ∷ ws)) (All-weaker IsLetter (λ c. is_separator c ≡ false) no_separator w (All-head IsListed w (v ∷ ws) all).letters) refl
+    slice_split_at is_separator w 32 (join_with_byte 32 (v ∷ ws)) (All-weaker IsLetter (λ c. is_separator c ≡ false) no_separator w
+    (All-head IsListed w (v ∷ ws) all).letters) refl
     ∙ ap (λ parts. w ∷ parts) (joined_parts v ws (All-tail IsListed w (v ∷ ws) all))
 
 none_empty : (words : List (List ℕ)) → All IsListed words → filter (λ word. nat_lt 0 (length word)) words ≡ words
@@ -51,7 +49,8 @@ none_empty (w ∷ ws) all =
 pub words_of-joined : (words : List (List ℕ)) → All IsListed words → words_of (join_with_byte 32 words) ≡ words
 words_of-joined [] all = refl
 words_of-joined (w ∷ ws) all =
-    let lower : str_to_ascii_lowercase (join_with_byte 32 (w ∷ ws)) ≡ join_with_byte 32 (w ∷ ws) = map_fixed to_ascii_lowercase (join_with_byte 32 (w ∷ ws)) (joined_bytes (w ∷ ws) all) in
+    let lower : str_to_ascii_lowercase (join_with_byte 32 (w ∷ ws)) ≡ join_with_byte 32 (w ∷ ws) =
+    map_fixed to_ascii_lowercase (join_with_byte 32 (w ∷ ws)) (joined_bytes (w ∷ ws) all) in
     rw (lower, joined_parts w ws all) (none_empty (w ∷ ws) all)
 
 -- ---- words joined one after another
@@ -60,17 +59,22 @@ joined_push : (w : List ℕ) (ws : List (List ℕ)) (v : List ℕ) → (join_wit
 joined_push w [] v = append_assoc w (32 ∷ []) v
 joined_push w (u ∷ us) v =
     let rest = join_with_byte 32 (u ∷ us) in
-    append_assoc (w ++ 32 ∷ rest) (32 ∷ []) v ∙ append_assoc w (32 ∷ rest) (32 ∷ v) ∙ ap (λ t. w ++ 32 ∷ t) (sym (append_assoc rest (32 ∷ []) v) ∙ joined_push u us v)
+    append_assoc (w ++ 32 ∷ rest) (32 ∷ []) v ∙ append_assoc w (32 ∷ rest) (32 ∷ v)
+    ∙ ap (λ t. w ++ 32 ∷ t) (sym (append_assoc rest (32 ∷ []) v) ∙ joined_push u us v)
 
-joined_onto : (xs : List ℕ) (x : ℕ) → 0 < length xs → (join_with_byte 32 (map listed_word xs) ++ 32 ∷ []) ++ listed_word x ≡ join_with_byte 32 (map listed_word (xs ++ x ∷ []))
+joined_onto : (xs : List ℕ) (x : ℕ) → 0 < length xs → (join_with_byte 32 (map listed_word xs) ++ 32 ∷ []) ++ listed_word x ≡ join_with_byte 32
+    (map listed_word (xs ++ x ∷ []))
 joined_onto [] x h = absurd (omega arith)
 joined_onto (y ∷ xs) x h =
-    joined_push (listed_word y) (map listed_word xs) (listed_word x) ∙ ap (λ t. join_with_byte 32 (listed_word y ∷ t)) (sym (map-append listed_word xs (x ∷ [])))
+    joined_push (listed_word y) (map listed_word xs) (listed_word x) ∙ ap (λ t. join_with_byte 32 (listed_word y ∷ t))
+    (sym (map-append listed_word xs (x ∷ [])))
 
-pub joined_later : (xs : List ℕ) (i : ℕ) → 0 < i → i < length xs → (join_with_byte 32 (map listed_word (take i xs)) ++ 32 ∷ []) ++ listed_word (get_or xs i 0) ≡ join_with_byte 32 (map listed_word (take (i + 1) xs))
+pub joined_later : (xs : List ℕ) (i : ℕ) → 0 < i → i < length xs → (join_with_byte 32 (map listed_word (take i xs)) ++ 32 ∷ []) ++ listed_word
+    (get_or xs i 0) ≡ join_with_byte 32 (map listed_word (take (i + 1) xs))
 joined_later xs i positive within =
     joined_onto (take i xs) (get_or xs i 0) (omega (arith, length-take i xs)) ∙ ap (λ t. join_with_byte 32 (map listed_word t)) (sym (take_more xs i 0 within))
 
-pub joined_first : (xs : List ℕ) (i : ℕ) → i ≡ 0 → i < length xs → join_with_byte 32 (map listed_word (take i xs)) ++ listed_word (get_or xs i 0) ≡ join_with_byte 32 (map listed_word (take (i + 1) xs))
+pub joined_first : (xs : List ℕ) (i : ℕ) → i ≡ 0 → i < length xs → join_with_byte 32 (map listed_word (take i xs)) ++ listed_word
+    (get_or xs i 0) ≡ join_with_byte 32 (map listed_word (take (i + 1) xs))
 joined_first [] i first within = absurd (omega arith)
 joined_first (x ∷ xs) i first within = rw first refl

@@ -57,7 +57,8 @@ listed_from_index word index e =
     (λ below.
     let here : Some at ≡ Some index = sym (cond-true _ _ _ (lt-ltb at (length word_list) below)) ∙ e in
     let same : at ≡ index = cc in
-    let word_is : get_or word_list at [] ≡ word = (bytes_eq-Decides (get_or word_list at []) word).0 (passes_at_first (λ listed. bytes_eq listed word) word_list [] below) in
+    let word_is : get_or word_list at [] ≡ word = (bytes_eq-Decides (get_or word_list at []) word).0
+    (passes_at_first (λ listed. bytes_eq listed word) word_list [] below) in
     sym word_is ∙ ap listed_word same)
     (λ above.
     let none : None ≡ Some index = sym (cond-false _ _ _ (le-ltb at (length word_list) above)) ∙ e in
@@ -103,7 +104,8 @@ space_at : (w : List ℕ) (n : ℕ) → All IsLetter w → position_or_len (λ b
 space_at w n all =
     position_or_len_is (λ b. eqb b 32) (w ++ replicate n 32) (length w) 0 (omega (arith, length-append w (replicate n 32)))
     (λ k lt. rw (get_or-append w (replicate n 32) 0 k lt) (no_space w k all lt))
-    (λ lt. let h : 0 < n = omega (arith, length-append w (replicate n 32), length-replicate {A = ℕ} n 32) in rw (get_or-append_right w (replicate n 32) (length w) (length w) 0 refl (omega arith)) (eq-eqb _ 32 (space_in n (length w - length w) (omega arith))))
+    (λ lt. let h : 0 < n = omega (arith, length-append w (replicate n 32), length-replicate {A = ℕ} n 32) in
+    rw (get_or-append_right w (replicate n 32) (length w) (length w) 0 refl (omega arith)) (eq-eqb _ 32 (space_in n (length w - length w) (omega arith))))
 
 -- the letters before the first space of a row are the word
 pub row_front : (w row : List ℕ) (len : ℕ) → FitsRow w → row ≡ row_of w → len ≡ unwrap_or (position (λ b. eqb b 32) row) 8 → take len row ≡ w

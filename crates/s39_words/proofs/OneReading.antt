@@ -58,7 +58,16 @@ outcome text (Ok f) s =
     record {
       indices = data_words f ++ s.checksum;
       known = s.words;
-      passes = ((((tt, is_word_count f s.is_share s.checksum s.checksum_words), subst (λ e. IsValidChecksum e (data_words f ++ s.checksum)) (sym (flag-is f s.is_share s.checksum s.checksum_words)) s.valid), padding_zero f s.is_share s.checksum s.checksum_words), omega arith);
+      passes = (
+        (
+          (
+            (tt, is_word_count f s.is_share s.checksum s.checksum_words),
+            subst (λ e. IsValidChecksum e (data_words f ++ s.checksum)) (sym (flag-is f s.is_share s.checksum s.checksum_words)) s.valid,
+          ),
+          padding_zero f s.is_share s.checksum s.checksum_words,
+        ),
+        omega arith,
+      );
       fails = λ l. absurd (omega arith);
     }
 outcome text (Err (UnknownWord position)) r = r
@@ -69,7 +78,12 @@ outcome text (Err BadChecksum) r =
 outcome text (Err BadPadding) r =
     record { indices = r.0; known = r.1.earlier.known; passes = ((tt, r.1.earlier.count), r.1.checksum); fails = λ l p. r.2 p }
 outcome text (Err GroupThreshold) r =
-    record { indices = r.0; known = r.1.earlier.earlier.known; passes = (((tt, r.1.earlier.earlier.count), r.1.earlier.checksum), r.1.padding); fails = λ l p. omega (arith, p, r.2) }
+    record {
+      indices = r.0;
+      known = r.1.earlier.earlier.known;
+      passes = (((tt, r.1.earlier.earlier.count), r.1.earlier.checksum), r.1.padding);
+      fails = λ l p. omega (arith, p, r.2);
+    }
 
 not_before : (words : List (List ℕ)) (m n : ℕ) → FailsAfter words m → FailsAfter words n → n ≤ 4 → m < n → ⊥
 not_before words m n a b le l =
@@ -84,10 +98,13 @@ same_number words m n a b p q = ⊎_elim
 -- a text has one reading
 pub same_reading : (text : List ℕ) (r s : Result ShareFields WordError) → Reads text r → Reads text s → r ≡ s
 same_reading text (Err (UnknownWord p)) (Err (UnknownWord q)) a b = ap (λ n. Err (UnknownWord n)) (first_unknown_same (words_of text) p q a b)
-same_reading text (Err (UnknownWord p)) s a b = let o : FailsAfter (words_of text) (passed s) = outcome text s b in absurd (unknown_excludes_indices (words_of text) p o.indices a o.known)
-same_reading text r (Err (UnknownWord q)) a b = let o : FailsAfter (words_of text) (passed r) = outcome text r a in absurd (unknown_excludes_indices (words_of text) q o.indices b o.known)
+same_reading text (Err (UnknownWord p)) s a b = let o : FailsAfter (words_of text) (passed s) = outcome text s b in
+    absurd (unknown_excludes_indices (words_of text) p o.indices a o.known)
+same_reading text r (Err (UnknownWord q)) a b = let o : FailsAfter (words_of text) (passed r) = outcome text r a in
+    absurd (unknown_excludes_indices (words_of text) q o.indices b o.known)
 same_reading text (Ok f) (Ok g) a b =
-    ap (λ h. Ok h) (same_from_data_words f g a.checksum b.checksum a.is_share b.is_share a.checksum_words b.checksum_words (indices_same (words_of text) (data_words f ++ a.checksum) (data_words g ++ b.checksum) a.words b.words))
+    ap (λ h. Ok h) (same_from_data_words f g a.checksum b.checksum a.is_share b.is_share a.checksum_words b.checksum_words
+    (indices_same (words_of text) (data_words f ++ a.checksum) (data_words g ++ b.checksum) a.words b.words))
 same_reading text (Err (WordCount m)) (Err (WordCount n)) a b =
     ap (λ k. Err (WordCount k)) (a.2 ∙ ap length (indices_same (words_of text) a.0 b.0 a.1 b.1) ∙ sym b.2)
 same_reading text (Err BadChecksum) (Err BadChecksum) a b = refl

@@ -63,7 +63,8 @@ pieces-joined w [] rest h = refl
 pieces-joined w (n ∷ ns) rest h =
     let a : flat_map (bits w) (n ∷ ns) ++ rest ≡ bits w n ++ (flat_map (bits w) ns ++ rest) = append_assoc (bits w n) (flat_map (bits w) ns) rest in
     ap (pieces w (suc (length ns))) a
-    ∙ ap (λ xs. number_from_digits 2 xs ∷ pieces w (length ns) (drop w (bits w n ++ (flat_map (bits w) ns ++ rest)))) (take_at (bits w n) (flat_map (bits w) ns ++ rest) w (length-bits w n))
+    ∙ ap (λ xs. number_from_digits 2 xs ∷ pieces w (length ns) (drop w (bits w n ++ (flat_map (bits w) ns ++ rest))))
+    (take_at (bits w n) (flat_map (bits w) ns ++ rest) w (length-bits w n))
     ∙ ap (λ x. x ∷ pieces w (length ns) (drop w (bits w n ++ (flat_map (bits w) ns ++ rest)))) (number-bits-below w n (All-head (λ n. n < 2 ^ w) n ns h))
     ∙ ap (λ xs. n ∷ pieces w (length ns) xs) (drop_at (bits w n) (flat_map (bits w) ns ++ rest) w (length-bits w n))
     ∙ ap (λ xs. n ∷ xs) (pieces-joined w ns rest (All-tail (λ n. n < 2 ^ w) n ns h))
@@ -97,14 +98,6 @@ module _ (k : ℕ) (ds : List ℕ) (h : All (λ b. b < 2) ds) (e : length ds ≡
   pub cut-below : All IsIndex (cut_in_tens ds)
   cut-below = let P : List ℕ → Type 0 = All IsIndex in subst P (sym cut-pieces) (pieces-below 10 k ds h (omega arith))
 
--- numbers are known by their joined digits
-pub same_from_joined : (w : ℕ) (ms ns : List ℕ) → All (λ n. n < 2 ^ w) ms → All (λ n. n < 2 ^ w) ns → length ms ≡ length ns → flat_map (bits w) ms ≡ flat_map (bits w) ns → ms ≡ ns
-same_from_joined w ms ns p q l e =
-    sym (pieces-joined w ms [] p)
-    ∙ ap (λ k. pieces w k (flat_map (bits w) ms ++ [])) l
-    ∙ ap (λ xs. pieces w (length ns) (xs ++ [])) e
-    ∙ pieces-joined w ns [] q
-
 -- a list of zeros
 pub all_zeros : (xs : List ℕ) → All (λ x. x ≡ 0) xs → xs ≡ replicate (length xs) 0
 all_zeros [] h = refl
@@ -133,4 +126,5 @@ pieces_more w (suc k) ds =
     let e : w + w * k ≡ w * suc k = omega arith in
     ap (λ j. pieces w j ds) s
     ∙ ap (λ xs. number_from_digits 2 (take w ds) ∷ xs) (pieces_more w k (drop w ds))
-    ∙ ap (λ xs. number_from_digits 2 (take w ds) ∷ pieces w k (drop w ds) ++ number_from_digits 2 (take w xs) ∷ []) (drop-drop (w * k) w ds ∙ ap (λ j. drop j ds) e)
+    ∙ ap (λ xs. number_from_digits 2 (take w ds) ∷ pieces w k (drop w ds) ++ number_from_digits 2 (take w xs) ∷ [])
+    (drop-drop (w * k) w ds ∙ ap (λ j. drop j ds) e)

@@ -16,7 +16,9 @@ use Rattle.s39_words.proofs.Listed.{listed_words, HaveIndices-listed_words, word
 use Rattle.s39_words.proofs.Joined.{words_of-joined}
 
 -- the words of the data words and of a valid checksum, joined by single spaces
-pub IsPrinted-joined : (share : ShareFields) (checksum text : List ℕ) → IsShare share → length checksum ≡ 3 → All IsIndex (data_words share) → All IsIndex checksum → IsValidChecksum share.extendable (data_words share ++ checksum) → text ≡ join_with_byte 32 (map listed_word (data_words share ++ checksum)) → IsPrinted text share
+pub IsPrinted-joined : (share : ShareFields) (checksum text : List ℕ) → IsShare share → length checksum ≡ 3 → All IsIndex (data_words share)
+    → All IsIndex checksum → IsValidChecksum share.extendable (data_words share ++ checksum)
+    → text ≡ join_with_byte 32 (map listed_word (data_words share ++ checksum)) → IsPrinted text share
 IsPrinted-joined share checksum text is_share len data_in_range in_range valid text_is =
     let indices = data_words share ++ checksum in
     let all = All-append IsIndex (data_words share) checksum data_in_range in_range in
@@ -33,10 +35,14 @@ IsPrinted-joined share checksum text is_share len data_in_range in_range valid t
     }
 
 -- the same, as the code has it
-pub IsPrinted-from : (share : ShareFields) (flag : Bool) (words indices checksum text : List ℕ) → IsShare share → flag ≡ share.extendable → words ≡ data_words share → All IsIndex words → length checksum ≡ 3 → All IsIndex checksum → IsValidChecksum flag (words ++ checksum) → indices ≡ words ++ checksum → text ≡ join_with_byte 32 (map listed_word indices) → IsPrinted text share
+pub IsPrinted-from : (share : ShareFields) (flag : Bool) (words indices checksum text : List ℕ) → IsShare share → flag ≡ share.extendable
+    → words ≡ data_words share → All IsIndex words → length checksum ≡ 3
+    → All IsIndex checksum → IsValidChecksum flag (words ++ checksum) → indices ≡ words ++ checksum → text ≡ join_with_byte 32 (map listed_word indices)
+    → IsPrinted text share
 IsPrinted-from share flag words indices checksum text is_share flag_is data_is data_in_range len in_range valid indices_are text_is =
     IsPrinted-joined share checksum text is_share len (subst (λ (d : List ℕ). All IsIndex d) data_is data_in_range) in_range
-    (subst (λ (d : List ℕ). IsValidChecksum share.extendable (d ++ checksum)) data_is (subst (λ (f : Bool). IsValidChecksum f (words ++ checksum)) flag_is valid))
+    (subst (λ (d : List ℕ). IsValidChecksum share.extendable (d ++ checksum)) data_is
+    (subst (λ (f : Bool). IsValidChecksum f (words ++ checksum)) flag_is valid))
     (text_is ∙ ap (λ (is : List ℕ). join_with_byte 32 (map listed_word is)) (indices_are ∙ ap (λ (d : List ℕ). d ++ checksum) data_is))
 
 -- the parts of a list whose elements all fit
@@ -52,6 +58,7 @@ one_printed_form share text other p q =
     let b = words_from_indices (words_of other) (data_words share ++ q.spells.checksum) q.spells.words in
     let x = All-parts (data_words share) p.spells.checksum (indices_below (words_of text) (data_words share ++ p.spells.checksum) p.spells.words) in
     let y = All-parts (data_words share) q.spells.checksum (indices_below (words_of other) (data_words share ++ q.spells.checksum) q.spells.words) in
-    let same = one_checksum share.extendable (data_words share) p.spells.checksum q.spells.checksum x.0 p.spells.checksum_words q.spells.checksum_words x.1 y.1 p.spells.valid q.spells.valid in
+    let same = one_checksum share.extendable (data_words share) p.spells.checksum q.spells.checksum x.0 p.spells.checksum_words q.spells.checksum_words
+    x.1 y.1 p.spells.valid q.spells.valid in
     let words : words_of text ≡ words_of other = a ∙ ap (λ (c : List ℕ). map listed_word (data_words share ++ c)) same ∙ sym b in
     p.single_spaces ∙ ap (join_with_byte 32) words ∙ sym q.single_spaces

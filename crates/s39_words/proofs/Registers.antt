@@ -37,14 +37,14 @@ constant-is (suc (suc (suc (suc (suc (suc (suc (suc (suc (suc i)))))))))) l = ab
 -- ---- packed remainders
 
 -- the sum of two remainders
-abbrev pub sum_of : Remainder → Remainder → Remainder
-sum_of r s = record {
+abbrev pub sum_of_remainders : Remainder → Remainder → Remainder
+sum_of_remainders r s = record {
   square = bit_xor r.square s.square;
   linear = bit_xor r.linear s.linear;
   constant = bit_xor r.constant s.constant;
 }
 
-pub packed-sum : (r s : Remainder) → AreElements r → AreElements s → bit_xor (packed r) (packed s) ≡ packed (sum_of r s)
+pub packed-sum : (r s : Remainder) → AreElements r → AreElements s → bit_xor (packed r) (packed s) ≡ packed (sum_of_remainders r s)
 packed-sum r s a b =
     xor_block 10 (r.square * 1024 + r.linear) (s.square * 1024 + s.linear) r.constant s.constant a.constant b.constant
     ∙ ap (λ n. n * 1024 + bit_xor r.constant s.constant) (xor_block 10 r.square s.square r.linear s.linear a.linear b.linear)
@@ -80,7 +80,7 @@ mul_sum a b g =
     axioms.mul_commutes (bit_xor a b) g ∙ axioms.mul_distributes g a b
     ∙ ap (λ x. bit_xor x (word_field.mul g b)) (axioms.mul_commutes g a) ∙ ap (bit_xor (word_field.mul a g)) (axioms.mul_commutes g b)
 
-pub times-sum : (a b : ℕ) → generator_times (bit_xor a b) ≡ sum_of (generator_times a) (generator_times b)
+pub times-sum : (a b : ℕ) → generator_times (bit_xor a b) ≡ sum_of_remainders (generator_times a) (generator_times b)
 times-sum a b =
     let s = mul_sum a b 14 in
     let l = mul_sum a b 56 in
@@ -119,13 +119,9 @@ times-none n =
     let e : n % 1 ≡ 0 = omega arith in
     sym (ap (λ m. packed (generator_times m)) e ∙ times-zero)
 
-pub times-all : (n i : ℕ) → IsIndex n → word_bits ≤ i → i ≤ word_bits → packed (generator_times (n % 2 ^ i)) ≡ packed (generator_times n)
-times-all n i l low high =
-    let e : i ≡ word_bits = omega arith in
-    ap (λ k. packed (generator_times (n % 2 ^ k))) e ∙ ap (λ m. packed (generator_times m)) (mod-eq_of_lt l)
-
 -- one constant more, where the digit is 1
-pub times-more : (n i : ℕ) → i < word_bits → bit_and (n / 2 ^ i) 1 ≡ 1 → bit_xor (packed (generator_times (n % 2 ^ i))) (get_or GENERATOR_TIMES i 0) ≡ packed (generator_times (n % 2 ^ (i + 1)))
+pub times-more : (n i : ℕ) → i < word_bits → bit_and (n / 2 ^ i) 1 ≡ 1
+    → bit_xor (packed (generator_times (n % 2 ^ i))) (get_or GENERATOR_TIMES i 0) ≡ packed (generator_times (n % 2 ^ (i + 1)))
 times-more n i l e =
     let m = n % 2 ^ i in
     let digit : n / 2 ^ i % 2 ≡ 1 = sym (and_mask (n / 2 ^ i) 1) ∙ e in
@@ -142,7 +138,8 @@ times-more n i l e =
 pub times-same : (n i : ℕ) → (bit_and (n / 2 ^ i) 1 ≡ 1 → ⊥) → packed (generator_times (n % 2 ^ i)) ≡ packed (generator_times (n % 2 ^ (i + 1)))
 times-same n i e =
     let mask = and_mask (n / 2 ^ i) 1 in
-    let digit : n / 2 ^ i % 2 ≡ 0 = ⊎_elim (λ one. absurd (e (mask ∙ one))) (λ other. let h : n / 2 ^ i % 2 < 2 = omega arith in omega (arith, other)) (cases_eq (n / 2 ^ i % 2) 1) in
+    let digit : n / 2 ^ i % 2 ≡ 0 = ⊎_elim (λ one. absurd (e (mask ∙ one))) (λ other. let h : n / 2 ^ i % 2 < 2 = omega arith in omega (arith, other))
+    (cases_eq (n / 2 ^ i % 2) 1) in
     let none : 0 * 2 ^ i + n % 2 ^ i ≡ n % 2 ^ i = omega arith in
     ap (λ m. packed (generator_times m)) (sym (below_next n i ∙ ap (λ d. d * 2 ^ i + n % 2 ^ i) digit ∙ none))
 
@@ -168,7 +165,7 @@ module _ (bits c : ℕ) (l : bits < 2 ^ 30) (k : IsIndex c) (sum : ℕ) (e : sum
   highest = omega arith
 
   next : Remainder
-  next = sum_of (moved bits c) (generator_times (bits / 2 ^ 20))
+  next = sum_of_remainders (moved bits c) (generator_times (bits / 2 ^ 20))
 
   next-is : bit_xor (bit_xor (bit_and bits 1048575 * 1024 % 4294967296) c) sum ≡ packed (next_remainder (unpacked bits) c)
   next-is =
@@ -190,7 +187,8 @@ pub holds_one : (bits : ℕ) → (bits ≡ 1) ↔ (unpacked bits ≡ one_remaind
 holds_one bits = (λ e. ap unpacked e, λ e. sym (packed-unpacked bits) ∙ ap packed e)
 
 -- the three words of a checksum
-pub words-are : (bits : ℕ) → (bits / 1048576 ∷ bit_and (bits / 1024) 1023 ∷ bit_xor (bit_and bits 1023) 1 ∷ []) ≡ ((unpacked bits).square ∷ (unpacked bits).linear ∷ bit_xor (unpacked bits).constant 1 ∷ [])
+pub words-are : (bits : ℕ) → (bits / 1048576 ∷ bit_and (bits / 1024) 1023 ∷ bit_xor (bit_and bits 1023) 1 ∷ [])
+    ≡ ((unpacked bits).square ∷ (unpacked bits).linear ∷ bit_xor (unpacked bits).constant 1 ∷ [])
 words-are bits =
     let l = and_mask (bits / 1024) 10 in
     let k = and_mask bits 10 in

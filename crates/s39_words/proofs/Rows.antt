@@ -111,7 +111,8 @@ number_below (a ∷ b ∷ c ∷ d ∷ e ∷ f ∷ g ∷ h ∷ []) few all =
 number_below (a ∷ b ∷ c ∷ d ∷ e ∷ f ∷ g ∷ h ∷ i ∷ word) few all = absurd (omega arith)
 
 -- the same, as the code has it
-pub with_letter_is : (word : List ℕ) (number letters letter x : ℕ) → length word ≡ letters → letters < longest_word → number ≡ number_of_row (row_of word) → IsLetter letter → x ≡ letter - 32
+pub with_letter_is : (word : List ℕ) (number letters letter x : ℕ) → length word ≡ letters → letters < longest_word → number ≡ number_of_row (row_of word)
+    → IsLetter letter → x ≡ letter - 32
     → number + x * 2 ^ (8 * (7 - letters)) % 2 ^ 64 ≡ number_of_row (row_of (word ++ letter ∷ []))
 with_letter_is word number letters letter x length_is few number_is l x_is =
     let small : x < 2 ^ 8 = omega (arith, l) in
@@ -124,11 +125,13 @@ with_letter_is word number letters letter x length_is few number_is l x_is =
     ∙ ap (λ n. number_of_row (row_of word) + (letter - 32) * 2 ^ (8 * (7 - n))) (sym length_is)
     ∙ sym more
 
-pub with_letter_fits : (word : List ℕ) (number letters letter x : ℕ) → length word ≡ letters → letters < longest_word → number ≡ number_of_row (row_of word) → IsLetter letter → x ≡ letter - 32
+pub with_letter_fits : (word : List ℕ) (number letters letter x : ℕ) → length word ≡ letters → letters < longest_word
+    → number ≡ number_of_row (row_of word) → IsLetter letter → x ≡ letter - 32
     → All IsLetter word → number + x * 2 ^ (8 * (7 - letters)) % 2 ^ 64 < 2 ^ 64
 with_letter_fits word number letters letter x length_is few number_is l x_is all =
     subst (λ n. n < 2 ^ 64) (sym (with_letter_is word number letters letter x length_is few number_is l x_is))
-    (number_below (word ++ letter ∷ []) (simp length-append (omega arith)) (All-append IsLetter word (letter ∷ []) all (All-cons IsLetter letter [] l (All-nil IsLetter))))
+    (number_below (word ++ letter ∷ []) (simp length-append (omega arith))
+    (All-append IsLetter word (letter ∷ []) all (All-cons IsLetter letter [] l (All-nil IsLetter))))
 
 -- these are the first i bytes of a text, all of them letters, as the number of a row
 pub record HoldsLetters (number : ℕ) (text : List ℕ) (i : ℕ) : Type 0 where
@@ -150,8 +153,14 @@ holds-inside text number i h = All-weaker (λ b. IsTrue (is_ascii_alphabetic b))
 pub holds-row : (text : List ℕ) (number i : ℕ) → HoldsLetters number text i → i < length text → ¬ (i ≡ longest_word)
     → (word : List ℕ) × (length word ≡ i) × (i < longest_word) × All IsLetter word × (number ≡ number_of_row (row_of word))
 holds-row text number i h within other =
-    let few : i < longest_word = omega (arith, h.few) in
-    (str_to_ascii_lowercase (take i text), length-map (take i text) to_ascii_lowercase ∙ length-take-le i text (omega arith), few, (holds-fits text number i h).letters, h.number_is)
+    let few : i < longest_word = omega (arith, h.few) in (
+      str_to_ascii_lowercase (take i text),
+      length-map (take i text) to_ascii_lowercase
+          ∙ length-take-le i text (omega arith),
+      few,
+      (holds-fits text number i h).letters,
+      h.number_is,
+    )
 
 -- one letter more
 pub holds-more : (text : List ℕ) (number next i letter : ℕ) → HoldsLetters number text i → i < length text → ¬ (i ≡ longest_word)
@@ -164,13 +173,16 @@ holds-more text number next i letter h within other alphabetic letter_is next_is
   number_is =
       let front = str_to_ascii_lowercase (take i text) in
       let more : str_to_ascii_lowercase (take (i + 1) text) ≡ front ++ letter ∷ [] =
-      ap (map to_ascii_lowercase) (take_more text i 0 within) ∙ map-append to_ascii_lowercase (take i text) (get_or text i 0 ∷ []) ∙ ap (λ l. front ++ l ∷ []) (sym letter_is) in
-      next_is front (length-map (take i text) to_ascii_lowercase ∙ length-take-le i text (omega arith)) h.number_is ∙ ap (λ word. number_of_row (row_of word)) (sym more);
+      ap (map to_ascii_lowercase) (take_more text i 0 within) ∙ map-append to_ascii_lowercase (take i text) (get_or text i 0 ∷ [])
+      ∙ ap (λ l. front ++ l ∷ []) (sym letter_is) in
+      next_is front (length-map (take i text) to_ascii_lowercase ∙ length-take-le i text (omega arith)) h.number_is
+      ∙ ap (λ word. number_of_row (row_of word)) (sym more);
 }
 
 -- the letters end at a separator
 pub row_at_separator : (text : List ℕ) (number i : ℕ) → HoldsLetters number text i → i < length text → is_separator (get_or text i 0) ≡ true
-    → (word : List ℕ) × BeginsWith text word (take (length text - i) (drop i text)) × FitsRow (str_to_ascii_lowercase word) × (number ≡ number_of_row (row_of (str_to_ascii_lowercase word)))
+    → (word : List ℕ) × BeginsWith text word (take (length text - i) (drop i text)) × FitsRow (str_to_ascii_lowercase word) ×
+    (number ≡ number_of_row (row_of (str_to_ascii_lowercase word)))
 row_at_separator text number i h within separates =
     let rest : take (length text - i) (drop i text) ≡ drop i text = take_rest text i in
     let next : drop i text ≡ get_or text i 0 ∷ drop (i + 1) text = drop_more text i 0 within in (
@@ -201,21 +213,25 @@ row_at_end text number i h ended = (
 )
 
 -- the next byte, which is no separator, belongs to the word too
-next_in_word : (text word rest : List ℕ) (number i : ℕ) → HoldsLetters number text i → i < length text → is_separator (get_or text i 0) ≡ false → BeginsWith text word rest
+next_in_word : (text word rest : List ℕ) (number i : ℕ) → HoldsLetters number text i → i < length text → is_separator (get_or text i 0) ≡ false
+    → BeginsWith text word rest
     → (i < length word) × (get_or word i 0 ≡ get_or text i 0)
 next_in_word text word rest number i h within inside begins =
     within_first text word rest i begins
-    (subst (λ n. All (λ b. is_separator b ≡ false) (take n text)) (add-one i) (All-more (λ b. is_separator b ≡ false) text i 0 within (holds-inside text number i h) inside))
+    (subst (λ n. All (λ b. is_separator b ≡ false) (take n text)) (add-one i)
+    (All-more (λ b. is_separator b ≡ false) text i 0 within (holds-inside text number i h) inside))
     within
 
 -- then the word is too long
-pub long_unfit : (text word rest : List ℕ) (number i : ℕ) → HoldsLetters number text i → i < length text → is_separator (get_or text i 0) ≡ false → BeginsWith text word rest
+pub long_unfit : (text word rest : List ℕ) (number i : ℕ) → HoldsLetters number text i → i < length text → is_separator (get_or text i 0) ≡ false
+    → BeginsWith text word rest
     → i ≡ longest_word → FitsRow (str_to_ascii_lowercase word) → ⊥
 long_unfit text word rest number i h within inside begins full fits =
     omega (arith, short_from_fits word fits, (next_in_word text word rest number i h within inside begins).0)
 
 -- or has a byte that is no letter
-pub other_unfit : (text word rest : List ℕ) (number i : ℕ) → HoldsLetters number text i → i < length text → is_separator (get_or text i 0) ≡ false → BeginsWith text word rest
+pub other_unfit : (text word rest : List ℕ) (number i : ℕ) → HoldsLetters number text i → i < length text → is_separator (get_or text i 0) ≡ false
+    → BeginsWith text word rest
     → (is_ascii_alphabetic (get_or text i 0) ≡ true → ⊥) → FitsRow (str_to_ascii_lowercase word) → ⊥
 other_unfit text word rest number i h within inside begins other fits =
     let there = next_in_word text word rest number i h within inside begins in

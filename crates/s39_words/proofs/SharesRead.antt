@@ -30,7 +30,8 @@ module _ (text words : List ℕ) (passes : PassesPadding text words) (below : Al
       }
 
   -- what comes of the test of the fields
-  pub reads_tested : (made : Option ShareFields) → (IsSome made ↔ IsShare (fields_at words)) → IfSome made (λ share. share ≡ fields_at words) → Reads text (ok_or made GroupThreshold)
+  pub reads_tested : (made : Option ShareFields) → (IsSome made ↔ IsShare (fields_at words)) → IfSome made (λ share. share ≡ fields_at words)
+      → Reads text (ok_or made GroupThreshold)
   reads_tested None test same = ⊎_elim
       (λ above. (words, passes, above))
       (λ le. let some : IsSome {T = ShareFields} None = test.1 (is_share words passes.earlier.earlier.count le) in cc)

@@ -33,7 +33,8 @@ lower_inside word inside =
     All-map (λ b. is_separator b ≡ false) to_ascii_lowercase word
     (All-weaker (λ b. is_separator b ≡ false) (λ b. is_separator (to_ascii_lowercase b) ≡ false) (λ b h. separator_lower b ∙ h) word inside)
 
-keep_first : (w : ℕ) (ws : List ℕ) (parts : List (List ℕ)) → filter (λ word. nat_lt 0 (length word)) ((w ∷ ws) ∷ parts) ≡ (w ∷ ws) ∷ filter (λ word. nat_lt 0 (length word)) parts
+keep_first : (w : ℕ) (ws : List ℕ) (parts : List (List ℕ)) → filter (λ word. nat_lt 0 (length word)) ((w ∷ ws) ∷ parts) ≡ (w ∷ ws) ∷ filter
+    (λ word. nat_lt 0 (length word)) parts
 keep_first w ws parts = cond-true _ _ _ (lt-ltb 0 (length (w ∷ ws)) (omega arith))
 
 parts_of_first : (word rest : List ℕ) → All (λ b. is_separator b ≡ false) word → All (λ b. is_separator b ≡ true) (take 1 rest) → 0 < length word
@@ -47,7 +48,8 @@ parts_of_first (w ∷ ws) (s ∷ rest) inside behind some =
     let here : is_separator s ≡ true = All-head (λ b. is_separator b ≡ true) s [] behind in
     ap (λ text. filter (λ word. nat_lt 0 (length word)) (slice_split is_separator text)) (map-append to_ascii_lowercase (w ∷ ws) (s ∷ rest))
     ∙ ap (filter (λ word. nat_lt 0 (length word)))
-    (slice_split_at is_separator (str_to_ascii_lowercase (w ∷ ws)) (to_ascii_lowercase s) (str_to_ascii_lowercase rest) (lower_inside (w ∷ ws) inside) (separator_lower s ∙ here))
+    (slice_split_at is_separator (str_to_ascii_lowercase (w ∷ ws)) (to_ascii_lowercase s) (str_to_ascii_lowercase rest) (lower_inside (w ∷ ws) inside)
+    (separator_lower s ∙ here))
     ∙ keep_first (to_ascii_lowercase w) (str_to_ascii_lowercase ws) (slice_split is_separator (str_to_ascii_lowercase rest))
     ∙ ap (λ words. str_to_ascii_lowercase (w ∷ ws) ∷ words) (sym (words_of_separator s rest here))
 
@@ -81,7 +83,8 @@ pub begins_somehow : (text : List ℕ) → (word : List ℕ) × (rest : List ℕ
 begins_somehow [] = ([], [], record { parts = refl; inside = All-nil (λ b. is_separator b ≡ false); behind = All-nil (λ b. is_separator b ≡ true) })
 begins_somehow (b ∷ text) = begins_after b text (is_separator b) refl (begins_somehow text)
 
-some_of_parts : (word rest : List ℕ) → All (λ b. is_separator b ≡ true) (take 1 rest) → All (λ b. is_separator b ≡ false) (take 1 (word ++ rest)) → 0 < length (word ++ rest) → 0 < length word
+some_of_parts : (word rest : List ℕ) → All (λ b. is_separator b ≡ true) (take 1 rest) → All (λ b. is_separator b ≡ false) (take 1 (word ++ rest))
+    → 0 < length (word ++ rest) → 0 < length word
 some_of_parts [] [] behind begins some = absurd (omega arith)
 some_of_parts [] (r ∷ rest) behind begins some =
     absurd (false≢true (sym (All-head (λ b. is_separator b ≡ false) r [] begins) ∙ All-head (λ b. is_separator b ≡ true) r [] behind))
@@ -92,7 +95,8 @@ pub some_from_begins : (text word rest : List ℕ) → BeginsWith text word rest
 some_from_begins text word rest h begins some =
     some_of_parts word rest h.behind (subst BeginsInWord h.parts begins) (subst (λ t. 0 < length t) h.parts some)
 
-within_parts : (word rest : List ℕ) (i : ℕ) → All (λ b. is_separator b ≡ true) (take 1 rest) → All (λ b. is_separator b ≡ false) (take (suc i) (word ++ rest)) → i < length (word ++ rest)
+within_parts : (word rest : List ℕ) (i : ℕ) → All (λ b. is_separator b ≡ true) (take 1 rest)
+    → All (λ b. is_separator b ≡ false) (take (suc i) (word ++ rest)) → i < length (word ++ rest)
     → (i < length word) × (get_or word i 0 ≡ get_or (word ++ rest) i 0)
 within_parts [] [] i behind inside within = absurd (omega arith)
 within_parts [] (r ∷ rest) i behind inside within =
@@ -103,18 +107,24 @@ within_parts (w ∷ ws) rest (suc i) behind inside within =
     (omega (arith, later.0), later.1)
 
 -- bytes that are no separators belong to it
-pub within_first : (text word rest : List ℕ) (i : ℕ) → BeginsWith text word rest → All (λ b. is_separator b ≡ false) (take (suc i) text) → i < length text → (i < length word) × (get_or word i 0 ≡ get_or text i 0)
+pub within_first : (text word rest : List ℕ) (i : ℕ) → BeginsWith text word rest → All (λ b. is_separator b ≡ false) (take (suc i) text) → i < length text
+    → (i < length word) × (get_or word i 0 ≡ get_or text i 0)
 within_first text word rest i h inside within =
-    let there = within_parts word rest i h.behind (subst (λ t. All (λ b. is_separator b ≡ false) (take (suc i) t)) h.parts inside) (subst (λ t. i < length t) h.parts within) in
+    let there = within_parts word rest i h.behind (subst (λ t. All (λ b. is_separator b ≡ false) (take (suc i) t)) h.parts inside)
+    (subst (λ t. i < length t) h.parts within) in
     (there.0, there.1 ∙ ap (λ t. get_or t i 0) (sym h.parts))
 
 -- ---- a loop over the pieces, which has yielded xs
 
-pub turn : {S : Type 0} {steps : S → Option (Bor (List ℕ)) → S → Type 0} (s t u : S) (xs : List (Bor (List ℕ))) (r : Option (Bor (List ℕ))) (x : Bor (List ℕ)) → Yields steps s xs t → r ≡ Some x → steps t r u → (all : List (List ℕ)) → YieldsList steps (λ w. w.now) s all → (map (λ w. w.now) xs ≡ take (length (map (λ w. w.now) xs)) all) × (length (map (λ w. w.now) xs) < length all) × (x.now ≡ get_or all (length (map (λ w. w.now) xs)) x.now)
+pub turn : {S : Type 0} {steps : S → Option (Bor (List ℕ)) → S → Type 0} (s t u : S) (xs : List (Bor (List ℕ))) (r : Option (Bor (List ℕ)))
+    (x : Bor (List ℕ)) → Yields steps s xs t → r ≡ Some x → steps t r u → (all : List (List ℕ)) → YieldsList steps (λ w. w.now) s all
+    → (map (λ w. w.now) xs ≡ take (length (map (λ w. w.now) xs)) all) × (length (map (λ w. w.now) xs) < length all) ×
+    (x.now ≡ get_or all (length (map (λ w. w.now) xs)) x.now)
 turn s t u xs r x yields is step all road =
     let now : (length xs < length all) × (x.now ≡ get_or all (length xs) x.now) = YieldsList-turn road xs t yields r u x is step in
     let same : length (map (λ w. w.now) xs) ≡ length xs = length-map xs (λ w. w.now) in
     rw same (YieldsList-so_far road xs t yields, now.0, now.1)
 
-pub ended : {S : Type 0} {steps : S → Option (Bor (List ℕ)) → S → Type 0} (s t u : S) (xs : List (Bor (List ℕ))) (r : Option (Bor (List ℕ))) → Yields steps s xs t → r ≡ None → steps t r u → (all : List (List ℕ)) → YieldsList steps (λ w. w.now) s all → map (λ w. w.now) xs ≡ all
+pub ended : {S : Type 0} {steps : S → Option (Bor (List ℕ)) → S → Type 0} (s t u : S) (xs : List (Bor (List ℕ))) (r : Option (Bor (List ℕ)))
+    → Yields steps s xs t → r ≡ None → steps t r u → (all : List (List ℕ)) → YieldsList steps (λ w. w.now) s all → map (λ w. w.now) xs ≡ all
 ended s t u xs r yields is step all road = (YieldsList-end road xs t yields r u is step).0

@@ -74,5 +74,6 @@ pub value_more : (ws : List ℕ) (padding i : ℕ) (bytes : List ℕ) → bytes 
     → bytes ++ number_at ws (40 + padding + 8 * i) 8 ∷ [] ≡ pieces 8 (i + 1) (drop (40 + padding) (bits_of_words ws))
 value_more ws padding i bytes e =
     ap (λ xs. xs ++ number_at ws (40 + padding + 8 * i) 8 ∷ []) e
-    ∙ ap (λ ds. pieces 8 i (drop (40 + padding) (bits_of_words ws)) ++ number_from_digits 2 (take 8 ds) ∷ []) (sym (drop-drop (8 * i) (40 + padding) (bits_of_words ws)))
+    ∙ ap (λ ds. pieces 8 i (drop (40 + padding) (bits_of_words ws)) ++ number_from_digits 2 (take 8 ds) ∷ [])
+    (sym (drop-drop (8 * i) (40 + padding) (bits_of_words ws)))
     ∙ sym (pieces_more 8 i (drop (40 + padding) (bits_of_words ws)))

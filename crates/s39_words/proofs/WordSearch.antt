@@ -29,7 +29,8 @@ use Rattle.s39_words.proofs.WordTable.{length-word_list, lengths, letters, ascen
 
 -- ---- the place of a word in a list of words
 
-pub position_at : (ws : List (List ℕ)) (w : List ℕ) (i : ℕ) → i < length ws → get_or ws i [] ≡ w → ((k : ℕ) → k < i → get_or ws k [] ≢ w) → position (λ v. bytes_eq v w) ws ≡ Some i
+pub position_at : (ws : List (List ℕ)) (w : List ℕ) (i : ℕ) → i < length ws → get_or ws i [] ≡ w → ((k : ℕ) → k < i → get_or ws k [] ≢ w)
+    → position (λ v. bytes_eq v w) ws ≡ Some i
 position_at ws w i within here before =
     let first : position_or_len (λ v. bytes_eq v w) ws ≡ i =
     position_or_len_is (λ v. bytes_eq v w) ws i [] (omega arith)
@@ -74,7 +75,8 @@ length-row w fits = omega (arith, length-append w (replicate (longest_word - len
 row-bytes : (w : List ℕ) → FitsRow w → (i : ℕ) → get_or (row_of w) i 0 < 256
 row-bytes w fits i =
     let letters = All-weaker IsLetter (λ b. b < 256) (λ c l. omega (arith, l)) w fits.letters in
-    let all = All-append (λ b. b < 256) w (replicate (longest_word - length w) 32) letters (All-replicate (λ b. b < 256) (longest_word - length w) 32 (omega arith)) in
+    let all = All-append (λ b. b < 256) w (replicate (longest_word - length w) 32) letters
+    (All-replicate (λ b. b < 256) (longest_word - length w) 32 (omega arith)) in
     ⊎_elim
     (λ inside. all i 0 inside)
     (λ outside. let none = get_or-eq_default (row_of w) 0 outside in omega (arith, none))
@@ -97,7 +99,8 @@ pub listed_once : (k i : ℕ) → k < i → i < length word_list → get_or word
 listed_once k i below within same =
     let less : slice_cmp nat_cmp (get_or word_list k []) (get_or word_list i []) ≡ Less = ascending k i [] below within in
     let tied : slice_cmp nat_cmp (get_or word_list i []) (get_or word_list i []) ≡ Equal = tied_itself nat_list_cmp_total (get_or word_list i []) in
-    let less' : slice_cmp nat_cmp (get_or word_list i []) (get_or word_list i []) ≡ Less = subst (λ v. slice_cmp nat_cmp v (get_or word_list i []) ≡ Less) same less in
+    let less' : slice_cmp nat_cmp (get_or word_list i []) (get_or word_list i []) ≡ Less =
+    subst (λ v. slice_cmp nat_cmp v (get_or word_list i []) ≡ Less) same less in
     cc
 
 row_at : (k : ℕ) → k < length word_list → get_or (map row_of word_list) k [] ≡ row_of (get_or word_list k [])
@@ -121,7 +124,8 @@ searchable : (x : ℕ) → IsNonDecreasingBy (λ row. ordering_index (nat_cmp (n
 searchable x = searchable_from_sorted nat_cmp_total number_of_row (map row_of word_list) x (λ k d low high. rows_in_order k d high)
 
 -- what a binary search for the number of a word's row finds
-pub index_of_searched : (w : List ℕ) (r : Result ℕ ℕ) → FitsRow w → IsSearchInRange r (length (map row_of word_list)) → IsBinarySearchResult (λ row. nat_cmp (number_of_row row) (number_of_row (row_of w))) (map row_of word_list) r → index_of w ≡ result_ok r
+pub index_of_searched : (w : List ℕ) (r : Result ℕ ℕ) → FitsRow w → IsSearchInRange r (length (map row_of word_list))
+    → IsBinarySearchResult (λ row. nat_cmp (number_of_row row) (number_of_row (row_of w))) (map row_of word_list) r → index_of w ≡ result_ok r
 index_of_searched w (Ok i) fits within found =
     let inside : i < length word_list = subst (λ n. i < n) length_rows within in
     let listed = listed_fits i inside in
@@ -132,25 +136,32 @@ index_of_searched w (Ok i) fits within found =
     position_at word_list w i inside same (λ k below e. listed_once k i below inside (e ∙ sym same))
 index_of_searched w (Err i) fits within found =
     let x = number_of_row (row_of w) in
-    let parts : AllWithin (λ row. nat_cmp (number_of_row row) x ≡ Less) (map row_of word_list) 0 i × AllWithin (λ row. nat_cmp (number_of_row row) x ≡ Greater) (map row_of word_list) i (length (map row_of word_list)) = found (searchable x) in
+    let parts : AllWithin (λ row. nat_cmp (number_of_row row) x ≡ Less)
+    (map row_of word_list) 0 i × AllWithin (λ row. nat_cmp (number_of_row row) x ≡ Greater) (map row_of word_list) i (length (map row_of word_list)) =
+    found (searchable x) in
     position_none word_list w (λ k inside same.
     let row_same : get_or (map row_of word_list) k [] ≡ row_of w = row_at k inside ∙ ap row_of same in
     let tied : nat_cmp x x ≡ Equal = tied_itself nat_cmp_total x in
-    let equal : nat_cmp (number_of_row (get_or (map row_of word_list) k [])) x ≡ Equal = subst (λ row. nat_cmp (number_of_row row) x ≡ Equal) (sym row_same) tied in
+    let equal : nat_cmp (number_of_row (get_or (map row_of word_list) k [])) x ≡ Equal =
+    subst (λ row. nat_cmp (number_of_row row) x ≡ Equal) (sym row_same) tied in
     ⊎_elim
     (λ below. let less : nat_cmp (number_of_row (get_or (map row_of word_list) k [])) x ≡ Less = parts.0 k [] (omega arith) below in cc)
-    (λ above. let greater : nat_cmp (number_of_row (get_or (map row_of word_list) k [])) x ≡ Greater = parts.1 k [] above (subst (λ n. k < n) (sym length_rows) inside) in cc)
+    (λ above. let greater : nat_cmp (number_of_row (get_or (map row_of word_list) k [])) x ≡ Greater =
+    parts.1 k [] above (subst (λ n. k < n) (sym length_rows) inside) in cc)
     (cases_lt k i))
 
 -- the same, as the code has it
-pub index_of_search : (w row : List ℕ) (x : ℕ) (rows : List (List ℕ)) (r : Result ℕ ℕ) → FitsRow w → row ≡ row_of w → x ≡ number_of_row row → rows ≡ map row_of word_list → IsSearchInRange r (length rows) → IsBinarySearchResult (λ y. nat_cmp (number_of_row y) x) rows r → index_of w ≡ result_ok r
+pub index_of_search : (w row : List ℕ) (x : ℕ) (rows : List (List ℕ)) (r : Result ℕ ℕ) → FitsRow w → row ≡ row_of w
+    → x ≡ number_of_row row → rows ≡ map row_of word_list → IsSearchInRange r (length rows)
+    → IsBinarySearchResult (λ y. nat_cmp (number_of_row y) x) rows r → index_of w ≡ result_ok r
 index_of_search w row x rows r fits row_is x_is rows_are within found =
     index_of_searched w r fits
     (subst (λ xs. IsSearchInRange r (length xs)) rows_are within)
     (subst (λ xs. IsBinarySearchResult (λ y. nat_cmp (number_of_row y) (number_of_row (row_of w))) xs r) rows_are
     (subst (λ n. IsBinarySearchResult (λ y. nat_cmp (number_of_row y) n) rows r) (x_is ∙ ap number_of_row row_is) found))
 
-pub found_in_list : (rows : List (List ℕ)) (r : Result ℕ ℕ) (i : ℕ) → rows ≡ map row_of word_list → IsSearchInRange r (length rows) → Some i ≡ result_ok r → IsIndex i
+pub found_in_list : (rows : List (List ℕ)) (r : Result ℕ ℕ) (i : ℕ) → rows ≡ map row_of word_list → IsSearchInRange r (length rows) → Some i ≡ result_ok r
+    → IsIndex i
 found_in_list rows (Ok j) i rows_are within e =
     let same : i ≡ j = cc in
     let n : length rows ≡ word_list_length = ap length rows_are ∙ length_rows ∙ length-word_list in
@@ -160,7 +171,8 @@ found_in_list rows (Err j) i rows_are within e = cc
 -- ---- the first word of a text
 
 -- a word that a text begins with, of which no index is known, is the first unknown one
-first_is_unknown : (text word rest : List ℕ) → BeginsWith text word rest → BeginsInWord text → 0 < length text → index_of (str_to_ascii_lowercase word) ≡ None → IsFirstUnknown (words_of text) 1
+first_is_unknown : (text word rest : List ℕ) → BeginsWith text word rest → BeginsInWord text → 0 < length text
+    → index_of (str_to_ascii_lowercase word) ≡ None → IsFirstUnknown (words_of text) 1
 first_is_unknown text word rest h begins some none = record {
   before = [];
   word = str_to_ascii_lowercase word;
@@ -172,7 +184,8 @@ first_is_unknown text word rest h begins some none = record {
 }
 
 -- it fits in no row
-pub unfit_is_unknown : (text : List ℕ) → BeginsInWord text → 0 < length text → ((word rest : List ℕ) → BeginsWith text word rest → FitsRow (str_to_ascii_lowercase word) → ⊥) → IsFirstUnknown (words_of text) 1
+pub unfit_is_unknown : (text : List ℕ) → BeginsInWord text → 0 < length text
+    → ((word rest : List ℕ) → BeginsWith text word rest → FitsRow (str_to_ascii_lowercase word) → ⊥) → IsFirstUnknown (words_of text) 1
 unfit_is_unknown text begins some unfit =
     let first = begins_somehow text in
     first_is_unknown text first.0 first.1 first.2 begins some (index_of_none (str_to_ascii_lowercase first.0) (unfit first.0 first.1 first.2))
@@ -188,8 +201,11 @@ pub first_is_known : (text rest : List ℕ) (number index : ℕ) → BeginsInWor
     → (word : List ℕ) × BeginsWith text word rest × FitsRow (str_to_ascii_lowercase word) × (number ≡ number_of_row (row_of (str_to_ascii_lowercase word)))
     → ((word : List ℕ) → FitsRow word → number ≡ number_of_row (row_of word) → Some index ≡ index_of word)
     → (word : List ℕ) × (index_of word ≡ Some index) × (words_of text ≡ word ∷ words_of rest)
-first_is_known text rest number index begins some row found =
-    (str_to_ascii_lowercase row.0, sym (found (str_to_ascii_lowercase row.0) row.2 row.3), words_of_first text row.0 rest row.1 (some_from_begins text row.0 rest row.1 begins some))
+first_is_known text rest number index begins some row found = (
+  str_to_ascii_lowercase row.0,
+  sym (found (str_to_ascii_lowercase row.0) row.2 row.3),
+  words_of_first text row.0 rest row.1 (some_from_begins text row.0 rest row.1 begins some),
+)
 
 pub rest_is_shorter : (text word rest : List ℕ) → BeginsWith text word rest → BeginsInWord text → 0 < length text → length rest < length text
 rest_is_shorter text word rest h begins some =

@@ -82,7 +82,8 @@ sorted_from_test (v ∷ w ∷ ws) h (suc k) d within = sorted_from_test (w ∷ w
 pub rows_in_order : (k : ℕ) (d : List ℕ) → k + 1 < length (map row_of word_list)
     → is_lt (nat_cmp (number_of_row (get_or (map row_of word_list) (k + 1) d)) (number_of_row (get_or (map row_of word_list) k d))) ≡ false
 rows_in_order k d within =
-    subst (λ n. is_lt (nat_cmp (number_of_row (get_or (map row_of word_list) n d)) (number_of_row (get_or (map row_of word_list) k d))) ≡ false) (sym (add-one k))
+    subst (λ n. is_lt (nat_cmp (number_of_row (get_or (map row_of word_list) n d)) (number_of_row (get_or (map row_of word_list) k d))) ≡ false)
+    (sym (add-one k))
     (sorted_from_test (map row_of word_list) numbers_rise k d (omega arith))
 
 Decides-leb : (a b : ℕ) → Decides (leb a b) (a ≤ b)
@@ -129,9 +130,6 @@ all_pairs_from_ascends (v ∷ ws) h =
 
 pub ascending : AllPairs ComesBefore word_list
 ascending = all_pairs_from_ascends word_list words_ascend
-
-pub rows_ascending : AllPairs ComesBefore (map row_of word_list)
-rows_ascending = all_pairs_from_ascends (map row_of word_list) rows_ascend
 
 pub starts_ascending : AllPairs ComesBefore (map (take telling_letters) word_list)
 starts_ascending = all_pairs_from_ascends (map (take telling_letters) word_list) starts_ascend

@@ -30,20 +30,24 @@ written words held rest width n below small l = record {
 }
 
 -- the number behind the words, as the code makes it
-pub shifted-is : (rest width n held : ℕ) → rest < 2 ^ held → n < 2 ^ width → held < 10 → width ≤ 15 → bit_or (rest * 2 ^ width % 4294967296) n ≡ rest * 2 ^ width + n
+pub shifted-is : (rest width n held : ℕ) → rest < 2 ^ held → n < 2 ^ width → held < 10 → width ≤ 15
+    → bit_or (rest * 2 ^ width % 4294967296) n ≡ rest * 2 ^ width + n
 shifted-is rest width n held small l h k =
     ap (λ m. bit_or m n) (shl_whole rest held width 32 small (omega arith)) ∙ or_shifted rest width n l
 
 -- a word more
-pub word_more : (words : List ℕ) (after rest : ℕ) (digits : List ℕ) → AreDigits words (10 + after) rest digits → AreDigits (words ++ rest / 2 ^ after ∷ []) after (rest % 2 ^ after) digits
+pub word_more : (words : List ℕ) (after rest : ℕ) (digits : List ℕ) → AreDigits words (10 + after) rest digits
+    → AreDigits (words ++ rest / 2 ^ after ∷ []) after (rest % 2 ^ after) digits
 word_more words after rest digits d =
     let w = rest / 2 ^ after in
-    let low : bits after (rest % 2 ^ after) ≡ bits after rest = sym (bits_low after (rest / 2 ^ after) (rest % 2 ^ after)) ∙ ap (bits after) (shr_split rest after) in
+    let low : bits after (rest % 2 ^ after) ≡ bits after rest = sym (bits_low after (rest / 2 ^ after) (rest % 2 ^ after))
+    ∙ ap (bits after) (shr_split rest after) in
     record {
       words_below = All-push IsIndex words w d.words_below (shr_below rest 10 after d.rest_below);
       rest_below = mod_below rest (2 ^ after) (pow_pos after);
       joined =
-          ap (λ ds. ds ++ bits after (rest % 2 ^ after)) (flat_map-append (bits 10) words (w ∷ []) ∙ ap (λ ds. bits_of_words words ++ ds) (append-nil (bits 10 w)))
+          ap (λ ds. ds ++ bits after (rest % 2 ^ after)) (flat_map-append (bits 10) words (w ∷ [])
+          ∙ ap (λ ds. bits_of_words words ++ ds) (append-nil (bits 10 w)))
           ∙ append_assoc (bits_of_words words) (bits 10 w) (bits after (rest % 2 ^ after))
           ∙ ap (λ ds. bits_of_words words ++ (bits 10 w ++ ds)) low
           ∙ ap (λ ds. bits_of_words words ++ ds) (sym (bits_parts 10 after rest))
@@ -55,7 +59,8 @@ pub masked-is : (rest after : ℕ) → after < 32 → bit_and rest (1 * 2 ^ afte
 masked-is rest after h = ap (λ n. bit_and rest (n - 1)) (one_shl after 32 h) ∙ and_mask rest after
 
 -- digits that make whole words
-pub whole-words : (words : List ℕ) (held rest : ℕ) (digits : List ℕ) → AreDigits words held rest digits → held < 10 → length digits % 10 ≡ 0 → words ≡ cut_in_tens digits
+pub whole-words : (words : List ℕ) (held rest : ℕ) (digits : List ℕ) → AreDigits words held rest digits → held < 10 → length digits % 10 ≡ 0
+    → words ≡ cut_in_tens digits
 whole-words words held rest digits d h e =
     let n = length-digits words held rest digits d in
     let z : held ≡ 0 = omega arith in

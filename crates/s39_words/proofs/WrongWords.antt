@@ -71,7 +71,8 @@ terms n [] ws = []
 terms n (v ∷ vs) [] = []
 terms n (v ∷ vs) (w ∷ ws) = if v == w then terms (suc n) vs ws else (power word_field half n, bit_xor v w) ∷ terms (suc n) vs ws
 
-value_of_terms : (k n : ℕ) (vs ws : List ℕ) → length vs ≡ length ws → value_from word_field (sum_of word_field vs ws) n (power word_field half k) ≡ power_sum word_field (terms n vs ws) k
+value_of_terms : (k n : ℕ) (vs ws : List ℕ) → length vs ≡ length ws → value_from word_field (sum_of word_field vs ws) n (power word_field half k)
+    ≡ power_sum word_field (terms n vs ws) k
 value_of_terms k n [] [] e = refl
 value_of_terms k n [] (w ∷ ws) e = absurd (omega arith)
 value_of_terms k n (v ∷ vs) [] e = absurd (omega arith)
@@ -85,7 +86,8 @@ value_of_terms k n (v ∷ vs) (w ∷ ws) e =
           let same : bit_xor v w ≡ 0 = ap (λ u. bit_xor u w) (eqb-true v w t) ∙ axioms.add_self w in
           let none : here ≡ 0 = ap (λ a. word_field.mul a (power word_field x n)) same ∙ mul-zero_left word_field axioms (power word_field x n) in
           ap (λ a. bit_xor a (value_from word_field (sum_of word_field vs ws) (suc n) x)) none
-          ∙ axioms.add_commutes 0 (value_from word_field (sum_of word_field vs ws) (suc n) x) ∙ axioms.add_zero (value_from word_field (sum_of word_field vs ws) (suc n) x) ∙ rest
+          ∙ axioms.add_commutes 0 (value_from word_field (sum_of word_field vs ws) (suc n) x)
+          ∙ axioms.add_zero (value_from word_field (sum_of word_field vs ws) (suc n) x) ∙ rest
       | false ↦ λ t. ap₂ bit_xor (ap (word_field.mul (bit_xor v w)) (power-exchanges word_field axioms half k n)) rest
     ]) refl
 
@@ -178,7 +180,8 @@ sum_of_ones : (x y : ℕ) → bit_xor (bit_xor x 1) (bit_xor y 1) ≡ bit_xor x 
 sum_of_ones x y = add_of_sums word_field axioms x 1 y 1 ∙ ap (bit_xor (bit_xor x y)) (axioms.add_self 1) ∙ axioms.add_zero (bit_xor x y)
 
 -- what is added to the last coefficient of both is gone in their sum
-sum_without_ones : (x y : ℕ) (xs ys : List ℕ) → length xs ≡ length ys → sum_of word_field (one_added_to_last (x ∷ xs)) (one_added_to_last (y ∷ ys)) ≡ sum_of word_field (x ∷ xs) (y ∷ ys)
+sum_without_ones : (x y : ℕ) (xs ys : List ℕ) → length xs ≡ length ys → sum_of word_field (one_added_to_last (x ∷ xs)) (one_added_to_last (y ∷ ys))
+    ≡ sum_of word_field (x ∷ xs) (y ∷ ys)
 sum_without_ones x y [] [] e = ap (λ z. z ∷ []) (sum_of_ones x y)
 sum_without_ones x y [] (w ∷ ws) e = absurd (omega arith)
 sum_without_ones x y (v ∷ vs) [] e = absurd (omega arith)
@@ -213,7 +216,8 @@ module _ (extendable : Bool) (vs ws : List ℕ) (same_count : length vs ≡ leng
       ∙ ap₂ bit_xor one other
 
   front-below : (us : List ℕ) → All IsIndex us → All IsIndex (front extendable ++ us)
-  front-below us h = All-append IsIndex (front extendable) us (All-cons IsIndex 1 (customization_string extendable) (omega arith) (customization extendable).1) h
+  front-below us h = All-append IsIndex (front extendable) us (All-cons IsIndex 1 (customization_string extendable) (omega arith)
+      (customization extendable).1) h
 
   pub not_both_valid : length vs ≤ most_words → 1 ≤ length (differing_places 0 vs ws) → length (differing_places 0 vs ws) ≤ most_wrong_words → ⊥
   not_both_valid short some few =

@@ -68,7 +68,8 @@ impl Register {
 
     /// The register of the customization string.
     fn after_customization_string(extendable: bool) -> Register
-        ensures { unpacked result.bits ≡ fold next_remainder one_remainder (customization_string extendable) }
+        ensures { unpacked result.bits
+            ≡ fold next_remainder one_remainder (customization_string extendable) }
     {
         let customization_string: &[u8] = if extendable {
             b"shamir_extendable"

@@ -48,7 +48,8 @@ pub fn word_counts()
 /// The word list has 1,024 words of four to eight small letters, and each word comes before all later ones.
 pub fn word_list_ascends()
     ensures count { length word_list ≡ word_list_length }
-    ensures lengths { All (λ word. (shortest_word ≤ length word) × (length word ≤ longest_word)) word_list }
+    ensures lengths { All (λ word. (shortest_word ≤ length word) × (length word ≤ longest_word))
+        word_list }
     ensures letters { All (λ word. All IsLetter word) word_list }
     ensures ascending { AllPairs ComesBefore word_list }
 {}
@@ -60,12 +61,14 @@ pub fn first_letters_tell_words_apart()
 
 /// No proper beginning of a word of the list is a word of the list.
 pub fn no_word_begins_another()
-    ensures { (word rest : List ℕ) → Contains word_list word → Contains word_list (word ++ rest) → rest ≡ [] }
+    ensures { (word rest : List ℕ)
+        → Contains word_list word → Contains word_list (word ++ rest) → rest ≡ [] }
 {}
 
 /// The ten constants of the checksum's register are the lower coefficients of the generator, each times 2^i.
 pub fn register_constants()
-    ensures { (i : ℕ) → i < word_bits → slice_index GENERATOR_TIMES i ≡ packed (generator_times (2 ^ i)) }
+    ensures { (i : ℕ) → i < word_bits
+        → slice_index GENERATOR_TIMES i ≡ packed (generator_times (2 ^ i)) }
 {}
 
 /// No text spells two shares.
@@ -80,7 +83,8 @@ pub fn every_text_has_a_reading()
 
 /// No text is read as two things.
 pub fn one_reading()
-    ensures { (text : List ℕ) (r s : Result ShareFields Cause) → Reads text r → Reads text s → r ≡ s }
+    ensures { (text : List ℕ) (r s : Result ShareFields Cause)
+        → Reads text r → Reads text s → r ≡ s }
 {}
 
 /// All words have a checksum.

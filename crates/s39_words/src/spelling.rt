@@ -23,7 +23,8 @@ use arrayvec::ArrayVec;
 pub fn parse(line: &[u8]) -> Result<Share, WordError>
     ensures reading { Reads line.now result }
     // Nothing else is what the text reads as.
-    ensures only { (reading : Result ShareFields Cause) → Reads line.now reading → result ≡ reading }
+    ensures only { (reading : Result ShareFields Cause)
+        → Reads line.now reading → result ≡ reading }
     // One, two or three wrong words of a mnemonic are found.
     ensures mistyped { (mnemonic : List ℕ) → IsMnemonic mnemonic → IsMistyped line.now mnemonic
         → result ≡ Err WordError.BadChecksum }

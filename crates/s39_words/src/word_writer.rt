@@ -25,7 +25,8 @@ impl Model for WordWriter {
 
     ghost view = { λ w. bits_of_words w.words.items ++ bits w.held w.rest };
 
-    ghost invariant = { λ w. (w.held < word_bits) × (w.rest < 2 ^ w.held) × All IsIndex w.words.items };
+    ghost invariant = { λ w. (w.held < word_bits) × (w.rest < 2 ^ w.held)
+        × All IsIndex w.words.items };
 }
 
 impl WordWriter {

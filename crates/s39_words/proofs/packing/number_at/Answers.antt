@@ -3,7 +3,8 @@ use Rattle.s39_words.proofs.packing.number_at.Goals as goal
 
 pub returns : goal.returns
 returns c =
-    let e = number_at-shifted c.args.words.now c.args.place c.args.width c.requires.indices c.requires.in_two_words c.requires.within c.from.result c.from-2.result c.from.ensures c.from-2.ensures c.requires.width in
+    let e = number_at-shifted c.args.words.now c.args.place c.args.width c.requires.indices c.requires.in_two_words c.requires.within c.from.result
+    c.from-2.result c.from.ensures c.from-2.ensures c.requires.width in
     record {
       number = e;
       below = shifted-below c.args.words.now c.args.place c.args.width c.requires.indices c.requires.in_two_words c.requires.within _ e;

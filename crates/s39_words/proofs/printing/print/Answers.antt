@@ -14,4 +14,5 @@ returns c =
     c.deref-3.ensures.0 ∙ second ∙ ap (λ t. t ++ checksum.result) (first ∙ ap (λ t. t ++ c.deref-2.result.now) c.new-indices.ensures ∙ c.deref-2.ensures.0) in
     let valid : IsValidChecksum c.extendable-extendable.result (words.result.items ++ checksum.result) = rw c.deref.ensures.0 at checksum.ensures.valid in
     IsPrinted-from share c.extendable-extendable.result words.result.items c.deref-3.result.now checksum.result c.text_of.result.items
-    words.ensures.in_range c.extendable-extendable.ensures words.ensures.same words.ensures.in_list (search rules) checksum.ensures.in_range valid indices_are c.text_of.ensures
+    words.ensures.in_range c.extendable-extendable.ensures words.ensures.same words.ensures.in_list
+    (search rules) checksum.ensures.in_range valid indices_are c.text_of.ensures

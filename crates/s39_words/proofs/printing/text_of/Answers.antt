@@ -10,7 +10,8 @@ use Rattle.s39_words.proofs.printing.text_of.Goals.{then-i-gt0, else-i-gt0}
 
 pub unwrap-requires : goal.unwrap-requires
 unwrap-requires c =
-    let short = short_word (get_or c.args.indices.now c.loop-i.i 0) c.word_at.result.now (c.requires.in_list c.loop-i.i 0 c.loop-i-test.true) c.word_at.ensures in
+    let short = short_word (get_or c.args.indices.now c.loop-i.i 0) c.word_at.result.now (c.requires.in_list c.loop-i.i 0 c.loop-i-test.true)
+    c.word_at.ensures in
     let room : length c.if-i-gt0.text.items + length c.word_at.result.now ≤ longest_text =
     elim c.if-i-gt0.branch [
       | then-i-gt0 w ↦ let t = ap (λ (v : _). length v.items) w.text-is in omega (arith, c.loop-i.invariant.short, w.push.ensures.len)
@@ -31,10 +32,19 @@ loop-i-preserved c =
           let text = ap (λ (v : _). v.items) w.text-is in
           let count = ap length text in
           let later = joined_later indices i w.if-i-gt0.true c.loop-i-test.true in
-          record { joined = appended ∙ ap (λ t. t ++ c.word_at.result.now) (text ∙ w.push.ensures.items ∙ ap (λ t. t ++ 32 ∷ []) c.loop-i.invariant.joined) ∙ ap (λ t. (join_with_byte 32 (map listed_word (take i indices)) ++ 32 ∷ []) ++ t) c.word_at.ensures ∙ later; short = omega (arith, c.loop-i.invariant.short, w.push.ensures.len) }
+          record {
+            joined = appended ∙ ap (λ t. t ++ c.word_at.result.now) (text ∙ w.push.ensures.items
+                ∙ ap (λ t. t ++ 32 ∷ []) c.loop-i.invariant.joined) ∙ ap (λ t. (join_with_byte 32 (map listed_word (take i indices)) ++ 32 ∷ []) ++ t)
+                c.word_at.ensures ∙ later;
+            short = omega (arith, c.loop-i.invariant.short, w.push.ensures.len);
+          }
       | else-i-gt0 w ↦
           let text = ap (λ (v : _). v.items) w.text-is in
           let count = ap length text in
           let first = joined_first indices i (omega arith) c.loop-i-test.true in
-          record { joined = appended ∙ ap (λ t. t ++ c.word_at.result.now) (text ∙ c.loop-i.invariant.joined) ∙ ap (λ t. join_with_byte 32 (map listed_word (take i indices)) ++ t) c.word_at.ensures ∙ first; short = omega (arith, c.loop-i.invariant.short) }
+          record {
+            joined = appended ∙ ap (λ t. t ++ c.word_at.result.now) (text ∙ c.loop-i.invariant.joined)
+                ∙ ap (λ t. join_with_byte 32 (map listed_word (take i indices)) ++ t) c.word_at.ensures ∙ first;
+            short = omega (arith, c.loop-i.invariant.short);
+          }
     ]

@@ -14,5 +14,7 @@ pub returns : goal.returns
 returns c =
     let row = get_or c.rows.result.now c.args.index [] in
     let is_row : row ≡ row_of (listed_word c.args.index) = ap (λ rows. get_or rows c.args.index []) c.rows.ensures ∙ row_at c.args.index c.requires in
-    let at = position_from_yields_List (λ b. eqb b 32) _ _ c.position.result c.position.ensures.ran (YieldsList-from_slice row cc) (λ x b q k. search (rules, tests)) in
-    row_front (listed_word c.args.index) row c.unwrap_or-len.result (FitsRow-listed_word c.args.index c.requires) is_row (c.unwrap_or-len.ensures ∙ ap (λ o. unwrap_or o 8) at)
+    let at = position_from_yields_List (λ b. eqb b 32) _ _ c.position.result c.position.ensures.ran (YieldsList-from_slice row cc)
+    (λ x b q k. search (rules, tests)) in
+    row_front (listed_word c.args.index) row c.unwrap_or-len.result (FitsRow-listed_word c.args.index c.requires) is_row (c.unwrap_or-len.ensures
+    ∙ ap (λ o. unwrap_or o 8) at)

@@ -5,7 +5,8 @@ use Rattle.s39_words.proofs.spelling.indices_of.Goals as goal
 
 pub returns-in_default-clause-refused : goal.returns-in_default-clause-refused
 returns-in_default-clause-refused c =
-    first_unknown c.args.line.now c.loop-rest.rest.now c.loop-rest.indices.items c.loop-rest.words c.loop-rest.invariant.keeps (c.in_default.ensures.unknown refl)
+    first_unknown c.args.line.now c.loop-rest.rest.now c.loop-rest.indices.items c.loop-rest.words c.loop-rest.invariant.keeps
+    (c.in_default.ensures.unknown refl)
 
 pub loop-rest-preserved : goal.loop-rest-preserved
 loop-rest-preserved c =
@@ -15,7 +16,8 @@ loop-rest-preserved c =
       begins = next.ensures.begins;
       short = omega (arith, c.loop-rest.invariant.short, next.ensures.short, c.in-Some.ensures.short);
       keeps =
-          keeps_word c.args.line.now c.loop-rest.rest.now c.in-Some.word.rest.now next.result.now known.0 c.loop-rest.indices c.try_push.new.self c.loop-rest.words c.in-Some.word.index c.try_push.result
+          keeps_word c.args.line.now c.loop-rest.rest.now c.in-Some.word.rest.now next.result.now known.0 c.loop-rest.indices c.try_push.new.self
+          c.loop-rest.words c.in-Some.word.index c.try_push.result
           c.loop-rest.invariant.keeps known.2 next.ensures.same_words known.1 c.try_push.ensures.ok c.try_push.ensures.err c.try_push.ensures.variant;
     }
 
@@ -26,7 +28,8 @@ returns-then-is_word_count-clause-found c =
     passes_count c.args.line.now c.loop-rest.indices.items c.loop-rest.words all (c.if-is_word_count.ensures.0 refl)
 
 pub returns-then-is_word_count-clause-in_list : goal.returns-then-is_word_count-clause-in_list
-returns-then-is_word_count-clause-in_list c = kept_below c.loop-rest.invariant.keeps.done c.loop-rest.indices.items c.loop-rest.words c.loop-rest.invariant.keeps.keeps
+returns-then-is_word_count-clause-in_list c = kept_below c.loop-rest.invariant.keeps.done c.loop-rest.indices.items c.loop-rest.words
+    c.loop-rest.invariant.keeps.keeps
 
 pub returns-else-is_word_count-clause-refused : goal.returns-else-is_word_count-clause-refused
 returns-else-is_word_count-clause-refused c =

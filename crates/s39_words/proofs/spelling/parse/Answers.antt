@@ -32,11 +32,17 @@ returns-then-not-is_valid_checksum-clause-only c =
 
 pub returns-in_default : goal.returns-in_default
 returns-in_default c =
-    let counted : PassesCount c.args.line.now c.as_slice-words.result.now = subst (PassesCount c.args.line.now) (sym c.as_slice-words.ensures.value) c.in_ok-indices.ensures.found in
+    let counted : PassesCount c.args.line.now c.as_slice-words.result.now =
+    subst (PassesCount c.args.line.now) (sym c.as_slice-words.ensures.value) c.in_ok-indices.ensures.found in
     let valid = subst (λ f. IsValidChecksum f c.as_slice-words.result.now) c.has_flag-extendable.ensures (c.if-not-is_valid_checksum.ensures.0 refl) in
     let passes : PassesChecksum c.args.line.now c.as_slice-words.result.now =
     record { earlier = counted; checksum = valid } in
-    let r : Reads c.args.line.now (Err BadPadding) = (c.as_slice-words.result.now, passes, λ h. let t : false ≡ true = c.in_default.ensures.padding.1 h in cc) in
+    let r : Reads c.args.line.now (Err BadPadding) = (
+      c.as_slice-words.result.now,
+      passes,
+      λ h. let t : false ≡ true = c.in_default.ensures.padding.1 h in
+          cc,
+    ) in
     let only = λ (s : Result ShareFields WordError) (h : Reads c.args.line.now s). same_reading c.args.line.now (Err BadPadding) s r h in
     record { reading = r; only = only; mistyped = λ mnemonic is mistyped. only (Err BadChecksum) (bad_checksum c.args.line.now mnemonic is mistyped) }
 
@@ -54,7 +60,8 @@ returns c =
     let fields = c.in-Some.ensures.fields in
     let test : IsSome c.new.result ↔ IsShare (fields_at words) = subst (λ f. IsSome c.new.result ↔ IsShare f) fields c.new.ensures.in_range in
     let same : IfSome c.new.result (λ share. share ≡ fields_at words) = subst (λ f. IfSome c.new.result (λ share. share ≡ f)) fields c.new.ensures.same in
-    let only = λ (s : Result ShareFields WordError) (h : Reads text s). c.ok_or.ensures.value ∙ only_tested text words passes below c.new.result test same s h in
+    let only = λ (s : Result ShareFields WordError) (h : Reads text s). c.ok_or.ensures.value
+    ∙ only_tested text words passes below c.new.result test same s h in
     record {
       reading = subst (Reads text) (sym c.ok_or.ensures.value) (reads_tested text words passes below c.new.result test same);
       only = only;

@@ -8,14 +8,16 @@ use Rattle.s39_words.proofs.word_list.index_of_number.Goals as goal
 
 pub overflow_cast-result : goal.overflow_cast-result
 overflow_cast-result c =
-    let below : IsIndex c.in-Ok.index = found_in_list c.rows.result.now c.binary_search_by_key.result _ c.rows.ensures c.binary_search_by_key.ensures.bound (sym (ap result_ok c.in-Ok.is)) in
+    let below : IsIndex c.in-Ok.index = found_in_list c.rows.result.now c.binary_search_by_key.result _ c.rows.ensures
+    c.binary_search_by_key.ensures.bound (sym (ap result_ok c.in-Ok.is)) in
     omega arith
 
 pub returns-in-Ok-clause-same : goal.returns-in-Ok-clause-same
 returns-in-Ok-clause-same c = λ word fits number_is.
     sym (ap result_ok c.in-Ok.is)
     ∙ sym (index_of_search word (row_of word) c.args.number c.rows.result.now c.binary_search_by_key.result fits refl number_is
-    c.rows.ensures c.binary_search_by_key.ensures.bound (c.binary_search_by_key.ensures.position number_of_row (answers_always _ _ _ (λ f a r g called. search rules))))
+    c.rows.ensures c.binary_search_by_key.ensures.bound (c.binary_search_by_key.ensures.position number_of_row
+    (answers_always _ _ _ (λ f a r g called. search rules))))
 
 pub returns-in-Ok-clause-in_list : goal.returns-in-Ok-clause-in_list
 returns-in-Ok-clause-in_list c =
@@ -25,4 +27,5 @@ pub returns-in-Err-clause-same : goal.returns-in-Err-clause-same
 returns-in-Err-clause-same c = λ word fits number_is.
     sym (ap result_ok c.in-Err.is)
     ∙ sym (index_of_search word (row_of word) c.args.number c.rows.result.now c.binary_search_by_key.result fits refl number_is
-    c.rows.ensures c.binary_search_by_key.ensures.bound (c.binary_search_by_key.ensures.position number_of_row (answers_always _ _ _ (λ f a r g called. search rules))))
+    c.rows.ensures c.binary_search_by_key.ensures.bound (c.binary_search_by_key.ensures.position number_of_row
+    (answers_always _ _ _ (λ f a r g called. search rules))))

@@ -29,7 +29,8 @@ with_letter-number-requires-clause-row c =
 
 pub loop-i-preserved : goal.loop-i-preserved
 loop-i-preserved c =
-    holds-more c.args.text.now c.loop-i.number c.with_letter-number.result c.loop-i.i c.in_ok-small_letter.field-0 c.loop-i.invariant c.loop-i-test.true c.if-i-eq-MAX_LETTERS.false
+    holds-more c.args.text.now c.loop-i.number c.with_letter-number.result c.loop-i.i c.in_ok-small_letter.field-0 c.loop-i.invariant c.loop-i-test.true
+    c.if-i-eq-MAX_LETTERS.false
     (c.in_ok-small_letter.ensures.letter.0 refl) c.in_ok-small_letter.ensures.small c.with_letter-number.ensures
 
 pub returns-clause-row : goal.returns-clause-row

@@ -8,11 +8,13 @@ returns-in_err-row-clause-unknown c = λ none.
 
 pub returns-in_err-index-clause-unknown : goal.returns-in_err-index-clause-unknown
 returns-in_err-index-clause-unknown c = λ none.
-    unlisted_is_unknown c.args.text.now c.in_ok-row.row.rest.now c.in_ok-row.row.number c.requires.begins c.requires.some c.in_ok-row.ensures.row c.in_err-index.ensures.same
+    unlisted_is_unknown c.args.text.now c.in_ok-row.row.rest.now c.in_ok-row.row.number c.requires.begins c.requires.some c.in_ok-row.ensures.row
+    c.in_err-index.ensures.same
 
 pub returns-clause-known : goal.returns-clause-known
 returns-clause-known c =
-    first_is_known c.args.text.now c.in_ok-row.row.rest.now c.in_ok-row.row.number c.in_ok-index.index c.requires.begins c.requires.some c.in_ok-row.ensures.row c.in_ok-index.ensures.same
+    first_is_known c.args.text.now c.in_ok-row.row.rest.now c.in_ok-row.row.number c.in_ok-index.index c.requires.begins c.requires.some
+    c.in_ok-row.ensures.row c.in_ok-index.ensures.same
 
 pub returns-clause-short : goal.returns-clause-short
 returns-clause-short c =

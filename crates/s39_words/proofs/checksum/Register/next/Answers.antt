@@ -7,7 +7,10 @@ use Rattle.s39_words.proofs.checksum.Register.next.Goals as goal
 pub invariant_of-result : goal.invariant_of-result
 invariant_of-result c =
     let element = subst IsIndex (sym c.from.ensures) c.requires in
-    record { three_coefficients = stepped-below c.args.self.bits c.from.result c.args.self.three_coefficients element c.generator_times.result c.generator_times.ensures }
+    record {
+      three_coefficients = stepped-below c.args.self.bits c.from.result c.args.self.three_coefficients element c.generator_times.result
+          c.generator_times.ensures;
+    }
 
 pub returns : goal.returns
 returns c =

@@ -14,7 +14,8 @@ loop-self-init c =
     let width = c.args.width in
     let made = written w.words.items w.held w.rest width n c.self.invariant.2 c.self.invariant.1 c.requires.digits in
     let rest : bit_or (w.rest * 2 ^ width % 4294967296) c.from.result ≡ w.rest * 2 ^ width + n =
-    ap (λ m. bit_or (w.rest * 2 ^ width % 4294967296) m) c.from.ensures ∙ shifted-is w.rest width n w.held c.self.invariant.1 c.requires.digits c.self.invariant.0 c.requires.width in
+    ap (λ m. bit_or (w.rest * 2 ^ width % 4294967296) m) c.from.ensures
+    ∙ shifted-is w.rest width n w.held c.self.invariant.1 c.requires.digits c.self.invariant.0 c.requires.width in
     record {
       digits =
           subst (λ r. AreDigits w.words.items (w.held + width) r (c.args.self.now ++ bits width n)) (sym rest)
@@ -34,7 +35,8 @@ pub push-requires : goal.push-requires
 push-requires c =
     let w = c.loop-self.self-inside in
     let n = length-digits w.words.items w.held w.rest _ c.loop-self.invariant.digits in
-    let h : length w.words.items < most_words - checksum_length = omega (arith, n, length-append c.args.self.now (bits c.args.width c.args.number), length-bits c.args.width c.args.number) in
+    let h : length w.words.items < most_words - checksum_length = omega
+    (arith, n, length-append c.args.self.now (bits c.args.width c.args.number), length-bits c.args.width c.args.number) in
     (omega arith, h)
 
 pub loop-self-preserved : goal.loop-self-preserved
@@ -47,6 +49,7 @@ loop-self-preserved c =
     record {
       digits =
           subst (λ ws. AreDigits ws (w.held - 10) (bit_and w.rest (1 * 2 ^ (w.held - 10) % 4294967296 - 1)) all) (sym c.push.ensures.items)
-          (subst (λ r. AreDigits (w.words.items ++ w.rest / 2 ^ (w.held - 10) ∷ []) (w.held - 10) r all) (sym (masked-is w.rest (w.held - 10) (omega arith))) more);
+          (subst (λ r. AreDigits (w.words.items ++ w.rest / 2 ^ (w.held - 10) ∷ []) (w.held - 10) r all)
+          (sym (masked-is w.rest (w.held - 10) (omega arith))) more);
       held = omega arith;
     }
