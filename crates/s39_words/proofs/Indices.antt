@@ -103,9 +103,6 @@ pub record KeepIndices (ws : List (List ℕ)) (kept : List ℕ) (n : ℕ) : Type
   pub kept_is : kept ≡ take most_words all
   pub count : n ≡ length all
 
-pub keep_none : KeepIndices [] [] 0
-keep_none = record { all = []; known = refl; kept_is = refl; count = refl }
-
 length_push : (xs : List ℕ) (x n : ℕ) → n ≡ length xs → n + 1 ≡ length (xs ++ x ∷ [])
 length_push xs x n e = simp length-append (omega arith)
 
