@@ -1,5 +1,5 @@
 -- Division by the generator in one number: the register of thirty binary digits.
-use Rattle.std.proofs.Common.{◌≡◌, ℕ, zero, suc, ◌+◌, ◌*◌, ◌/◌, ◌%◌, ◌^◌, ◌<◌, ◌≤◌, [], ◌∷◌, get_or, refl, sym, ap, subst, ◌∙◌, ⊎_elim, arith, bit_and}
+use Rattle.std.proofs.Common.{◌≡◌, ℕ, zero, suc, ◌+◌, ◌*◌, ◌/◌, ◌%◌, ◌^◌, ◌<◌, [], ◌∷◌, get_or, refl, sym, ap, subst, ◌∙◌, ⊎_elim, arith, bit_and}
 use Rattle.std.specs.Prelude.{◌↔◌, All, bit_xor}
 use Rattle.std.proofs.lemmas.Nat.{xor_block, xor_lt, and_mask, mod-pow-add, mod_below, pow_pos}
 use Rattle.std.proofs.lemmas.Bool.{cases_eq}
