@@ -135,13 +135,6 @@ one_combines_to (s ∷ []) share d one is = record {
   more_needed = λ other. absurd (other refl);
 }
 
-pub one_combines_once : (chosen : List (ℕ × List ℕ)) (share : List ℕ) (d : ℕ × List ℕ) → share ≡ (get_or chosen 0 d).1
-    → (outcome : Option (List ℕ)) → Combines 1 chosen outcome → outcome ≡ Some share
-one_combines_once chosen share d is outcome c =
-    let o = c.one_needed refl in
-    let e : (get_or chosen 0 d).1 ≡ o.1 = ap (λ (xs : List (ℕ × List ℕ)). (get_or xs 0 d).1) o.2 in
-    o.3 ∙ ap Some (sym (is ∙ e))
-
 -- all shares of a split are as long as its secret
 pub length-shares : SharesAreAsLong
 length-shares threshold count secret random shares split k d within =
