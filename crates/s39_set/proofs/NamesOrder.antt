@@ -1,5 +1,5 @@
 -- The order of lists of names.
-use Rattle.std.proofs.Common.{◌≡◌, ◌≢◌, ℕ, List, [], ◌∷◌, Ordering, Less, Equal, Greater, ◌⊎◌, inl, inr, refl, sym, ap, ap₂, ◌∙◌, subst, arith}
+use Rattle.std.proofs.Common.{◌≡◌, ◌≢◌, ℕ, List, [], ◌∷◌, Ordering, Less, Equal, Greater, ◌⊎◌, inl, inr, refl, sym, ap₂, subst, arith}
 use Rattle.std.specs.Cmp.{IsTotalOrder}
 use Rattle.std.specs.Ordering.{ordering_then, ordering_reverse, nat_cmp}
 use Rattle.std.proofs.lemmas.Bool.Decides.{nat_tests}
@@ -55,15 +55,6 @@ same_or_before xs ys h = by (names_cmp xs ys) refl
     by Less e = inr e
     by Equal e = inl (names_cmp-equal xs ys e)
     by Greater e = absurd (h e)
-
--- a list comes before another, is it, or comes after it
-pub compared : (xs ys : List (ℕ × ℕ)) → (names_cmp xs ys ≡ Less) ⊎ ((xs ≡ ys) ⊎ (names_cmp ys xs ≡ Less))
-compared xs ys = by (names_cmp xs ys) refl
-  where
-    by : (o : Ordering) → names_cmp xs ys ≡ o → (names_cmp xs ys ≡ Less) ⊎ ((xs ≡ ys) ⊎ (names_cmp ys xs ≡ Less))
-    by Less e = inl e
-    by Equal e = inr (inl (names_cmp-equal xs ys e))
-    by Greater e = let back : names_cmp ys xs ≡ Less = names_order.antisymm ys xs ∙ ap ordering_reverse e in inr (inr back)
 
 pub before-not_greater : (xs ys : List (ℕ × ℕ)) → names_cmp xs ys ≡ Less → names_cmp xs ys ≢ Greater
 before-not_greater xs ys e f = cc

@@ -229,15 +229,6 @@ module _ (shares : List ShareFields) (is : IsShareSet shares) (share : ShareFiel
 
 -- ---- against what is kept
 
-module _ (shares : List ShareFields) (is : IsShareSet shares) (share : ShareFields) where
-  -- an empty set refuses nothing
-  pub refusal-empty : common_of_all shares ≡ None → refusal_of shares share ≡ None
-  refusal-empty e = by shares e
-    where
-      by : (all : List ShareFields) → common_of_all all ≡ None → refusal_of all share ≡ None
-      by [] e = refl
-      by (first ∷ others) e = absurd (let bad : Some (common_of first) ≡ None = e in cc)
-
 -- a cause in what all shares have in common comes first
 pub refusal-from_common : (shares : List ShareFields) → IsShareSet shares → (share : ShareFields) (common : Common) (error : SetError)
     → common_of_all shares ≡ Some common → common_refusal_of common share ≡ Some error → refusal_of shares share ≡ Some error

@@ -39,7 +39,8 @@ pub fn next_after(
     requires { looks.old ≤ u64.MAX - most_step_looks }
     ensures quorum { OnOk result (IsQuorum set.now quorum.now) }
     ensures not_a_quorum { OnErr result (¬ IsQuorum set.now quorum.now) }
-    ensures next { IfOk result (λ next. IfSome next (IsFirstQuorumAfter set.now (Some quorum.now))) }
+    ensures next { IfOk result (λ next.
+        IfSome next (IsFirstQuorumAfter set.now (Some quorum.now))) }
     ensures last { result ≡ Ok None → HasNoQuorumAfter set.now (Some quorum.now) }
     ensures at_least { looks.old ≤ looks.new }
     ensures each_name { OnOk result (looks.old + length quorum.now + most_name_looks ≤ looks.new) }
