@@ -8,14 +8,12 @@ use Rattle.s39_words.specs.declared.share.ShareFields.{ShareFields}
 use Rattle.s39_set.specs.ShareSet.{Agrees, CanJoin, name_of}
 use Rattle.s39_backup.specs.declared.plan.Members.{Members}
 use Rattle.s39_backup.specs.Created.{IsCreatedFrom, AreOfBackup}
+use Rattle.s39_backup.proofs.Images.{some_same}
 use Rattle.s39_backup.proofs.Promise.{IsCreatedShare, in_created_groups, split_at_place}
 
 -- what holds of each element holds of the one at a place
 pub All-at : {X : Type 0} (P : X → Type 0) (xs : List X) (k : ℕ) (x : X) → All P xs → slice_get xs k ≡ Some x → P x
 All-at P xs k x all at = subst P (get_or_from_slice_get xs k x x at) (all k x (slice_get_within xs k x at))
-
-some_same : {X : Type 0} (x y : X) → Some x ≡ Some y → x ≡ y
-some_same x y e = cc
 
 module _ (set : List ShareFields) (passphrase secret : List ℕ) (backup : AreOfBackup set passphrase secret) (as_long : SharesAreAsLong) where
   abbrev created : IsCreatedFrom secret passphrase backup.group_threshold backup.groups backup.options backup.random backup.shares

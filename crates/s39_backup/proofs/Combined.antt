@@ -13,7 +13,8 @@ use Rattle.s39_set.specs.ShareSet.{has_name}
 use Rattle.s39_split.specs.Recovery.{Combines}
 use Rattle.s39_backup.specs.Combination.{member_shares, GroupCombines}
 use Rattle.s39_backup.specs.GroupShares.{indexed_bytes, value_bytes_of, groups_below, IsExactQuorum, AreOfOneLevel, AreGroupShares}
-use Rattle.s39_backup.proofs.Values.{Contains-find, HasShare}
+use Rattle.s39_set.proofs.Finds.{Contains-find}
+use Rattle.s39_backup.proofs.Values.{HasShare}
 use Rattle.s39_backup.proofs.Levels.{length-member_shares, members_of_one_level, group_combines, some_group, few_group_shares, group_shares_more}
 
 -- a share that is found is one of the set

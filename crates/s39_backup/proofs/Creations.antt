@@ -27,8 +27,8 @@ pub record AreSameParts {X : Type 0} (front other back rest : List X) : Type 0 w
   pub front_is : front ≡ other
   pub back_is : back ≡ rest
 
-same_parts : {X : Type 0} (front other back rest : List X) → front ++ back ≡ other ++ rest → length front ≡ length other → AreSameParts front other back rest
-same_parts front other back rest whole as_long = record {
+same_front : {X : Type 0} (front other back rest : List X) → front ++ back ≡ other ++ rest → length front ≡ length other → AreSameParts front other back rest
+same_front front other back rest whole as_long = record {
   front_is = sym (take-append_seam front back) ∙ ap₂ take as_long whole ∙ take-append_seam other rest;
   back_is = sym (drop-append_seam front back) ∙ ap₂ drop as_long whole ∙ drop-append_seam other rest;
 }
@@ -43,7 +43,7 @@ module _ (takes : SplitsTakeTheBytesNeeded) (as_long : SharesAreAsLong) (split_o
   members_once [] [] [] others [] more is also whole = absurd also
   members_once (g ∷ gs) (s ∷ ss) (p ∷ ps) (q ∷ qs) (v ∷ vs) (w ∷ ws) is also whole =
       let long : length p ≡ length q = takes g.threshold g.count s p v is.0 ∙ sym (takes g.threshold g.count s q w also.0) in
-      let parts = same_parts p q (concat ps) (concat qs) whole long in
+      let parts = same_front p q (concat ps) (concat qs) whole long in
       let first : v ≡ w = split_once g.threshold g.count s p v w is.0 (subst (λ xs. IsSplit g.threshold g.count s xs w) (sym parts.front_is) also.0) in
       let rest = members_once gs ss ps qs vs ws is.1 also.1 parts.back_is in
       ap₂ (λ x xs. x ∷ xs) first rest
@@ -75,7 +75,7 @@ module _ (takes : SplitsTakeTheBytesNeeded) (as_long : SharesAreAsLong) (split_o
         let long : length is.group_piece ≡ length also.group_piece =
         takes group_threshold (length groups) is.encrypted is.group_piece is.group_shares is.groups_split
         ∙ sym (takes group_threshold (length groups) is.encrypted also.group_piece also.group_shares split) in
-        let parts = same_parts is.group_piece also.group_piece (concat is.pieces) (concat also.pieces) levels long in
+        let parts = same_front is.group_piece also.group_piece (concat is.pieces) (concat also.pieces) levels long in
         let group_shares : is.group_shares ≡ also.group_shares =
         split_once group_threshold (length groups) is.encrypted is.group_piece is.group_shares also.group_shares is.groups_split
         (subst (λ piece. IsSplit group_threshold (length groups) is.encrypted piece also.group_shares) (sym parts.front_is) split) in

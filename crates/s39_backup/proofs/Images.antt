@@ -1,17 +1,11 @@
 -- What a function gives of the elements of a list, and pairs in two lists.
-use Rattle.std.proofs.Common.{◌≡◌, ℕ, ◌<◌, Bool, List, [], ◌∷◌, length, get_or, filter, map, All, AllPairs, refl, ap, arith}
+use Rattle.std.proofs.Common.{◌≡◌, Bool, List, [], ◌∷◌, filter, map, All, Some, refl, ap}
 use Rattle.std.specs.List.{zip, AllZip}
-use Rattle.std.proofs.lemmas.List.{length-map, get_or-map}
 use Rattle.std.proofs.lemmas.List.Elements.{All-head, All-tail}
 
--- what is true of the images of the elements is true of the list of the images
-pub AllPairs-map : {X Y : Type 0} (R : Y → Y → Type 0) (f : X → Y) (xs : List X)
-    → ((i j : ℕ) (d : X) → i < j → j < length xs → R (f (get_or xs i d)) (f (get_or xs j d)))
-    → (d : X) → AllPairs R (map f xs)
-AllPairs-map R f xs h d i j e before within =
-    let count : length (map f xs) ≡ length xs = length-map xs f in
-    let short : j < length xs = omega arith in
-    rw (get_or-map f xs i d e (omega arith), get_or-map f xs j d e short) (h i j d before short)
+-- equal optional values hold equal values
+pub some_same : {X : Type 0} (x y : X) → Some x ≡ Some y → x ≡ y
+some_same x y e = cc
 
 -- tests that agree at each element of a list choose the same ones
 pub filter_same : {X : Type 0} (p q : X → Bool) (xs : List X) → ((x : X) → p x ≡ q x) → filter p xs ≡ filter q xs

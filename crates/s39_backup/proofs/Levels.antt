@@ -24,7 +24,8 @@ use Rattle.s39_split.specs.Recovery.{Combines}
 use Rattle.s39_backup.specs.Combination.{value_of, member_shares, groups_of, GroupCombines, AllCombine, GroupsCombine, MismatchesInGroup}
 use Rattle.s39_backup.specs.GroupShares.{value_bytes_of, groups_below, IsExactQuorum, AreOfOneLevel, AreGroupShares}
 use Rattle.s39_split.proofs.Lists.{All-from_map, AllPairs-from_map}
-use Rattle.s39_backup.proofs.Images.{AllPairs-map, filter_same, zip-parts, AllZip-parts}
+use Rattle.s39_backup.proofs.Images.{filter_same, zip-parts, AllZip-parts}
+use Rattle.s39_set.proofs.AtHand.{AllPairs-map}
 use Rattle.s39_set.proofs.CompleteGroups.{range-below}
 use Rattle.s39_set.proofs.Ranges.{filter-range_more_yes, filter-range_more_no}
 use Rattle.s39_backup.proofs.Ranges.{range-distinct, filter-range_parts}
@@ -109,8 +110,7 @@ module _ (set : List ShareFields) (names : List (ℕ × ℕ)) (quorum : IsExactQ
           (λ i j d before within.
           same_group (get_or (names_in_group group names) i d) (get_or (names_in_group group names) j d) group
           (in_group i d (omega arith)) (in_group j d within)
-          (AllPairs-filter (λ a b. name_cmp a b ≡ Less) (λ name. name.0 == group) names quorum.exact.at_hand.ascending i j d before within))
-          (0, 0);
+          (AllPairs-filter (λ a b. name_cmp a b ≡ Less) (λ name. name.0 == group) names quorum.exact.at_hand.ascending i j d before within));
       indices = All-map (λ share. share.0 < most_shares) (λ name. (name.1, value_of set name)) (names_in_group group names)
           (λ k d within.
           let name = get_or (names_in_group group names) k d in

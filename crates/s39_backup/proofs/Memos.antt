@@ -30,16 +30,6 @@ found_entry kept k d encrypted secret within first second =
           ∙ ap₂ (λ (x y : List ℕ). (x, y)) first second,
     )
 
--- and the value among those that are kept
-pub among-first : (entries : List (List ℕ × List ℕ)) (encrypted secret : List ℕ) → Contains entries (encrypted, secret)
-    → Contains (map (λ entry. entry.0) entries) encrypted
-among-first entries encrypted secret (k, below, here) =
-    let entry : List ℕ × List ℕ = (encrypted, secret) in (
-      k,
-      omega (arith, length-map entries (λ entry. entry.0)),
-      get_or-map (λ entry. entry.0) entries k entry encrypted below ∙ ap (λ p. p.0) here,
-    )
-
 -- one more stays right
 pub newest-deciphered : (passphrase : List ℕ) (params : Params) (entries : List (List ℕ × List ℕ)) (encrypted secret : List ℕ)
     → AreDeciphered passphrase params entries → IsEncryption secret passphrase params encrypted

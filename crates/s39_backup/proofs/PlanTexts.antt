@@ -244,10 +244,6 @@ module _ (text rest : List ℕ) (done : List Members) (before : AreReadBefore te
           ];
     }
 
-    -- the last group was read
-    pub read-last : BeginsWithMembers rest members [] → IsGroupsText text (done ++ members ∷ [])
-    read-last begins = before.with_others (members ∷ []) (one_group rest members begins)
-
 -- ---- the list of the groups
 
 -- the first sixteen, after a group more

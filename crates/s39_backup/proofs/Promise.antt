@@ -16,7 +16,7 @@ use Rattle.s39_words.specs.declared.share.ShareFields.{ShareFields}
 use Rattle.s39_set.specs.Names.{most_groups, names_in_group}
 use Rattle.s39_set.specs.ShareSet.{name_of, is_in_group, has_name}
 use Rattle.s39_set.specs.Quorums.{group_threshold_of, member_threshold_of}
-use Rattle.s39_set.proofs.Finds.{find-passes}
+use Rattle.s39_set.proofs.Finds.{find-passes, Contains-find}
 use Rattle.s39_backup.specs.declared.plan.Members.{Members}
 use Rattle.s39_backup.specs.Created.{AreSplitAmong, created_share, created_group, created_groups, IsCreatedFrom, AreOfBackup}
 use Rattle.s39_backup.specs.Combination.{value_of, member_shares, groups_of, GroupCombines, CombinesTo}
@@ -24,7 +24,8 @@ use Rattle.s39_backup.specs.Outcome.{AreParams, Recovers}
 use Rattle.s39_backup.specs.GroupShares.{IsExactQuorum}
 use Rattle.s39_split.proofs.Lists.{AllPairs-from_map}
 use Rattle.s39_backup.proofs.Ranges.{range-distinct}
-use Rattle.s39_backup.proofs.Values.{Contains-find, has_share}
+use Rattle.s39_backup.proofs.Images.{some_same}
+use Rattle.s39_backup.proofs.Values.{has_share}
 use Rattle.s39_backup.proofs.Levels.{in_group, group_at_hand, length-member_shares, members_of_one_level, member_threshold_is, group_threshold_is}
 
 -- ---- the created shares
@@ -105,9 +106,6 @@ pub record IsSplitAt (groups : List Members) (shares : List (List ℕ)) (place :
   pub piece : List ℕ
   pub share_is : slice_get shares place ≡ Some share
   pub split : IsSplit members.threshold members.count share piece values
-
-some_same : {X : Type 0} (x y : X) → Some x ≡ Some y → x ≡ y
-some_same x y e = cc
 
 pub split_at_place : (groups : List Members) (shares pieces : List (List ℕ)) (values : List (List (List ℕ))) (place : ℕ) (members : Members)
     (others : List (List ℕ))

@@ -1,23 +1,11 @@
 -- What the group shares of a quorum combine to, and the parameters of its set.
-use Rattle.std.proofs.Common.{◌≡◌, ℕ, List, [], ◌∷◌, length, map, All, Contains, Some, None, ◌∙◌, arith}
-use Rattle.std.proofs.lemmas.List.Elements.{All-contains}
+use Rattle.std.proofs.Common.{ℕ, List, length, map, Some, None}
 use Rattle.arrayvec.specs.ArrayVec.{ArrayVec}
-use Rattle.s39_kdf.specs.declared.params.Params.{Params}
 use Rattle.s39_words.specs.declared.share.ShareFields.{ShareFields}
-use Rattle.s39_set.specs.ShareSet.{Agrees, IsShareSet}
 use Rattle.s39_split.specs.Recovery.{Combines}
 use Rattle.s39_backup.specs.Combination.{groups_of, CombinesTo, MismatchesOfGroups}
-use Rattle.s39_backup.specs.Outcome.{AreParams}
 use Rattle.s39_backup.specs.GroupShares.{indexed_bytes, value_bytes_of, IsExactQuorum, AreOfOneLevel, AreGroupShares}
 use Rattle.s39_backup.proofs.Levels.{groups_of_one_level, all_combine, groups_combine}
-
--- the parameters of one share are those of all
-pub params_from_share : (set : List ShareFields) (share : ShareFields) (params : Params) → IsShareSet set → Contains set share
-    → params.id ≡ share.id → params.extendable ≡ share.extendable → params.exponent ≡ share.exponent → AreParams set params
-params_from_share [] share params is (k, below, here) id extendable exponent = absurd (omega arith)
-params_from_share (s ∷ ss) share params is among id extendable exponent =
-    let same : Agrees share s = All-contains (λ t. All (Agrees t) (s ∷ ss)) (s ∷ ss) share is.agree among 0 s (omega arith) in
-    (id ∙ same.id, extendable ∙ same.extendable, exponent ∙ same.exponent)
 
 module _ (set : List ShareFields) (names : List (ℕ × ℕ)) (quorum : IsExactQuorum set names) (items : List (ℕ × ArrayVec ℕ))
     (is : AreGroupShares set names (groups_of names) (indexed_bytes items)) where

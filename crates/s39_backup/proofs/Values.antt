@@ -1,5 +1,5 @@
 -- The values of a share set's shares.
-use Rattle.std.proofs.Common.{◌≡◌, ℕ, zero, suc, ◌≤◌, Bool, true, List, [], ◌∷◌, length, find, map, All, Contains, Option, Some, None, inl, inr, refl, sym}
+use Rattle.std.proofs.Common.{◌≡◌, ℕ, zero, suc, ◌≤◌, true, List, [], ◌∷◌, length, find, map, All, Contains, Option, Some, None, inl, inr, refl, sym}
 use Rattle.std.proofs.Common.{ap, subst, ◌∙◌, arith}
 use Rattle.std.specs.Prelude.{◌==◌}
 use Rattle.std.specs.Option.{option_map, option_map_or}
@@ -12,22 +12,9 @@ use Rattle.s39_kdf.specs.Limits.{shortest_secret}
 use Rattle.s39_set.specs.Names.{most_members}
 use Rattle.s39_set.specs.ShareSet.{IsShareSet, name_of, is_in_group, has_name}
 use Rattle.s39_set.specs.Quorums.{group_threshold_of, member_threshold_of}
+use Rattle.s39_set.proofs.Finds.{Contains-find}
 use Rattle.s39_backup.specs.Combination.{value_of}
 use Rattle.s39_backup.specs.GroupShares.{value_bytes_of}
-
--- what a search finds is an element
-pub Contains-find : {X : Type 0} (test : X → Bool) (xs : List X) (x : X) → find test xs ≡ Some x → Contains xs x
-Contains-find test [] x found = absurd (let e : None ≡ Some x = found in cc)
-Contains-find test (y ∷ ys) x found =
-    elim (cases_Bool (test y)) [
-      | inl yes' ↦ (
-          let same : Some y ≡ Some x = sym (cond-true (test y) (Some y) (find test ys) yes') ∙ found in
-          let e : y ≡ x = cc in
-          (0, omega arith, e))
-      | inr no' ↦ (
-          let (k, below, here) = Contains-find test ys x (sym (cond-false (test y) (Some y) (find test ys) no') ∙ found) in
-          (suc k, omega arith, here))
-    ]
 
 -- a name of a set has a share in it
 pub record HasShare (set : List ShareFields) (name : ℕ × ℕ) : Type 0 where

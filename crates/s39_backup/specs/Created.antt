@@ -23,10 +23,6 @@ abbrev pub random_needed : ℕ → List Members → ℕ → ℕ
 random_needed group_threshold groups n =
     identifier_length + level_random_needed group_threshold n + sum_by (λ members. level_random_needed members.threshold n) groups
 
--- the most random bytes that a level takes: those of threshold 16, with the longest secret
-abbrev pub most_level_random : ℕ
-most_level_random = 1916
-
 -- the most random bytes that a backup takes: those of sixteen groups of which all sixteen members are needed, and all
 -- groups, with the longest secret
 abbrev pub most_random : ℕ

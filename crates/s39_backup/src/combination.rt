@@ -148,14 +148,14 @@ fn member_shares<'a>(set: &'a ShareSet, names: &[(u8, u8)], group: u8) -> Points
     let mut shares = Points::new();
     for (of, member) in names {
         if *of == group {
-            shares.push(*member, value_at(set, group, *member));
+            shares.push(*member, lent_value(set, group, *member));
         }
     }
     shares
 }
 
 /// The value of the share of this group and member index, which the set has.
-fn value_at(set: &ShareSet, group: u8, member: u8) -> &Bytes
+fn lent_value(set: &ShareSet, group: u8, member: u8) -> &Bytes
     requires { Contains (map name_of set.now) (group, member) }
     ensures { result.now.items ≡ value_of set.now (group, member) }
 {

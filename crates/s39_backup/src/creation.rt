@@ -20,6 +20,9 @@ use s39_words::{Share, ShareFields};
 /// How many random bytes the identifier takes.
 pub(crate) const ID_BYTES: usize = 2;
 
+/// How many bits of them the identifier has.
+pub(crate) const ID_BITS: u32 = 15;
+
 /// Creates a backup of a secret with a passphrase (SLIP-0039): its shares, by group, then member.
 ///
 /// The random bytes are consumed in this order: two for the identifier, big-endian, of which the highest bit is left
@@ -91,7 +94,7 @@ fn params_from(high: u8, low: u8, options: Options) -> Params
     ensures { AreCreatedParams options high low result }
 {
     Params {
-        id: u16::from_be_bytes([high, low]) % (1 << 15),
+        id: u16::from_be_bytes([high, low]) % (1 << ID_BITS),
         extendable: options.extendable,
         exponent: options.exponent,
     }

@@ -11,24 +11,32 @@ ghost use Rattle.s39_backup.specs.Plan.{IsPlan, IsPlanReading};
 ghost use Rattle.s39_backup.specs.Created.{IsCreatedFrom, IsCreation, AreOfBackup, identifier_length, random_needed, most_random};
 ghost use Rattle.s39_words.specs.declared.ShareFields.{ShareFields};
 ghost use Rattle.s39_words.specs.Share.{IsShare};
+ghost use Rattle.s39_words.specs.Layout.{id_bits};
 ghost use Rattle.s39_set.specs.ShareSet.{IsShareSet, refusal_of};
 ghost use Rattle.s39_set.specs.Quorums.{IsQuorum};
 ghost use Rattle.s39_backup.specs.declared.combination.Mismatch.{Mismatch};
 ghost use Rattle.s39_backup.specs.Combination.{IsCombination};
 ghost use Rattle.s39_backup.specs.Outcome.{IsOutcome};
+ghost use Rattle.s39_backup.specs.Memo.{most_kept};
 
-use crate::creation::ID_BYTES;
-use s39_kdf::laws::{encryption_keeps_length_and_bytes, encrypts_one_secret, one_encryption};
+use crate::creation::{ID_BITS, ID_BYTES};
+use crate::memo::MAX_KEPT;
+use s39_kdf::laws::{
+    encryption_keeps_length_and_bytes, encrypts_one_secret, one_encryption,
+    passphrases_are_printable_or_not,
+};
 use s39_set::laws::{quorums_are_exact, shares_that_agree_join};
 use s39_split::laws::{
     any_shares_combine, needed_random_bytes, one_split, secrets_are_like_their_shares,
     shares_combine, shares_combine_once, shares_of_a_split,
 };
 
-/// The program's constant is the number by which the definitions go, and the plan of sixteen groups of sixteen members,
+/// The program's constants are the numbers by which the definitions go, and the plan of sixteen groups of sixteen members,
 /// all of them needed, takes the most random bytes.
 pub fn numbers()
     ensures identifier { ID_BYTES ≡ identifier_length }
+    ensures identifier_bits { ID_BITS ≡ id_bits }
+    ensures kept { MAX_KEPT ≡ most_kept }
     ensures most { random_needed most_groups
         (replicate most_groups (record { threshold = most_members; count = most_members }))
         longest_secret ≡ most_random }
@@ -92,6 +100,7 @@ pub fn one_creation()
         → IsCreation secret passphrase group_threshold groups options random other
         → result ≡ other }
 {
+    passphrases_are_printable_or_not();
     one_created_backup();
     every_backup_can_be_created();
 }

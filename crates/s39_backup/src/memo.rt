@@ -77,7 +77,8 @@ impl<'a> Memo<'a> {
     pub fn secret(&mut self, encrypted: &Bytes) -> Bytes
         requires even { array_vec_len encrypted.now % 2 ≡ 0 }
         requires long { shortest_secret ≤ array_vec_len encrypted.now }
-        ensures secret { IsEncryption result.items self.old.passphrase self.old.params encrypted.now.items }
+        ensures secret { IsEncryption result.items
+            self.old.passphrase self.old.params encrypted.now.items }
         ensures only { (secret : List ℕ)
             → IsEncryption secret self.old.passphrase self.old.params encrypted.now.items
             → secret ≡ result.items }

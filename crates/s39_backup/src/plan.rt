@@ -27,7 +27,7 @@ pub struct Members {
 }
 
 /// A plan of a backup: `1 <= group threshold <= number of groups <= 16`, and of each group
-/// `1 <= threshold <= count <= 16`, the threshold 1 where there is one member alone.
+/// `1 <= threshold <= count <= 16`, a threshold of 1 only where there is one member.
 #[derive(Debug, Drop)]
 pub struct Plan {
     /// How many groups are needed.

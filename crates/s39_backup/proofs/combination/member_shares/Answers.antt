@@ -3,8 +3,8 @@ use Rattle.s39_set.specs.ShareSet.{name_of}
 use Rattle.s39_backup.proofs.Levels.{room_for_member}
 use Rattle.s39_backup.proofs.combination.member_shares.Goals as goal
 
-pub value_at-requires : goal.value_at-requires
-value_at-requires c =
+pub lent_value-requires : goal.lent_value-requires
+lent_value-requires c =
     let name = get_or c.args.names.now c.loop-of.of-index (0, 0) in
     subst (λ group. Contains (map name_of c.args.set.now) (group, name.1)) c.if-of-group.true
     (c.requires.exact.at_hand.at_hand c.loop-of.of-index (0, 0) c.loop-of-test.true)

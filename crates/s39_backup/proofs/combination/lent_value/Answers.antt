@@ -1,6 +1,6 @@
 use Rattle.s39_backup.proofs.Values.{has_share}
 use Rattle.s39_backup.proofs.Combined.{found_some}
-use Rattle.s39_backup.proofs.combination.value_at.Goals as goal
+use Rattle.s39_backup.proofs.combination.lent_value.Goals as goal
 
 pub unwrap-requires : goal.unwrap-requires
 unwrap-requires c =
