@@ -125,7 +125,8 @@ pub fn mnemonics_of_a_backup_are_a_set()
 /// Of mnemonics of a created backup, an output of `recover` with the passphrase of the creation is the secret where they
 /// have a quorum, and else why they have none.
 pub fn created_backups_recover()
-    ensures { (passphrase : List ℕ) (input : Input) (text : List ℕ) (answer : Result (Unit {0}) Fault)
+    ensures { (passphrase : List ℕ) (input : Input)
+        (text : List ℕ) (answer : Result (Unit {0}) Fault)
         → IsRecoverOutput passphrase input text answer
         → RecoversCreated passphrase input text answer }
 {

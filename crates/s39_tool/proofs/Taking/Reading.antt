@@ -112,12 +112,6 @@ module _ {S C : Type 0} (takes : S → List ℕ → Result (Unit {0}) C → S �
       → RunsOver takes (record { bytes = came; ended = true }) old new (Ok tt)
   runs_to_end came u number old mid new m t = (refl, rw m.parts (TakesLines-more m.lines u old mid new m.taken t))
 
-  pub runs_to_last : (came u : List ℕ) (number : ℕ) (refused : RefusedLine C) (old mid new : S) → IsMidway takes came u number old mid
-      → takes mid u (Err refused.refusal) new → refused.number ≡ number
-      → RunsOver takes (record { bytes = came; ended = true }) old new (Err (AtLine refused))
-  runs_to_last came u number refused old mid new m r n =
-      (mid, record { before = m.lines; line = u; after = []; parts = m.parts; taken = m.taken; refuses = r; number_is = n ∙ m.number_is })
-
   -- a read failed: the unfinished line is dropped
   pub runs_to_failure : (came u : List ℕ) (number : ℕ) (old new : S) → IsMidway takes came u number old new
       → RunsOver takes (record { bytes = came; ended = false }) old new (Err ReadFailed)

@@ -14,9 +14,6 @@ module _ {W : Type 0} (contents : W → Option (List ℕ)) where
     pub appends : Appends (contents old.device) (contents new.device) written
     pub no_failure : new.failures ≡ old.failures
 
-  pub writing_begins : (output : Counted W) (line : List ℕ) → IsWriting output output line line
-  writing_begins output line = record { written = []; parts = refl; appends = Appends-nil (contents output.device); no_failure = refl }
-
   -- a write takes a part of the rest
   pub writing_goes_on : (old mid new : Counted W) (line rest : List ℕ) (count : ℕ) → IsWriting old mid line rest
       → Appends (contents mid.device) (contents new.device) (take count rest) → new.failures ≡ mid.failures
@@ -27,10 +24,3 @@ module _ {W : Type 0} (contents : W → Option (List ℕ)) where
     appends = Appends-trans (contents old.device) (contents mid.device) (contents new.device) w.written (take count rest) w.appends a;
     no_failure = f ∙ w.no_failure;
   }
-
-  pub writing_ends : (old new : Counted W) (line rest : List ℕ) → IsWriting old new line rest → rest ≡ [] → WritesWhole contents old line new
-  writing_ends old new line rest w e =
-      let all : line ≡ w.written = w.parts ∙ ap (λ l. w.written ++ l) e ∙ append-nil w.written in record {
-        appends = rw all w.appends;
-        no_failure = w.no_failure;
-      }
