@@ -1,10 +1,9 @@
 -- A write of a line, a part at a time.
-use Rattle.std.proofs.Common.{◌≡◌, ℕ, List, [], ◌++◌, take, drop, refl, sym, ap, ◌∙◌, append_assoc, Option}
+use Rattle.std.proofs.Common.{◌≡◌, ℕ, List, ◌++◌, take, drop, sym, ap, ◌∙◌, append_assoc, Option}
 use Rattle.std.specs.Io.KnownBytes.{Appends}
-use Rattle.std.proofs.KnownBytes.{Appends-nil, Appends-trans}
-use Rattle.std.proofs.lemmas.List.{append-nil, take-append-drop}
+use Rattle.std.proofs.KnownBytes.{Appends-trans}
+use Rattle.std.proofs.lemmas.List.{take-append-drop}
 use Rattle.s39_tool.specs.Device.{Counted}
-use Rattle.s39_tool.specs.Output.{WritesWhole}
 
 module _ {W : Type 0} (contents : W → Option (List ℕ)) where
   -- a part of the line is written, and this is the rest of it
