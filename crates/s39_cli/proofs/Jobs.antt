@@ -1,5 +1,5 @@
 -- What the words of a command line give.
-use Rattle.std.proofs.Common.{◌≡◌, ◌⊎◌, ◌∙◌, ◌<◌, ⊎_elim, ℕ, arith, codes, Bool, inl, inr, refl, sym, ap, subst, true, false, true≢false, List, [], ◌∷◌, Option, Some, None, is_some, Bor, Global}
+use Rattle.std.proofs.Common.{◌≡◌, ◌⊎◌, ◌∙◌, ◌<◌, ◌≤◌, ⊎_elim, ℕ, arith, codes, Bool, inl, inr, refl, sym, ap, subst, true, false, true≢false, List, [], ◌∷◌, Option, Some, None, is_some, Bor, Global}
 use Rattle.std.specs.Prelude.{Box, option_map, slice_get, unwrap_or}
 use Rattle.std.specs.Option.{option_map_or}
 use Rattle.std.specs.Str.Parse.{ParsesUnsigned, ExplainsUnsignedError, HasUnsignedDigitsIfOk}
@@ -21,7 +21,7 @@ use Rattle.s39_clap.specs.Found.{EntersOne, HasNumber, IsFilled}
 use Rattle.s39_clap.proofs.Agreement.{faultless_taken, one_request_or_mistakes, request_alone}
 use Rattle.s39_clap.proofs.Entered.{enters_some, taken_enters_one}
 use Rattle.s39_clap.proofs.Values.{flag_said, has_value, number_read}
-use Rattle.s39_cli.specs.Command.{AnswersKind, AnswersWords, AsksForText, commands, exponent_rule, extendable_rule, flag_text, plan_rule, secret_rule, shamir_app, text_or_empty}
+use Rattle.s39_cli.specs.Command.{AnswersKind, AnswersWords, AsksForText, commands, exponent_rule, extendable_rule, flag_text, limit_rule, plan_rule, secret_rule, shamir_app, text_or_empty}
 use Rattle.s39_cli.specs.declared.command.NoJob.{NoJob}
 use Rattle.s39_cli.specs.declared.command.NoJob.TheVariants.{Help, Refused, Memory}
 
@@ -70,13 +70,28 @@ create_rules : List Rule
 unfolding shamir_app
 create_rules = option_map_or (λ s. s.rules) (slice_get commands 1) []
 
+-- and those of `drill`
+drill_rules : List Rule
+unfolding shamir_app
+drill_rules = option_map_or (λ s. s.rules) (slice_get commands 3) []
+
 -- words that enter `create` have values for its arguments
 create_filled : (rows : List Row) → EntersOne commands (Some (codes "create", rows)) → IsFilled create_rules rows
 unfolding shamir_app create_rules
 create_filled rows (inl show) = absurd (other_name (codes "create") (codes "show") refl (same_entered _ _ show.1).0)
 create_filled rows (inr (inl create)) = subst (IsFilled create_rules) (sym (same_entered _ _ create.1).1) create.2
 create_filled rows (inr (inr (inl recover))) = absurd (other_name (codes "create") (codes "recover") refl (same_entered _ _ recover.1).0)
-create_filled rows (inr (inr (inr none))) = absurd none
+create_filled rows (inr (inr (inr (inl drill)))) = absurd (other_name (codes "create") (codes "drill") refl (same_entered _ _ drill.1).0)
+create_filled rows (inr (inr (inr (inr none)))) = absurd none
+
+-- and those that enter `drill`
+drill_filled : (rows : List Row) → EntersOne commands (Some (codes "drill", rows)) → IsFilled drill_rules rows
+unfolding shamir_app drill_rules
+drill_filled rows (inl show) = absurd (other_name (codes "drill") (codes "show") refl (same_entered _ _ show.1).0)
+drill_filled rows (inr (inl create)) = absurd (other_name (codes "drill") (codes "create") refl (same_entered _ _ create.1).0)
+drill_filled rows (inr (inr (inl recover))) = absurd (other_name (codes "drill") (codes "recover") refl (same_entered _ _ recover.1).0)
+drill_filled rows (inr (inr (inr (inl drill)))) = subst (IsFilled drill_rules) (sym (same_entered _ _ drill.1).1) drill.2
+drill_filled rows (inr (inr (inr (inr none)))) = absurd none
 
 -- what was found enters `create`
 abbrev EntersCreate : Found → Type 0
@@ -119,6 +134,17 @@ extendable_there f said enters is_true is_false =
     ⊎_elim (λ there. there ∙ ap (λ b. Some (flag_text b)) (sym (is_true (rows ∙ there))))
     (λ missing. missing ∙ ap (λ b. Some (flag_text b)) (sym (is_false (rows ∙ missing))))
     (flag_said create_rules (rows_of f) (with_index 2 (filled extendable_rule)) (codes "extendable") refl refl refl (create_filled (rows_of f) enters))
+
+-- the number that a getter of a `u32` reads of the limit
+pub limit_there : (f : Found) (got : Option ℕ) → EntersOne commands (Some (codes "drill", rows_of f))
+    → ((t : Text) → one_text f (codes "limit") ≡ Some t → ReadsOne (λ bs r. ParsesUnsigned 32 10 bs r × ExplainsUnsignedError 10 bs r × HasUnsignedDigitsIfOk bs r) t got)
+    → (n : ℕ) × (got ≡ Some n) × (1 ≤ n) × HasNumber (codes "limit") (rows_of f) n
+unfolding shamir_app drill_rules
+limit_there f got enters reads =
+    let read = number_read _ (λ bs r. ParsesUnsigned 32 10 bs r × ExplainsUnsignedError 10 bs r × HasUnsignedDigitsIfOk bs r) 32 1 4294967295 drill_rules
+    (rows_of f) (with_index 1 (filled limit_rule)) (codes "limit") got refl refl refl (drill_filled (rows_of f) enters) (λ u x gives. gives.0) (omega arith)
+    (λ u has. reads u (one_text-rows f (codes "limit") ∙ has)) in
+    (read.0, read.1, read.2, read.4)
 
 -- a text that is got is what is found
 pub found_of_rows : (f : Found) (id : Text) (got : Option (Bor Text)) (text : Bor Text) → option_map (λ t. t.now) got ≡ first_value f id → got ≡ Some text

@@ -1,5 +1,5 @@
 -- The command line.
-use Rattle.std.specs.Prelude.{◌≡◌, ◌≢◌, ◌⊎◌, ◌<◌, ◌^◌, ℕ, Bool, true, false, List, [], ◌∷◌, codes, if◌then◌else◌, pos, Some, unwrap_or}
+use Rattle.std.specs.Prelude.{◌≡◌, ◌≢◌, ◌⊎◌, ◌<◌, ◌≤◌, ◌^◌, ℕ, Bool, true, false, List, [], ◌∷◌, codes, if◌then◌else◌, pos, Some, option_map, unwrap_or}
 use Rattle.clap.specs.Words.{App, Row, Rule, Shape, Text, built, fault_of, first_of, new_app, new_rule, one_of, subcommand_of, takes, with_rule, with_subcommand}
 use Rattle.clap.specs.declared.builder.action.ArgAction.TheVariants.{SetTrue}
 use Rattle.clap.specs.declared.builder.value_parser.ValueParser.TheVariants.{Signed}
@@ -8,7 +8,7 @@ use Rattle.clap.specs.declared.error.kind.ErrorKind.TheVariants.{DisplayHelp, Di
 use Rattle.s39_clap.specs.Found.{HasNumber}
 use Rattle.s39_words.specs.Layout.{exponent_bits}
 use Rattle.s39_cli.specs.declared.command.Job.{Job}
-use Rattle.s39_cli.specs.declared.command.Job.TheVariants.{Show, Create, Recover}
+use Rattle.s39_cli.specs.declared.command.Job.TheVariants.{Show, Create, Recover, Drill}
 use Rattle.s39_cli.specs.declared.command.NoJob.{NoJob}
 use Rattle.s39_cli.specs.declared.command.NoJob.TheVariants.{Help, Refused, Memory}
 
@@ -63,6 +63,27 @@ create_app = with_rule (with_rule (with_rule (with_rule (with_rule (new_app (cod
 abbrev pub recover_app : App
 recover_app = with_rule (new_app (codes "recover")) passphrase_rule
 
+-- the option `--after Q`, which has no default
+abbrev pub after_rule : Rule
+after_rule = record (new_rule (codes "after")) {
+  long = Some (codes "after");
+  value_names = 1;
+}
+
+-- the option `--limit N`, a number from 1 to 4294967295, by default 1000
+abbrev pub limit_rule : Rule
+limit_rule = record (new_rule (codes "limit")) {
+  long = Some (codes "limit");
+  value_names = 1;
+  defaults = codes "1000" ∷ [];
+  parser = Some (Signed (pos 1) (pos 4294967295));
+}
+
+-- the command `drill`, with these and the passphrase
+abbrev pub drill_app : App
+drill_app = with_rule (with_rule (with_rule (new_app (codes "drill")) passphrase_rule) after_rule)
+    limit_rule
+
 -- the program, which has a version and has to be given a command
 abbrev pub shamir_top : Shape
 shamir_top = record (new_app (codes "shamir")).top {
@@ -73,8 +94,9 @@ shamir_top = record (new_app (codes "shamir")).top {
 
 -- the program with its commands
 unfoldable pub shamir_app : App
-shamir_app = with_subcommand (with_subcommand (with_subcommand
-    (record { top = shamir_top; subs = [] }) show_app.top) create_app.top) recover_app.top
+shamir_app = with_subcommand (with_subcommand (with_subcommand (with_subcommand
+    (record { top = shamir_top; subs = [] }) show_app.top) create_app.top) recover_app.top)
+    drill_app.top
 
 -- its commands, built
 abbrev pub commands : List Shape
@@ -104,6 +126,10 @@ Gives name rows (Create plan secret passphrase exponent extendable) = (name ≡ 
     × GivesCreate rows plan.now secret.now passphrase.now exponent extendable
 Gives name rows (Recover passphrase) =
     (name ≡ codes "recover") × (passphrase.now ≡ text_or_empty (codes "passphrase") rows)
+Gives name rows (Drill passphrase after limit) =
+    (name ≡ codes "drill") × (passphrase.now ≡ text_or_empty (codes "passphrase") rows)
+    × (option_map (λ text. text.now) after ≡ first_of (codes "after") rows)
+    × HasNumber (codes "limit") rows limit
 
 -- the words give the job, by the definition of a simple command
 abbrev pub GivesJob : List Text → Job → Type 0
@@ -113,6 +139,7 @@ GivesJob words job = (name : Text) × (rows : List Row)
 -- the numbers among a job's values are in their ranges
 abbrev pub IsInRange : Job → Type 0
 IsInRange (Create plan secret passphrase exponent extendable) = exponent < 2 ^ exponent_bits
+IsInRange (Drill passphrase after limit) = 1 ≤ limit
 IsInRange job = Unit {0}
 
 -- the words ask for help or for the version, and nothing before that is wrong with them

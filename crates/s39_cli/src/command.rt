@@ -1,9 +1,9 @@
 //! The command line.
 ghost use Rattle.std.specs.Prelude.{◌≡◌, [], codes, false, Some, true, map, IfOk, IfErr, OnOk};
-ghost use Rattle.clap.specs.Words.{app_of, found_of, kind_of, rows_of, rule_of, takes, with_rule};
+ghost use Rattle.clap.specs.Words.{app_of, found_of, kind_of, rows_of, rule_of, takes, with_rule, with_subcommand};
 ghost use Rattle.clap.specs.declared.builder.Command.TheViews.{out-Command};
 ghost use Rattle.s39_clap.specs.Found.{EntersOne};
-ghost use Rattle.s39_cli.specs.Command.{commands, plan_rule, secret_rule, passphrase_rule, exponent_rule, extendable_rule, show_app, create_app, recover_app, shamir_top, shamir_app, text_or_empty, Gives, GivesJob, IsInRange, AnswersKind, AnswersWords};
+ghost use Rattle.s39_cli.specs.Command.{commands, plan_rule, secret_rule, passphrase_rule, exponent_rule, extendable_rule, show_app, create_app, recover_app, after_rule, limit_rule, drill_app, shamir_top, shamir_app, text_or_empty, Gives, GivesJob, IsInRange, AnswersKind, AnswersWords};
 
 use clap::builder::ValueParser;
 use clap::error::ErrorKind;
@@ -32,6 +32,15 @@ pub enum Job<'a> {
     Recover {
         /// The passphrase as it was given, and the empty text where none was.
         passphrase: &'a str,
+    },
+    /// Tries the quorums of the mnemonics on standard input.
+    Drill {
+        /// The passphrase as it was given, and the empty text where none was.
+        passphrase: &'a str,
+        /// The text of the quorum after which to go on, where one was given.
+        after: Option<&'a str>,
+        /// How many quorums are tried at most, from 1, and 1000 where no number was given.
+        limit: u32,
     },
 }
 
@@ -146,6 +155,39 @@ fn recover<'a>(alloc: Global) -> Result<Command<'a>, AllocError>
         .arg(passphrase(alloc))
 }
 
+fn after<'a>(alloc: Global) -> Arg<'a>
+    ensures rule { rule_of result ≡ after_rule }
+    ensures local { result.global ≡ false }
+{
+    Arg::new(alloc, "after")
+        .long("after")
+        .value_name("Q")
+        .help("Goes on after this quorum, by default from the first")
+}
+
+fn limit<'a>(alloc: Global) -> Arg<'a>
+    ensures rule { rule_of result ≡ limit_rule }
+    ensures local { result.global ≡ false }
+{
+    Arg::new(alloc, "limit")
+        .long("limit")
+        .value_name("N")
+        .default_value("1000")
+        .value_parser(ValueParser::signed(1, i64::from(u32::MAX)))
+        .help("How many quorums are tried at most")
+}
+
+fn drill<'a>(alloc: Global) -> Result<Command<'a>, AllocError>
+    ensures app { IfOk result (λ command. app_of command ≡ drill_app) }
+    ensures local { IfOk result (λ command. (out-Command command).has_globals ≡ false) }
+{
+    Command::new(alloc, "drill")
+        .about("Tries the quorums of the mnemonics on standard input, a line for each")
+        .arg(passphrase(alloc))?
+        .arg(after(alloc))?
+        .arg(limit(alloc))
+}
+
 fn show<'a>(alloc: Global) -> Command<'a>
     ensures app { app_of result ≡ show_app }
     ensures local { (out-Command result).has_globals ≡ false }
@@ -167,14 +209,25 @@ fn top<'a>(alloc: Global) -> Command<'a>
         .disable_help_subcommand(true)
 }
 
+/// The command with those that take the shares of one backup.
+fn with_recovery<'a>(alloc: Global, command: Command<'a>) -> Result<Command<'a>, AllocError>
+    requires { (out-Command command).has_globals ≡ false }
+    ensures { IfOk result (λ whole. app_of whole ≡ with_subcommand
+        (with_subcommand (app_of command.entry) recover_app.top) drill_app.top) }
+{
+    command
+        .subcommand(recover(alloc)?)?
+        .subcommand(drill(alloc)?)
+}
+
 #[tactic(auto, unfolding(crate::specs::Command::shamir_app))]
 fn shamir<'a>(alloc: Global) -> Result<Command<'a>, AllocError>
     ensures { IfOk result (λ command. app_of command ≡ shamir_app) }
 {
-    top(alloc)
+    let command = top(alloc)
         .subcommand(show(alloc))?
-        .subcommand(create(alloc)?)?
-        .subcommand(recover(alloc)?)
+        .subcommand(create(alloc)?)?;
+    with_recovery(alloc, command)
 }
 
 fn no_job(alloc: Global, error: &Error) -> NoJob
@@ -214,6 +267,20 @@ fn create_job<'a>(options: &ArgMatches<'a>) -> Job<'a>
     }
 }
 
+/// The job `drill`, from what was found for its arguments.
+#[tactic(auto, unfolding(crate::specs::Command::shamir_app))]
+fn drill_job<'a>(options: &ArgMatches<'a>) -> Job<'a>
+    requires { EntersOne commands (Some (codes "drill", rows_of (found_of options.now))) }
+    ensures gives { Gives (codes "drill") (rows_of (found_of options.now)) result }
+    ensures range { IsInRange result }
+{
+    Job::Drill {
+        passphrase: passphrase_of(options),
+        after: options.get_str("after"),
+        limit: options.get_one("limit").unwrap(),
+    }
+}
+
 /// The job of the command with this name, from what was found for its arguments.
 #[tactic(auto, unfolding(crate::specs::Command::shamir_app))]
 fn job_of<'a>(name: &str, options: &ArgMatches<'a>) -> Job<'a>
@@ -227,6 +294,7 @@ fn job_of<'a>(name: &str, options: &ArgMatches<'a>) -> Job<'a>
         "recover" => Job::Recover {
             passphrase: passphrase_of(options),
         },
+        "drill" => drill_job(options),
         _ => unreachable!(),
     }
 }

@@ -3,6 +3,7 @@
 #![tactic(auto)]
 
 mod command;
+mod patient;
 mod status;
 mod text;
 mod work;

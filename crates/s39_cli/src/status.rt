@@ -2,12 +2,13 @@
 ghost use Rattle.s39_cli.specs.Command.{IsInRange};
 
 use crate::command::{Job, NoJob, read_words};
+use crate::patient::Patient;
 use crate::text::FaultText;
 use crate::work::{Unready, Work};
 use s39_tool::{Counting, DeviceFailure, Fault, Refusal};
 use std::alloc::Global;
 use std::io;
-use std::io::{BufWriter, ErrorKind, Read, Write};
+use std::io::{BufWriter, ErrorKind, LineWriter, Read, Write};
 
 const DONE: u8 = 0;
 
@@ -24,7 +25,7 @@ const NO_MEMORY: u8 = 4;
 /// | Status | When |
 /// |---|---|
 /// | 0 | the command is done, or help was asked for and written |
-/// | 1 | the run stopped at a refusal that isn't a device's |
+/// | 1 | a refusal that isn't a device's, or a drill that listed a refused quorum |
 /// | 2 | the command line is refused, or the master secret isn't hexadecimal |
 /// | 3 | a read or a write failed |
 /// | 4 | there is no memory |
@@ -63,16 +64,75 @@ fn run<R: Read + Drop, W: Write + Drop, E: Write>(
         Ok(work) => work,
         Err(unready) => return refuse(unready, errors),
     };
-    let Ok(output) = BufWriter::new(alloc, output) else {
-        return no_memory(errors);
+    let written = if work.goes_by_lines() {
+        by_lines(alloc, &work, input, output)
+    } else {
+        by_buffer(alloc, &work, input, output)
     };
+    match written {
+        Some(Ok(0)) => DONE,
+        Some(Ok(_)) => REFUSED,
+        Some(Err(fault)) => report(fault, errors),
+        None => no_memory(errors),
+    }
+}
+
+/// Runs a command whose output goes out as its buffer fills; nothing where there is no memory for that.
+fn by_buffer<R: Read + Drop, W: Write + Drop>(
+    alloc: Global,
+    work: &Work,
+    input: R,
+    output: W,
+) -> Option<Result<u32, Fault>> {
+    let output = BufWriter::new(alloc, output).ok()?;
+    let (answer, output) = answered(work, input, output);
+    let (answer, output) = flushed(answer, output);
+    // A drop of the buffer would write again what a failed write left in it.
+    let _ = output.into_parts();
+    Some(answer)
+}
+
+/// Runs a command whose output goes out line by line; nothing where there is no memory for that.
+fn by_lines<R: Read + Drop, W: Write + Drop>(
+    alloc: Global,
+    work: &Work,
+    input: R,
+    output: W,
+) -> Option<Result<u32, Fault>> {
+    let output = LineWriter::new(alloc, Patient::new(output)).ok()?;
+    let (answer, output) = answered(work, input, output);
+    // Each line is written in one piece, so none is left for the drop of the buffer.
+    Some(flushed(answer, output).0)
+}
+
+/// Runs a command, and gives the device of its output back.
+fn answered<R: Read + Drop, W: Write + Drop>(
+    work: &Work,
+    input: R,
+    output: W,
+) -> (Result<u32, Fault>, W) {
     let mut input = Counting::new(input);
     let mut output = Counting::new(output);
     let answer = work.run(&mut input, &mut output);
-    match flushed(answer, output.into_inner()) {
-        Ok(()) => DONE,
-        Err(fault) => report(fault, errors),
-    }
+    (answer, output.into_inner())
+}
+
+/// Writes what a device kept back, and gives the run's answer, or the failure to write after a run without a fault.
+fn flushed<W: Write + Drop>(answer: Result<u32, Fault>, output: W) -> (Result<u32, Fault>, W) {
+    let mut output = output;
+    let has_failed = matches!(
+        answer,
+        Err(Fault {
+            refusal: Refusal::Device(DeviceFailure::Write),
+            ..
+        })
+    );
+    let is_whole = !has_failed && output.flush().is_ok();
+    let answer = match answer {
+        Ok(_) if !is_whole => Err(write_failed()),
+        answer => answer,
+    };
+    (answer, output)
 }
 
 /// Says why a command can't be begun, and gives the exit status.
@@ -86,28 +146,11 @@ fn refuse<E: Write>(unready: Unready, errors: &mut E) -> u8 {
             let _ = writeln!(errors, "{}", FaultText::from(error));
             REFUSED
         }
+        Unready::Cursor(error) => {
+            let _ = writeln!(errors, "{}", FaultText::from(error));
+            REFUSED
+        }
         Unready::Memory => no_memory(errors),
-    }
-}
-
-/// Writes what is left in the buffer, and gives the run's answer, or the failure to write after a run without a fault.
-fn flushed<W: Write + Drop>(answer: Result<(), Fault>, output: BufWriter<W>) -> Result<(), Fault> {
-    let mut output = output;
-    let has_failed = matches!(
-        answer,
-        Err(Fault {
-            refusal: Refusal::Device(DeviceFailure::Write),
-            ..
-        })
-    );
-    let is_whole = !has_failed && output.flush().is_ok();
-    // A drop of the buffer would write again what a failed write left in it.
-    let _ = output.into_parts();
-    answer?;
-    if is_whole {
-        Ok(())
-    } else {
-        Err(write_failed())
     }
 }
 

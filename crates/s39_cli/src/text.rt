@@ -1,7 +1,7 @@
 //! The texts of faults.
 
 use s39_kdf::BadPassphrase;
-use s39_set::{SetError, SetLack};
+use s39_set::{BadCursor, SetError, SetLack};
 use s39_tool::{DeviceFailure, Fault, LineRefusal, Mismatch, PlanError, Refusal};
 use s39_words::WordError;
 use thiserror::Error;
@@ -47,6 +47,8 @@ pub enum RefusalText {
     PlanMembers(u8),
     #[error("one of many in plan group {0}")]
     OneOfMany(u8),
+    #[error("bad cursor")]
+    BadCursor,
     #[error("passphrase byte {0} not printable")]
     Passphrase(usize),
     #[error("secret of {0} bytes")]
@@ -177,6 +179,15 @@ impl From<PlanError> for FaultText {
         FaultText::Anywhere {
             code: error.code(),
             text: RefusalText::from(error),
+        }
+    }
+}
+
+impl From<BadCursor> for FaultText {
+    fn from(error: BadCursor) -> FaultText {
+        FaultText::Anywhere {
+            code: error.code(),
+            text: RefusalText::BadCursor,
         }
     }
 }

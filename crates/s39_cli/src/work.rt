@@ -1,10 +1,13 @@
 //! Commands that are ready to run.
-ghost use Rattle.std.specs.Prelude.{◌<◌};
+ghost use Rattle.std.specs.Prelude.{◌<◌, ◌≤◌};
 ghost use Rattle.s39_cli.specs.Command.{IsInRange};
 
 use crate::command::Job;
 use hex::FromHexError;
-use s39_tool::{Counting, Fault, Options, Plan, PlanError, run_create, run_recover, run_show};
+use s39_set::{BadCursor, Quorum, parse_quorum};
+use s39_tool::{
+    Counting, Done, Fault, Options, Plan, PlanError, run_create, run_drill, run_recover, run_show,
+};
 use std::alloc::Global;
 use std::io::{Read, Write};
 
@@ -17,6 +20,15 @@ pub(crate) struct Creation<'a> {
     options: Options,
 }
 
+/// What a drill is of, beside the mnemonics.
+#[derive(Debug, Drop)]
+pub(crate) struct Drill<'a> {
+    passphrase: &'a [u8],
+    after: Option<Quorum>,
+    limit: u32,
+    ghost some: { 1 ≤ limit },
+}
+
 /// A command that is ready to run: it needs no more memory.
 #[derive(Debug, Drop)]
 pub(crate) enum Work<'a> {
@@ -26,6 +38,8 @@ pub(crate) enum Work<'a> {
     Create(Creation<'a>),
     /// Recovers a secret.
     Recover { passphrase: &'a [u8] },
+    /// Tries quorums.
+    Drill(Drill<'a>),
 }
 
 /// Why a command can't be begun.
@@ -35,6 +49,8 @@ pub(crate) enum Unready {
     Secret,
     /// The text of the plan gives none.
     Plan(PlanError),
+    /// The text of a quorum is none.
+    Cursor(BadCursor),
     /// There is no memory.
     Memory,
 }
@@ -42,6 +58,12 @@ pub(crate) enum Unready {
 impl From<PlanError> for Unready {
     fn from(error: PlanError) -> Unready {
         Unready::Plan(error)
+    }
+}
+
+impl From<BadCursor> for Unready {
+    fn from(error: BadCursor) -> Unready {
+        Unready::Cursor(error)
     }
 }
 
@@ -79,20 +101,37 @@ impl<'a> Work<'a> {
             Job::Recover { passphrase } => Work::Recover {
                 passphrase: passphrase.as_bytes(),
             },
+            Job::Drill {
+                passphrase,
+                after,
+                limit,
+            } => Work::Drill(Drill {
+                passphrase: passphrase.as_bytes(),
+                after: match after {
+                    Some(text) => Some(parse_quorum(text.as_bytes())?),
+                    None => None,
+                },
+                limit,
+            }),
         })
     }
 
-    /// Runs the command.
+    /// Whether each line of the output goes out as soon as it is known, wherever it goes.
+    pub(crate) fn goes_by_lines(&self) -> bool {
+        matches!(self, Work::Drill(_))
+    }
+
+    /// Runs the command, and gives how many quorums were refused.
     pub(crate) fn run<R: Read, W: Write>(
         &self,
         input: &mut Counting<R>,
         output: &mut Counting<W>,
-    ) -> Result<(), Fault>
+    ) -> Result<u32, Fault>
         requires readable { input.old.failures < u64.MAX }
         requires writable { output.old.failures < u64.MAX }
     {
         match self {
-            Work::Show => run_show(input, output),
+            Work::Show => run_show(input, output)?,
             Work::Create(creation) => run_create(
                 &creation.plan,
                 creation.secret.as_slice(),
@@ -100,8 +139,20 @@ impl<'a> Work<'a> {
                 creation.options,
                 input,
                 output,
-            ),
-            Work::Recover { passphrase } => run_recover(passphrase, input, output),
+            )?,
+            Work::Recover { passphrase } => run_recover(passphrase, input, output)?,
+            Work::Drill(drill) => {
+                let after = drill.after.as_ref();
+                let Done { mismatches } = run_drill(
+                    drill.passphrase,
+                    after,
+                    drill.limit,
+                    input,
+                    output,
+                )?;
+                return Ok(mismatches);
+            }
         }
+        Ok(0)
     }
 }

@@ -27,7 +27,30 @@ fn reads_the_command_line(rt: HostRuntime) -> Result<(), Fail> {
         exponent: 15,
         extendable: true,
     };
-    let jobs: [(&[&str], Job); 10] = [
+    let first = Job::Drill {
+        passphrase: "",
+        after: None,
+        limit: 1000,
+    };
+    let rest = Job::Drill {
+        passphrase: "TREZOR",
+        after: Some("0.0+1.0"),
+        limit: 4_294_967_295,
+    };
+    let jobs: [(&[&str], Job); 12] = [
+        (&["shamir", "drill"], first),
+        (
+            &[
+                "shamir",
+                "drill",
+                "--limit=4294967295",
+                "--after",
+                "0.0+1.0",
+                "--passphrase",
+                "TREZOR",
+            ],
+            rest,
+        ),
         (&["shamir", "show"], Job::Show),
         (
             &["shamir", "create", "1of1", "--master-secret", "00"],
@@ -68,7 +91,10 @@ fn reads_the_command_line(rt: HostRuntime) -> Result<(), Fail> {
     for (words, job) in jobs {
         assert_eq!(rt; read_words(alloc, words).ok(), Some(job));
     }
-    let refused: [&[&str]; 17] = [
+    let refused: [&[&str]; 20] = [
+        &["shamir", "drill", "--limit", "0"],
+        &["shamir", "drill", "--limit", "4294967296"],
+        &["shamir", "drill", "--after"],
         &["shamir", "create"],
         &["shamir", "create", "1of1"],
         &["shamir", "create", "--master-secret", "00"],

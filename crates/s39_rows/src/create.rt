@@ -9,10 +9,10 @@ use sha2::{Digest, Sha256};
 use std::alloc::{AllocError, Global};
 use std::test::Fail;
 
-const SECRET: &str = "bb54aac4b89dc868ba37d9cc21b2cece";
+pub const SECRET: &str = "bb54aac4b89dc868ba37d9cc21b2cece";
 
 /// The words of a creation with the passphrase of the vectors.
-fn create<'a>(plan: &'a str, secret: &'a str) -> [&'a str; 7] {
+pub fn create<'a>(plan: &'a str, secret: &'a str) -> [&'a str; 7] {
     [
         "shamir",
         "create",
@@ -25,7 +25,7 @@ fn create<'a>(plan: &'a str, secret: &'a str) -> [&'a str; 7] {
 }
 
 /// The mnemonics of `2/2of3,1of1,1of1` from the random bytes 0 to 25; another program computes them.
-const FIVE: [&str; 5] = [
+pub const FIVE: [&str; 5] = [
     "academic aluminum acrobat leaf buyer drink heat negative damage union purchase photo inmate training amazing yield bucket wrote mule cluster",
     "academic aluminum acrobat lily august piece column laser headset unusual blimp nuclear sweater criminal credit eyebrow trouble silent axis skin",
     "academic aluminum acrobat lungs dive behavior mobile ting perfect ultimate weapon join paper involve clinic acrobat jerky preach gross usual",
@@ -33,12 +33,12 @@ const FIVE: [&str; 5] = [
     "academic aluminum ceramic leader cylinder decorate mobile devote echo finger program firm starting dwarf grumpy harvest enforce raisin sprinkle phantom",
 ];
 
-const RANDOM: [u8; 26] = [
+pub const RANDOM: [u8; 26] = [
     0, 1, 2, 3, 4, 5, 6, 7, 8, 9, 10, 11, 12, 13, 14, 15, 16, 17, 18, 19, 20, 21, 22, 23, 24, 25,
 ];
 
 /// Lines of a text each.
-fn lines(alloc: Global, texts: &[&str]) -> Result<String, AllocError> {
+pub fn lines(alloc: Global, texts: &[&str]) -> Result<String, AllocError> {
     let mut all = String::new(alloc);
     for text in texts {
         all.push_str(text)?;
@@ -237,7 +237,7 @@ fn creates_the_longest_secret(rt: HostRuntime) -> Result<(), Fail> {
     Ok(())
 }
 
-const MOST: &str =
+pub const MOST: &str =
     "16/16of16,16of16,16of16,16of16,16of16,16of16,16of16,16of16,16of16,16of16,16of16,16of16,16of16,16of16,16of16,16of16";
 
 const MOST_RANDOM_BYTES: u32 = 32_574;

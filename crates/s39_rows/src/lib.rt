@@ -8,6 +8,8 @@ mod create;
 #[cfg(test)]
 mod devices;
 #[cfg(test)]
+mod drill;
+#[cfg(test)]
 mod recover;
 #[cfg(test)]
 mod show;

@@ -67,7 +67,7 @@ fn names_why_there_is_no_secret(rt: HostRuntime) -> Result<(), Fail> {
 }
 
 /// A mnemonic of the fields of another, with the bits of `flip` changed in the first byte of its value.
-fn forged(text: &str, flip: u8) -> Result<ArrayVec<u8, MAX_TEXT_BYTES>, Fail> {
+pub fn forged(text: &str, flip: u8) -> Result<ArrayVec<u8, MAX_TEXT_BYTES>, Fail> {
     let share = parse(text.as_bytes())?;
     let mut value = check_secret(share.value())?;
     if let Some(first) = value.first_mut() {

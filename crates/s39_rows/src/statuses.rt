@@ -14,6 +14,7 @@ Commands:
   show     Shows the fields of the mnemonics on standard input, a line for each
   create   Creates a backup from a secret and the random bytes on standard input
   recover  Recovers the secret from the mnemonics on standard input
+  drill    Tries the quorums of the mnemonics on standard input, a line for each
 
 Options:
   -h, --help     Print help
@@ -44,11 +45,23 @@ Options:
   -h, --help               Print help
 ";
 
+const HELP_OF_DRILL: &str = "Tries the quorums of the mnemonics on standard input, a line for each
+
+Usage: shamir drill [OPTIONS]
+
+Options:
+      --passphrase <TEXT>  The passphrase of the backup, by default empty
+      --after <Q>          Goes on after this quorum, by default from the first
+      --limit <N>          How many quorums are tried at most [default: 1000]
+  -h, --help               Print help
+";
+
 #[test]
 fn answers_help_and_the_version(rt: HostRuntime) {
     let alloc = rt.alloc();
-    let cases: [(&[&str], &str); 6] = [
+    let cases: [(&[&str], &str); 7] = [
         (&["shamir", "create", "--help"], HELP_OF_CREATE),
+        (&["shamir", "drill", "--help"], HELP_OF_DRILL),
         (&["shamir", "--help"], HELP),
         (&["shamir", "-h"], HELP),
         (&["shamir", "recover", "--help"], HELP_OF_RECOVER),
@@ -89,7 +102,7 @@ fn says_why_words_are_refused(rt: HostRuntime) {
         ),
         (
             &["shamir"],
-            "error: 'shamir' requires a subcommand but one was not provided\n  [subcommands: show, create, recover]\n\nUsage: shamir <COMMAND>\n\nFor more information, try '--help'.\n",
+            "error: 'shamir' requires a subcommand but one was not provided\n  [subcommands: show, create, recover, drill]\n\nUsage: shamir <COMMAND>\n\nFor more information, try '--help'.\n",
         ),
         (
             &["shamir", "list"],

@@ -52,6 +52,7 @@ fn names_refusals_of_shares(rt: HostRuntime) -> Result<(), Fail> {
         ),
         (Refusal::Lack(SetLack::NoShares), "29 no shares"),
         (Refusal::Lack(incomplete), "30 incomplete: 1 of 2 groups"),
+        (Refusal::NotAQuorum, "62 cursor is no quorum"),
         (
             Refusal::Passphrase(BadPassphrase { position: 5 }),
             "41 passphrase byte 5 not printable",

@@ -1,0 +1,32 @@
+//! A writer that is asked again where the system interrupted it.
+
+use std::io;
+use std::io::{ErrorKind, Write};
+
+/// A writer whose interrupted writes are tried again.
+#[derive(Drop)]
+pub(crate) struct Patient<W> {
+    output: W,
+}
+
+impl<W: Write> Patient<W> {
+    pub(crate) fn new(output: W) -> Patient<W> {
+        Patient { output }
+    }
+}
+
+impl<W: Write> Write for Patient<W> {
+    fn write(&mut self, buf: &[u8]) -> io::Result<usize> {
+        for _ in 0..u64::MAX {
+            match self.output.write(buf) {
+                Err(error) if error.kind() == ErrorKind::Interrupted => {}
+                answer => return answer,
+            }
+        }
+        Err(io::Error::from(ErrorKind::Interrupted))
+    }
+
+    fn flush(&mut self) -> io::Result<()> {
+        self.output.flush()
+    }
+}
