@@ -1,6 +1,6 @@
 # shamir: `make` proves and builds, `make test` is the merge gate.
 #
-#   make check       the fast checks: commands and tables of the documents, the manual page, completions
+#   make check       the fast checks: commands and tables of the documents, the manual page, completions, terminals
 #                    (make test ends with them)
 #   make faults      lets each growth, read and write of the program fail in turn
 #   make compare     compares made cases with a plain reading of the standard in Python
@@ -38,12 +38,13 @@ check: shamir
 	@tools/texts
 	@tools/manual
 	@tools/completions
+	@tools/terminal
 
 faults: shamir
 	@tools/faults
 
 compare: shamir
-	@tools/compare --kinds show,create,recover
+	@tools/compare
 
 bench: shamir
 	cd crates/s39_bench && $(RT) run > /dev/null

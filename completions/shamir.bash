@@ -1,5 +1,5 @@
 # Completion of shamir for bash: source this file, or install it as PREFIX/share/bash-completion/completions/shamir.
-# A plan, a secret and a passphrase are the owner's to say: nothing is offered for them, and no files.
+# A plan, a secret, a passphrase and a cursor are the owner's to say: nothing is offered for them, and no files.
 
 _shamir() {
     local word=${COMP_WORDS[COMP_CWORD]} previous=${COMP_WORDS[COMP_CWORD - 1]}
@@ -20,11 +20,12 @@ _shamir() {
         mapfile -t COMPREPLY < <(compgen -W '0 1 2 3 4 5 6 7 8 9 10 11 12 13 14 15' -- "$word")
         return
         ;;
-    --master-secret | --passphrase) return ;;
+    --master-secret | --passphrase | --after | --limit) return ;;
     esac
     case $command in
-    '') options='create show recover --help --version' ;;
+    '') options='create show drill recover --help --version' ;;
     create) options='--master-secret --passphrase --exponent --extendable --help' ;;
+    drill) options='--passphrase --after --limit --help' ;;
     recover) options='--passphrase --help' ;;
     show) options='--help' ;;
     *) return ;;

@@ -9,5 +9,5 @@ mod text;
 mod work;
 
 pub use command::{Job, NoJob, read_words};
-pub use status::{no_memory, no_words, program};
+pub use status::{no_memory, no_words, program, program_at_terminal};
 pub use text::{FaultText, RefusalText};

@@ -39,9 +39,32 @@ pub fn program<R: Read + Drop, W: Write + Drop, E: Write + Drop>(
     output: W,
     errors: E,
 ) -> u8 {
+    obey(alloc, words, input, output, errors, false)
+}
+
+/// As [`program`], where a person watches the output: each line of `show` goes out as soon as it is known, and not only
+/// each of `drill`.
+pub fn program_at_terminal<R: Read + Drop, W: Write + Drop, E: Write + Drop>(
+    alloc: Global,
+    words: &[&str],
+    input: R,
+    output: W,
+    errors: E,
+) -> u8 {
+    obey(alloc, words, input, output, errors, true)
+}
+
+fn obey<R: Read + Drop, W: Write + Drop, E: Write + Drop>(
+    alloc: Global,
+    words: &[&str],
+    input: R,
+    output: W,
+    errors: E,
+    at_terminal: bool,
+) -> u8 {
     let mut errors = errors;
     match read_words(alloc, words) {
-        Ok(job) => run(alloc, job, input, output, &mut errors),
+        Ok(job) => run(alloc, job, input, output, &mut errors, at_terminal),
         Err(NoJob::Help(text)) => show_help(text.as_str(), output, &mut errors),
         Err(NoJob::Refused(text)) => {
             let _ = errors.write_all(text.as_bytes());
@@ -57,6 +80,7 @@ fn run<R: Read + Drop, W: Write + Drop, E: Write>(
     input: R,
     output: W,
     errors: &mut E,
+    at_terminal: bool,
 ) -> u8
     requires { IsInRange job }
 {
@@ -64,7 +88,7 @@ fn run<R: Read + Drop, W: Write + Drop, E: Write>(
         Ok(work) => work,
         Err(unready) => return refuse(unready, errors),
     };
-    let written = if work.goes_by_lines() {
+    let written = if work.goes_by_lines(at_terminal) {
         by_lines(alloc, &work, input, output)
     } else {
         by_buffer(alloc, &work, input, output)

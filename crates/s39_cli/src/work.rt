@@ -116,9 +116,13 @@ impl<'a> Work<'a> {
         })
     }
 
-    /// Whether each line of the output goes out as soon as it is known, wherever it goes.
-    pub(crate) fn goes_by_lines(&self) -> bool {
-        matches!(self, Work::Drill(_))
+    /// Whether each line of the output goes out as soon as it is known.
+    pub(crate) fn goes_by_lines(&self, at_terminal: bool) -> bool {
+        match self {
+            Work::Show => at_terminal,
+            Work::Drill(_) => true,
+            Work::Create(_) | Work::Recover { .. } => false,
+        }
     }
 
     /// Runs the command, and gives how many quorums were refused.

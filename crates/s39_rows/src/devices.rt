@@ -91,7 +91,7 @@ impl Write for Flushing {
 pub struct Narrow {
     pub bytes: Vec<u8>,
     room: usize,
-    calls_after_failure: usize,
+    pub calls_after_failure: usize,
     has_failed: bool,
 }
 
@@ -120,6 +120,37 @@ impl Write for Narrow {
         }
         self.bytes.push(*first)?;
         Ok(1)
+    }
+
+    fn flush(&mut self) -> io::Result<()> {
+        Ok(())
+    }
+}
+
+/// A writer of which the system interrupts each second call, from the first.
+#[derive(Drop)]
+pub struct Interrupted {
+    pub bytes: Vec<u8>,
+    pub calls: usize,
+}
+
+impl Interrupted {
+    pub fn new(alloc: Global) -> Interrupted {
+        Interrupted {
+            bytes: Vec::new(alloc),
+            calls: 0,
+        }
+    }
+}
+
+impl Write for Interrupted {
+    fn write(&mut self, buf: &[u8]) -> io::Result<usize> {
+        self.calls = self.calls.saturating_add(1);
+        if self.calls % 2 == 1 {
+            return Err(io::Error::from(ErrorKind::Interrupted));
+        }
+        self.bytes.extend_from_slice(buf)?;
+        Ok(buf.len())
     }
 
     fn flush(&mut self) -> io::Result<()> {

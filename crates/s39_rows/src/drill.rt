@@ -1,12 +1,13 @@
 //! The worked examples of `drill`, from the command line to the lines and the status.
 
 use crate::create::{FIVE, MOST, RANDOM, SECRET, create, lines};
+use crate::devices::{Interrupted, Narrow};
 use crate::recover::forged;
 use crate::vectors::{
-    ONE_OF_ONE, ONE_OF_ONE_SECRET, TWO_NEEDED_MEMBER_0, TWO_NEEDED_MEMBER_2, expect_bytes,
-    expect_run,
+    ONE_OF_ONE, ONE_OF_ONE_SECRET, SHOW, SHOWN, TWO_NEEDED_MEMBER_0, TWO_NEEDED_MEMBER_2,
+    expect_bytes, expect_run,
 };
-use s39_cli::program;
+use s39_cli::{program, program_at_terminal};
 use std::alloc::{AllocError, Global};
 use std::test::Fail;
 
@@ -140,10 +141,7 @@ fn names_digests_that_differ(rt: HostRuntime) -> Result<(), Fail> {
         ),
     ];
     for (plan, random, flips, output) in cases {
-        let mut created = Vec::new(alloc);
-        let words = create(plan, SECRET);
-        let status = program(alloc, &words, random, &mut created, Vec::new(alloc));
-        assert_eq!(rt; status, 0);
+        let created = created(&rt, &create(plan, SECRET), random)?;
         let created = std::str::from_utf8(created.as_slice())?;
         let mut input = Vec::new(alloc);
         for (mnemonic, flip) in created.lines().zip(flips) {
@@ -155,35 +153,100 @@ fn names_digests_that_differ(rt: HostRuntime) -> Result<(), Fail> {
     Ok(())
 }
 
+/// What a creation writes.
+fn created(rt: &HostRuntime, words: &[&str], random: &[u8]) -> Result<Vec<u8>, Fail> {
+    let alloc = rt.alloc();
+    let mut created = Vec::new(alloc);
+    let status = program(alloc, words, random, &mut created, Vec::new(alloc));
+    assert_eq!(rt; status, 0);
+    Ok(created)
+}
+
+/// The names of so many first members of sixteen groups.
+fn first_members(alloc: Global, members: u8) -> Result<String, AllocError> {
+    let mut all = String::new(alloc);
+    for group in 0..16 {
+        for member in 0..members {
+            let plus = if group == 0 && member == 0 { "" } else { "+" };
+            all.push_str(format!(in alloc; "{plus}{group}.{member}")?.as_str())?;
+        }
+    }
+    Ok(all)
+}
+
 #[test]
 fn drills_the_most_mnemonics(rt: HostRuntime) -> Result<(), Fail> {
     let alloc = rt.alloc();
     let zeros = "00".repeat(alloc, 128)?;
     let words = ["shamir", "create", MOST, "--master-secret", zeros.as_str()];
     let random = vec![in alloc; 5u8; 32_574]?;
-    let mut created = Vec::new(alloc);
-    let status = program(
-        alloc,
-        &words,
-        random.as_slice(),
-        &mut created,
-        Vec::new(alloc),
-    );
-    assert_eq!(rt; status, 0);
-    let mut line = String::new(alloc);
-    for group in 0..16 {
-        for member in 0..16 {
-            let plus = if group == 15 && member == 15 {
-                ' '
-            } else {
-                '+'
-            };
-            line.push_str(format!(in alloc; "{group}.{member}{plus}")?.as_str())?;
-        }
-    }
-    line.push_str(zeros.as_str())?;
-    line.push_str("\nend\n")?;
+    let input = created(&rt, &words, random.as_slice())?;
+    let names = first_members(alloc, 16)?;
+    let line = format!(in alloc; "{names} {zeros}\nend\n")?;
     let wanted = (line.as_str(), "", 0);
-    expect_bytes(&rt, &["shamir", "drill"], created.as_slice(), alloc, wanted);
+    expect_bytes(&rt, &["shamir", "drill"], input.as_slice(), alloc, wanted);
+    Ok(())
+}
+
+const EIGHT_OF_SIXTEEN: &str =
+    "16/8of16,8of16,8of16,8of16,8of16,8of16,8of16,8of16,8of16,8of16,8of16,8of16,8of16,8of16,8of16,8of16";
+
+#[test]
+fn drills_a_part_of_very_many_quorums(rt: HostRuntime) -> Result<(), Fail> {
+    let alloc = rt.alloc();
+    let random = vec![in alloc; 9u8; 1_966]?;
+    let words = create(EIGHT_OF_SIXTEEN, SECRET);
+    let input = created(&rt, &words, random.as_slice())?;
+    let names = first_members(alloc, 8)?;
+    let all_but_last = names.as_str().strip_suffix("7").unwrap_or("");
+    let mut output = String::new(alloc);
+    for last in 7..10 {
+        output.push_str(format!(in alloc; "{all_but_last}{last} {SECRET}\n")?.as_str())?;
+    }
+    output.push_str(format!(in alloc; "more after {all_but_last}9\n")?.as_str())?;
+    let words = drill(alloc, &["--limit", "3"])?;
+    let wanted = (output.as_str(), "", 0);
+    expect_bytes(&rt, &words, input.as_slice(), alloc, wanted);
+    Ok(())
+}
+
+#[test]
+fn hands_lines_on_as_they_are_known(rt: HostRuntime) -> Result<(), Fail> {
+    let alloc = rt.alloc();
+    let five = lines(alloc, &FIVE)?;
+    let two = lines(alloc, &[ONE_OF_ONE, ONE_OF_ONE])?;
+    let shown = SHOWN.repeat(alloc, 2)?;
+    let told = Vec::new(alloc);
+    let mut pipe = Interrupted::new(alloc);
+    let status = program(alloc, &SHOW, two.as_bytes(), &mut pipe, told);
+    assert_eq!(rt; (status, pipe.calls), (0, 2));
+    assert_eq!(rt; pipe.bytes.as_slice(), shown.as_bytes());
+    let told = Vec::new(alloc);
+    let mut terminal = Interrupted::new(alloc);
+    let status = program_at_terminal(alloc, &SHOW, two.as_bytes(), &mut terminal, told);
+    assert_eq!(rt; (status, terminal.calls), (0, 4));
+    assert_eq!(rt; terminal.bytes.as_slice(), shown.as_bytes());
+    let told = Vec::new(alloc);
+    let mut pipe = Interrupted::new(alloc);
+    let status = program(alloc, &DRILL, five.as_bytes(), &mut pipe, told);
+    assert_eq!(rt; (status, pipe.calls), (0, 16));
+    assert!(rt; pipe.bytes.as_slice().ends_with(b"end\n"));
+    Ok(())
+}
+
+#[test]
+fn writes_nothing_after_a_failed_write(rt: HostRuntime) -> Result<(), Fail> {
+    let alloc = rt.alloc();
+    let five = lines(alloc, &FIVE)?;
+    for room in [0, 1, 44, 45, 46] {
+        let mut told = Vec::new(alloc);
+        let mut narrow = Narrow::new(alloc, room);
+        let status = program(alloc, &DRILL, five.as_bytes(), &mut narrow, &mut told);
+        assert_eq!(rt;
+            (status, narrow.bytes.len(), narrow.calls_after_failure),
+            (3, room, 0)
+        );
+        assert_eq!(rt; told.as_slice(), b"shamir: 73 write failed\n".as_slice());
+    }
     Ok(())
 }

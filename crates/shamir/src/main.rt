@@ -1,8 +1,9 @@
 //! The program `shamir`: SLIP-0039 backups on the command line.
 #![tactic(auto)]
 
-use s39_cli::{no_words, program};
+use s39_cli::{no_words, program, program_at_terminal};
 use std::alloc::{AllocError, Global};
+use std::io::IsTerminal;
 use std::process::ExitCode;
 use std::{env, io};
 
@@ -17,7 +18,12 @@ fn status(rt: &HostRuntime) -> io::Result<u8> {
     let alloc = rt.alloc();
     let arguments: Vec<String> = env::args(rt)?.collect(alloc)?;
     let words = texts(alloc, &arguments)?;
-    Ok(program(alloc, &words, rt.stdin(), rt.stdout(), rt.stderr()))
+    let (input, output, errors) = (rt.stdin(), rt.stdout(), rt.stderr());
+    Ok(if output.is_terminal() {
+        program_at_terminal(alloc, &words, input, output, errors)
+    } else {
+        program(alloc, &words, input, output, errors)
+    })
 }
 
 fn main(rt: HostRuntime) -> ExitCode {
