@@ -9,6 +9,7 @@ use crate::vectors::{
 };
 use s39_cli::{program, program_at_terminal};
 use std::alloc::{AllocError, Global};
+use std::process::Abort;
 use std::test::Fail;
 
 const DRILL: [&str; 4] = ["shamir", "drill", "--passphrase", "TREZOR"];
@@ -141,7 +142,7 @@ fn names_digests_that_differ(rt: HostRuntime) -> Result<(), Fail> {
         ),
     ];
     for (plan, random, flips, output) in cases {
-        let created = created(&rt, &create(plan, SECRET), random)?;
+        let created = created(&rt, alloc, &create(plan, SECRET), random);
         let created = std::str::from_utf8(created.as_slice())?;
         let mut input = Vec::new(alloc);
         for (mnemonic, flip) in created.lines().zip(flips) {
@@ -154,12 +155,11 @@ fn names_digests_that_differ(rt: HostRuntime) -> Result<(), Fail> {
 }
 
 /// What a creation writes.
-fn created(rt: &HostRuntime, words: &[&str], random: &[u8]) -> Result<Vec<u8>, Fail> {
-    let alloc = rt.alloc();
+fn created(rt: &impl Abort, alloc: Global, words: &[&str], random: &[u8]) -> Vec<u8> {
     let mut created = Vec::new(alloc);
     let status = program(alloc, words, random, &mut created, Vec::new(alloc));
     assert_eq!(rt; status, 0);
-    Ok(created)
+    created
 }
 
 /// The names of so many first members of sixteen groups.
@@ -180,7 +180,7 @@ fn drills_the_most_mnemonics(rt: HostRuntime) -> Result<(), Fail> {
     let zeros = "00".repeat(alloc, 128)?;
     let words = ["shamir", "create", MOST, "--master-secret", zeros.as_str()];
     let random = vec![in alloc; 5u8; 32_574]?;
-    let input = created(&rt, &words, random.as_slice())?;
+    let input = created(&rt, alloc, &words, random.as_slice());
     let names = first_members(alloc, 16)?;
     let line = format!(in alloc; "{names} {zeros}\nend\n")?;
     let wanted = (line.as_str(), "", 0);
@@ -196,7 +196,7 @@ fn drills_a_part_of_very_many_quorums(rt: HostRuntime) -> Result<(), Fail> {
     let alloc = rt.alloc();
     let random = vec![in alloc; 9u8; 1_966]?;
     let words = create(EIGHT_OF_SIXTEEN, SECRET);
-    let input = created(&rt, &words, random.as_slice())?;
+    let input = created(&rt, alloc, &words, random.as_slice());
     let names = first_members(alloc, 8)?;
     let all_but_last = names.as_str().strip_suffix("7").unwrap_or("");
     let mut output = String::new(alloc);
