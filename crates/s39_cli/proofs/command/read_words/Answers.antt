@@ -20,7 +20,8 @@ job_of-requires c =
     let words = map (λ (word : Bor (List ℕ)). word.now) c.args.words.now in
     let a = app_of c.in_ok-command.command in
     let rows = rows_of (found_of c.in-Some.options.now) in
-    let met = met_is a words c.in-Ok.matches c.in-Some.name.now rows c.in_ok-command.ensures c.in-Ok.ensures.matches c.in-Some.ensures.name c.in-Some.ensures.rows in
+    let met = met_is a words c.in-Ok.matches c.in-Some.name.now rows c.in_ok-command.ensures c.in-Ok.ensures.matches c.in-Some.ensures.name
+        c.in-Some.ensures.rows in
     met_enters a words c.in-Some.name.now rows c.in_ok-command.ensures (c.in-Ok.ensures.kinds (known_faults a c.in_ok-command.ensures)) met
 
 pub returns-clause-job : goal.returns-clause-job
@@ -28,7 +29,8 @@ returns-clause-job c =
     let words = map (λ (word : Bor (List ℕ)). word.now) c.args.words.now in
     let a = app_of c.in_ok-command.command in
     let rows = rows_of (found_of c.in-Some.options.now) in
-    let met = met_is a words c.in-Ok.matches c.in-Some.name.now rows c.in_ok-command.ensures c.in-Ok.ensures.matches c.in-Some.ensures.name c.in-Some.ensures.rows in
+    let met = met_is a words c.in-Ok.matches c.in-Some.name.now rows c.in_ok-command.ensures c.in-Ok.ensures.matches c.in-Some.ensures.name
+        c.in-Some.ensures.rows in
     (c.in-Some.name.now, rows, met, c.job_of.ensures.gives)
 
 pub returns-clause-taken : goal.returns-clause-taken
@@ -41,4 +43,5 @@ pub unreachable-requires : goal.unreachable-requires
 unreachable-requires c =
     let words = map (λ (word : Bor (List ℕ)). word.now) c.args.words.now in
     let a = app_of c.in_ok-command.command in
-    never_none a words c.in-Ok.matches c.in_ok-command.ensures c.in-Ok.ensures.matches (c.in-Ok.ensures.kinds (known_faults a c.in_ok-command.ensures)) c.in-None.ensures.variant
+    never_none a words c.in-Ok.matches c.in_ok-command.ensures c.in-Ok.ensures.matches (c.in-Ok.ensures.kinds (known_faults a c.in_ok-command.ensures))
+        c.in-None.ensures.variant
