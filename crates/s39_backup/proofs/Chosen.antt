@@ -3,7 +3,7 @@ use Rattle.std.proofs.Common.{◌≡◌, ◌≢◌, ℕ, ◌+◌, ◌<◌, ◌�
 use Rattle.std.proofs.Common.{inl, inr, arith}
 use Rattle.std.specs.List.{slice_get}
 use Rattle.std.proofs.lemmas.Bool.{cases_lt}
-use Rattle.std.proofs.lemmas.List.{length-append, take_more, take_all}
+use Rattle.std.proofs.lemmas.List.{length-append, take_more, take_all, get_or_default, get_or-take, length-take-le}
 use Rattle.std.proofs.lemmas.List.Elements.{All-push, All-map, All-contains, Contains-push, Contains-append_left}
 use Rattle.std.proofs.lemmas.List.Quantifiers.{all_pairs_push}
 use Rattle.std.proofs.lemmas.Option.{slice_get-get_or}
@@ -56,7 +56,7 @@ module _ (kept : List ℕ) (sorted : AllPairs (λ a b. a < b) kept) (number inde
         (λ k d inside. Contains-append_left indices (index ∷ []) (get_or (take next kept) k d) (so_far.before k d inside))
         (rw here (Contains-push indices index)));
     later = λ j d from inside. let more = sorted next j 0 (omega arith) inside in
-        let same : get_or kept j 0 ≡ get_or kept j d = same_default kept j 0 d inside in
+        let same = get_or_default kept j 0 d inside in
         omega arith;
     ascending = ascending_more;
     below = below_more;
@@ -64,13 +64,19 @@ module _ (kept : List ℕ) (sorted : AllPairs (λ a b. a < b) kept) (number inde
     full = λ some. let f = so_far.full some in omega (arith, length_more);
     short = let s = so_far.short in omega (arith, length_more);
   }
-    where
-      same_default : (xs : List ℕ) (j a b : ℕ) → j < length xs → get_or xs j a ≡ get_or xs j b
-      same_default xs j a b inside = ?
 
   module _ (other : next < length kept → get_or kept next 0 ≢ index) where
     later_still : (j d : ℕ) → next ≤ j → j < length kept → index + 1 ≤ get_or kept j d
-    later_still j d from inside = ?
+    later_still j d from inside =
+        let first = so_far.later next 0 (omega arith) (omega arith) in
+        let differs = other (omega arith) in
+        let same = get_or_default kept j 0 d inside in
+        elim (cases_lt next j) [
+          | inl before ↦ let more = sorted next j 0 before inside in omega arith
+          | inr after ↦
+              let here : j ≡ next = omega arith in
+              omega (arith, ap (λ (m : ℕ). get_or kept m 0) here)
+        ]
 
     -- another that is taken
     pub chosen-other : (left : ℕ) → left + 1 ≡ others → AreChosen kept number (index + 1) next left (indices ++ index ∷ [])
@@ -140,3 +146,15 @@ same_at shares fitted indices kept among below belong k d within =
     let each = All-from_map (λ s. slice_get fitted s.0 ≡ Some s.1) (λ i. (i, get_or shares i [])) indices belong in
     slice_get-get_or shares index [] (below k d within)
     ∙ sym (All-contains (λ i. slice_get fitted i ≡ Some (get_or shares i [])) indices index each (among k d within))
+
+-- and in the first of them
+pub same_in_first : (shares fitted others : List (List ℕ)) (kept : List ℕ) (count : ℕ) → All (λ i. i < count) kept → AreSameAt kept shares fitted
+    → count ≤ length fitted → take count fitted ≡ others → AreSameAt kept shares others
+same_in_first shares fitted others kept count below same long first k d within =
+    let index = get_or kept k d in
+    let less = below k d within in
+    let count_is = length-take-le count fitted long in
+    same k d within ∙ slice_get-get_or fitted index [] (omega arith)
+    ∙ ap Some (sym (get_or-take count fitted index [] less))
+    ∙ sym (slice_get-get_or (take count fitted) index [] (omega arith))
+    ∙ ap (λ xs. slice_get xs index) first

@@ -1,9 +1,10 @@
 -- The groups that names hold, and their members among names.
-use Rattle.std.proofs.Common.{◌≡◌, ℕ, ◌+◌, ◌<◌, ◌==◌, List, [], ◌∷◌, ◌++◌, length, get_or, take, map, filter, All, AllPairs, true, false, refl, sym, ap, subst, ◌∙◌, arith}
+use Rattle.std.proofs.Common.{◌≡◌, ℕ, ◌+◌, ◌<◌, ◌≤◌, ◌==◌, List, [], ◌∷◌, ◌++◌, length, get_or, take, map, filter, All, AllPairs, true, false, cond, nat_lt, refl, sym, ap, subst, ◌∙◌, arith}
 use Rattle.std.specs.List.{enumerate_from}
 use Rattle.std.specs.declared.cmp.Ordering.TheVariants.{Less}
 use Rattle.std.proofs.lemmas.List.{length-append, length-map, take_more, map-append, length-take-le, append-nil}
 use Rattle.std.proofs.lemmas.List.Elements.{filter-append}
+use Rattle.std.proofs.lemmas.Bool.{eq-eqb}
 use Rattle.std.proofs.lemmas.Bool.Decides.{nat_tests}
 use Rattle.std.proofs.lemmas.List.Sums.{length-filter, count_by_more_yes, sum_by-take-le}
 use Rattle.s39_split.proofs.Lists.{enumerate_from-push}
@@ -62,3 +63,7 @@ few_before names group i within here =
       length-filter (λ name. name.0 == group) (take (i + 1) names),
       sum_by-take-le (λ name. cond (name.0 == group) 1 0) names (i + 1),
     )
+
+-- where a test says no
+pub not_less : (a b : ℕ) → nat_lt a b ≡ false → b ≤ a
+not_less a b no = grind (arith, nat_tests)

@@ -20,3 +20,4 @@ pub mod EveryReading
 pub mod SharesCreated
 pub mod Chosen
 pub mod HeldGroups
+pub mod SameShares

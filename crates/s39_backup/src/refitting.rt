@@ -1,5 +1,5 @@
 //! The random bytes by which another secret has the same shares, at names that are two short of the thresholds.
-ghost use Rattle.std.specs.Prelude.{◌≡◌, ℕ, ◌+◌, ◌-◌, ◌*◌, ◌<◌, ◌≤◌, ◌↔◌, sum_by, List, length, map, get_or, All, AllPairs, Contains, IsTrue};
+ghost use Rattle.std.specs.Prelude.{◌≡◌, ℕ, ◌+◌, ◌-◌, ◌*◌, ◌<◌, ◌≤◌, ◌↔◌, sum_by, List, length, map, get_or, All, AllPairs, Contains, IsTrue, [], true, false};
 ghost use Rattle.std.specs.List.{slice_get};
 ghost use Rattle.arrayvec.specs.ArrayVec.{array_vec_len};
 ghost use Rattle.s39_kdf.specs.Limits.{shortest_secret, IsSecretLength};
@@ -140,7 +140,7 @@ fn refit_groups(
         × (length random.old ≡ sum_by (λ members. level_random_needed members.threshold n) groups.now)) }
     requires of_plan { (i : ℕ) (d : Members) → i < length groups.now → All (λ name. name.1 < (get_or groups.now i d).count)
         (names_in_group (group + i) names.now) }
-    requires held { (i : ℕ) (d : Members) → i < length groups.now → IsTrue (is_held names.now (group + i, get_or groups.now i d))
+    requires held { (i : ℕ) (d : Members) → i < length groups.now → is_held names.now (group + i, get_or groups.now i d) ≡ true
         → slice_get (bytes_of shares.now) i ≡ slice_get (bytes_of others.now) i }
     ensures { AreRefittedGroups names.now group groups.now (bytes_of shares.now) (bytes_of others.now)
         random.old random.new }
@@ -178,12 +178,14 @@ fn refit_group(
     requires random { length random.old
         ≡ level_random_needed members.threshold (array_vec_len share.now) }
     requires of_plan { All (λ name. name.1 < members.count) (names_in_group group names.now) }
-    requires held { IsTrue (is_held names.now (group, members)) → share.now.items ≡ other.now.items }
+    requires held { is_held names.now (group, members) ≡ true → share.now.items ≡ other.now.items }
     ensures { IsRefittedGroup names.now group members share.now.items other.now.items
         random.old random.new }
 {
     if is_held(names, group, members) {
         one_split();
+        // `as_slice` tells a proof that these are bytes.
+        let _ = share.as_slice();
         return;
     }
     let kept = members_among(names, group);

@@ -1,4 +1,4 @@
-use Rattle.std.proofs.Common.{◌==◌, length, filter, take, ap, arith}
+use Rattle.std.proofs.Common.{length, take, ap, arith}
 use Rattle.std.proofs.lemmas.List.{length-map}
 use Rattle.s39_backup.proofs.HeldGroups.{few_before}
 use Rattle.s39_set.specs.Names.{names_in_group}

@@ -1,0 +1,115 @@
+-- Two created backups have the same shares with some names.
+use Rattle.std.proofs.Common.{◌≡◌, ℕ, zero, suc, ◌+◌, ◌-◌, ◌<◌, ◌≤◌, ◌==◌, List, [], ◌∷◌, ◌++◌, length, get_or, take, drop, map, filter, nat_lt, All, Contains, Option, Some, None, true, IsTrue}
+use Rattle.std.proofs.Common.{refl, sym, ap, ap₂, subst, ◌∙◌, arith}
+use Rattle.std.specs.List.{enumerate_from, slice_get, concat}
+use Rattle.std.proofs.lemmas.Bool.{eq-eqb}
+use Rattle.std.proofs.lemmas.List.Elements.{Contains-append_left, Contains-append_right, All-contains}
+use Rattle.std.proofs.lemmas.Option.{slice_get-get_or}
+use Rattle.s39_kdf.specs.declared.params.Params.{Params}
+use Rattle.s39_split.specs.Sharing.{IsSplit}
+use Rattle.s39_words.specs.declared.share.ShareFields.{ShareFields}
+use Rattle.s39_set.specs.Names.{names_in_group}
+use Rattle.s39_set.specs.ShareSet.{name_of}
+use Rattle.s39_set.proofs.Sublists.{Contains-head, Contains-cons, Contains-filter}
+use Rattle.s39_backup.specs.declared.plan.Members.{Members}
+use Rattle.s39_backup.specs.Created.{AreSplitAmong, created_share, created_group, created_groups}
+use Rattle.s39_backup.specs.TwoShort.{HaveTheShare}
+use Rattle.s39_backup.specs.Refitting.{AreSameAmong, IsRefittedGroup, AreRefittedGroups}
+
+some_same : (x y : List ℕ) → Some x ≡ Some y → x ≡ y
+some_same x y e = cc
+
+group_same : (x y : Members) → Some x ≡ Some y → x ≡ y
+group_same x y e = cc
+
+module _ (params : Params) (group_threshold group_count : ℕ) where
+  -- a group has the share of each of its members
+  contains_member : (group : ℕ) (members : Members) (first : ℕ) (values : List (List ℕ)) (k : ℕ) (v : List ℕ) → slice_get values k ≡ Some v
+      → Contains (map (λ s. created_share params group_threshold group_count group members s.0 s.1) (enumerate_from first values))
+      (created_share params group_threshold group_count group members (first + k) v)
+  contains_member group members first [] k v at = absurd (let none : None ≡ Some v = at in cc)
+  contains_member group members first (x ∷ xs) zero v at =
+      let here : x ≡ v = some_same x v at in
+      let start : first ≡ first + 0 = omega arith in
+      subst (Contains (map (λ s. created_share params group_threshold group_count group members s.0 s.1) (enumerate_from first (x ∷ xs))))
+      (ap₂ (λ (m : ℕ) y. created_share params group_threshold group_count group members m y) start here)
+      (Contains-head (created_share params group_threshold group_count group members first x)
+      (map (λ s. created_share params group_threshold group_count group members s.0 s.1) (enumerate_from (first + 1) xs)))
+  contains_member group members first (x ∷ xs) (suc k) v at =
+      let next : (first + 1) + k ≡ first + suc k = omega arith in
+      subst (λ (m : ℕ). Contains (map (λ s. created_share params group_threshold group_count group members s.0 s.1) (enumerate_from first (x ∷ xs)))
+      (created_share params group_threshold group_count group members m v)) next
+      (Contains-cons (created_share params group_threshold group_count group members first x)
+      (map (λ s. created_share params group_threshold group_count group members s.0 s.1) (enumerate_from (first + 1) xs))
+      (created_share params group_threshold group_count group members ((first + 1) + k) v)
+      (contains_member group members (first + 1) xs k v at))
+
+  pub have_share : (names : List (ℕ × ℕ)) (groups : List Members) (shares others pieces fitted : List (List ℕ))
+      (values other_values : List (List (List ℕ))) (start place : ℕ) (name : ℕ × ℕ) (members : Members)
+      → AreSplitAmong groups shares pieces values → AreSplitAmong groups others fitted other_values → AreSameAmong names start values other_values
+      → Contains names name → name.0 ≡ start + place → slice_get groups place ≡ Some members → name.1 < members.count
+      → HaveTheShare (created_groups params group_threshold group_count start groups values)
+      (created_groups params group_threshold group_count start groups other_values) name
+  have_share names (g ∷ gs) (s ∷ ss) (o ∷ os) (p ∷ ps) (f ∷ fs) (v ∷ vs) (w ∷ ws) start zero name members split refitted same among here at within =
+      let group_is : name.0 ≡ start = omega arith in
+      let number = split.0.number in
+      let count : g.count ≡ members.count = ap (λ (m : Members). m.count) (group_same g members at) in
+      let value = get_or v name.1 [] in
+      let is : slice_get v name.1 ≡ Some value = slice_get-get_or v name.1 [] (omega arith) in
+      let other : slice_get w name.1 ≡ Some value =
+      sym (All-contains (λ n. slice_get v n.1 ≡ slice_get w n.1) (names_in_group start names) name same.0
+      (Contains-filter (λ n. n.0 == start) names name among (eq-eqb name.0 start group_is))) ∙ is in
+      let first : 0 + name.1 ≡ name.1 = omega arith in
+      let share = created_share params group_threshold group_count start g (0 + name.1) value in
+      record {
+        share = share;
+        name_is = ap₂ (λ (a b : ℕ). (a, b)) (sym group_is) first;
+        in_shares = Contains-append_left (created_group params group_threshold group_count start g v)
+            (created_groups params group_threshold group_count (start + 1) gs vs) share (contains_member start g 0 v name.1 value is);
+        in_others = Contains-append_left (created_group params group_threshold group_count start g w)
+            (created_groups params group_threshold group_count (start + 1) gs ws) share (contains_member start g 0 w name.1 value other);
+      }
+  have_share names (g ∷ gs) (s ∷ ss) (o ∷ os) (p ∷ ps) (f ∷ fs) (v ∷ vs) (w ∷ ws) start (suc k) name members split refitted same among here at within =
+      let later = have_share names gs ss os ps fs vs ws (start + 1) k name members split.1 refitted.1 same.1 among (omega arith) at within in
+      record {
+        share = later.share;
+        name_is = later.name_is;
+        in_shares = Contains-append_right (created_group params group_threshold group_count start g v)
+            (created_groups params group_threshold group_count (start + 1) gs vs) later.share later.in_shares;
+        in_others = Contains-append_right (created_group params group_threshold group_count start g w)
+            (created_groups params group_threshold group_count (start + 1) gs ws) later.share later.in_others;
+      }
+  have_share names [] [] [] [] [] [] [] start place name members split refitted same among here at within =
+      absurd (let none : None ≡ Some members = at in cc)
+
+-- no groups
+pub refitted-none : (names : List (ℕ × ℕ)) (group : ℕ) → AreRefittedGroups names group [] [] [] [] []
+refitted-none names group = record {
+  pieces = [];
+  fitted_pieces = [];
+  values = [];
+  other_values = [];
+  consumed = refl;
+  fitted_consumed = refl;
+  split = tt;
+  refitted = tt;
+  same = tt;
+}
+
+-- a group and those after it
+pub refitted-cons : (names : List (ℕ × ℕ)) (group : ℕ) (members : Members) (groups : List Members) (share other : List ℕ)
+    (shares others : List (List ℕ)) (piece fitted rest fitted_rest : List ℕ)
+    → IsRefittedGroup names group members share other piece fitted
+    → AreRefittedGroups names (group + 1) groups shares others rest fitted_rest
+    → AreRefittedGroups names group (members ∷ groups) (share ∷ shares) (other ∷ others) (piece ++ rest) (fitted ++ fitted_rest)
+refitted-cons names group members groups share other shares others piece fitted rest fitted_rest one more = record {
+  pieces = piece ∷ more.pieces;
+  fitted_pieces = fitted ∷ more.fitted_pieces;
+  values = one.values ∷ more.values;
+  other_values = one.others ∷ more.other_values;
+  consumed = ap (λ xs. piece ++ xs) more.consumed;
+  fitted_consumed = ap (λ xs. fitted ++ xs) more.fitted_consumed;
+  split = (one.split, more.split);
+  refitted = (one.refitted, more.refitted);
+  same = (one.same, more.same);
+}
