@@ -66,4 +66,4 @@ few_before names group i within here =
 
 -- where a test says no
 pub not_less : (a b : ℕ) → nat_lt a b ≡ false → b ≤ a
-not_less a b no = grind (arith, nat_tests)
+not_less a b fails = grind (arith, nat_tests)

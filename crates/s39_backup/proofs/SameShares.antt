@@ -96,6 +96,11 @@ refitted-none names group = record {
   same = tt;
 }
 
+pub refitted-empty : (names : List (ℕ × ℕ)) (group : ℕ) (groups : List Members) (shares others : List (List ℕ)) (random : List ℕ) → length groups ≡ 0
+    → length shares ≡ 0 → length others ≡ 0 → length random ≡ 0 → AreRefittedGroups names group groups shares others random random
+refitted-empty names group [] [] [] [] g s o r = refitted-none names group
+refitted-empty names group groups shares others random g s o r = ?
+
 -- a group and those after it
 pub refitted-cons : (names : List (ℕ × ℕ)) (group : ℕ) (members : Members) (groups : List Members) (share other : List ℕ)
     (shares others : List (List ℕ)) (piece fitted rest fitted_rest : List ℕ)

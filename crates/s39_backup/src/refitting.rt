@@ -2,6 +2,7 @@
 ghost use Rattle.std.specs.Prelude.{◌≡◌, ℕ, ◌+◌, ◌-◌, ◌*◌, ◌<◌, ◌≤◌, ◌↔◌, sum_by, List, length, map, get_or, All, AllPairs, Contains, IsTrue, [], true, false};
 ghost use Rattle.std.specs.List.{slice_get};
 ghost use Rattle.arrayvec.specs.ArrayVec.{array_vec_len};
+ghost use Rattle.s39_kdf.specs.Bytes.{AreBytes};
 ghost use Rattle.s39_kdf.specs.Limits.{shortest_secret, IsSecretLength};
 ghost use Rattle.s39_split.specs.Shares.{bytes_of};
 ghost use Rattle.s39_split.specs.Sharing.{most_shares, random_needed as level_random_needed, IsSplit};
@@ -184,8 +185,7 @@ fn refit_group(
 {
     if is_held(names, group, members) {
         one_split();
-        // `as_slice` tells a proof that these are bytes.
-        let _ = share.as_slice();
+        are_bytes(share.as_slice());
         return;
     }
     let kept = members_among(names, group);
@@ -203,6 +203,11 @@ fn refit_group(
         others,
     );
 }
+
+/// The elements of a slice of bytes are bytes.
+fn are_bytes(bytes: &[u8])
+    ensures { AreBytes bytes.now }
+{}
 
 /// Splits two secrets, and refits the random bytes of the other so that the kept shares are the same.
 fn refit_level(

@@ -1,4 +1,4 @@
-use Rattle.std.proofs.Common.{◌≡◌, ℕ, ◌<◌, length, map, take, get_or, refl, sym, ap, subst, ◌∙◌, arith}
+use Rattle.std.proofs.Common.{◌≡◌, ℕ, ◌-◌, ◌<◌, length, map, take, get_or, refl, sym, ap, subst, ◌∙◌, arith}
 use Rattle.std.proofs.lemmas.List.{length-map, length-take-le, get_or_default}
 use Rattle.std.proofs.lemmas.List.Elements.{All-map}
 use Rattle.std.specs.List.{slice_get}
@@ -23,7 +23,7 @@ returns-then-is_held c =
     let fits = c.type_inv.random k in
     omega arith in
     let (values, split) = c.one_split.ensures.some members.threshold members.count share random c.requires.group.positive
-    c.requires.group.enough.enough c.requires.group.enough.few (omega arith) (search rules) bytes c.requires.random in
+    c.requires.group.enough.enough c.requires.group.enough.few (omega arith) (subst AreBytes c.as_slice.ensures.value c.are_bytes.ensures) bytes c.requires.random in
     record {
       values = values;
       others = values;
@@ -35,7 +35,7 @@ returns-then-is_held c =
 pub refit_level-requires-clause-kept : goal.refit_level-requires-clause-kept
 refit_level-requires-clause-kept c =
     let names = names_in_group c.args.group c.args.names.now in
-    let is : c.as_slice.result.now ≡ map (λ name. name.1) names = c.as_slice.ensures.value ∙ c.members_among-kept.ensures in
+    let is : c.as_slice-2.result.now ≡ map (λ name. name.1) names = c.as_slice-2.ensures.value ∙ c.members_among-kept.ensures in
     let room = c.requires.group.enough.few in
     let long = c.default-values.ensures.long in
     let count : length (take c.from.result c.default-values.result) ≡ c.args.members.count =
@@ -53,7 +53,7 @@ pub returns : goal.returns
 returns c =
     let members = c.args.members in
     let names = names_in_group c.args.group c.args.names.now in
-    let is : c.as_slice.result.now ≡ map (λ name. name.1) names = c.as_slice.ensures.value ∙ c.members_among-kept.ensures in
+    let is : c.as_slice-2.result.now ≡ map (λ name. name.1) names = c.as_slice-2.ensures.value ∙ c.members_among-kept.ensures in
     let room = c.requires.group.enough.few in
     let long = c.default-values.ensures.long in
     let count : length (take c.from.result c.default-values.result) ≡ members.count =
