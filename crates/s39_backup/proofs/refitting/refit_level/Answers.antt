@@ -1,4 +1,4 @@
-use Rattle.std.proofs.Common.{◌≡◌, length, take, subst, arith}
+use Rattle.std.proofs.Common.{length, take, subst, arith}
 use Rattle.s39_split.specs.Shares.{bytes_of}
 use Rattle.s39_split.specs.Sharing.{most_shares, IsSplit}
 use Rattle.s39_backup.proofs.Chosen.{same_in_first}
