@@ -79,8 +79,11 @@ module _ (params : Params) (group_threshold group_count : ℕ) where
         in_others = Contains-append_right (created_group params group_threshold group_count start g w)
             (created_groups params group_threshold group_count (start + 1) gs ws) later.share later.in_others;
       }
-  have_share names [] [] [] [] [] [] [] start place name members split refitted same among here at within =
+  have_share names (g ∷ gs) (s ∷ ss) others (p ∷ ps) fitted (v ∷ vs) other_values start place name members split refitted same among here at within =
+      absurd refitted
+  have_share names [] [] others [] fitted [] other_values start place name members split refitted same among here at within =
       absurd (let none : None ≡ Some members = at in cc)
+  have_share names gs ss os ps fs vs ws start place name members split refitted same among here at within = absurd split
 
 -- no groups
 pub refitted-none : (names : List (ℕ × ℕ)) (group : ℕ) → AreRefittedGroups names group [] [] [] [] []
@@ -99,7 +102,10 @@ refitted-none names group = record {
 pub refitted-empty : (names : List (ℕ × ℕ)) (group : ℕ) (groups : List Members) (shares others : List (List ℕ)) (random : List ℕ) → length groups ≡ 0
     → length shares ≡ 0 → length others ≡ 0 → length random ≡ 0 → AreRefittedGroups names group groups shares others random random
 refitted-empty names group [] [] [] [] g s o r = refitted-none names group
-refitted-empty names group groups shares others random g s o r = ?
+refitted-empty names group (x ∷ xs) shares others random g s o r = absurd (omega arith)
+refitted-empty names group [] (x ∷ xs) others random g s o r = absurd (omega arith)
+refitted-empty names group [] [] (x ∷ xs) random g s o r = absurd (omega arith)
+refitted-empty names group [] [] [] (x ∷ xs) g s o r = absurd (omega arith)
 
 -- a group and those after it
 pub refitted-cons : (names : List (ℕ × ℕ)) (group : ℕ) (members : Members) (groups : List Members) (share other : List ℕ)
@@ -118,3 +124,8 @@ refitted-cons names group members groups share other shares others piece fitted 
   refitted = (one.refitted, more.refitted);
   same = (one.same, more.same);
 }
+
+-- a list is its first element and the rest
+pub first_and_rest : {X : Type 0} (xs : List X) (d : X) → 0 < length xs → get_or xs 0 d ∷ drop 1 xs ≡ xs
+first_and_rest [] d some = absurd (omega arith)
+first_and_rest (x ∷ xs) d some = refl
