@@ -1,6 +1,7 @@
 //! Plans, created backups and the memo, with values from outside.
 use super::*;
 use s39_kdf::{Bytes, Params};
+use s39_set::parse_quorum;
 use s39_words::print;
 
 /// The master secret of a published vector.
@@ -176,5 +177,59 @@ fn values_deciphered_once(rt: HostRuntime) {
             let _ = memo.secret(&encrypted);
         }
         assert_eq!(rt; memo.made(), made);
+    }
+}
+
+/// Whether both backups print the share with this name alike.
+fn same_share(first: &Created, second: &Created, name: (u8, u8)) -> bool {
+    for (share, other) in first.shares().iter().zip(second.shares()) {
+        let fields = share.fields();
+        if (fields.group_index, fields.member_index) == name {
+            return print(share).as_slice() == print(other).as_slice();
+        }
+    }
+    false
+}
+
+#[test]
+fn two_short_tell_nothing(rt: HostRuntime) {
+    let other = *b"\xb4\x3c\xeb\x7e\x57\xa0\xea\x87\x66\x22\x16\x24\xd0\x1b\x08\x64";
+    let rows: [(&[u8], bool); 4] = [
+        (b"0.0+1.0", true),
+        (b"0.0+0.1", true),
+        (b"0.0+0.1+1.0", false),
+        (b"0.3", false),
+    ];
+    let plan = Plan::parse("3/3of3,1of1,2of2").expect(&rt, "a plan");
+    let options = Options {
+        exponent: 0,
+        extendable: false,
+    };
+    let bytes = [7; 70];
+    let mut first = Created::new();
+    create(&plan, &SECRET, b"TREZOR", options, &bytes, &mut first).expect(&rt, "accepted");
+    for (names, two_short) in rows {
+        let keep = parse_quorum(names).expect(&rt, "names");
+        let mut random = bytes;
+        assert_eq!(rt;
+            refit(
+                &plan,
+                &SECRET,
+                &other,
+                b"TREZOR",
+                options,
+                &keep,
+                &mut random
+            ),
+            two_short
+        );
+        assert!(rt; two_short || random.as_slice() == bytes.as_slice());
+        let mut second = Created::new();
+        create(&plan, &other, b"TREZOR", options, &random, &mut second).expect(&rt, "accepted");
+        for name in keep.pairs() {
+            if two_short {
+                assert!(rt; same_share(&first, &second, *name));
+            }
+        }
     }
 }
