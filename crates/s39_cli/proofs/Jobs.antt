@@ -1,6 +1,6 @@
 -- What the words of a command line give.
-use Rattle.std.proofs.Common.{◌≡◌, ◌⊎◌, ◌∙◌, ◌<◌, ◌≤◌, ⊎_elim, ℕ, arith, codes, Bool, inl, inr, refl, sym, ap, subst, true, false, true≢false, List,
-    [], ◌∷◌, Option, Some, None, is_some, Bor, Global}
+use Rattle.std.proofs.Common.{◌≡◌, ◌⊎◌, ◌∙◌, ◌<◌, ◌≤◌, ⊎_elim, ℕ, arith, codes, Bool, inl, inr, refl, sym, ap, subst, true, false, true≢false, List}
+use Rattle.std.proofs.Common.{[], ◌∷◌, Option, Some, None, is_some, Bor, Global}
 use Rattle.std.specs.Prelude.{Box, option_map, slice_get, unwrap_or}
 use Rattle.std.specs.Option.{option_map_or}
 use Rattle.std.specs.Str.Parse.{ParsesUnsigned, ExplainsUnsignedError, HasUnsignedDigitsIfOk}
@@ -8,8 +8,9 @@ use Rattle.std.specs.Str.{bytes_eq}
 use Rattle.std.proofs.lemmas.Slice.Eq.{bytes_eq-Decides}
 use Rattle.clap.specs.Simple.{filled, with_index}
 use Rattle.std.specs.Box.{box_value}
-use Rattle.clap.specs.Words.{App, HasMatchesOf, IsAmong, Kinds, ReadsOne, Row, Rule, Text, fault_of, first_of, first_value, has_subcommand, one_of,
-    one_text, rows_of, is_simple, is_simple_and_free, subcommand_name_of, subcommand_of, subcommand_rows, subcommand_rows_of, takes}
+use Rattle.clap.specs.Words.{App, HasMatchesOf, IsAmong, Kinds, ReadsOne, Row, Rule, Text, fault_of, first_of, first_value, has_subcommand, one_of}
+use Rattle.clap.specs.Words.{one_text, rows_of, is_simple, is_simple_and_free, subcommand_name_of, subcommand_of, subcommand_rows, subcommand_rows_of}
+use Rattle.clap.specs.Words.{takes}
 use Rattle.clap.specs.declared.error.kind.ErrorKind.{ErrorKind}
 use Rattle.clap.specs.declared.error.kind.ErrorKind.TheVariants.{DisplayHelp, DisplayVersion, OutOfMemory}
 use Rattle.clap.specs.declared.parser.matches.ArgMatches.{ArgMatches}
@@ -23,8 +24,8 @@ use Rattle.s39_clap.specs.Found.{EntersOne, HasNumber, IsFilled}
 use Rattle.s39_clap.proofs.Agreement.{faultless_taken, one_request_or_mistakes, request_alone}
 use Rattle.s39_clap.proofs.Entered.{enters_some, taken_enters_one}
 use Rattle.s39_clap.proofs.Values.{flag_said, has_value, number_read}
-use Rattle.s39_cli.specs.Command.{AnswersKind, AnswersWords, AsksForText, commands, exponent_rule, extendable_rule, flag_text, limit_rule, plan_rule,
-    secret_rule, shamir_app, text_or_empty}
+use Rattle.s39_cli.specs.Command.{AnswersKind, AnswersWords, AsksForText, commands, exponent_rule, extendable_rule, flag_text, limit_rule, plan_rule}
+use Rattle.s39_cli.specs.Command.{secret_rule, shamir_app, text_or_empty}
 use Rattle.s39_cli.specs.declared.command.NoJob.{NoJob}
 use Rattle.s39_cli.specs.declared.command.NoJob.TheVariants.{Help, Refused, Memory}
 
@@ -121,7 +122,7 @@ secret_there f got enters given =
 -- the number that a getter of a `u8` reads of the exponent
 pub exponent_there : (f : Found) (got : Option ℕ) → EntersCreate f
     → ((t : Text) → one_text f (codes "exponent") ≡ Some t → ReadsOne (λ bs r. ParsesUnsigned 8 10 bs r × ExplainsUnsignedError 10 bs r ×
-        HasUnsignedDigitsIfOk bs r) t got)
+    HasUnsignedDigitsIfOk bs r) t got)
     → (n : ℕ) × (got ≡ Some n) × (n < 16) × HasNumber (codes "exponent") (rows_of f) n
 unfolding shamir_app create_rules
 exponent_there f got enters reads =
@@ -142,7 +143,7 @@ extendable_there f said enters is_true is_false =
 -- the number that a getter of a `u32` reads of the limit
 pub limit_there : (f : Found) (got : Option ℕ) → EntersOne commands (Some (codes "drill", rows_of f))
     → ((t : Text) → one_text f (codes "limit") ≡ Some t → ReadsOne (λ bs r. ParsesUnsigned 32 10 bs r × ExplainsUnsignedError 10 bs r ×
-        HasUnsignedDigitsIfOk bs r) t got)
+    HasUnsignedDigitsIfOk bs r) t got)
     → (n : ℕ) × (got ≡ Some n) × (1 ≤ n) × HasNumber (codes "limit") (rows_of f) n
 unfolding shamir_app drill_rules
 limit_there f got enters reads =
@@ -203,7 +204,7 @@ answer_by_kind (Help text) k a words is shown among passes =
     let asks : is_mistake k ≡ false = ⊎_elim (λ h. ap is_mistake h) (λ v. ap is_mistake v) shown in
     ⊎_elim (λ lacks. absurd (true≢false (sym (ap is_mistake lacks) ∙ asks)))
     (λ one. request_alone k (fault_of shamir_app words) asks (one_request_or_mistakes shamir_app words settled_app)
-        (subst (λ (x : App). IsAmong k (fault_of x words)) is one))
+    (subst (λ (x : App). IsAmong k (fault_of x words)) is one))
     among
 answer_by_kind (Refused text) k a words is shown among passes = (not_taken (takes shamir_app words) refl, no_request)
   where

@@ -21,7 +21,7 @@ job_of-requires c =
     let a = app_of c.in_ok-command.command in
     let rows = rows_of (found_of c.in-Some.options.now) in
     let met = met_is a words c.in-Ok.matches c.in-Some.name.now rows c.in_ok-command.ensures c.in-Ok.ensures.matches c.in-Some.ensures.name
-        c.in-Some.ensures.rows in
+    c.in-Some.ensures.rows in
     met_enters a words c.in-Some.name.now rows c.in_ok-command.ensures (c.in-Ok.ensures.kinds (known_faults a c.in_ok-command.ensures)) met
 
 pub returns-clause-job : goal.returns-clause-job
@@ -30,7 +30,7 @@ returns-clause-job c =
     let a = app_of c.in_ok-command.command in
     let rows = rows_of (found_of c.in-Some.options.now) in
     let met = met_is a words c.in-Ok.matches c.in-Some.name.now rows c.in_ok-command.ensures c.in-Ok.ensures.matches c.in-Some.ensures.name
-        c.in-Some.ensures.rows in
+    c.in-Some.ensures.rows in
     (c.in-Some.name.now, rows, met, c.job_of.ensures.gives)
 
 pub returns-clause-taken : goal.returns-clause-taken
@@ -44,4 +44,4 @@ unreachable-requires c =
     let words = map (λ (word : Bor (List ℕ)). word.now) c.args.words.now in
     let a = app_of c.in_ok-command.command in
     never_none a words c.in-Ok.matches c.in_ok-command.ensures c.in-Ok.ensures.matches (c.in-Ok.ensures.kinds (known_faults a c.in_ok-command.ensures))
-        c.in-None.ensures.variant
+    c.in-None.ensures.variant
