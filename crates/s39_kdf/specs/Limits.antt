@@ -1,4 +1,5 @@
--- Which passphrases and master secrets are accepted (SLIP-0039, "Passphrase" and "Generating the shares").
+-- Which passphrases and master secrets are accepted (SLIP-0039, "Passphrase" and "Generating the shares"), and how
+-- long the fields are on which their encryption depends ("Format of the share mnemonic").
 use Rattle.std.specs.Prelude.{◌≡◌, ℕ, ◌-◌, ◌%◌, ◌≤◌, List, length, take, slice_index, All}
 
 -- the fewest and the most bytes of a master secret; a share value is as long as the secret
@@ -7,6 +8,13 @@ shortest_secret = 16
 
 abbrev pub longest_secret : ℕ
 longest_secret = 128
+
+-- the bits of an identifier, and of an iteration exponent
+abbrev pub id_bits : ℕ
+id_bits = 15
+
+abbrev pub exponent_bits : ℕ
+exponent_bits = 4
 
 -- a printable character of ASCII
 abbrev pub IsPrintable : ℕ → Type 0

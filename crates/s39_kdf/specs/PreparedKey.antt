@@ -1,4 +1,4 @@
--- What a contract sees of a prepared key: the key of HMAC that it holds.
+-- The key of HMAC that a prepared key holds. No public contract cites this.
 use Rattle.std.specs.Prelude.{ℕ, List}
 use Rattle.sha2.specs.Hashers.{Holds256}
 use Rattle.s39_kdf.specs.Hmac.{inner_pad, outer_pad}

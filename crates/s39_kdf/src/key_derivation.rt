@@ -1,6 +1,6 @@
 //! PBKDF2-HMAC-SHA256 (RFC 8018, section 5.2).
 ghost use Rattle.std.specs.Prelude.{◌≡◌, ℕ, List, ◌≤◌, length};
-ghost use Rattle.s39_kdf.specs.Bytes.{bytes_of, xor_of};
+ghost use Rattle.s39_kdf.specs.Bytes.{joined_parts, xor_of};
 ghost use Rattle.s39_kdf.specs.Hmac.{hmac};
 ghost use Rattle.s39_kdf.specs.PreparedKey.{HoldsKey};
 ghost use Rattle.s39_kdf.specs.Pbkdf2.{iterate, block, pbkdf2, longest_derived_key};
@@ -19,7 +19,7 @@ pub fn pbkdf2(password: &[&[u8]], salt: &[&[u8]], iterations: u32, out: &mut [u8
     requires iterations { 1 ≤ iterations }
     requires two_blocks { length out.old ≤ longest_derived_key }
     ensures { out.new
-        ≡ pbkdf2 (bytes_of password.now) (bytes_of salt.now) iterations (length out.old) }
+        ≡ pbkdf2 (joined_parts password.now) (joined_parts salt.now) iterations (length out.old) }
 {
     let key = PreparedKey::new(password);
     let first = block(&key, salt, 1, iterations);
@@ -39,7 +39,7 @@ pub fn pbkdf2(password: &[&[u8]], salt: &[&[u8]], iterations: u32, out: &mut [u8
 fn block(key: &PreparedKey, salt: &[&[u8]], number: u32, iterations: u32) -> [u8; MAC_BYTES]
     requires { 1 ≤ iterations }
     ensures { (password : List ℕ) → HoldsKey key.now password
-        → result ≡ block password (bytes_of salt.now) number iterations }
+        → result ≡ block password (joined_parts salt.now) number iterations }
 {
     let mut iterate = first_iteration(key, salt, number);
     let mut sum = iterate;
@@ -54,7 +54,7 @@ fn block(key: &PreparedKey, salt: &[&[u8]], number: u32, iterations: u32) -> [u8
 #[tactic(auto, unfolding(crate::specs::Pbkdf2::iterate))]
 fn first_iteration(key: &PreparedKey, salt: &[&[u8]], number: u32) -> [u8; MAC_BYTES]
     ensures { (password : List ℕ) → HoldsKey key.now password
-        → result ≡ iterate password (bytes_of salt.now) number 1 }
+        → result ≡ iterate password (joined_parts salt.now) number 1 }
 {
     let mut inner = key.begin();
     absorb(&mut inner, salt);

@@ -2,7 +2,7 @@
 ghost use Rattle.std.specs.Prelude.{◌≡◌, ℕ, List, ◌++◌, map, bit_xor};
 ghost use Rattle.sha2.specs.Sha256.{sha256};
 ghost use Rattle.sha2.specs.Hashers.{Holds256};
-ghost use Rattle.s39_kdf.specs.Bytes.{bytes_of};
+ghost use Rattle.s39_kdf.specs.Bytes.{joined_parts};
 ghost use Rattle.s39_kdf.specs.Hmac.{short_key, block_key, padded_with, inner_pad, hmac};
 ghost use Rattle.s39_kdf.specs.PreparedKey.{HoldsKey};
 
@@ -17,7 +17,7 @@ pub(crate) const BLOCK_BYTES: usize = 64;
 
 /// The HMAC-SHA256 of a message under a key, each given as parts that are joined in order.
 pub fn hmac(key: &[&[u8]], message: &[&[u8]]) -> [u8; MAC_BYTES]
-    ensures { result ≡ hmac (bytes_of key.now) (bytes_of message.now) }
+    ensures { result ≡ hmac (joined_parts key.now) (joined_parts message.now) }
 {
     let key = PreparedKey::new(key);
     let mut inner = key.begin();
@@ -35,7 +35,7 @@ pub(crate) struct PreparedKey {
 
 impl PreparedKey {
     pub(crate) fn new(key: &[&[u8]]) -> PreparedKey
-        ensures { HoldsKey result (bytes_of key.now) }
+        ensures { HoldsKey result (joined_parts key.now) }
     {
         let block = block_key(key);
         PreparedKey {
@@ -65,7 +65,8 @@ impl PreparedKey {
 
 // Adds the parts to the hasher's message.
 pub(crate) fn absorb(hasher: &mut Sha256, parts: &[&[u8]])
-    ensures { (m : List ℕ) → Holds256 hasher.old m → Holds256 hasher.new (m ++ bytes_of parts.now) }
+    ensures { (m : List ℕ) → Holds256 hasher.old m
+        → Holds256 hasher.new (m ++ joined_parts parts.now) }
 {
     for part in parts {
         hasher.update(*part);
@@ -74,7 +75,7 @@ pub(crate) fn absorb(hasher: &mut Sha256, parts: &[&[u8]])
 
 #[tactic(auto, using(crate::proofs::Parts::joined_front_le))]
 fn short_key(key: &[&[u8]]) -> ArrayVec<u8, BLOCK_BYTES>
-    ensures { result.items ≡ short_key (bytes_of key.now) }
+    ensures { result.items ≡ short_key (joined_parts key.now) }
 {
     let mut short = ArrayVec::new();
     for part in key {
@@ -86,7 +87,7 @@ fn short_key(key: &[&[u8]]) -> ArrayVec<u8, BLOCK_BYTES>
 }
 
 fn digest_of(parts: &[&[u8]]) -> ArrayVec<u8, BLOCK_BYTES>
-    ensures { result.items ≡ sha256 (bytes_of parts.now) }
+    ensures { result.items ≡ sha256 (joined_parts parts.now) }
 {
     let mut hasher = Sha256::new();
     absorb(&mut hasher, parts);
@@ -97,7 +98,7 @@ fn digest_of(parts: &[&[u8]]) -> ArrayVec<u8, BLOCK_BYTES>
 }
 
 fn block_key(key: &[&[u8]]) -> [u8; BLOCK_BYTES]
-    ensures { result ≡ block_key (bytes_of key.now) }
+    ensures { result ≡ block_key (joined_parts key.now) }
 {
     let mut block = short_key(key);
     let room = block.remaining_capacity();

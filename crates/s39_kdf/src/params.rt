@@ -1,5 +1,6 @@
 //! The parameters of the encryption.
 ghost use Rattle.std.specs.Prelude.{◌≡◌, ◌<◌, ◌^◌};
+ghost use Rattle.s39_kdf.specs.Limits.{id_bits, exponent_bits};
 
 /// The fields of a backup on which the encryption of its master secret depends (SLIP-0039, "Encryption
 /// of the master secret").
@@ -11,8 +12,8 @@ pub struct Params {
     pub extendable: bool,
     /// The iteration exponent, of 4 bits: each of the four rounds takes `2500 * 2^exponent` iterations.
     pub exponent: u8,
-    ghost id_in_range: { id < 2 ^ 15 },
-    ghost exponent_in_range: { exponent < 16 },
+    ghost id_in_range: { id < 2 ^ id_bits },
+    ghost exponent_in_range: { exponent < 2 ^ exponent_bits },
 }
 
 impl Params {
