@@ -1,8 +1,8 @@
 -- Byte strings position by position, and their weighted sums.
-use Rattle.std.proofs.Common.{◌≡◌, ℕ, ◌+◌, ◌<◌, List, [], ◌∷◌, length, get_or, take, map, slice_index, refl, sym, ap, ap₂, ◌∙◌, subst, arith, bit_xor}
+use Rattle.std.proofs.Common.{◌≡◌, ℕ, ◌+◌, ◌<◌, List, [], ◌∷◌, length, get_or, take, map, slice_index, refl, sym, ap, ap₂, ◌∙◌, arith, bit_xor}
 use Rattle.std.specs.Borrow.{Bor}
 use Rattle.std.specs.List.{All, zip}
-use Rattle.std.proofs.lemmas.List.{length-map, get_or-map, get_or_default}
+use Rattle.std.proofs.lemmas.List.{length-map, get_or-map}
 use Rattle.std.proofs.lemmas.List.Elements.{All-map}
 use Rattle.arrayvec.specs.ArrayVec.{ArrayVec}
 use Rattle.s39_field.specs.FieldProduct.{byte_field, byte_modulus, product_modulo}
@@ -38,17 +38,18 @@ zip_column (p ∷ ps) k = ap (λ rest. (p.0, slice_index p.1.now.items k) ∷ re
 
 -- the weighted sums of rows are interpolated
 pub sums_interpolate : (points : List (ℕ × Bor (ArrayVec ℕ))) (place : ℕ) (ws value : List ℕ)
-    → ((values : List ℕ) → All (λ y. y < 256) values → length values ≡ length points
+    → ((values : List ℕ) → AreBytes values → length values ≡ length points
     → Interpolates byte_field (zip (map (λ p. p.0) points) values) place (weighted_sum byte_field ws values))
     → All (λ p. length p.1.now.items ≡ length value) points
-    → All (λ p. (k : ℕ) → slice_index p.1.now.items k < 256) points
+    → All (λ p. AreBytes p.1.now.items) points
     → ((k : ℕ) → k < length value → slice_index value k ≡ weighted_sum byte_field ws (column k points))
     → InterpolatesBytes (indexed_bytes points) place value
 sums_interpolate points place ws value weights one_length bytes sums = record {
   one_length = All-map (λ s. length s.1 ≡ length value) (λ p. (p.0, p.1.now.items)) points one_length;
   each = λ position below.
       let h = weights (column position points)
-      (All-map (λ y. y < 256) (λ p. slice_index p.1.now.items position) points (λ k d within. bytes k d within position))
+      (All-map (λ y. y < 256) (λ p. slice_index p.1.now.items position) points
+      (λ k d within. bytes k d within position 0 (let long = one_length k d within in omega arith)))
       (length-map points (λ p. slice_index p.1.now.items position)) in
       rw (sums position below, ← zip_column points position) h;
 }
@@ -59,13 +60,10 @@ pub all_rows : (points : List (ℕ × Bor (ArrayVec ℕ))) (n : ℕ) → All (λ
 all_rows points n rows = All-from_map {Y = ℕ × List ℕ} (λ s. length s.1 ≡ n) (λ p. (p.0, p.1.now.items)) points rows
 
 -- rows of bytes
-pub AreBytes-rows : (points : List (ℕ × Bor (ArrayVec ℕ))) → All (λ p. (k : ℕ) → slice_index p.1.now.items k < 256) points
+pub AreBytes-rows : (points : List (ℕ × Bor (ArrayVec ℕ))) → All (λ p. AreBytes p.1.now.items) points
     → All (λ s. AreBytes s.1) (indexed_bytes points)
 AreBytes-rows points bytes =
-    All-map (λ (s : ℕ × List ℕ). AreBytes s.1) (λ (p : ℕ × Bor (ArrayVec ℕ)). (p.0, p.1.now.items)) points
-    (λ i e inside k d within.
-    let P : ℕ → Type 0 = λ byte. byte < 256 in
-    subst P (get_or_default (get_or points i e).1.now.items k 0 d within) (bytes i e inside k))
+    All-map (λ (s : ℕ × List ℕ). AreBytes s.1) (λ (p : ℕ × Bor (ArrayVec ℕ)). (p.0, p.1.now.items)) points bytes
 
 -- a row has the length that all have
 pub length-row : (points : List (ℕ × Bor (ArrayVec ℕ))) (n i : ℕ) (point : ℕ × Bor (ArrayVec ℕ)) → All (λ p. length p.1.now.items ≡ n) points

@@ -34,7 +34,7 @@ fn weights_at(points: &[(u8, &Bytes)], place: u8) -> [Gf256; MAX_SHARES]
     requires few { length points.now ≤ most_shares }
     requires distinct { AreDistinct (indexed_bytes points.now) }
     ensures number { length result ≡ most_shares }
-    ensures interpolates { (values : List ℕ) → All (λ value. value < 256) values
+    ensures interpolates { (values : List ℕ) → AreBytes values
         → length values ≡ length points.now
         → Interpolates byte_field (zip (map (λ point. point.0) points.now) values) place
         (weighted_sum byte_field (take (length points.now) result) values) }
@@ -56,7 +56,7 @@ fn weights_at(points: &[(u8, &Bytes)], place: u8) -> [Gf256; MAX_SHARES]
 fn add_scaled(value: &mut Bytes, weight: Gf256, row: &[u8])
     requires { array_vec_len value.old ≡ length row.now }
     ensures len { array_vec_len value.new ≡ length row.now }
-    ensures bytes { (k : ℕ) → slice_index row.now k < 256 }
+    ensures bytes { AreBytes row.now }
     ensures sums { (k : ℕ) → k < length row.now → slice_index value.new.items k
         ≡ byte_field.add (slice_index value.old.items k)
         (byte_field.mul weight (slice_index row.now k)) }

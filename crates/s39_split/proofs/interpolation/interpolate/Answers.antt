@@ -3,6 +3,7 @@ use Rattle.std.specs.Borrow.{Bor}
 use Rattle.arrayvec.specs.ArrayVec.{ArrayVec}
 use Rattle.std.proofs.lemmas.List.{take_all, length-map, length-replicate}
 use Rattle.std.proofs.lemmas.List.Elements.{All-more}
+use Rattle.s39_kdf.specs.Bytes.{AreBytes}
 use Rattle.s39_split.proofs.Columns.{column, all_rows, AreBytes-rows, sum_more, sums_interpolate, length-row}
 use Rattle.s39_split.proofs.interpolation.interpolate.Goals as goal
 
@@ -22,7 +23,7 @@ loop-i-preserved c =
     let ws = c.weights_at-weights.result in
     let i = c.loop-i.i in
     let point = c.index-points-i.result in
-    let here : (k : ℕ) → slice_index point.1.now.items k < 256 = rw c.deref.ensures.0 at c.add_scaled.ensures.bytes in
+    let here : AreBytes point.1.now.items = rw c.deref.ensures.0 at c.add_scaled.ensures.bytes in
     let first = rows 0 c.index-points-0.result c.requires.some in
     let this = length-row points c.requires.one_length.0 i point rows c.loop-i-test.true c.index-points-i.is in
     let zeros : length c.zeros-value.result.items ≡ c.len.result = ap length c.zeros-value.ensures ∙ length-replicate {A = ℕ} c.len.result 0 in
@@ -31,8 +32,8 @@ loop-i-preserved c =
     c.add_scaled.ensures.len ∙ row ∙ this ∙ sym first ∙ sym c.len.ensures.value ∙ sym zeros in
     record {
       long = long;
-      bytes = All-more (λ p. (k : ℕ) → slice_index p.1.now.items k < 256) points i point c.loop-i-test.true c.loop-i.invariant.bytes
-          (let P : ℕ × Bor (ArrayVec ℕ) → Type 0 = λ p. (k : ℕ) → slice_index p.1.now.items k < 256 in subst P c.index-points-i.is here);
+      bytes = All-more (λ p. AreBytes p.1.now.items) points i point c.loop-i-test.true c.loop-i.invariant.bytes
+          (let P : ℕ × Bor (ArrayVec ℕ) → Type 0 = λ p. AreBytes p.1.now.items in subst P c.index-points-i.is here);
       sums = λ k below.
           let in_row : k < length c.deref.result.now = omega (arith, c.add_scaled.ensures.len) in
           let in_value : k < length c.loop-i.value.items = omega (arith, long, c.loop-i.invariant.long) in
