@@ -2,11 +2,10 @@
 use Rattle.std.specs.Prelude.{◌≡◌, ◌≢◌, ℕ, ◌+◌, ◌*◌, ◌%◌, ◌^◌, List, [], ◌∷◌, ◌++◌, All, Contains, length, map, sum_by, Result, Ok, Err}
 use Rattle.std.specs.List.{concat, enumerate_from}
 use Rattle.s39_kdf.specs.declared.params.Params.{Params}
-use Rattle.s39_kdf.specs.Limits.{IsPrintable, IsFirstUnprintable, IsSecretLength}
+use Rattle.s39_kdf.specs.Limits.{id_bits, IsPrintable, IsFirstUnprintable, IsSecretLength}
 use Rattle.s39_kdf.specs.Cipher.{IsEncryption}
 use Rattle.s39_split.specs.Sharing.{random_needed as level_random_needed, IsSplit}
 use Rattle.s39_words.specs.declared.ShareFields.{ShareFields}
-use Rattle.s39_words.specs.Layout.{id_bits}
 use Rattle.s39_backup.specs.declared.plan.Members.{Members}
 use Rattle.s39_backup.specs.declared.options.Options.{Options}
 use Rattle.s39_backup.specs.declared.create_error.CreateError.{CreateError}

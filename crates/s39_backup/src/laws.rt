@@ -1,7 +1,7 @@
 //! Facts about the definitions, each the contract of a function that does nothing.
 ghost use Rattle.std.specs.Prelude.{◌≡◌, ℕ, List, length, All, Contains, Result, Ok, None, replicate};
 ghost use Rattle.s39_kdf.specs.Bytes.{AreBytes};
-ghost use Rattle.s39_kdf.specs.Limits.{longest_secret, IsSecretLength};
+ghost use Rattle.s39_kdf.specs.Limits.{longest_secret, id_bits, IsSecretLength};
 ghost use Rattle.s39_set.specs.Names.{most_groups, most_members};
 ghost use Rattle.s39_backup.specs.declared.plan.Members.{Members};
 ghost use Rattle.s39_backup.specs.declared.create_error.CreateError.{CreateError};
@@ -11,7 +11,6 @@ ghost use Rattle.s39_backup.specs.Plan.{IsPlan, IsPlanReading};
 ghost use Rattle.s39_backup.specs.Created.{IsCreatedFrom, IsCreation, AreOfBackup, identifier_length, random_needed, most_random};
 ghost use Rattle.s39_words.specs.declared.ShareFields.{ShareFields};
 ghost use Rattle.s39_words.specs.Share.{IsShare};
-ghost use Rattle.s39_words.specs.Layout.{id_bits};
 ghost use Rattle.s39_set.specs.ShareSet.{IsShareSet, refusal_of};
 ghost use Rattle.s39_set.specs.Quorums.{IsQuorum};
 ghost use Rattle.s39_backup.specs.declared.combination.Mismatch.{Mismatch};

@@ -1,6 +1,6 @@
 //! The options of a creation.
 ghost use Rattle.std.specs.Prelude.{◌<◌, ◌^◌};
-ghost use Rattle.s39_words.specs.Layout.{exponent_bits};
+ghost use Rattle.s39_kdf.specs.Limits.{exponent_bits};
 
 /// What a backup is created with beside its secret, passphrase and plan.
 #[derive(Clone, Copy, Debug, PartialEq, Eq)]

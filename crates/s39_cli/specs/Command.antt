@@ -6,7 +6,7 @@ use Rattle.clap.specs.declared.builder.value_parser.ValueParser.TheVariants.{Sig
 use Rattle.clap.specs.declared.error.kind.ErrorKind.{ErrorKind}
 use Rattle.clap.specs.declared.error.kind.ErrorKind.TheVariants.{DisplayHelp, DisplayVersion, OutOfMemory}
 use Rattle.s39_clap.specs.Found.{HasNumber}
-use Rattle.s39_words.specs.Layout.{exponent_bits}
+use Rattle.s39_kdf.specs.Limits.{exponent_bits}
 use Rattle.s39_cli.specs.declared.command.Job.{Job}
 use Rattle.s39_cli.specs.declared.command.Job.TheVariants.{Show, Create, Recover, Drill}
 use Rattle.s39_cli.specs.declared.command.NoJob.{NoJob}

@@ -1,4 +1,5 @@
--- Long division of a list of coefficients by the generator of the checksum, and what it leaves as one number.
+-- Long division of a list of coefficients by the generator of the checksum, and what it leaves as one number. Of
+-- these a law cites `generator_times` and `packed`; no other public contract cites one.
 use Rattle.std.specs.Prelude.{ℕ, ◌+◌, ◌*◌, ◌/◌, ◌%◌, ◌^◌}
 use Rattle.s39_field.specs.FieldProduct.{word_field}
 use Rattle.s39_words.specs.Layout.{word_list_length}

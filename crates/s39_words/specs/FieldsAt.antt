@@ -1,4 +1,5 @@
--- The fields that the words of a mnemonic hold, of a number of words that a mnemonic may have.
+-- The fields that the words of a mnemonic hold, of a number of words that a mnemonic may have. No public contract
+-- cites this.
 use Rattle.std.specs.Prelude.{ℕ, zero, suc, ◌+◌, ◌-◌, ◌/◌, List, [], ◌∷◌, length, take, drop}
 use Rattle.std.specs.Int.Digits.{number_from_digits}
 use Rattle.s39_words.specs.declared.share.ShareFields.{ShareFields}

@@ -18,15 +18,9 @@ word_bits = 10
 abbrev pub telling_letters : ℕ
 telling_letters = 4
 
--- the bits of the fields before the value, among them those of the identifier and of the exponent
+-- the bits of the fields before the value
 abbrev pub header_length : ℕ
 header_length = 40
-
-abbrev pub id_bits : ℕ
-id_bits = 15
-
-abbrev pub exponent_bits : ℕ
-exponent_bits = 4
 
 -- the most groups, and the most members of a group
 abbrev pub most_groups : ℕ

@@ -1,9 +1,9 @@
 -- A share, and its data words (SLIP-0039, "Format of the share mnemonic").
 use Rattle.std.specs.Prelude.{◌≡◌, ℕ, ◌-◌, ◌%◌, ◌^◌, ◌<◌, ◌≤◌, List, ◌++◌, All, Bool, length, replicate, if◌then◌else◌}
 use Rattle.std.specs.List.{flat_map}
-use Rattle.s39_kdf.specs.Limits.{shortest_secret, longest_secret}
+use Rattle.s39_kdf.specs.Limits.{shortest_secret, longest_secret, id_bits, exponent_bits}
 use Rattle.s39_words.specs.declared.share.ShareFields.{ShareFields}
-use Rattle.s39_words.specs.Layout.{id_bits, exponent_bits, most_groups, most_members}
+use Rattle.s39_words.specs.Layout.{most_groups, most_members}
 use Rattle.s39_words.specs.Bits.{bits, cut_in_tens}
 
 -- an even number of bytes, as many as a master secret may have

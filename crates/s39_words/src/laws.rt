@@ -1,6 +1,7 @@
 //! Facts about the definitions, each the contract of a function that does nothing, but for `read_back`.
 ghost use Rattle.std.specs.Prelude.{◌≡◌, ◌≢◌, ℕ, ◌^◌, ◌<◌, ◌≤◌, Bool, List, [], ◌++◌, All, AllPairs, Contains, Result, length, slice_index, take};
-ghost use Rattle.s39_words.specs.Layout.{IsIndex, word_list_length, shortest_word, longest_word, telling_letters, word_bits, header_length, id_bits, exponent_bits, most_groups, most_members, most_padding, checksum_length, fewest_words, most_words, longest_text};
+ghost use Rattle.s39_kdf.specs.Limits.{id_bits, exponent_bits};
+ghost use Rattle.s39_words.specs.Layout.{IsIndex, word_list_length, shortest_word, longest_word, telling_letters, word_bits, header_length, most_groups, most_members, most_padding, checksum_length, fewest_words, most_words, longest_text};
 ghost use Rattle.s39_words.specs.declared.share.ShareFields.{ShareFields};
 ghost use Rattle.s39_words.specs.declared.word_error.WordError.{WordError as Cause};
 ghost use Rattle.s39_words.specs.Checksum.{IsValidChecksum};
@@ -99,7 +100,8 @@ pub fn one_checksum()
     ensures { (extendable : Bool) (words checksum other : List ℕ)
         → All IsIndex words → All IsIndex checksum → All IsIndex other
         → length checksum ≡ checksum_length → length other ≡ checksum_length
-        → IsValidChecksum extendable (words ++ checksum) → IsValidChecksum extendable (words ++ other)
+        → IsValidChecksum extendable (words ++ checksum)
+        → IsValidChecksum extendable (words ++ other)
         → checksum ≡ other }
 {}
 
