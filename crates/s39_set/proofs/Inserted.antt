@@ -8,7 +8,7 @@ use Rattle.s39_set.specs.Masks.{is_in, AddsName}
 use Rattle.s39_set.specs.Steps.{AreMasksOf}
 use Rattle.s39_set.proofs.Sublists.{Contains-head, Contains-cases, Contains-nil}
 use Rattle.s39_set.specs.Names.{most_groups, most_members}
-use Rattle.s39_set.specs.Places.{place_of}
+use Rattle.s39_set.specs.Slots.{slot_of}
 
 or_cases : (a b : Bool) → (a || b) ≡ true → (a ≡ true) ⊎ (b ≡ true)
 or_cases true b h = inl refl
@@ -60,43 +60,43 @@ masks_more old new names name were is g m low_g low_m = (
       (Contains-append_cases names (name ∷ []) (g, m) among),
 )
 
--- the masks have just those of these names whose place is below a number
+-- the masks have just those of these names whose slot is below a number
 abbrev pub AreMasksBelow : Masks → List (ℕ × ℕ) → ℕ → Type 0
 AreMasksBelow masks names n =
-    (g m : ℕ) → g < most_groups → m < most_members → (IsTrue (is_in masks g m) ↔ ((place_of (g, m) < n) × Contains names (g, m)))
+    (g m : ℕ) → g < most_groups → m < most_members → (IsTrue (is_in masks g m) ↔ ((slot_of (g, m) < n) × Contains names (g, m)))
 
-pub below_more_yes : (old new : Masks) (names : List (ℕ × ℕ)) (n group member : ℕ) → AreMasksBelow old names n → place_of (group, member) ≡ n
+pub below_more_yes : (old new : Masks) (names : List (ℕ × ℕ)) (n group member : ℕ) → AreMasksBelow old names n → slot_of (group, member) ≡ n
     → member < most_members → Contains names (group, member) → AddsName old new (group, member) → AreMasksBelow new names (n + 1)
 below_more_yes old new names n group member were at low_member among is g m low_g low_m = (
   λ h.
       ⊎_elim
-      (λ (was : IsTrue (is_in old g m)). let both = (were g m low_g low_m).0 was in let less : place_of (g, m) < n = both.0 in (omega arith, both.1))
+      (λ (was : IsTrue (is_in old g m)). let both = (were g m low_g low_m).0 was in let less : slot_of (g, m) < n = both.0 in (omega arith, both.1))
       (λ (this : (g ≡ group) × (m ≡ member)).
       let same_g = this.0 in
       let same_m = this.1 in
-      let place : place_of (g, m) < n + 1 = omega arith in
-      (place, subst (Contains names) (ap₂ (λ (x y : ℕ). (x, y)) (sym this.0) (sym this.1)) among))
+      let slot : slot_of (g, m) < n + 1 = omega arith in
+      (slot, subst (Contains names) (ap₂ (λ (x y : ℕ). (x, y)) (sym this.0) (sym this.1)) among))
       (inserted_cases old new group member is g m h),
   λ both.
-      elim (cases_lt (place_of (g, m)) n) [
+      elim (cases_lt (slot_of (g, m)) n) [
         | inl less ↦ inserted_old old new group member is g m ((were g m low_g low_m).1 (less, both.1))
         | inr here ↦ (
-            let upto : place_of (g, m) < n + 1 = both.0 in
-            let place : place_of (g, m) ≡ n = omega arith in
+            let upto : slot_of (g, m) < n + 1 = both.0 in
+            let slot : slot_of (g, m) ≡ n = omega arith in
             inserted_this old new group member is g m (omega arith) (omega arith))
       ],
 )
 
-pub below_more_no : (masks : Masks) (names : List (ℕ × ℕ)) (n group member : ℕ) → AreMasksBelow masks names n → place_of (group, member) ≡ n
+pub below_more_no : (masks : Masks) (names : List (ℕ × ℕ)) (n group member : ℕ) → AreMasksBelow masks names n → slot_of (group, member) ≡ n
     → member < most_members → (Contains names (group, member) → ⊥) → AreMasksBelow masks names (n + 1)
 below_more_no masks names n group member were at low_member apart g m low_g low_m = (
-  λ h. let both = (were g m low_g low_m).0 h in let less : place_of (g, m) < n = both.0 in (omega arith, both.1),
+  λ h. let both = (were g m low_g low_m).0 h in let less : slot_of (g, m) < n = both.0 in (omega arith, both.1),
   λ both.
-      elim (cases_lt (place_of (g, m)) n) [
+      elim (cases_lt (slot_of (g, m)) n) [
         | inl less ↦ (were g m low_g low_m).1 (less, both.1)
         | inr here ↦ (
-            let upto : place_of (g, m) < n + 1 = both.0 in
-            let place : place_of (g, m) ≡ n = omega arith in
+            let upto : slot_of (g, m) < n + 1 = both.0 in
+            let slot : slot_of (g, m) ≡ n = omega arith in
             let same_g : g ≡ group = omega arith in
             let same_m : m ≡ member = omega arith in
             absurd (apart (subst (Contains names) (ap₂ (λ (x y : ℕ). (x, y)) same_g same_m) both.1)))

@@ -1,4 +1,4 @@
--- A share that isn't refused has its place in a set.
+-- A share that isn't refused has its slot in a set.
 use Rattle.std.proofs.Common.{◌≡◌, ◌⊎◌, ℕ, List, [], ◌∷◌, get_or, map, All, Contains, Ordering, Less, Equal, Greater, None, inl, inr, refl, ap, ◌∙◌, subst}
 use Rattle.std.proofs.Common.{arith}
 use Rattle.std.specs.Ordering.{ordering_reverse}

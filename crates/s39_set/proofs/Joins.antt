@@ -9,7 +9,7 @@ use Rattle.std.proofs.lemmas.List.Folds.{list_any_none, list_any_at}
 use Rattle.s39_words.specs.declared.share.ShareFields.{ShareFields}
 use Rattle.s39_words.specs.Share.{flag_bit}
 use Rattle.s39_set.specs.ShareSet.{Agrees, IsShareSet, CanJoin, name_of, is_in_group, has_name, some_differs, refusal_of}
-use Rattle.s39_set.specs.Places.{last_refusal_of}
+use Rattle.s39_set.specs.Slots.{last_refusal_of}
 use Rattle.s39_set.proofs.Sublists.{Contains-filter}
 use Rattle.s39_set.proofs.Sets.{Contains-from_filter, agree, one_share}
 use Rattle.s39_set.proofs.Refusals.{from_none, from_failures, last_from_none, last_from_failures, has_name-is, has_name-own}

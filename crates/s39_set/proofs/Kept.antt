@@ -17,60 +17,60 @@ use Rattle.s39_set.specs.Names.{name_cmp, IsAscending, most_groups, most_members
 use Rattle.s39_set.specs.ShareSet.{Agrees, IsShareSet, CanJoin, HasOneMore, name_of, is_in_group, has_name, refusal_of}
 use Rattle.s39_set.specs.Masks.{is_in, AddsName}
 use Rattle.s39_set.specs.Quorums.{member_threshold_of}
-use Rattle.s39_set.specs.Places.{shares_at, place_of, common_of, common_of_all, IsKept}
+use Rattle.s39_set.specs.Slots.{shares_at, slot_of, common_of, common_of_all, IsKept}
 use Rattle.s39_set.proofs.Finds.{IfSome-map, find-none, find-passes, Contains-find, none-passes, find-insert_other}
-use Rattle.s39_set.proofs.Places.{OwnPlaces, places-at_least, own_places-tail, find-place}
+use Rattle.s39_set.proofs.Slots.{OwnSlots, slots-at_least, own_slots-tail, find-slot}
 use Rattle.s39_set.proofs.Sublists.{Contains-head, Contains-cases, Contains-nil, AllPairs-nil}
 use Rattle.s39_set.proofs.Sets.{agree, threshold_is}
 use Rattle.s39_set.proofs.Joins.{joins_from_none, agrees-itself, agrees-back, same_from_joins}
 use Rattle.s39_set.proofs.Refusals.{has_name-is, has_name-own}
 
--- ---- names in the order of their places
+-- ---- names in the order of their slots
 
-name_cmp-from_places : (a b : ℕ × ℕ) → a.1 < most_members → b.1 < most_members → place_of a < place_of b → name_cmp a b ≡ Less
-name_cmp-from_places (g, m) (h, n) low also_low before = grind (arith, nat_tests)
+name_cmp-from_slots : (a b : ℕ × ℕ) → a.1 < most_members → b.1 < most_members → slot_of a < slot_of b → name_cmp a b ≡ Less
+name_cmp-from_slots (g, m) (h, n) low also_low before = grind (arith, nat_tests)
 
-pub ascending-places : (b : ℕ) (places : List (Option ShareFields)) → OwnPlaces b places → All (λ share. share.member_index < most_members) (shares_at places)
-    → IsAscending (map name_of (shares_at places))
-ascending-places b [] own low = AllPairs-nil (λ x y. name_cmp x y ≡ Less)
-ascending-places b (None ∷ places) own low = ascending-places (suc b) places (own_places-tail b None places own) low
-ascending-places b (Some share ∷ places) own low =
-    let rest = own_places-tail b (Some share) places own in
-    let here : place_of (name_of share) ≡ b + 0 = own 0 in
-    let lower = All-head (λ s. s.member_index < most_members) share (shares_at places) low in
-    let others = All-tail (λ s. s.member_index < most_members) share (shares_at places) low in
-    AllPairs-cons (λ x y. name_cmp x y ≡ Less) (name_of share) (map name_of (shares_at places))
-    (All-map (λ y. name_cmp (name_of share) y ≡ Less) name_of (shares_at places)
+pub ascending-slots : (b : ℕ) (slots : List (Option ShareFields)) → OwnSlots b slots → All (λ share. share.member_index < most_members) (shares_at slots)
+    → IsAscending (map name_of (shares_at slots))
+ascending-slots b [] own low = AllPairs-nil (λ x y. name_cmp x y ≡ Less)
+ascending-slots b (None ∷ slots) own low = ascending-slots (suc b) slots (own_slots-tail b None slots own) low
+ascending-slots b (Some share ∷ slots) own low =
+    let rest = own_slots-tail b (Some share) slots own in
+    let here : slot_of (name_of share) ≡ b + 0 = own 0 in
+    let lower = All-head (λ s. s.member_index < most_members) share (shares_at slots) low in
+    let others = All-tail (λ s. s.member_index < most_members) share (shares_at slots) low in
+    AllPairs-cons (λ x y. name_cmp x y ≡ Less) (name_of share) (map name_of (shares_at slots))
+    (All-map (λ y. name_cmp (name_of share) y ≡ Less) name_of (shares_at slots)
     (λ k d below.
-    let s = get_or (shares_at places) k d in
-    let later = places-at_least (suc b) places rest k d below in
-    name_cmp-from_places (name_of share) (name_of s) lower (others k d below) (omega arith)))
-    (ascending-places (suc b) places rest others)
+    let s = get_or (shares_at slots) k d in
+    let later = slots-at_least (suc b) slots rest k d below in
+    name_cmp-from_slots (name_of share) (name_of s) lower (others k d below) (omega arith)))
+    (ascending-slots (suc b) slots rest others)
 
 -- ---- one share more
 
-shares_at-set : (places : List (Option ShareFields)) (k : ℕ) (share : ShareFields) → k < length places
-    → shares_at (set places k (Some share)) ≡ shares_at (take k places) ++ share ∷ shares_at (drop (suc k) places)
-shares_at-set places k share below =
-    ap shares_at (set_split places k (Some share) below)
-    ∙ filter_map-append (λ (place : Option ShareFields). place) (take k places) (Some share ∷ drop (suc k) places)
+shares_at-set : (slots : List (Option ShareFields)) (k : ℕ) (share : ShareFields) → k < length slots
+    → shares_at (set slots k (Some share)) ≡ shares_at (take k slots) ++ share ∷ shares_at (drop (suc k) slots)
+shares_at-set slots k share below =
+    ap shares_at (set_split slots k (Some share) below)
+    ∙ filter_map-append (λ (slot : Option ShareFields). slot) (take k slots) (Some share ∷ drop (suc k) slots)
 
-shares_at-split : (places : List (Option ShareFields)) (k : ℕ) → k < length places → get_or places k None ≡ None
-    → shares_at places ≡ shares_at (take k places) ++ shares_at (drop (suc k) places)
-shares_at-split places k below empty =
-    let rest : drop k places ≡ None ∷ drop (suc k) places =
-    drop_more places k None below ∙ ap₂ (λ (p : Option ShareFields) (n : ℕ). p ∷ drop n places) empty (add-one k) in
-    ap shares_at (sym (take-append-drop k places) ∙ ap (λ l. take k places ++ l) rest)
-    ∙ filter_map-append (λ (place : Option ShareFields). place) (take k places) (None ∷ drop (suc k) places)
+shares_at-split : (slots : List (Option ShareFields)) (k : ℕ) → k < length slots → get_or slots k None ≡ None
+    → shares_at slots ≡ shares_at (take k slots) ++ shares_at (drop (suc k) slots)
+shares_at-split slots k below empty =
+    let rest : drop k slots ≡ None ∷ drop (suc k) slots =
+    drop_more slots k None below ∙ ap₂ (λ (p : Option ShareFields) (n : ℕ). p ∷ drop n slots) empty (add-one k) in
+    ap shares_at (sym (take-append-drop k slots) ∙ ap (λ l. take k slots ++ l) rest)
+    ∙ filter_map-append (λ (slot : Option ShareFields). slot) (take k slots) (None ∷ drop (suc k) slots)
 
 -- the share is put among the others
-pub has_one_more : (places : List (Option ShareFields)) (k : ℕ) (share : ShareFields) → k < length places → get_or places k None ≡ None
-    → HasOneMore (shares_at places) share (shares_at (set places k (Some share)))
-has_one_more places k share below empty = record {
-  before = shares_at (take k places);
-  after = shares_at (drop (suc k) places);
-  old_is = shares_at-split places k below empty;
-  new_is = shares_at-set places k share below;
+pub has_one_more : (slots : List (Option ShareFields)) (k : ℕ) (share : ShareFields) → k < length slots → get_or slots k None ≡ None
+    → HasOneMore (shares_at slots) share (shares_at (set slots k (Some share)))
+has_one_more slots k share below empty = record {
+  before = shares_at (take k slots);
+  after = shares_at (drop (suc k) slots);
+  old_is = shares_at-split slots k below empty;
+  new_is = shares_at-set slots k share below;
 }
 
 module _ (old : List ShareFields) (share : ShareFields) (new : List ShareFields) (more : HasOneMore old share new) where
@@ -150,29 +150,29 @@ common_of_all-is (first ∷ others) share is has_share =
 
 -- ---- what is kept
 
-module _ (common : Option Common) (masks : Masks) (thresholds : List (Option ℕ)) (places : List (Option ShareFields))
-    (kept : IsKept common masks thresholds places) where
-  pub own_places : OwnPlaces 0 places
-  own_places k =
-      IfSome-map (λ share. place_of (name_of share) ≡ k) (λ share. place_of (name_of share) ≡ 0 + k) (get_or places k None)
-      (λ share at. omega arith) (kept.own_place k)
+module _ (common : Option Common) (masks : Masks) (thresholds : List (Option ℕ)) (slots : List (Option ShareFields))
+    (kept : IsKept common masks thresholds slots) where
+  pub own_slots : OwnSlots 0 slots
+  own_slots k =
+      IfSome-map (λ share. slot_of (name_of share) ≡ k) (λ share. slot_of (name_of share) ≡ 0 + k) (get_or slots k None)
+      (λ share at. omega arith) (kept.own_slot k)
 
-  low_members : All (λ share. share.member_index < most_members) (shares_at places)
-  low_members = All-weaker IsShare (λ share. share.member_index < most_members) (λ s h. h.member_index) (shares_at places) kept.is_set.each
+  low_members : All (λ share. share.member_index < most_members) (shares_at slots)
+  low_members = All-weaker IsShare (λ share. share.member_index < most_members) (λ s h. h.member_index) (shares_at slots) kept.is_set.each
 
-  -- a name's share stands at its place
-  pub share_in_place : (group member : ℕ) → member < most_members
-      → find (has_name group member) (shares_at places) ≡ get_or places (place_of (group, member)) None
-  share_in_place group member low =
-      find-place 0 places group member own_places low_members low (place_of (group, member))
-      (let e : place_of (group, member) ≡ 0 + place_of (group, member) = omega arith in e)
+  -- a name's share stands in its slot
+  pub share_in_slot : (group member : ℕ) → member < most_members
+      → find (has_name group member) (shares_at slots) ≡ get_or slots (slot_of (group, member)) None
+  share_in_slot group member low =
+      find-slot 0 slots group member own_slots low_members low (slot_of (group, member))
+      (let e : slot_of (group, member) ≡ 0 + slot_of (group, member) = omega arith in e)
 
   -- no share has an index past the most
-  pub no_share_past : (group member : ℕ) → (most_groups ≤ group) ⊎ (most_members ≤ member) → find (has_name group member) (shares_at places) ≡ None
+  pub no_share_past : (group member : ℕ) → (most_groups ≤ group) ⊎ (most_members ≤ member) → find (has_name group member) (shares_at slots) ≡ None
   no_share_past group member past =
-      find-none (has_name group member) (shares_at places)
+      find-none (has_name group member) (shares_at slots)
       (λ k d below.
-      let s = get_or (shares_at places) k d in
+      let s = get_or (shares_at slots) k d in
       let is = kept.is_set.each k d below in
       let low_group = is.group_index in
       let low_member = is.member_index in
@@ -184,65 +184,65 @@ module _ (common : Option Common) (masks : Masks) (thresholds : List (Option ℕ
       by : (g m : ℕ) → (m == member) ≡ false → ((g == group) && (m == member)) ≡ false
       by g m h = and_right (g == group) (m == member) h
 
-  module _ (share : ShareFields) (is : IsShare share) (allowed : refusal_of (shares_at places) share ≡ None) (k : ℕ) (at : k ≡ place_of (name_of share))
-      (below : k < length places) (empty : get_or places k None ≡ None) (groups : length thresholds ≡ most_groups) where
+  module _ (share : ShareFields) (is : IsShare share) (allowed : refusal_of (shares_at slots) share ≡ None) (k : ℕ) (at : k ≡ slot_of (name_of share))
+      (below : k < length slots) (empty : get_or slots k None ≡ None) (groups : length thresholds ≡ most_groups) where
     new : List (Option ShareFields)
-    new = set places k (Some share)
+    new = set slots k (Some share)
 
-    own_more : (j : ℕ) → IfSome (get_or (set places k (Some share)) j None) (λ s. place_of (name_of s) ≡ j)
+    own_more : (j : ℕ) → IfSome (get_or (set slots k (Some share)) j None) (λ s. slot_of (name_of s) ≡ j)
     own_more j =
         ⊎_elim
-        (λ (same : j ≡ k). subst (λ (o : Option ShareFields). IfSome o (λ s. place_of (name_of s) ≡ j))
-        (sym (ap (λ n. get_or (set places k (Some share)) n None) same ∙ get_or-set_same places k (Some share) None below)) (sym at ∙ sym same))
-        (λ (apart : j ≡ k → ⊥). subst (λ (o : Option ShareFields). IfSome o (λ s. place_of (name_of s) ≡ j))
-        (sym (get_or-set_other places k j (Some share) None apart)) (kept.own_place j))
+        (λ (same : j ≡ k). subst (λ (o : Option ShareFields). IfSome o (λ s. slot_of (name_of s) ≡ j))
+        (sym (ap (λ n. get_or (set slots k (Some share)) n None) same ∙ get_or-set_same slots k (Some share) None below)) (sym at ∙ sym same))
+        (λ (apart : j ≡ k → ⊥). subst (λ (o : Option ShareFields). IfSome o (λ s. slot_of (name_of s) ≡ j))
+        (sym (get_or-set_other slots k j (Some share) None apart)) (kept.own_slot j))
         (cases_eq j k)
 
-    -- a mask with the share's name more says which places have a share
+    -- a mask with the share's name more says which slots have a share
     at_hand_more : (masks' : Masks) → AddsName masks masks' (name_of share) → (group member : ℕ) → group < most_groups → member < most_members
-        → is_in masks' group member ≡ is_some (get_or (set places k (Some share)) (place_of (group, member)) None)
+        → is_in masks' group member ≡ is_some (get_or (set slots k (Some share)) (slot_of (group, member)) None)
     at_hand_more masks' adds group member low also_low =
-        elim (cases_eq (place_of (group, member)) k) [
+        elim (cases_eq (slot_of (group, member)) k) [
           | inl here ↦ (
               let lower = is.member_index in
               let same_group : (group == share.group_index) ≡ true = eq-eqb group share.group_index (omega arith) in
               let same_member : (member == share.member_index) ≡ true = eq-eqb member share.member_index (omega arith) in
-              let there : get_or (set places k (Some share)) (place_of (group, member)) None ≡ Some share =
-              ap (λ n. get_or (set places k (Some share)) n None) here ∙ get_or-set_same places k (Some share) None below in
+              let there : get_or (set slots k (Some share)) (slot_of (group, member)) None ≡ Some share =
+              ap (λ n. get_or (set slots k (Some share)) n None) here ∙ get_or-set_same slots k (Some share) None below in
               adds group member ∙ ap₂ (λ a b. is_in masks group member || (a && b)) same_group same_member
               ∙ or-true (is_in masks group member) ∙ sym (ap is_some there))
           | inr apart ↦ (
-              let there : get_or (set places k (Some share)) (place_of (group, member)) None ≡ get_or places (place_of (group, member)) None =
-              get_or-set_other places k (place_of (group, member)) (Some share) None apart in
+              let there : get_or (set slots k (Some share)) (slot_of (group, member)) None ≡ get_or slots (slot_of (group, member)) None =
+              get_or-set_other slots k (slot_of (group, member)) (Some share) None apart in
               let other : ((group == share.group_index) && (member == share.member_index)) ≡ false =
               false_from_ne_true ((group == share.group_index) && (member == share.member_index))
               (λ same. let parts = and_parts (group == share.group_index) (member == share.member_index) same in
-              apart (ap₂ (λ (g m : ℕ). place_of (g, m)) (eqb-true group share.group_index parts.0) (eqb-true member share.member_index parts.1) ∙ sym at)) in
+              apart (ap₂ (λ (g m : ℕ). slot_of (g, m)) (eqb-true group share.group_index parts.0) (eqb-true member share.member_index parts.1) ∙ sym at)) in
               adds group member ∙ ap (λ b. is_in masks group member || b) other
               ∙ or-false (is_in masks group member) ∙ kept.at_hand_are group member low also_low ∙ sym (ap is_some there))
         ]
 
-    -- the fields after the share is put in its place
+    -- the fields after the share is put in its slot
     pub kept_more : (masks' : Masks) → AddsName masks masks' (name_of share)
-        → IsKept (Some (common_of share)) masks' (set thresholds share.group_index (Some share.member_threshold)) (set places k (Some share))
+        → IsKept (Some (common_of share)) masks' (set thresholds share.group_index (Some share.member_threshold)) (set slots k (Some share))
     kept_more masks' adds =
-        let old = shares_at places in
-        let shares = shares_at (set places k (Some share)) in
-        let more = has_one_more places k share below empty in
+        let old = shares_at slots in
+        let shares = shares_at (set slots k (Some share)) in
+        let more = has_one_more slots k share below empty in
         let joins = joins_from_none old share allowed in
         let each : All IsShare shares = All-more old share shares more IsShare kept.is_set.each is in
-        let own : OwnPlaces 0 (set places k (Some share)) =
-        λ j. IfSome-map (λ s. place_of (name_of s) ≡ j) (λ s. place_of (name_of s) ≡ 0 + j) (get_or (set places k (Some share)) j None) (λ s here. omega arith)
+        let own : OwnSlots 0 (set slots k (Some share)) =
+        λ j. IfSome-map (λ s. slot_of (name_of s) ≡ j) (λ s. slot_of (name_of s) ≡ 0 + j) (get_or (set slots k (Some share)) j None) (λ s here. omega arith)
         (own_more j) in
         let is_set : IsShareSet shares = record {
           each = each;
-          ascending = ascending-places 0 (set places k (Some share)) own
+          ascending = ascending-slots 0 (set slots k (Some share)) own
               (All-weaker IsShare (λ s. s.member_index < most_members) (λ s h. h.member_index) shares each);
           agree = agree-more old share shares more kept.is_set joins;
         } in
         record {
           is_set = is_set;
-          own_place = own_more;
+          own_slot = own_more;
           common_is = common_of_all-is shares share is_set (Contains-more old share shares more);
           at_hand_are = at_hand_more masks' adds;
           thresholds_are = λ group low.
@@ -259,47 +259,47 @@ module _ (common : Option Common) (masks : Masks) (thresholds : List (Option ℕ
         }
 
   module _ (share : ShareFields) (is : IsShare share) where
-    -- whether the masks have a share's name says whether a share stands at its place
-    from_masks : (b : Bool) → is_in masks share.group_index share.member_index ≡ b → is_some (get_or places (place_of (name_of share)) None) ≡ b
+    -- whether the masks have a share's name says whether a share stands in its slot
+    from_masks : (b : Bool) → is_in masks share.group_index share.member_index ≡ b → is_some (get_or slots (slot_of (name_of share)) None) ≡ b
     from_masks b held = sym (kept.at_hand_are share.group_index share.member_index is.group_index is.member_index) ∙ held
 
-    -- where none stands there, the place is empty
-    pub empty_place : is_in masks share.group_index share.member_index ≡ false → get_or places (place_of (name_of share)) None ≡ None
-    empty_place not_held = by (get_or places (place_of (name_of share)) None) (from_masks false not_held)
+    -- where none stands there, the slot is empty
+    pub empty_slot : is_in masks share.group_index share.member_index ≡ false → get_or slots (slot_of (name_of share)) None ≡ None
+    empty_slot not_held = by (get_or slots (slot_of (name_of share)) None) (from_masks false not_held)
       where
         by : (o : Option ShareFields) → is_some o ≡ false → o ≡ None
         by None h = refl
         by (Some s) h = absurd (false≢true (sym h))
 
     -- where one stands there, and the share isn't refused, it is that share
-    pub repeat_from_masks : refusal_of (shares_at places) share ≡ None → is_in masks share.group_index share.member_index ≡ true
-        → Contains (shares_at places) share
-    repeat_from_masks allowed held = by (get_or places (place_of (name_of share)) None) refl (from_masks true held)
+    pub repeat_from_masks : refusal_of (shares_at slots) share ≡ None → is_in masks share.group_index share.member_index ≡ true
+        → Contains (shares_at slots) share
+    repeat_from_masks allowed held = by (get_or slots (slot_of (name_of share)) None) refl (from_masks true held)
       where
-        by : (o : Option ShareFields) → get_or places (place_of (name_of share)) None ≡ o → is_some o ≡ true → Contains (shares_at places) share
+        by : (o : Option ShareFields) → get_or slots (slot_of (name_of share)) None ≡ o → is_some o ≡ true → Contains (shares_at slots) share
         by None e h = absurd (false≢true h)
         by (Some other) e h =
             let test = has_name share.group_index share.member_index in
-            let found : find test (shares_at places) ≡ Some other = share_in_place share.group_index share.member_index is.member_index ∙ e in
-            let has_other = Contains-find test (shares_at places) other found in
-            let joins = joins_from_none (shares_at places) share allowed in
-            let names = has_name-is share.group_index share.member_index other (find-passes test (shares_at places) other found) in
-            subst (Contains (shares_at places)) (same_from_joins (shares_at places) other share joins has_other names) has_other
+            let found : find test (shares_at slots) ≡ Some other = share_in_slot share.group_index share.member_index is.member_index ∙ e in
+            let has_other = Contains-find test (shares_at slots) other found in
+            let joins = joins_from_none (shares_at slots) share allowed in
+            let names = has_name-is share.group_index share.member_index other (find-passes test (shares_at slots) other found) in
+            subst (Contains (shares_at slots)) (same_from_joins (shares_at slots) other share joins has_other names) has_other
 
     -- where none stands there, the set doesn't have it
-    pub new_from_masks : is_in masks share.group_index share.member_index ≡ false → Contains (shares_at places) share → ⊥
+    pub new_from_masks : is_in masks share.group_index share.member_index ≡ false → Contains (shares_at slots) share → ⊥
     new_from_masks not_held has_share =
         let test = has_name share.group_index share.member_index in
-        let found : find test (shares_at places) ≡ None = share_in_place share.group_index share.member_index is.member_index ∙ empty_place not_held in
-        false≢true (sym (All-contains (λ s. test s ≡ false) (shares_at places) share (none-passes test (shares_at places) found) has_share)
+        let found : find test (shares_at slots) ≡ None = share_in_slot share.group_index share.member_index is.member_index ∙ empty_slot not_held in
+        false≢true (sym (All-contains (λ s. test s ≡ false) (shares_at slots) share (none-passes test (shares_at slots) found) has_share)
         ∙ has_name-own share)
 
 -- ---- no share
 
-pub shares_at-none : (places : List (Option ShareFields)) → All (λ place. place ≡ None) places → shares_at places ≡ []
+pub shares_at-none : (slots : List (Option ShareFields)) → All (λ slot. slot ≡ None) slots → shares_at slots ≡ []
 shares_at-none [] none = refl
-shares_at-none (None ∷ places) none = shares_at-none places (All-tail (λ place. place ≡ None) None places none)
-shares_at-none (Some share ∷ places) none = absurd (let bad : Some share ≡ None = All-head (λ place. place ≡ None) (Some share) places none in cc)
+shares_at-none (None ∷ slots) none = shares_at-none slots (All-tail (λ slot. slot ≡ None) None slots none)
+shares_at-none (Some share ∷ slots) none = absurd (let bad : Some share ≡ None = All-head (λ slot. slot ≡ None) (Some share) slots none in cc)
 
 is_set-none : IsShareSet []
 is_set-none = record {
@@ -309,15 +309,15 @@ is_set-none = record {
 }
 
 -- the fields of a set with no share
-pub kept-none : (masks : Masks) (thresholds : List (Option ℕ)) (places : List (Option ShareFields))
-    → ((g m : ℕ) → is_in masks g m ≡ false) → ((k : ℕ) → get_or places k None ≡ None)
-    → ((group : ℕ) → group < most_groups → get_or thresholds group None ≡ None) → IsKept None masks thresholds places
-kept-none masks thresholds places no_name none no_threshold =
-    let empty : shares_at places ≡ [] = shares_at-none places (λ k d below. get_or_default places k d None below ∙ none k) in
+pub kept-none : (masks : Masks) (thresholds : List (Option ℕ)) (slots : List (Option ShareFields))
+    → ((g m : ℕ) → is_in masks g m ≡ false) → ((k : ℕ) → get_or slots k None ≡ None)
+    → ((group : ℕ) → group < most_groups → get_or thresholds group None ≡ None) → IsKept None masks thresholds slots
+kept-none masks thresholds slots no_name none no_threshold =
+    let empty : shares_at slots ≡ [] = shares_at-none slots (λ k d below. get_or_default slots k d None below ∙ none k) in
     record {
       is_set = subst IsShareSet (sym empty) is_set-none;
-      own_place = λ k. subst (λ (o : Option ShareFields). IfSome o (λ share. place_of (name_of share) ≡ k)) (sym (none k)) tt;
+      own_slot = λ k. subst (λ (o : Option ShareFields). IfSome o (λ share. slot_of (name_of share) ≡ k)) (sym (none k)) tt;
       common_is = ap common_of_all (sym empty);
-      at_hand_are = λ g m low also_low. no_name g m ∙ ap is_some (sym (none (place_of (g, m))));
+      at_hand_are = λ g m low also_low. no_name g m ∙ ap is_some (sym (none (slot_of (g, m))));
       thresholds_are = λ group low. no_threshold group low ∙ ap (λ l. member_threshold_of l group) (sym empty);
     }

@@ -8,7 +8,7 @@ pub mod MembersOf
 pub mod Minimal
 pub mod GroupSplit
 pub mod FirstMembers
-pub mod Places
+pub mod Slots
 pub mod Sets
 pub mod Refusals
 pub mod Joins

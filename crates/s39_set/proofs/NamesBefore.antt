@@ -6,36 +6,36 @@ use Rattle.std.proofs.lemmas.Bool.Decides.{nat_tests}
 use Rattle.std.proofs.lemmas.List.Elements.{All-head, All-tail, All-push}
 use Rattle.std.proofs.lemmas.List.Quantifiers.{all_pairs_push}
 use Rattle.s39_set.specs.Names.{name_cmp, IsAscending, AreNames, most_groups, most_members}
-use Rattle.s39_set.specs.Places.{place_of}
+use Rattle.s39_set.specs.Slots.{slot_of}
 use Rattle.s39_set.proofs.Sublists.{AllPairs-head, AllPairs-tail}
 
-less_places : (a b c d : ℕ) → b < most_members → name_cmp (a, b) (c, d) ≡ Less → most_members * a + b < most_members * c + d
-less_places a b c d low h = grind (arith, nat_tests)
+less_slots : (a b c d : ℕ) → b < most_members → name_cmp (a, b) (c, d) ≡ Less → most_members * a + b < most_members * c + d
+less_slots a b c d low h = grind (arith, nat_tests)
 
--- the earlier of two names has the lower place
-place_of-less : (x y : ℕ × ℕ) → x.1 < most_members → name_cmp x y ≡ Less → place_of x < place_of y
-place_of-less x y low h = less_places x.0 x.1 y.0 y.1 low h
+-- the earlier of two names has the lower slot
+slot_of-less : (x y : ℕ × ℕ) → x.1 < most_members → name_cmp x y ≡ Less → slot_of x < slot_of y
+slot_of-less x y low h = less_slots x.0 x.1 y.0 y.1 low h
 
-length_from_place : (name : ℕ × ℕ) (b : ℕ) (names : List (ℕ × ℕ)) → IsAscending names → All (λ x. x.1 < most_members) names → All (λ x. b ≤ place_of x) names
-    → All (λ x. name_cmp x name ≡ Less) names → b ≤ place_of name → b + length names ≤ place_of name
-length_from_place name b [] ascending low from earlier first = omega arith
-length_from_place name b (x ∷ xs) ascending low from earlier first =
-    let here : b ≤ place_of x = All-head (λ y. b ≤ place_of y) x xs from in
+length_from_slot : (name : ℕ × ℕ) (b : ℕ) (names : List (ℕ × ℕ)) → IsAscending names → All (λ x. x.1 < most_members) names → All (λ x. b ≤ slot_of x) names
+    → All (λ x. name_cmp x name ≡ Less) names → b ≤ slot_of name → b + length names ≤ slot_of name
+length_from_slot name b [] ascending low from earlier first = omega arith
+length_from_slot name b (x ∷ xs) ascending low from earlier first =
+    let here : b ≤ slot_of x = All-head (λ y. b ≤ slot_of y) x xs from in
     let low_x : x.1 < most_members = All-head (λ y. y.1 < most_members) x xs low in
-    let before : place_of x < place_of name = place_of-less x name low_x (All-head (λ y. name_cmp y name ≡ Less) x xs earlier) in
-    let rest : suc (place_of x) + length xs ≤ place_of name =
-    length_from_place name (suc (place_of x)) xs
+    let before : slot_of x < slot_of name = slot_of-less x name low_x (All-head (λ y. name_cmp y name ≡ Less) x xs earlier) in
+    let rest : suc (slot_of x) + length xs ≤ slot_of name =
+    length_from_slot name (suc (slot_of x)) xs
     (AllPairs-tail (λ a b. name_cmp a b ≡ Less) x xs ascending)
     (All-tail (λ y. y.1 < most_members) x xs low)
-    (λ k d below. let less = place_of-less x (get_or xs k d) low_x (AllPairs-head (λ a b. name_cmp a b ≡ Less) x xs ascending k d below) in omega arith)
+    (λ k d below. let less = slot_of-less x (get_or xs k d) low_x (AllPairs-head (λ a b. name_cmp a b ≡ Less) x xs ascending k d below) in omega arith)
     (All-tail (λ y. name_cmp y name ≡ Less) x xs earlier)
     before in
     omega arith
 
--- they are no more than its place says
-pub length-before : (names : List (ℕ × ℕ)) (name : ℕ × ℕ) → AreNames names → All (λ x. name_cmp x name ≡ Less) names → length names ≤ place_of name
+-- they are no more than its slot says
+pub length-before : (names : List (ℕ × ℕ)) (name : ℕ × ℕ) → AreNames names → All (λ x. name_cmp x name ≡ Less) names → length names ≤ slot_of name
 length-before names name are earlier =
-    let most = length_from_place name 0 names are.ascending are.members (λ k d below. omega arith) earlier (omega arith) in
+    let most = length_from_slot name 0 names are.ascending are.members (λ k d below. omega arith) earlier (omega arith) in
     omega arith
 
 -- with it behind them they are still names in order

@@ -8,5 +8,5 @@ pub mod Looks
 pub mod Written
 pub mod Lack
 pub mod Steps
-pub mod Places
+pub mod Slots
 pub mod SetFacts

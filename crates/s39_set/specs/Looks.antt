@@ -25,11 +25,11 @@ most_group_looks = most_groups * (1 + most_members)
 abbrev pub most_choice_looks : ℕ
 most_choice_looks = most_name_looks + most_names + most_group_looks + most_names
 
--- whether a greater name can stand in a place: the members above its own, and the groups above its own
-abbrev pub most_place_looks : ℕ
-most_place_looks = most_members + most_groups
+-- whether a greater name can stand at a position: the members above its own, and the groups above its own
+abbrev pub most_position_looks : ℕ
+most_position_looks = most_members + most_groups
 
--- the next quorum: the names before a place, the groups above its own, the members above its own twice, and the
+-- the next quorum: the names before a position, the groups above its own, the members above its own twice, and the
 -- members of the groups that follow
 abbrev pub most_tail_looks : ℕ
 most_tail_looks = most_names + most_groups + 2 * most_members + most_group_looks

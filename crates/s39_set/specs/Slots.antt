@@ -13,13 +13,13 @@ use Rattle.s39_set.specs.Masks.{is_in}
 use Rattle.s39_set.specs.ShareSet.{IsShareSet, name_of, is_in_group, has_name, some_differs}
 use Rattle.s39_set.specs.Quorums.{member_threshold_of}
 
--- the shares that stand at places, in order
+-- the shares that stand in slots, in order
 abbrev pub shares_at : List (Option ShareFields) → List ShareFields
-shares_at places = filter_map (λ place. place) places
+shares_at slots = filter_map (λ slot. slot) slots
 
--- the place of a name: as many for each group as it may have members
-abbrev pub place_of : ℕ × ℕ → ℕ
-place_of name = most_members * name.0 + name.1
+-- the slot of a name: as many for each group as it may have members
+abbrev pub slot_of : ℕ × ℕ → ℕ
+slot_of name = most_members * name.0 + name.1
 
 -- what a share has in common with all of its backup
 abbrev pub common_of : ShareFields → Common
@@ -57,11 +57,11 @@ last_refusal_of shares share =
     else None
 
 -- the fields of a share set
-pub record IsKept (common : Option Common) (at_hand : Masks) (member_thresholds : List (Option ℕ)) (places : List (Option ShareFields)) : Type 0 where
-  pub is_set : IsShareSet (shares_at places)
-  pub own_place : (k : ℕ) → IfSome (slice_index_or places k None) (λ share. place_of (name_of share) ≡ k)
-  pub common_is : common ≡ common_of_all (shares_at places)
+pub record IsKept (common : Option Common) (at_hand : Masks) (member_thresholds : List (Option ℕ)) (slots : List (Option ShareFields)) : Type 0 where
+  pub is_set : IsShareSet (shares_at slots)
+  pub own_slot : (k : ℕ) → IfSome (slice_index_or slots k None) (λ share. slot_of (name_of share) ≡ k)
+  pub common_is : common ≡ common_of_all (shares_at slots)
   pub at_hand_are : (group member : ℕ) → group < most_groups → member < most_members
-      → is_in at_hand group member ≡ is_some (slice_index_or places (place_of (group, member)) None)
+      → is_in at_hand group member ≡ is_some (slice_index_or slots (slot_of (group, member)) None)
   pub thresholds_are : (group : ℕ) → group < most_groups
-      → slice_index_or member_thresholds group None ≡ member_threshold_of (shares_at places) group
+      → slice_index_or member_thresholds group None ≡ member_threshold_of (shares_at slots) group

@@ -12,13 +12,13 @@ use Rattle.s39_set.specs.ShareSet.{name_of}
 use Rattle.s39_set.specs.Quorums.{member_threshold_of}
 use Rattle.s39_set.specs.Masks.{is_in}
 
--- the name at a place of a list
+-- the name at a position of a list
 abbrev pub name_at : List (ℕ × ℕ) → ℕ → ℕ × ℕ
-name_at names place = slice_index_or names place (0, 0)
+name_at names position = slice_index_or names position (0, 0)
 
--- how many names before a place are of the group of the name there
+-- how many names before a position are of the group of the name there
 abbrev pub earlier_of_group : List (ℕ × ℕ) → ℕ → ℕ
-earlier_of_group names place = length (names_in_group (name_at names place).0 (take place names))
+earlier_of_group names position = length (names_in_group (name_at names position).0 (take position names))
 
 -- the masks have just these names
 abbrev pub AreMasksOf : Masks → List (ℕ × ℕ) → Type 0

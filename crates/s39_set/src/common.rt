@@ -16,7 +16,7 @@ pub(crate) struct Common {
 }
 
 impl Common {
-    ghost use Rattle.s39_set.specs.Places.{common_of, common_refusal_of};
+    ghost use Rattle.s39_set.specs.Slots.{common_of, common_refusal_of};
 
     pub(crate) fn of(share: &Share) -> Common
         ensures { result ≡ common_of share.now }

@@ -57,7 +57,7 @@ fn parse_name(text: &[u8]) -> Option<(u8, u8)>
     Some((group, member))
 }
 
-/// The place of the first full stop.
+/// The position of the first full stop.
 fn stop_of(text: &[u8]) -> Option<usize>
     ensures { result ≡ position (λ byte. byte == 46) text.now }
 {

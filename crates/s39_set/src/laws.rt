@@ -16,7 +16,7 @@ use crate::limits::{GROUPS, MAX_GROUPS, MAX_MEMBERS, MAX_NAMES, MAX_STEP_LOOKS, 
 /// The program's limits are the standard's.
 pub fn numbers()
     ensures groups { MAX_GROUPS ≡ most_groups }
-    ensures places { GROUPS ≡ most_groups }
+    ensures slots { GROUPS ≡ most_groups }
     ensures members { MAX_MEMBERS ≡ most_members }
     ensures names { MAX_NAMES ≡ most_names }
     ensures test_looks { MAX_TEST_LOOKS ≡ most_test_looks }

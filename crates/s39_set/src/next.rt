@@ -2,7 +2,7 @@
 ghost use Rattle.std.specs.Prelude.{◌≡◌, ◌+◌, ◌-◌, ◌<◌, ◌≤◌, ◌++◌, Some, None, true, false, length, map, take, All, Contains, IsTrue, OnOk, OnErr, IfOk, IfSome, Ok};
 ghost use Rattle.std.specs.declared.cmp.Ordering.TheVariants.{Less};
 ghost use Rattle.s39_set.specs.Names.{most_groups, most_members, most_names, name_cmp, AreNames};
-ghost use Rattle.s39_set.specs.Looks.{most_step_looks, most_name_looks, most_group_looks, most_choice_looks, most_place_looks, most_tail_looks};
+ghost use Rattle.s39_set.specs.Looks.{most_step_looks, most_name_looks, most_group_looks, most_choice_looks, most_position_looks, most_tail_looks};
 ghost use Rattle.s39_set.specs.ShareSet.{IsShareSet, name_of};
 ghost use Rattle.s39_set.specs.Quorums.{IsQuorum, IsFirstQuorumAfter, HasNoQuorumAfter};
 ghost use Rattle.s39_set.specs.Steps.{name_at, earlier_of_group, AreMasksOf, members_from, groups_taken, AreCompleteGroups, Knows, HasSpareMember, AllAreChosen, HasSpareGroup, AllAreUsed, groups_used, IsTailFor, tail_names};
@@ -51,10 +51,10 @@ pub fn next_after(
     }
     let names = quorum.pairs();
     let choice = Choice::of(set, names, looks);
-    for place in (0..names.len()).rev() {
+    for position in (0..names.len()).rev() {
         looks.turn();
-        if let Some(tail) = choice.tail(names, place, looks) {
-            return Ok(Some(choice.completed(set, names, place, tail, looks)));
+        if let Some(tail) = choice.tail(names, position, looks) {
+            return Ok(Some(choice.completed(set, names, position, tail, looks)));
         }
     }
     Ok(None)
@@ -188,19 +188,20 @@ impl Choice {
         }
     }
 
-    /// Whether a greater name can stand in a place, and then where it and the names behind it come from.
-    fn tail(&self, names: &[(u8, u8)], place: usize, looks: &mut Looks) -> Option<Tail>
+    /// Whether a greater name can stand at a position, and then where it and the names behind it come from.
+    fn tail(&self, names: &[(u8, u8)], position: usize, looks: &mut Looks) -> Option<Tail>
         requires names { AreNames names.now }
-        requires place { place < length names.now }
-        requires looks { looks.old + most_place_looks ≤ u64.MAX }
-        ensures tail { IsTailFor self.now (take place names.now) (name_at names.now place) result }
+        requires position { position < length names.now }
+        requires looks { looks.old + most_position_looks ≤ u64.MAX }
+        ensures tail { IsTailFor self.now (take position names.now) (name_at names.now position)
+            result }
         ensures at_least { looks.old ≤ looks.new }
-        ensures at_most { looks.new ≤ looks.old + most_place_looks }
+        ensures at_most { looks.new ≤ looks.old + most_position_looks }
     {
-        let (group, member) = names[place];
+        let (group, member) = names[position];
         if has_spare_member(&self.at_hand, &self.chosen, group, member, looks) {
             Some(Tail::Group)
-        } else if is_first_of_group(names, place)
+        } else if is_first_of_group(names, position)
             && has_spare_group(&self.complete, &self.members, group, looks)
         {
             Some(Tail::LaterGroups)
@@ -209,26 +210,26 @@ impl Choice {
         }
     }
 
-    /// The names before a place, and the least that can stand there and behind it.
+    /// The names before a position, and the least that can stand there and behind it.
     fn completed(
         &self,
         set: &ShareSet,
         names: &[(u8, u8)],
-        place: usize,
+        position: usize,
         tail: Tail,
         looks: &mut Looks,
     ) -> Quorum
         requires names { AreNames names.now }
         requires short { length names.now ≤ most_names }
-        requires place { place < length names.now }
+        requires position { position < length names.now }
         requires looks { looks.old + most_tail_looks ≤ u64.MAX }
         ensures names { result
-            ≡ take place names.now ++ tail_names set.now self.now (name_at names.now place) tail }
+            ≡ take position names.now ++ tail_names set.now self.now (name_at names.now position) tail }
         ensures at_least { looks.old ≤ looks.new }
         ensures at_most { looks.new ≤ looks.old + most_tail_looks }
     {
-        let (group, member) = names[place];
-        let mut next = copied(&names[..place], looks);
+        let (group, member) = names[position];
+        let mut next = copied(&names[..position], looks);
         let groups = groups_above(&self.members, group, looks);
         match tail {
             Tail::Group => {
@@ -279,9 +280,9 @@ fn shares_at_hand(set: &ShareSet, looks: &mut Looks) -> Masks
     ensures looks { looks.new ≡ looks.old + most_name_looks }
 {
     let mut at_hand = Masks::new();
-    for place in 0..MAX_NAMES {
+    for slot in 0..MAX_NAMES {
         looks.turn();
-        let (group, member) = indices_at(place);
+        let (group, member) = indices_at(slot);
         if has(set, group, member, looks) {
             at_hand.insert(group, member);
         }
@@ -323,14 +324,14 @@ fn groups_complete(set: &ShareSet, at_hand: &Masks, looks: &mut Looks) -> [bool;
     complete
 }
 
-/// Whether the name before a place, if there is one, is of another group.
-fn is_first_of_group(names: &[(u8, u8)], place: usize) -> bool
+/// Whether the name before a position, if there is one, is of another group.
+fn is_first_of_group(names: &[(u8, u8)], position: usize) -> bool
     requires names { AreNames names.now }
-    requires place { place < length names.now }
-    ensures first { IsTrue result → earlier_of_group names.now place ≡ 0 }
-    ensures other { result ≡ false → 0 < earlier_of_group names.now place }
+    requires position { position < length names.now }
+    ensures first { IsTrue result → earlier_of_group names.now position ≡ 0 }
+    ensures other { result ≡ false → 0 < earlier_of_group names.now position }
 {
-    place == 0 || names[place - 1].0 != names[place].0
+    position == 0 || names[position - 1].0 != names[position].0
 }
 
 /// A list of these names.

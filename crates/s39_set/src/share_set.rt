@@ -2,7 +2,7 @@
 ghost use Rattle.std.specs.Prelude.{◌≡◌, ◌<◌, ◌↔◌, [], find, Contains, Some, None, Ok, OnOk, OnErr, IfErr};
 ghost use Rattle.std.specs.Option.{is_some, option_copied};
 ghost use Rattle.s39_set.specs.Names.{most_groups, most_members, most_names};
-ghost use Rattle.s39_set.specs.Places.{place_of, last_refusal_of};
+ghost use Rattle.s39_set.specs.Slots.{slot_of, last_refusal_of};
 ghost use Rattle.s39_set.specs.Quorums.{group_threshold_of, member_threshold_of};
 ghost use Rattle.s39_set.specs.ShareSet.{IsShareSet, HasOneMore, refusal_of, has_name};
 
@@ -15,14 +15,14 @@ use std::array;
 use std::marker::Model;
 
 /// The shares of one backup that are at hand, each once, in the order of their group and member indices:
-/// `MAX_NAMES` at most. A set keeps the names as masks, a member threshold for each group, and a place for each
+/// `MAX_NAMES` at most. A set keeps the names as masks, a member threshold for each group, and a slot for each
 /// share, and takes no memory.
 #[derive(Drop)]
 pub struct ShareSet {
     common: Option<Common>,
     at_hand: Masks,
     member_thresholds: [Option<u8>; GROUPS],
-    places: [Option<Share>; MAX_NAMES],
+    slots: [Option<Share>; MAX_NAMES],
 }
 
 impl Model for ShareSet {
@@ -31,11 +31,11 @@ impl Model for ShareSet {
 
     ghost Value = { List ShareFields };
 
-    ghost use Rattle.s39_set.specs.Places.{shares_at, IsKept};
+    ghost use Rattle.s39_set.specs.Slots.{shares_at, IsKept};
 
-    ghost view = { λ set. shares_at set.places };
+    ghost view = { λ set. shares_at set.slots };
 
-    ghost invariant = { λ set. IsKept set.common set.at_hand set.member_thresholds set.places };
+    ghost invariant = { λ set. IsKept set.common set.at_hand set.member_thresholds set.slots };
 }
 
 impl ShareSet {
@@ -47,7 +47,7 @@ impl ShareSet {
             common: None,
             at_hand: Masks::new(),
             member_thresholds: [None; GROUPS],
-            places: array::from_fn(|_| None),
+            slots: array::from_fn(|_| None),
         }
     }
 
@@ -77,7 +77,7 @@ impl ShareSet {
         self.common = Some(Common::of(&share));
         self.at_hand.insert(group, member);
         self.member_thresholds[usize::from(group)] = Some(share.member_threshold());
-        self.places[place_of(group, member)] = Some(share);
+        self.slots[slot_of(group, member)] = Some(share);
         Ok(Added::New)
     }
 
@@ -153,24 +153,24 @@ impl Default for ShareSet {
     }
 }
 
-/// The place of a name: as many for each group as it may have members.
-fn place_of(group: u8, member: u8) -> usize
+/// The slot of a name: as many for each group as it may have members.
+fn slot_of(group: u8, member: u8) -> usize
     requires group { group < most_groups }
     requires member { member < most_members }
-    ensures { result ≡ place_of (group, member) }
+    ensures { result ≡ slot_of (group, member) }
 {
     usize::from(group) * usize::from(MAX_MEMBERS) + usize::from(member)
 }
 
-/// The group and the member index whose place this is.
-pub(crate) fn indices_at(place: usize) -> (u8, u8)
-    requires { place < most_names }
-    ensures place { place_of result ≡ place }
+/// The group and the member index whose slot this is.
+pub(crate) fn indices_at(slot: usize) -> (u8, u8)
+    requires { slot < most_names }
+    ensures slot { slot_of result ≡ slot }
     ensures group { result.0 < most_groups }
     ensures member { result.1 < most_members }
 {
     let members = usize::from(MAX_MEMBERS);
-    ((place / members) as u8, (place % members) as u8)
+    ((slot / members) as u8, (slot % members) as u8)
 }
 
 /// The share of this group and member index: `None` exactly where the set has none, as for an index over 15.
@@ -179,7 +179,7 @@ pub fn share_at(set: &ShareSet, group: u8, member: u8) -> Option<&Share>
     ensures is_set { IsShareSet set.now }
 {
     if group < MAX_GROUPS && member < MAX_MEMBERS {
-        set.places[place_of(group, member)].as_ref()
+        set.slots[slot_of(group, member)].as_ref()
     } else {
         None
     }

@@ -16,8 +16,8 @@ parts_at names i below = sym (take-append-drop i names) ∙ ap (λ l. take i nam
 front_at : (names : List (ℕ × ℕ)) (i n : ℕ) → i + 1 ≡ n → i < length names → take n names ≡ take i names ++ get_or names i (0, 0) ∷ []
 front_at names i n next below = ap (λ k. take k names) (sym next) ∙ take_more names i (0, 0) below
 
-pub loop-place-init : goal.loop-place-init
-loop-place-init c =
+pub loop-position-init : goal.loop-position-init
+loop-position-init c =
     let shares = c.args.set.now in
     let Q = c.pairs-names.result.now in
     let quorum : IsQuorum shares Q = subst (IsQuorum shares) (sym c.pairs-names.ensures.same) (c.if-not-is_quorum.ensures.quorum.0 refl) in
@@ -34,29 +34,29 @@ returns-in-Some-clause-next c =
     let shares = c.args.set.now in
     let Q = c.pairs-names.result.now in
     let quorum : IsQuorum shares Q = subst (IsQuorum shares) (sym c.pairs-names.ensures.same) (c.if-not-is_quorum.ensures.quorum.0 refl) in
-    let i = c.loop-place.place - 1 in
+    let i = c.loop-position.position - 1 in
     let below : i < length Q = omega arith in
-    let next : i + 1 ≡ c.loop-place.place = omega arith in
+    let next : i + 1 ≡ c.loop-position.position = omega arith in
     let x = get_or Q i (0, 0) in
     let first = first_from_tail shares (c.if-not-is_quorum.ensures.is_set refl) Q quorum c.of-choice.result c.of-choice.ensures.knows (take i Q)
     (drop (suc i) Q) x (parts_at Q i below)
-    c.in-Some.tail c.in-Some.ensures.tail (subst (NoneWith shares Q) (front_at Q i c.loop-place.place next below) c.loop-place.invariant.none) in
+    c.in-Some.tail c.in-Some.ensures.tail (subst (NoneWith shares Q) (front_at Q i c.loop-position.position next below) c.loop-position.invariant.none) in
     subst (λ q. IsFirstQuorumAfter shares (Some q) c.completed.result) c.pairs-names.ensures.same
     (subst (IsFirstQuorumAfter shares (Some Q)) (sym c.completed.ensures.names) first)
 
-pub loop-place-preserved : goal.loop-place-preserved
-loop-place-preserved c =
+pub loop-position-preserved : goal.loop-position-preserved
+loop-position-preserved c =
     let shares = c.args.set.now in
     let Q = c.pairs-names.result.now in
     let quorum : IsQuorum shares Q = subst (IsQuorum shares) (sym c.pairs-names.ensures.same) (c.if-not-is_quorum.ensures.quorum.0 refl) in
-    let i = c.loop-place.place - 1 in
+    let i = c.loop-position.position - 1 in
     let below : i < length Q = omega arith in
-    let next : i + 1 ≡ c.loop-place.place = omega arith in
+    let next : i + 1 ≡ c.loop-position.position = omega arith in
     let x = get_or Q i (0, 0) in
     record {
       none = none_from_tail shares (c.if-not-is_quorum.ensures.is_set refl) Q quorum c.of-choice.result c.of-choice.ensures.knows (take i Q) (drop (suc i) Q) x
           (parts_at Q i below)
-          c.in_default.ensures.tail (subst (NoneWith shares Q) (front_at Q i c.loop-place.place next below) c.loop-place.invariant.none);
+          c.in_default.ensures.tail (subst (NoneWith shares Q) (front_at Q i c.loop-position.position next below) c.loop-position.invariant.none);
       upto = omega arith;
       at_least = omega arith;
       at_most = omega arith;
@@ -65,6 +65,6 @@ loop-place-preserved c =
 pub returns-clause-last : goal.returns-clause-last
 returns-clause-last c = λ _ names other after.
     let Q = c.pairs-names.result.now in
-    let all : c.loop-place.place ≡ 0 = omega arith in
-    let none = subst (NoneWith c.args.set.now Q) (ap (λ k. take k Q) all) c.loop-place.invariant.none in
+    let all : c.loop-position.position ≡ 0 = omega arith in
+    let none = subst (NoneWith c.args.set.now Q) (ap (λ k. take k Q) all) c.loop-position.invariant.none in
     none names other (subst (λ q. names_cmp q names ≡ Less) (sym c.pairs-names.ensures.same) after)

@@ -6,19 +6,20 @@ use Rattle.s39_set.proofs.next.Choice.completed.Goals as goal
 
 pub push_members-requires-clause-earlier : goal.push_members-requires-clause-earlier
 push_members-requires-clause-earlier c =
-    let x = get_or c.args.names.now c.args.place (0, 0) in
+    let x = get_or c.args.names.now c.args.position (0, 0) in
     subst (All (λ n. name_cmp n (x.0, x.1 + 1) ≡ Less)) (sym c.copied-next.ensures.names)
-    (front-before_next c.args.names.now c.args.place c.requires.names.ascending c.requires.place)
+    (front-before_next c.args.names.now c.args.position c.requires.names.ascending c.requires.position)
 
 pub push_groups-requires-clause-earlier : goal.push_groups-requires-clause-earlier
 push_groups-requires-clause-earlier c =
-    let x = get_or c.args.names.now c.args.place (0, 0) in
+    let x = get_or c.args.names.now c.args.position (0, 0) in
     let m = c.count_members-members.result + 1 in
     subst (All (λ n. n.0 < x.0 + 1))
     (sym (c.push_members.ensures.names ∙ ap (λ q. q ++ take m (members_from c.args.self.now.at_hand x.0 (x.1 + 1))) c.copied-next.ensures.names))
-    (with_members-groups c.args.names.now c.args.place c.requires.names.ascending c.requires.place c.args.self.now.at_hand m (x.1 + 1))
+    (with_members-groups c.args.names.now c.args.position c.requires.names.ascending c.requires.position c.args.self.now.at_hand m (x.1 + 1))
 
 pub push_groups-requires-in-LaterGroups-clause-earlier : goal.push_groups-requires-in-LaterGroups-clause-earlier
 push_groups-requires-in-LaterGroups-clause-earlier c =
-    let x = get_or c.args.names.now c.args.place (0, 0) in
-    subst (All (λ n. n.0 < x.0 + 1)) (sym c.copied-next.ensures.names) (front-groups c.args.names.now c.args.place c.requires.names.ascending c.requires.place)
+    let x = get_or c.args.names.now c.args.position (0, 0) in
+    subst (All (λ n. n.0 < x.0 + 1)) (sym c.copied-next.ensures.names)
+    (front-groups c.args.names.now c.args.position c.requires.names.ascending c.requires.position)
