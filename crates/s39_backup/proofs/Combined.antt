@@ -12,7 +12,7 @@ use Rattle.s39_set.specs.Names.{names_in_group}
 use Rattle.s39_set.specs.ShareSet.{has_name}
 use Rattle.s39_split.specs.Recovery.{Combines}
 use Rattle.s39_backup.specs.Combination.{member_shares, GroupCombines}
-use Rattle.s39_backup.specs.GroupShares.{indexed_bytes, value_bytes_of, groups_below, IsExactQuorum, AreOfOneLevel, AreGroupShares}
+use Rattle.s39_backup.specs.GroupShares.{indexed_group_shares, value_bytes_of, groups_below, IsExactQuorum, AreOfOneLevel, AreGroupShares}
 use Rattle.s39_set.proofs.Finds.{Contains-find}
 use Rattle.s39_backup.proofs.Values.{HasShare}
 use Rattle.s39_backup.proofs.Levels.{length-member_shares, members_of_one_level, group_combines, some_group, few_group_shares, group_shares_more}
@@ -34,8 +34,8 @@ pub some_name : (set : List ShareFields) (names : List (ℕ × ℕ)) → IsExact
 some_name set [] quorum = let some = some_group set [] quorum in omega arith
 some_name set (n ∷ ns) quorum = omega arith
 
-pub length-indexed_bytes : (items : List (ℕ × ArrayVec ℕ)) → length (indexed_bytes items) ≡ length items
-length-indexed_bytes items = length-map items (λ share. (share.0, share.1.items))
+pub length-indexed_group_shares : (items : List (ℕ × ArrayVec ℕ)) → length (indexed_group_shares items) ≡ length items
+length-indexed_group_shares items = length-map items (λ share. (share.0, share.1.items))
 
 module _ (set : List ShareFields) (names : List (ℕ × ℕ)) (quorum : IsExactQuorum set names) (group : ℕ) where
   module _ (members : List (ℕ × List ℕ)) (is : members ≡ member_shares set names group) where
@@ -53,20 +53,20 @@ module _ (set : List ShareFields) (names : List (ℕ × ℕ)) (quorum : IsExactQ
     members_combine outcome some combines =
         group_combines set names quorum group outcome (omega (arith, length-members)) (subst (λ s. Combines (length s) s outcome) is combines)
 
-  module _ (shares : List (ℕ × ArrayVec ℕ)) (before : AreGroupShares set names (groups_below names group) (indexed_bytes shares)) where
+  module _ (shares : List (ℕ × ArrayVec ℕ)) (before : AreGroupShares set names (groups_below names group) (indexed_group_shares shares)) where
     pub few_shares : length shares ≤ group
     few_shares =
-        omega (arith, few_group_shares set names quorum (indexed_bytes shares) group before, length-indexed_bytes shares)
+        omega (arith, few_group_shares set names quorum (indexed_group_shares shares) group before, length-indexed_group_shares shares)
 
     -- the share of one group more
     pub shares_more : (share : ArrayVec ℕ) (new : List (ℕ × ArrayVec ℕ)) → new ≡ shares ++ (group, share) ∷ [] → 0 < length (names_in_group group names)
         → GroupCombines set names group (Some share.items) → length share.items ≡ value_bytes_of set
-        → AreGroupShares set names (groups_below names (group + 1)) (indexed_bytes new)
+        → AreGroupShares set names (groups_below names (group + 1)) (indexed_group_shares new)
     shares_more share new is some combines bytes =
-        let pushed : indexed_bytes new ≡ indexed_bytes shares ++ (group, share.items) ∷ [] =
-        ap indexed_bytes is ∙ map_push (λ s. (s.0, s.1.items)) shares (group, share) in
+        let pushed : indexed_group_shares new ≡ indexed_group_shares shares ++ (group, share.items) ∷ [] =
+        ap indexed_group_shares is ∙ map_push (λ s. (s.0, s.1.items)) shares (group, share) in
         subst (AreGroupShares set names (groups_below names (group + 1))) (sym pushed)
-        (group_shares_more set names quorum (indexed_bytes shares) group share.items before some combines bytes)
+        (group_shares_more set names quorum (indexed_group_shares shares) group share.items before some combines bytes)
 
 -- a list that isn't empty has an element
 pub some_from_test : (test : Bool) (n : ℕ) → test ≡ (n == 0) → test ≡ false → 0 < n

@@ -8,7 +8,7 @@ use Rattle.std.proofs.lemmas.List.Elements.{All-drop, All-head, All-tail, All-ta
 use Rattle.std.proofs.lemmas.List.Sums.{sum_by-cons}
 use Rattle.s39_kdf.specs.declared.params.Params.{Params}
 use Rattle.s39_kdf.specs.Bytes.{AreBytes}
-use Rattle.s39_kdf.specs.Limits.{IsSecretLength}
+use Rattle.s39_kdf.specs.Limits.{id_bits, IsSecretLength}
 use Rattle.s39_kdf.specs.Cipher.{IsEncryption, SecretsHaveOneEncryption, EncryptionKeepsLengthAndBytes}
 use Rattle.s39_split.specs.Sharing.{digest_length, random_needed as level_random_needed, IsSplit, SplitsTakeTheBytesNeeded, SharesAreAsLong, SharesAreBytes}
 use Rattle.s39_split.specs.Sharing.{HaveASplit, HaveOneSplit}
@@ -136,7 +136,7 @@ module _ (have_split : HaveASplit) where
         let n = length secret in
         let k = level_random_needed group_threshold n in
         let others = sum_by (λ members. level_random_needed members.threshold n) groups in
-        let small : identifier_of high low < 2 ^ 15 = omega arith in
+        let small : identifier_of high low < 2 ^ id_bits = omega arith in
         let params : Params = of_fields (identifier_of high low) options.extendable options.exponent small options.exponent_in_range in
         let (encrypted, encryption, only) = encrypts_once passphrase params secret is_length.0 in
         let kept = keeps passphrase params secret encrypted encryption in

@@ -11,6 +11,7 @@ use Rattle.std.proofs.lemmas.List.Elements.{All-head, All-tail, All-same, filter
 use Rattle.std.proofs.lemmas.List.Kept.{AllPairs-filter}
 use Rattle.std.proofs.lemmas.Slice.Zip.{AllZip-long, firsts-zip}
 use Rattle.s39_kdf.specs.declared.params.Params.{Params}
+use Rattle.s39_kdf.specs.Limits.{id_bits, exponent_bits}
 use Rattle.s39_kdf.specs.Cipher.{IsEncryption, EncryptsOneSecret}
 use Rattle.s39_words.specs.declared.share.ShareFields.{ShareFields}
 use Rattle.s39_set.specs.Names.{most_groups, names_in_group}
@@ -28,23 +29,23 @@ use Rattle.s39_backup.proofs.Levels.{member_threshold_is, members_of_one_level, 
 -- ---- parameters
 
 -- parameters of these fields
-abbrev pub of_fields : (id : ℕ) (extendable : Bool) (exponent : ℕ) → id < 2 ^ 15 → exponent < 16 → Params
+abbrev pub of_fields : (id : ℕ) (extendable : Bool) (exponent : ℕ) → id < 2 ^ id_bits → exponent < 2 ^ exponent_bits → Params
 of_fields id extendable exponent r t = record { id = id; extendable = extendable; exponent = exponent; id_in_range = r; exponent_in_range = t }
 
 -- parameters are known by their fields
 pub same_params : (p q : Params) → p.id ≡ q.id → p.extendable ≡ q.extendable → p.exponent ≡ q.exponent → p ≡ q
 same_params p q id extendable exponent =
     subst
-    (λ (i : ℕ). (j : i < 2 ^ 15) → p ≡ of_fields i q.extendable q.exponent j q.exponent_in_range)
+    (λ (i : ℕ). (j : i < 2 ^ id_bits) → p ≡ of_fields i q.extendable q.exponent j q.exponent_in_range)
     id
     (λ j. subst
     (λ (f : Bool). p ≡ of_fields p.id f q.exponent j q.exponent_in_range)
     extendable
     (subst
-    (λ (e : ℕ). (k : e < 16) → p ≡ of_fields p.id p.extendable e j k)
+    (λ (e : ℕ). (k : e < 2 ^ exponent_bits) → p ≡ of_fields p.id p.extendable e j k)
     exponent
     (λ k.
-    ap₂ (λ (r : p.id < 2 ^ 15) (t : p.exponent < 16). of_fields p.id p.extendable p.exponent r t)
+    ap₂ (λ (r : p.id < 2 ^ id_bits) (t : p.exponent < 2 ^ exponent_bits). of_fields p.id p.extendable p.exponent r t)
     (le_prop p.id_in_range j) (le_prop p.exponent_in_range k))
     q.exponent_in_range))
     q.id_in_range

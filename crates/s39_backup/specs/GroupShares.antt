@@ -10,9 +10,9 @@ use Rattle.s39_set.specs.ShareSet.{IsShareSet}
 use Rattle.s39_set.specs.Quorums.{HasJustTheGroups}
 use Rattle.s39_backup.specs.Combination.{GroupCombines}
 
--- each share's index and bytes
-abbrev pub indexed_bytes : List (ℕ × ArrayVec ℕ) → List (ℕ × List ℕ)
-indexed_bytes shares = map (λ share. (share.0, share.1.items)) shares
+-- each group share's index and bytes
+abbrev pub indexed_group_shares : List (ℕ × ArrayVec ℕ) → List (ℕ × List ℕ)
+indexed_group_shares shares = map (λ share. (share.0, share.1.items)) shares
 
 -- the length of the values of a set's shares, in which they agree
 abbrev pub value_bytes_of : List ShareFields → ℕ

@@ -8,7 +8,7 @@ ghost use Rattle.s39_set.specs.Quorums.{IsQuorum};
 ghost use Rattle.s39_backup.specs.Combination.{IsCombination, MismatchesInGroup, member_shares, groups_of, value_of};
 ghost use Rattle.s39_backup.specs.Outcome.{AreParams};
 ghost use Rattle.s39_backup.specs.Created.{AreOfBackup};
-ghost use Rattle.s39_backup.specs.GroupShares.{IsExactQuorum, AreOfOneLevel, AreGroupShares, indexed_bytes};
+ghost use Rattle.s39_backup.specs.GroupShares.{IsExactQuorum, AreOfOneLevel, AreGroupShares, indexed_group_shares};
 
 use crate::laws::{every_quorum_combines, one_combination};
 use arrayvec::ArrayVec;
@@ -123,7 +123,7 @@ fn first_share<'a>(set: &'a ShareSet, names: &[(u8, u8)]) -> &'a Share
 fn group_shares(set: &ShareSet, names: &[(u8, u8)]) -> Result<GroupShares, Mismatch>
     requires { IsExactQuorum set.now names.now }
     ensures shares { IfOk result (λ shares.
-        AreGroupShares set.now names.now (groups_of names.now) (indexed_bytes shares.items)) }
+        AreGroupShares set.now names.now (groups_of names.now) (indexed_group_shares shares.items)) }
     ensures mismatch { IfErr result (λ error. (group : ℕ)
         × (error ≡ Mismatch.InGroup group) × MismatchesInGroup set.now names.now group) }
 {
@@ -164,7 +164,7 @@ fn lent_value(set: &ShareSet, group: u8, member: u8) -> &Bytes
 
 /// These shares, lent.
 fn lend(shares: &GroupShares) -> Points<'_>
-    ensures { result ≡ indexed_bytes shares.now.items }
+    ensures { result ≡ indexed_group_shares shares.now.items }
 {
     let mut lent = Points::new();
     for (index, bytes) in shares.as_slice() {

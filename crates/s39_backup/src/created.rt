@@ -9,10 +9,10 @@ use s39_words::{Share, ShareFields};
 use std::array;
 use std::marker::Model;
 
-/// The shares of a created backup, by group, then member: 256 at most. They have fixed places and take no memory.
+/// The shares of a created backup, by group, then member: 256 at most. They have fixed slots and take no memory.
 #[derive(Drop)]
 pub struct Created {
-    places: [Share; MAX_NAMES],
+    slots: [Share; MAX_NAMES],
     len: usize,
 }
 
@@ -24,10 +24,10 @@ impl Model for Created {
 
     ghost Value = { List ShareFields };
 
-    ghost view = { λ created. take created.len created.places };
+    ghost view = { λ created. take created.len created.slots };
 
     ghost invariant = { λ created.
-        (created.len ≤ most_names) × All IsShare (take created.len created.places) };
+        (created.len ≤ most_names) × All IsShare (take created.len created.slots) };
 }
 
 impl Created {
@@ -36,7 +36,7 @@ impl Created {
         ensures { result ≡ [] }
     {
         Created {
-            places: array::from_fn(|_| blank()),
+            slots: array::from_fn(|_| blank()),
             len: 0,
         }
     }
@@ -47,7 +47,7 @@ impl Created {
         ensures few { length self.now ≤ most_names }
         ensures each { All IsShare result.now }
     {
-        &self.places[..self.len]
+        &self.slots[..self.len]
     }
 
     /// Takes the shares away.
@@ -64,7 +64,7 @@ impl Created {
     {
         // `fields` tells a proof the ranges of the share's fields.
         let _ = share.fields();
-        self.places[self.len] = share;
+        self.slots[self.len] = share;
         self.len += 1;
     }
 }
