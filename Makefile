@@ -1,7 +1,7 @@
 # shamir: `make` proves and builds, `make test` is the merge gate.
 #
 #   make check       the fast checks: commands and tables of the documents, the manual page, completions, terminals
-#                    (make test ends with them)
+#                    (make test runs them too)
 #   make faults      lets each growth, read and write of the program fail in turn
 #   make compare     compares made cases with a plain reading of the standard in Python
 #   make bench       measures
