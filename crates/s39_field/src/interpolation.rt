@@ -27,7 +27,7 @@ fn product_of_differences(x: Gf256, places: &[Gf256], except: usize) -> Gf256
 }
 
 /// The Lagrange weights of distinct places at `at`: `out[i]` becomes the product over the other
-/// places `j` of `(at - xs[j]) / (xs[i] - xs[j])`.
+/// places `j` of `(at - xs[j]) / (xs[i] - xs[j])`. There are as many weights as places.
 ///
 /// Whatever bytes stand at the places, the sum of weight times byte is the byte at `at` of a
 /// polynomial through them that has no more coefficients than there are places (SLIP-0039,

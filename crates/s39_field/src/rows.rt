@@ -58,7 +58,8 @@ fn scaled_sum_of_vectors(acc: &mut [u8], w: Gf256, row: &[u8]) -> usize
     done
 }
 
-/// Adds `w` times a row of bytes to another: each `acc[k]` becomes `acc[k] + w * row[k]`.
+/// Adds `w` times a row of bytes to another, which is as long: each `acc[k]` becomes
+/// `acc[k] + w * row[k]`.
 pub fn scaled_sum(acc: &mut [u8], w: Gf256, row: &[u8])
     requires { length acc.old ≡ length row.now }
     ensures { EachIndex acc.old (λ k. slice_index acc.new k

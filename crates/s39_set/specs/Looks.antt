@@ -10,11 +10,11 @@ most_test_looks = 1024
 abbrev pub most_step_looks : ℕ
 most_step_looks = 16384
 
--- Parts of a step; no public contract cites these.
-
--- for each name a turn and a look
+-- for each name a turn and a look: a step adds at least these
 abbrev pub most_name_looks : ℕ
 most_name_looks = 2 * most_names
+
+-- Parts of a step; no public contract cites these.
 
 -- for each group a turn, and one for each of its members
 abbrev pub most_group_looks : ℕ

@@ -6,7 +6,7 @@ pub const MAX_GROUPS: u8 = 16;
 /// The most members of a group.
 pub const MAX_MEMBERS: u8 = 16;
 
-/// The most names of shares.
+/// The most names of shares, each a group and a member index.
 pub const MAX_NAMES: usize = 256;
 
 /// The most looks that the test whether names are a quorum adds.

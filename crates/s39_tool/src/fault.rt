@@ -92,9 +92,9 @@ pub enum Refusal {
     Lack(SetLack),
     /// A byte of the passphrase isn't printable.
     Passphrase(BadPassphrase),
-    /// A secret may not have as many bytes.
+    /// The secret has an odd number of bytes, or fewer than 16, or more than 128.
     SecretLength(BadSecretLength),
-    /// A backup takes another number of random bytes.
+    /// A backup takes `needed` random bytes, and more or fewer came.
     RandomLength { needed: usize },
     /// Shares combine to a secret of another digest than they have.
     DigestMismatch(Mismatch),

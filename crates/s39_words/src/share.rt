@@ -11,7 +11,7 @@ use std::marker::Model;
 pub struct ShareFields {
     /// The identifier of the backup, below 2^15.
     pub id: u16,
-    /// The extendable flag.
+    /// The extendable flag: whether the identifier is left out of the encryption.
     pub extendable: bool,
     /// The iteration exponent, 0 to 15.
     pub exponent: u8,

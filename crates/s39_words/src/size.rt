@@ -42,5 +42,5 @@ pub(crate) const MAX_WORDS: usize = (8 * MAX_SECRET_BYTES + WORD_BITS - 1) / WOR
 /// The most words of a mnemonic before its checksum.
 pub(crate) const MAX_DATA_WORDS: usize = MAX_WORDS - CHECKSUM_WORDS;
 
-/// The most bytes of a printed mnemonic: the longest words, with single spaces between.
+/// The most bytes of a printed mnemonic: 110 of the longest words, with single spaces between.
 pub const MAX_TEXT_BYTES: usize = (MAX_LETTERS + 1) * MAX_WORDS - 1;

@@ -14,9 +14,11 @@ use crate::word_error::WordError;
 use crate::word_reader::{after_separators, first_word};
 use arrayvec::ArrayVec;
 
-/// Reads a text as the share that it spells, or as the first cause for which it spells none: an unknown word, a
-/// number of words that no mnemonic has, a checksum that isn't valid, a padding bit that isn't 0, or a group
-/// threshold above the group count.
+/// Reads a text of any length as the share that it spells (SLIP-0039, "Format of the share mnemonic"). Its words stand
+/// between spaces, tabs and carriage returns, as many as there are, and capitals count as small letters.
+///
+/// The error is the first cause for which the text spells no share: an unknown word, a number of words that no mnemonic
+/// has, a checksum that isn't valid, a padding bit that isn't 0, or a group threshold above the group count.
 ///
 /// One, two or three wrong words in a mnemonic, all of the word list and none of them changing the flag, always come
 /// out as a checksum that isn't valid.
