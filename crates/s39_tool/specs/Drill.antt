@@ -155,6 +155,11 @@ abbrev pub shown : Result (ArrayVec ℕ) Mismatch → Result (List ℕ) Mismatch
 shown (Ok secret) = Ok secret.items
 shown (Err mismatch) = Err mismatch
 
+-- 1 for a mismatch, else 0
+abbrev pub mismatch_in : Result (List ℕ) Mismatch → ℕ
+mismatch_in (Ok secret) = 0
+mismatch_in (Err mismatch) = 1
+
 -- where a drill starts: at the first quorum after the given one, or of all, or nowhere where none remains
 pub record StartsAt (set : List ShareFields) (after next : Option (List (ℕ × ℕ))) : Type 0 where
   pub no_lack : (lack : SetLack) → ¬ IsLack set lack

@@ -9,7 +9,7 @@ ghost use Rattle.s39_set.specs.Quorums.{IsQuorum, IsFirstQuorumAfter};
 ghost use Rattle.s39_set.specs.ShareSet.{IsShareSet};
 ghost use Rattle.s39_set.specs.Written.{name_text, quorum_text};
 ghost use Rattle.s39_backup.specs.Outcome.{AreParams, IsOutcome};
-ghost use Rattle.s39_tool.specs.Drill.{IsNext, IsUndrilled, StartsAt, IsDrillOutput, DrillsCreated, WritesDrill, shown, outcome_text, quorum_line, last_line};
+ghost use Rattle.s39_tool.specs.Drill.{IsNext, IsUndrilled, StartsAt, IsDrillOutput, DrillsCreated, WritesDrill, shown, mismatch_in, outcome_text, quorum_line, last_line};
 ghost use Rattle.s39_tool.specs.declared.output.TheConstants.{LINE_BYTES};
 ghost use Rattle.s39_tool.specs.Fault.{fault_of};
 ghost use Rattle.s39_tool.specs.Runs.{Runs};
@@ -192,7 +192,7 @@ fn write_drill<W: Write>(
     loop {
         let outcome = outcome_of(set, &quorum, &mut memo);
         write_text(output, quorum_line(&quorum, &outcome).as_slice())?;
-        mismatches += u32::from(outcome.is_err());
+        mismatches += mismatch_in(&outcome);
         left -= 1;
         let next = following(set, &quorum, looks);
         if left == 0 || next.is_none() {
@@ -223,6 +223,16 @@ fn outcome_of(set: &ShareSet, quorum: &Quorum, memo: &mut Memo<'_>) -> Result<By
 {
     let encrypted = combine_quorum(set, quorum)?;
     Ok(memo.secret(&encrypted))
+}
+
+/// How many mismatches an outcome is: one, or none.
+fn mismatch_in(outcome: &Result<Bytes, Mismatch>) -> u32
+    ensures { result ≡ mismatch_in (shown outcome.now) }
+{
+    match outcome {
+        Ok(_) => 0,
+        Err(_) => 1,
+    }
 }
 
 /// The line of a quorum and its outcome.

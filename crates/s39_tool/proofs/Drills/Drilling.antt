@@ -1,8 +1,6 @@
 -- A drill, a quorum at a time.
-use Rattle.std.proofs.Common.{◌≡◌, ℕ, zero, suc, ◌+◌, ◌≤◌, List, [], ◌∷◌, ◌++◌, map, Bool, true, false, is_some, is_err, ◌⊎◌, inl, inr, refl, sym, ap, ◌∙◌, subst, append_assoc, append-nil, arith, ◌↔◌, Option, Some, None, Result, Ok, Err}
+use Rattle.std.proofs.Common.{◌≡◌, ℕ, zero, suc, ◌+◌, ◌≤◌, List, [], ◌∷◌, ◌++◌, map, Bool, true, false, is_some, ◌⊎◌, inl, inr, refl, sym, ap, ◌∙◌, subst, append_assoc, append-nil, arith, ◌↔◌, Option, Some, None, Result, Ok, Err}
 use Rattle.std.proofs.lemmas.List.Elements.{All-nil, All-cons}
-use Rattle.arrayvec.specs.ArrayVec.{ArrayVec}
-use mir.Val.{bool_byte}
 use Rattle.s39_words.specs.declared.ShareFields.{ShareFields}
 use Rattle.s39_set.specs.ShareSet.{IsShareSet}
 use Rattle.s39_set.specs.Quorums.{IsQuorum, IsFirstQuorumAfter, HasNoQuorumAfter}
@@ -11,7 +9,7 @@ use Rattle.s39_backup.specs.declared.combination.Mismatch.{Mismatch}
 use Rattle.s39_backup.specs.Outcome.{IsOutcome}
 use Rattle.s39_tool.specs.Device.{Counted}
 use Rattle.s39_tool.specs.Output.{WritesWhole, WritesPart}
-use Rattle.s39_tool.specs.Drill.{Listed, quorum_line, last_line, mismatches_in, IsDrill, IsNext, shown}
+use Rattle.s39_tool.specs.Drill.{Listed, quorum_line, last_line, mismatches_in, mismatch_in, IsDrill, IsNext}
 use Rattle.s39_tool.proofs.Runs.Writing.{nothing_written, both_written, part_after}
 
 abbrev pub Names : Type 0
@@ -26,11 +24,6 @@ pub record Laws : Type 0 where
   pub walks : (set : List ShareFields) (given : Option Names) (quorums : List Names) → (IsWalk set given quorums ↔ AreAllQuorumsAfter set given quorums)
   pub outcome : (set : List ShareFields) (names : Names) (passphrase : List ℕ) → IsShareSet set → IsQuorum set names
       → (outcome : Result (List ℕ) Mismatch) × IsOutcome set names passphrase outcome
-
--- 1 where the outcome is a mismatch, else 0
-abbrev pub mismatch_in : Result (List ℕ) Mismatch → ℕ
-mismatch_in (Ok secret) = 0
-mismatch_in (Err mismatch) = 1
 
 pub mismatch_most : (outcome : Result (List ℕ) Mismatch) → mismatch_in outcome ≤ 1
 mismatch_most (Ok secret) = omega arith
@@ -154,11 +147,6 @@ pub last_line_is : (names : Names) (next : Option Names) (more : Bool) (line : L
     → line ≡ last_line (more_after names next)
 last_line_is names None more line is some none = none is
 last_line_is names (Some next) more line is some none = some is
-
--- the answer says whether the outcome is a mismatch
-pub mismatch_is : (outcome : Result (ArrayVec ℕ) Mismatch) → bool_byte (is_err outcome) ≡ mismatch_in (shown outcome)
-mismatch_is (Ok secret) = refl
-mismatch_is (Err mismatch) = refl
 
 zero-left : (n : ℕ) → n ≡ 0 + n
 zero-left n = omega arith

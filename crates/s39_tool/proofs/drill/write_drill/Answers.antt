@@ -1,10 +1,9 @@
 use Rattle.std.proofs.Common.{◌≡◌, ◌+◌, ◌-◌, ◌⊎◌, inl, inr, Some, is_some, not, false, sym, ap, ◌∙◌, subst, arith}
 use Rattle.std.proofs.lemmas.Result.{err_from_is_err_and}
-use mir.Val.{bool_byte}
 use Rattle.s39_backup.specs.Outcome.{IsOutcome}
 use Rattle.s39_tool.specs.Output.{WritesWhole, WritesPart}
-use Rattle.s39_tool.specs.Drill.{last_line, shown, IsNext}
-use Rattle.s39_tool.proofs.Drills.Drilling.{Laws, IsDrilling, mismatch_in, mismatch_is, mismatch_most, more_after, drill_over, last_line_is, drilling_starts, drilling_fails, drilling_goes_on, drilling_ends, drilling_fails_last}
+use Rattle.s39_tool.specs.Drill.{last_line, shown, mismatch_in, IsNext}
+use Rattle.s39_tool.proofs.Drills.Drilling.{Laws, IsDrilling, mismatch_most, more_after, drill_over, last_line_is, drilling_starts, drilling_fails, drilling_goes_on, drilling_ends, drilling_fails_last}
 use Rattle.s39_set.specs.Quorums.{IsFirstQuorumAfter}
 use Rattle.s39_tool.proofs.drill.write_drill.Goals as goal
 use Rattle.s39_tool.proofs.drill.write_drill.Goals.{then-left-eq0-via-then-left-eq0, then-left-eq0-via-else-left-eq0+then-is_none}
@@ -31,8 +30,7 @@ loop-outcome-preserved g c =
       walks = c.walks_list_all.ensures;
       outcome = c.every_quorum_has_an_outcome.ensures;
     } in
-    let counted : c.from-mismatches.result ≡ mismatch_in outcome =
-    c.from-mismatches.ensures ∙ ap bool_byte c.is_err.ensures.value ∙ mismatch_is c.outcome_of-outcome.result in
+    let counted : c.mismatch_in-mismatches.result ≡ mismatch_in outcome = c.mismatch_in-mismatches.ensures in
     let first : IsFirstQuorumAfter c.args.set.now (Some c.loop-outcome.quorum) c.unwrap-quorum.result =
     subst (IsNext c.args.set.now (Some c.loop-outcome.quorum)) c.unwrap-quorum.ensures c.following-next.ensures.next in
     let some = c.if-left-eq0.false in
@@ -121,8 +119,7 @@ returns-then-left-eq0 g c =
       walks = c.walks_list_all.ensures;
       outcome = c.every_quorum_has_an_outcome.ensures;
     } in
-    let counted : c.from-mismatches.result ≡ mismatch_in outcome =
-    c.from-mismatches.ensures ∙ ap bool_byte c.is_err.ensures.value ∙ mismatch_is c.outcome_of-outcome.result in
+    let counted : c.mismatch_in-mismatches.result ≡ mismatch_in outcome = c.mismatch_in-mismatches.ensures in
     let next = c.following-next.result in
     let more = more_after c.loop-outcome.quorum next in
     let done : (left ≡ 0) ⊎ (is_some next ≡ false) = elim c.then-left-eq0.branch [
