@@ -29,7 +29,7 @@ pub enum Mismatch {
 }
 
 impl Mismatch {
-    /// The code of the cause.
+    /// The code of the cause, 51.
     pub fn code(&self) -> u8
         ensures { result ≡ 51 }
     {

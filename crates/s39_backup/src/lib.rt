@@ -1,5 +1,5 @@
-//! What SLIP-0039 backups are: what a quorum of shares combines to and recovers. No device and no line has a part
-//! in it, and no call takes memory.
+//! What SLIP-0039 backups are: plans, the creation of a backup, and what a quorum of shares combines to and recovers.
+//! No device and no line has a part in it, and no call takes memory.
 #![tactic(auto)]
 
 mod combination;

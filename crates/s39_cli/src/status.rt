@@ -199,7 +199,8 @@ fn report<E: Write>(fault: Fault, errors: &mut E) -> u8 {
     }
 }
 
-/// Says why the arguments are no words, and gives the exit status: there is no memory for them, or they aren't UTF-8.
+/// Says why the arguments are no words, and gives the exit status: 4 where there is no memory for them, and 2 where
+/// they aren't UTF-8.
 pub fn no_words<E: Write>(error: &io::Error, errors: &mut E) -> u8 {
     if error.kind() == ErrorKind::OutOfMemory {
         return no_memory(errors);
@@ -208,7 +209,7 @@ pub fn no_words<E: Write>(error: &io::Error, errors: &mut E) -> u8 {
     NO_JOB
 }
 
-/// Says that there is no memory, without taking any.
+/// Says that there is no memory, without taking any, and gives the exit status 4.
 pub fn no_memory<E: Write>(errors: &mut E) -> u8 {
     let _ = errors.write_all(b"shamir: out of memory\n");
     NO_MEMORY

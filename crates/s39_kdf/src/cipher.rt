@@ -14,7 +14,8 @@ const MAX_HALF_BYTES: usize = MAX_SECRET_BYTES / 2;
 // Half a secret, while it is encrypted or decrypted.
 type Half = ArrayVec<u8, MAX_HALF_BYTES>;
 
-/// Encrypts a secret of an even number of bytes. The result is as long as the secret.
+/// Encrypts a secret of an even number of bytes (SLIP-0039, "Encryption of the master secret"). The result is as long
+/// as the secret. It takes `4 * params.round_iterations()` iterations of PBKDF2.
 pub fn encrypt(secret: &Bytes, passphrase: &[u8], params: Params) -> Bytes
     requires { array_vec_len secret.now % 2 ≡ 0 }
     ensures value { IsEncryption secret.now.items passphrase.now params result.items }
@@ -31,9 +32,8 @@ pub fn encrypt(secret: &Bytes, passphrase: &[u8], params: Params) -> Bytes
     join(&h5, &h4)
 }
 
-/// Decrypts what `encrypt` gives under the same passphrase and parameters: an even number of
-/// bytes. The result is as long. A wrong passphrase isn't
-/// noticed: it gives bytes, as a rule others, and no error.
+/// Decrypts what `encrypt` gives under the same passphrase and parameters, an even number of bytes, with as many
+/// iterations. The result is as long. A wrong passphrase isn't noticed: it gives bytes, as a rule others, and no error.
 pub fn decrypt(encrypted: &Bytes, passphrase: &[u8], params: Params) -> Bytes
     requires { array_vec_len encrypted.now % 2 ≡ 0 }
     ensures value { IsEncryption result.items passphrase.now params encrypted.now.items }

@@ -15,7 +15,7 @@ pub const MAC_BYTES: usize = 32;
 // The bytes of a block of SHA-256.
 pub(crate) const BLOCK_BYTES: usize = 64;
 
-/// The HMAC-SHA256 of a message under a key, each given as parts that are joined in order.
+/// The HMAC-SHA256 of a message under a key, each given as parts that are joined in order (RFC 2104, section 2).
 pub fn hmac(key: &[&[u8]], message: &[&[u8]]) -> [u8; MAC_BYTES]
     ensures { result ≡ hmac (joined_parts key.now) (joined_parts message.now) }
 {

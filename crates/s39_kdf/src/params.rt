@@ -19,7 +19,7 @@ pub struct Params {
 impl Params {
     ghost use Rattle.s39_kdf.specs.Cipher.{round_iterations};
 
-    /// The iterations of PBKDF2 in each of the four rounds.
+    /// The iterations of PBKDF2 in each of the four rounds: `2500 * 2^exponent`.
     pub fn round_iterations(self) -> u32
         ensures { result ≡ round_iterations self }
     {

@@ -20,7 +20,7 @@ use s39_kdf::Bytes;
 pub struct DigestMismatch;
 
 impl DigestMismatch {
-    /// The number of this refusal.
+    /// The number of this refusal, 51.
     pub fn code(&self) -> u8
         ensures { result ≡ 51 }
     {
