@@ -18,3 +18,6 @@ pub mod Creations
 pub mod Causes
 pub mod EveryReading
 pub mod SharesCreated
+pub mod Chosen
+pub mod HeldGroups
+pub mod SameShares

@@ -6,4 +6,6 @@ pub mod Plan
 pub mod PlanText
 pub mod Created
 pub mod Building
+pub mod TwoShort
+pub mod Refitting
 pub mod Memo

@@ -90,7 +90,7 @@ fn create_shares(
 }
 
 /// The parameters of the cipher, with the identifier of these two random bytes.
-fn params_from(high: u8, low: u8, options: Options) -> Params
+pub(crate) fn params_from(high: u8, low: u8, options: Options) -> Params
     ensures { AreCreatedParams options high low result }
 {
     Params {

@@ -13,6 +13,8 @@ mod outcome;
 mod plan;
 mod plan_error;
 mod plan_text;
+mod refitting;
+mod two_short;
 
 pub use combination::{Mismatch, combine_quorum, params_of};
 pub use create_error::CreateError;
@@ -23,6 +25,7 @@ pub use options::Options;
 pub use outcome::{RecoverError, recover_by, recover_quorum};
 pub use plan::{Members, Plan};
 pub use plan_error::PlanError;
+pub use refitting::refit;
 
 #[cfg(test)]
 mod tests;

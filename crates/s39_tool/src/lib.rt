@@ -20,6 +20,6 @@ pub use fault::{DeviceFailure, Fault, LineRefusal, Refusal, RefusedLine, Stop};
 pub use recover::{Unrecovered, run_recover};
 pub use s39_backup::{
     CreateError, Created, Members, Memo, Mismatch, Options, Plan, PlanError, RecoverError, create,
-    recover_by,
+    recover_by, refit,
 };
 pub use show::run_show;

@@ -1,0 +1,72 @@
+use Rattle.std.proofs.Common.{◌≡◌, ◌-◌, ◌<◌, length, map, take, refl, sym, subst, ◌∙◌, arith}
+use Rattle.std.proofs.lemmas.List.{length-map, length-take-le, get_or_default}
+use Rattle.std.proofs.lemmas.List.Elements.{All-map}
+use Rattle.std.specs.List.{slice_get}
+use Rattle.s39_kdf.specs.Bytes.{AreBytes}
+use Rattle.s39_split.specs.Shares.{bytes_of}
+use Rattle.s39_split.specs.Sharing.{IsSplit}
+use Rattle.s39_split.proofs.Lists.{All-from_map}
+use Rattle.s39_set.specs.Names.{names_in_group}
+use Rattle.s39_backup.specs.Refitting.{AreKept, AreSameAt}
+use Rattle.s39_backup.proofs.HeldGroups.{members-ascending, not_less}
+use Rattle.s39_backup.proofs.refitting.refit_group.Goals as goal
+
+pub returns-then-is_held : goal.returns-then-is_held
+returns-then-is_held c =
+    let members = c.args.members in
+    let share = c.args.share.now.items in
+    let random = c.args.random.now in
+    let long = c.requires.length.1 in
+    let same = c.requires.held (sym c.is_held.ensures ∙ c.if-is_held.true) in
+    let bytes : AreBytes random = λ k d below.
+    let same = get_or_default random k d 0 below in
+    let fits = c.type_inv.random k in
+    omega arith in
+    let (values, split) = c.one_split.ensures.some members.threshold members.count share random c.requires.group.positive
+    c.requires.group.enough.enough c.requires.group.enough.few (omega arith)
+    (subst AreBytes c.as_slice.ensures.value c.are_bytes.ensures) bytes c.requires.random in
+    record {
+      values = values;
+      others = values;
+      split = split;
+      refitted = subst (λ s. IsSplit members.threshold members.count s random values) same split;
+      same = λ k d within. refl;
+    }
+
+pub refit_level-requires-clause-kept : goal.refit_level-requires-clause-kept
+refit_level-requires-clause-kept c =
+    let names = names_in_group c.args.group c.args.names.now in
+    let is : c.as_slice-2.result.now ≡ map (λ name. name.1) names = c.as_slice-2.ensures.value ∙ c.members_among-kept.ensures in
+    let room = c.requires.group.enough.few in
+    let long = c.default-values.ensures.long in
+    let count : length (take c.from.result c.default-values.result) ≡ c.args.members.count =
+    length-take-le c.from.result c.default-values.result (omega arith) ∙ omega arith in
+    subst (AreKept c.args.members.threshold (length (take c.from.result c.default-values.result))) (sym is)
+    (record {
+      ascending = members-ascending c.args.names.now c.args.group c.requires.names.ascending;
+      below = All-map (λ i. i < length (take c.from.result c.default-values.result)) (λ name. name.1) names
+          (λ k d within. let less = c.requires.of_plan k d within in omega (arith, count));
+      few = let few = not_less (c.args.members.threshold - 2) (length names) (sym c.is_held.ensures ∙ c.if-is_held.false) in
+          omega (arith, length-map names (λ name. name.1));
+    })
+
+pub returns : goal.returns
+returns c =
+    let members = c.args.members in
+    let names = names_in_group c.args.group c.args.names.now in
+    let is : c.as_slice-2.result.now ≡ map (λ name. name.1) names = c.as_slice-2.ensures.value ∙ c.members_among-kept.ensures in
+    let room = c.requires.group.enough.few in
+    let long = c.default-values.ensures.long in
+    let count : length (take c.from.result c.default-values.result) ≡ members.count =
+    length-take-le c.from.result c.default-values.result (omega arith) ∙ omega arith in
+    let levels = c.refit_level.ensures.levels in
+    let values = bytes_of c.refit_level.new.shares in
+    let others = bytes_of c.refit_level.new.others in
+    record {
+      values = values;
+      others = others;
+      split = subst (λ n. IsSplit members.threshold n c.args.share.now.items c.args.random.now values) count levels.split;
+      refitted = subst (λ n. IsSplit members.threshold n c.args.other.now.items c.refit_level.new.random others) count levels.refitted;
+      same = All-from_map (λ i. slice_get values i ≡ slice_get others i) (λ name. name.1) names
+          (subst (λ kept. AreSameAt kept values others) is levels.same);
+    }
