@@ -8,6 +8,8 @@ mod create;
 #[cfg(test)]
 mod devices;
 #[cfg(test)]
+mod devices_that_fail;
+#[cfg(test)]
 mod drill;
 #[cfg(test)]
 mod recover;
