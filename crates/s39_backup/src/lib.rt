@@ -1,5 +1,6 @@
-//! What SLIP-0039 backups are: plans, the creation of a backup, and what a quorum of shares combines to and recovers.
-//! No device and no line has a part in it, and no call takes memory.
+//! What SLIP-0039 backups are: plans, the creation of a backup, what a quorum of shares combines to and recovers, and
+//! the random bytes by which another secret has the same shares. No device and no line has a part in it, and no call
+//! takes memory.
 #![tactic(auto)]
 
 mod combination;
