@@ -87,55 +87,35 @@ fn accepted_plans(rt: HostRuntime) {
     );
 }
 
+// The identifier is the first two random bytes, less the highest bit.
 #[test]
-fn published_mnemonic(rt: HostRuntime) {
-    let plan = Plan::parse("1of1").expect(&rt, "a plan");
-    let options = Options {
-        exponent: 0,
-        extendable: false,
-    };
-    let mut created = Created::new();
-    create(
-        &plan,
-        &SECRET,
-        b"TREZOR",
-        options,
-        b"\x1f\x09",
-        &mut created,
-    )
-    .expect(&rt, "accepted");
-    assert_eq!(rt; created.shares().len(), 1);
-    for share in created.shares() {
-        assert_eq!(rt;
-            print(share).as_slice(),
-            b"duckling enlarge academic academic agency result length solution fridge kidney coal piece deal husband erode duke ajar critical decision keyboard".as_slice()
-        );
-    }
-}
-
-#[test]
-fn five_mnemonics(rt: HostRuntime) {
-    let mnemonics: [&[u8]; 5] = [
-        b"academic aluminum acrobat leaf buyer drink heat negative damage union purchase photo inmate training amazing yield bucket wrote mule cluster",
-        b"academic aluminum acrobat lily august piece column laser headset unusual blimp nuclear sweater criminal credit eyebrow trouble silent axis skin",
-        b"academic aluminum acrobat lungs dive behavior mobile ting perfect ultimate weapon join paper involve clinic acrobat jerky preach gross usual",
-        b"academic aluminum beard leader chest elite grant group club deploy increase divorce puny cylinder romp frequent crush ruler erode bucket",
-        b"academic aluminum ceramic leader cylinder decorate mobile devote echo finger program firm starting dwarf grumpy harvest enforce raisin sprinkle phantom",
-    ];
+fn created_as_planned(rt: HostRuntime) {
     let plan = Plan::parse("2/2of3,1of1,1of1").expect(&rt, "a plan");
     let options = Options {
-        exponent: 0,
-        extendable: false,
+        exponent: 1,
+        extendable: true,
     };
-    let random = [
-        0, 1, 2, 3, 4, 5, 6, 7, 8, 9, 10, 11, 12, 13, 14, 15, 16, 17, 18, 19, 20, 21, 22, 23, 24,
-        25,
-    ];
+    let mut random = [0; 30];
+    random[0] = 0x81;
+    random[1] = 0x02;
     let mut created = Created::new();
-    create(&plan, &SECRET, b"TREZOR", options, &random, &mut created).expect(&rt, "accepted");
-    assert_eq!(rt; created.shares().len(), 5);
-    for (share, mnemonic) in created.shares().iter().zip(mnemonics) {
-        assert_eq!(rt; print(share).as_slice(), mnemonic);
+    create(&plan, &[0; 18], b"", options, &random, &mut created).expect(&rt, "accepted");
+    let members = [(0, 0, 2), (0, 1, 2), (0, 2, 2), (1, 0, 1), (2, 0, 1)];
+    assert_eq!(rt; created.shares().len(), members.len());
+    for (share, (group, member, threshold)) in created.shares().iter().zip(members) {
+        assert_eq!(rt;
+            (share.id(), share.extendable(), share.exponent()),
+            (0x0102, true, 1)
+        );
+        assert_eq!(rt; (share.group_threshold(), share.group_count()), (2, 3));
+        assert_eq!(rt;
+            (share.group_index(), share.member_index()),
+            (group, member)
+        );
+        assert_eq!(rt;
+            (share.member_threshold(), share.value().len()),
+            (threshold, 18)
+        );
     }
 }
 

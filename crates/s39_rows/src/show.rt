@@ -5,18 +5,44 @@ use crate::vectors::{
     EXTENDABLE_ONE_OF_ONE, EXTENDABLE_ONE_OF_ONE_SHOWN, EXTENDABLE_TWO_WORDS_EXCHANGED,
     LONGEST_ONE_OF_ONE, LONGEST_ONE_OF_ONE_SHOWN, ONE_OF_ONE, ONE_OF_ONE_256_BITS,
     ONE_OF_ONE_256_BITS_SHOWN, ONE_OF_ONE_BAD_CHECKSUM, ONE_OF_ONE_BAD_PADDING, SHOW, SHOWN,
-    TWO_NEEDED_MEMBER_2, expect_run,
+    TWO_NEEDED_MEMBER_0, TWO_NEEDED_MEMBER_2, expect_run,
 };
 use s39_cli::program;
+use s39_words::laws::read_back;
+use s39_words::{parse, print};
 use std::test::Fail;
+
+/// `ONE_OF_ONE` with capitals, and with other separators.
+const SPACED: &str =
+    "\tDUCKLING  enlarge ACADEMIC academic agency\t\tRESULT length solution fridge kidney coal piece deal husband erode duke ajar critical decision keyboard \r";
+
+#[test]
+fn prints_the_text_that_it_read(rt: HostRuntime) -> Result<(), Fail> {
+    for text in [
+        ONE_OF_ONE,
+        ONE_OF_ONE_256_BITS,
+        EXTENDABLE_ONE_OF_ONE,
+        TWO_NEEDED_MEMBER_2,
+        TWO_NEEDED_MEMBER_0,
+        LONGEST_ONE_OF_ONE,
+    ] {
+        let share = parse(text.as_bytes())?;
+        assert_eq!(rt; print(&share).as_slice(), text.as_bytes());
+        assert_eq!(rt; print(&read_back(&share)?).as_slice(), text.as_bytes());
+    }
+    assert_eq!(rt;
+        print(&parse(SPACED.as_bytes())?).as_slice(),
+        ONE_OF_ONE.as_bytes()
+    );
+    Ok(())
+}
 
 #[test]
 fn shows_mnemonics(rt: HostRuntime) -> Result<(), Fail> {
     let alloc = rt.alloc();
     expect_run(&rt, &SHOW, ONE_OF_ONE, alloc, (SHOWN, "", 0));
-    let capitals =
-        "\tDUCKLING  enlarge ACADEMIC academic agency\t\tRESULT length solution fridge kidney coal piece deal husband erode duke ajar critical decision keyboard \r\n";
-    expect_run(&rt, &SHOW, capitals, alloc, (SHOWN, "", 0));
+    let spaced = format!(in alloc; "{SPACED}\n")?;
+    expect_run(&rt, &SHOW, spaced.as_str(), alloc, (SHOWN, "", 0));
     let extendable = EXTENDABLE_ONE_OF_ONE_SHOWN;
     expect_run(
         &rt,

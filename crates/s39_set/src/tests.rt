@@ -3,14 +3,8 @@ use crate::{
     share_at,
 };
 use s39_kdf::check_secret;
-use s39_words::{Share, ShareFields, parse};
+use s39_words::{Share, ShareFields};
 use std::test::Fail;
-
-const TWO_NEEDED_MEMBER_2: &str =
-    "shadow pistol academic always adequate wildlife fancy gross oasis cylinder mustang wrist rescue view short owner flip making coding armed";
-
-const TWO_NEEDED_MEMBER_0: &str =
-    "shadow pistol academic acid actress prayer class unknown daughter sweater depict flip twice unkind craft early superior advocate guest smoking";
 
 fn share(fields: ShareFields) -> Result<Share, Fail> {
     match Share::new(fields) {
@@ -19,18 +13,17 @@ fn share(fields: ShareFields) -> Result<Share, Fail> {
     }
 }
 
-/// The fields of a vector, with another value in the place of its own.
-fn fields_with(text: &str, value: &[u8]) -> Result<ShareFields, Fail> {
-    let share = parse(text.as_bytes())?;
+/// The fields of member 2 of a backup of one group, of which two members are needed.
+fn member_2(value: &[u8]) -> Result<ShareFields, Fail> {
     Ok(ShareFields {
-        id: share.id(),
-        extendable: share.extendable(),
-        exponent: share.exponent(),
-        group_index: share.group_index(),
-        group_threshold: share.group_threshold(),
-        group_count: share.group_count(),
-        member_index: share.member_index(),
-        member_threshold: share.member_threshold(),
+        id: 25653,
+        extendable: false,
+        exponent: 2,
+        group_index: 0,
+        group_threshold: 1,
+        group_count: 1,
+        member_index: 2,
+        member_threshold: 2,
         value: check_secret(value)?,
     })
 }
@@ -75,32 +68,21 @@ pub(crate) fn three_groups(group_threshold: u8) -> Result<ShareSet, Fail> {
 #[test]
 fn a_share_again_is_a_repeat(rt: HostRuntime) -> Result<(), Fail> {
     let mut set = ShareSet::new();
-    assert_eq!(rt;
-        set.add(parse(TWO_NEEDED_MEMBER_2.as_bytes())?),
-        Ok(Added::New)
-    );
-    assert_eq!(rt;
-        first(&set).err(),
-        Some(SetLack::Incomplete {
-            complete: 0,
-            required: 1
-        })
-    );
-    assert_eq!(rt;
-        set.add(parse(TWO_NEEDED_MEMBER_2.as_bytes())?),
-        Ok(Added::Repeat)
-    );
-    assert_eq!(rt;
-        first(&set).err(),
-        Some(SetLack::Incomplete {
-            complete: 0,
-            required: 1
-        })
-    );
-    assert_eq!(rt;
-        set.add(parse(TWO_NEEDED_MEMBER_0.as_bytes())?),
-        Ok(Added::New)
-    );
+    for added in [Added::New, Added::Repeat] {
+        assert_eq!(rt; set.add(share(member_2(&[7; 16])?)?), Ok(added));
+        assert_eq!(rt;
+            first(&set).err(),
+            Some(SetLack::Incomplete {
+                complete: 0,
+                required: 1
+            })
+        );
+    }
+    let member_0 = ShareFields {
+        member_index: 0,
+        ..member_2(&[9; 16])?
+    };
+    assert_eq!(rt; set.add(share(member_0)?), Ok(Added::New));
     assert_eq!(rt; first(&set)?.pairs(), [(0, 0), (0, 2)].as_slice());
     Ok(())
 }
@@ -108,17 +90,13 @@ fn a_share_again_is_a_repeat(rt: HostRuntime) -> Result<(), Fail> {
 #[test]
 fn refused_shares(rt: HostRuntime) -> Result<(), Fail> {
     let mut set = ShareSet::new();
-    set.add(parse(TWO_NEEDED_MEMBER_2.as_bytes())?)?;
-    let mut flipped = check_secret(parse(TWO_NEEDED_MEMBER_2.as_bytes())?.value())?;
-    if let Some(last) = flipped.last_mut() {
-        *last ^= 1;
-    }
-    let fields = || fields_with(TWO_NEEDED_MEMBER_2, &[0; 16]);
+    set.add(share(member_2(&[7; 16])?)?)?;
+    let fields = || member_2(&[0; 16]);
     for (fields, error) in [
         (
             ShareFields {
                 id: 0,
-                ..fields_with(TWO_NEEDED_MEMBER_2, &[0; 18])?
+                ..member_2(&[0; 18])?
             },
             SetError::OtherIdentifier,
         ),
@@ -144,10 +122,7 @@ fn refused_shares(rt: HostRuntime) -> Result<(), Fail> {
             },
             SetError::OtherGroupCount,
         ),
-        (
-            fields_with(TWO_NEEDED_MEMBER_2, &[0; 18])?,
-            SetError::OtherLength,
-        ),
+        (member_2(&[0; 18])?, SetError::OtherLength),
         (
             ShareFields {
                 member_index: 1,
@@ -157,7 +132,7 @@ fn refused_shares(rt: HostRuntime) -> Result<(), Fail> {
             SetError::OtherMemberThreshold { group: 0 },
         ),
         (
-            fields_with(TWO_NEEDED_MEMBER_2, &flipped)?,
+            member_2(b"\x07\x07\x07\x07\x07\x07\x07\x07\x07\x07\x07\x07\x07\x07\x07\x06")?,
             SetError::ConflictingShare {
                 group: 0,
                 member: 2,
@@ -166,10 +141,7 @@ fn refused_shares(rt: HostRuntime) -> Result<(), Fail> {
     ] {
         assert_eq!(rt; set.add(share(fields)?), Err(error));
     }
-    assert_eq!(rt;
-        set.add(parse(TWO_NEEDED_MEMBER_2.as_bytes())?),
-        Ok(Added::Repeat)
-    );
+    assert_eq!(rt; set.add(share(member_2(&[7; 16])?)?), Ok(Added::Repeat));
     Ok(())
 }
 
