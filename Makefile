@@ -10,8 +10,8 @@
 RT ?= rt
 PREFIX ?= /usr/local
 VERSION = 1.0.0
-# The crate of the program: the one that has a main, but for the bench.
-PROGRAM = $(filter-out s39_bench,$(patsubst crates/%/src/main.rt,%,$(wildcard crates/*/src/main.rt)))
+# The crate of the program: the one that has a main, but for the bench and the examples over arrays.
+PROGRAM = $(filter-out s39_bench s39_growths,$(patsubst crates/%/src/main.rt,%,$(wildcard crates/*/src/main.rt)))
 BIN = $(DESTDIR)$(PREFIX)/bin
 SHARE = $(DESTDIR)$(PREFIX)/share
 MANUAL = $(SHARE)/man/man1
@@ -41,6 +41,7 @@ check: shamir
 	@tools/terminal
 
 faults: shamir
+	cd crates/s39_growths && $(RT) run < stdin > /dev/null
 	@tools/faults
 
 compare: shamir
