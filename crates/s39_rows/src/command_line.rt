@@ -3,16 +3,69 @@
 use crate::devices::Full;
 use crate::vectors::ONE_OF_ONE;
 use s39_cli::{Job, NoJob, program, read_words};
-use std::test::Fail;
+use std::alloc::Global;
+use std::process::Abort;
+
+/// Each of the command lines gives this job.
+fn expect_jobs(rt: &impl Abort, alloc: Global, cases: &[(&[&str], Job)]) {
+    for (words, job) in cases {
+        assert_eq!(rt; read_words(alloc, words).ok(), Some(*job));
+    }
+}
+
+/// Each of the command lines is refused, with a message and no output.
+fn expect_refusals(rt: &impl Abort, alloc: Global, cases: &[&[&str]]) {
+    for words in cases {
+        assert!(rt; matches!(read_words(alloc, words), Err(NoJob::Refused(_))));
+        let mut written = Vec::new(alloc);
+        let mut told = Vec::new(alloc);
+        let answer = program(alloc, words, ONE_OF_ONE.as_bytes(), &mut written, &mut told);
+        assert_eq!(rt; answer, 2);
+        assert!(rt; written.is_empty());
+        assert!(rt; told.as_slice().starts_with(b"error: "));
+    }
+}
 
 #[test]
-fn reads_the_command_line(rt: HostRuntime) -> Result<(), Fail> {
-    let alloc = rt.alloc();
+fn reads_show_and_recover(rt: HostRuntime) {
     let empty = Job::Recover { passphrase: "" };
     let trezor = Job::Recover {
         passphrase: "TREZOR",
     };
     let dashed = Job::Recover { passphrase: "-x" };
+    let cases: [(&[&str], Job); 7] = [
+        (&["shamir", "show"], Job::Show),
+        (&["shamir", "recover"], empty),
+        (&["shamir", "recover", "--passphrase", "TREZOR"], trezor),
+        (&["shamir", "recover", "--passphrase=TREZOR"], trezor),
+        (&["shamir", "recover", "--passphrase="], empty),
+        (&["shamir", "recover", "--passphrase", ""], empty),
+        (&["shamir", "recover", "--passphrase=-x"], dashed),
+    ];
+    expect_jobs(&rt, rt.alloc(), &cases);
+    let refused: [&[&str]; 9] = [
+        &["shamir", "show", "--verbose"],
+        &["shamir", "show", "file"],
+        &["shamir", "show", "--passphrase", "TREZOR"],
+        &["shamir", "--passphrase", "TREZOR", "recover"],
+        &["shamir", "recover", "file"],
+        &["shamir", "recover", "--extendable"],
+        &["shamir", "recover", "--passphrase"],
+        &[
+            "shamir",
+            "recover",
+            "--passphrase",
+            "TREZOR",
+            "--passphrase",
+            "TREZOR",
+        ],
+        &["shamir", "reveal"],
+    ];
+    expect_refusals(&rt, rt.alloc(), &refused);
+}
+
+#[test]
+fn reads_create(rt: HostRuntime) {
     let plain = Job::Create {
         plan: "1of1",
         secret: "00",
@@ -27,31 +80,7 @@ fn reads_the_command_line(rt: HostRuntime) -> Result<(), Fail> {
         exponent: 15,
         extendable: true,
     };
-    let first = Job::Drill {
-        passphrase: "",
-        after: None,
-        limit: 1000,
-    };
-    let rest = Job::Drill {
-        passphrase: "TREZOR",
-        after: Some("0.0+1.0"),
-        limit: 4_294_967_295,
-    };
-    let jobs: [(&[&str], Job); 12] = [
-        (&["shamir", "drill"], first),
-        (
-            &[
-                "shamir",
-                "drill",
-                "--limit=4294967295",
-                "--after",
-                "0.0+1.0",
-                "--passphrase",
-                "TREZOR",
-            ],
-            rest,
-        ),
-        (&["shamir", "show"], Job::Show),
+    let cases: [(&[&str], Job); 3] = [
         (
             &["shamir", "create", "1of1", "--master-secret", "00"],
             plain,
@@ -81,20 +110,13 @@ fn reads_the_command_line(rt: HostRuntime) -> Result<(), Fail> {
             ],
             full,
         ),
-        (&["shamir", "recover"], empty),
-        (&["shamir", "recover", "--passphrase", "TREZOR"], trezor),
-        (&["shamir", "recover", "--passphrase=TREZOR"], trezor),
-        (&["shamir", "recover", "--passphrase="], empty),
-        (&["shamir", "recover", "--passphrase", ""], empty),
-        (&["shamir", "recover", "--passphrase=-x"], dashed),
     ];
-    for (words, job) in jobs {
-        assert_eq!(rt; read_words(alloc, words).ok(), Some(job));
-    }
-    let refused: [&[&str]; 20] = [
-        &["shamir", "drill", "--limit", "0"],
-        &["shamir", "drill", "--limit", "4294967296"],
-        &["shamir", "drill", "--after"],
+    expect_jobs(&rt, rt.alloc(), &cases);
+}
+
+#[test]
+fn refuses_words_of_create(rt: HostRuntime) {
+    let refused: [&[&str]; 7] = [
         &["shamir", "create"],
         &["shamir", "create", "1of1"],
         &["shamir", "create", "--master-secret", "00"],
@@ -124,33 +146,50 @@ fn reads_the_command_line(rt: HostRuntime) -> Result<(), Fail> {
             "00",
             "--extendable=true",
         ],
-        &["shamir", "recover", "--extendable"],
-        &["shamir"],
-        &["shamir", "reveal"],
-        &["shamir", "show", "--verbose"],
-        &["shamir", "show", "file"],
-        &["shamir", "show", "--passphrase", "TREZOR"],
-        &["shamir", "--passphrase", "TREZOR", "recover"],
-        &["shamir", "recover", "file"],
-        &["shamir", "recover", "--passphrase"],
-        &[
-            "shamir",
-            "recover",
-            "--passphrase",
-            "TREZOR",
-            "--passphrase",
-            "TREZOR",
-        ],
     ];
-    for words in refused {
-        assert!(rt; matches!(read_words(alloc, words), Err(NoJob::Refused(_))));
-        let mut written = Vec::new(alloc);
-        let mut told = Vec::new(alloc);
-        let answer = program(alloc, words, ONE_OF_ONE.as_bytes(), &mut written, &mut told);
-        assert_eq!(rt; answer, 2);
-        assert!(rt; written.is_empty());
-        assert!(rt; told.as_slice().starts_with(b"error: "));
-    }
+    expect_refusals(&rt, rt.alloc(), &refused);
+}
+
+#[test]
+fn reads_drill(rt: HostRuntime) {
+    let first = Job::Drill {
+        passphrase: "",
+        after: None,
+        limit: 1000,
+    };
+    let rest = Job::Drill {
+        passphrase: "TREZOR",
+        after: Some("0.0+1.0"),
+        limit: 4_294_967_295,
+    };
+    let cases: [(&[&str], Job); 2] = [
+        (&["shamir", "drill"], first),
+        (
+            &[
+                "shamir",
+                "drill",
+                "--limit=4294967295",
+                "--after",
+                "0.0+1.0",
+                "--passphrase",
+                "TREZOR",
+            ],
+            rest,
+        ),
+    ];
+    expect_jobs(&rt, rt.alloc(), &cases);
+    let refused: [&[&str]; 3] = [
+        &["shamir", "drill", "--limit", "0"],
+        &["shamir", "drill", "--limit", "4294967296"],
+        &["shamir", "drill", "--after"],
+    ];
+    expect_refusals(&rt, rt.alloc(), &refused);
+}
+
+#[test]
+fn answers_without_a_command(rt: HostRuntime) {
+    let alloc = rt.alloc();
+    expect_refusals(&rt, alloc, &[&["shamir"]]);
     let help = ["shamir", "--help"];
     assert!(rt; matches!(read_words(alloc, &help), Err(NoJob::Help(_))));
     let mut written = Vec::new(alloc);
@@ -162,5 +201,4 @@ fn reads_the_command_line(rt: HostRuntime) -> Result<(), Fail> {
     assert!(rt; !written.is_empty() && told.is_empty());
     assert_eq!(rt; program(alloc, &help, b"".as_slice(), Full, &mut told), 3);
     assert_eq!(rt; told.as_slice(), b"shamir: 73 write failed\n".as_slice());
-    Ok(())
 }

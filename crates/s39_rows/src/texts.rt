@@ -4,52 +4,58 @@ use s39_cli::FaultText;
 use s39_kdf::BadPassphrase;
 use s39_set::{SetError, SetLack};
 use s39_tool::{Fault, LineRefusal, Mismatch, PlanError, Refusal};
+use std::alloc::Global;
+use std::process::Abort;
 use std::test::Fail;
+
+/// The refusal of a run has this text, with line 7 where it has a line.
+fn expect_text(rt: &impl Abort, alloc: Global, refusal: Refusal, text: &str) -> Result<(), Fail> {
+    let line = if refusal.has_line() { Some(7) } else { None };
+    let told = format!(in alloc; "{}", FaultText::from(Fault { line, refusal }))?;
+    let wanted = format!(in alloc; "shamir: {text}")?;
+    assert_eq!(rt; told.as_str(), wanted.as_str());
+    Ok(())
+}
 
 #[test]
 fn names_refusals_of_shares(rt: HostRuntime) -> Result<(), Fail> {
-    let alloc = rt.alloc();
     let conflicting = SetError::ConflictingShare {
         group: 3,
         member: 12,
     };
+    let cases = [
+        (SetError::OtherIdentifier, "line 7: 21 other identifier"),
+        (
+            SetError::OtherExtendable,
+            "line 7: 22 other extendable flag",
+        ),
+        (SetError::OtherExponent, "line 7: 23 other exponent"),
+        (
+            SetError::OtherGroupThreshold,
+            "line 7: 24 other group threshold",
+        ),
+        (SetError::OtherGroupCount, "line 7: 25 other group count"),
+        (SetError::OtherLength, "line 7: 26 other length"),
+        (
+            SetError::OtherMemberThreshold { group: 15 },
+            "line 7: 27 other member threshold in group 15",
+        ),
+        (conflicting, "line 7: 28 conflicting share 3.12"),
+    ];
+    for (error, text) in cases {
+        let refusal = Refusal::Line(LineRefusal::Set(error));
+        expect_text(&rt, rt.alloc(), refusal, text)?;
+    }
+    Ok(())
+}
+
+#[test]
+fn names_refusals_of_sets(rt: HostRuntime) -> Result<(), Fail> {
     let incomplete = SetLack::Incomplete {
         complete: 1,
         required: 2,
     };
     let cases = [
-        (
-            Refusal::Line(LineRefusal::Set(SetError::OtherIdentifier)),
-            "line 7: 21 other identifier",
-        ),
-        (
-            Refusal::Line(LineRefusal::Set(SetError::OtherExtendable)),
-            "line 7: 22 other extendable flag",
-        ),
-        (
-            Refusal::Line(LineRefusal::Set(SetError::OtherExponent)),
-            "line 7: 23 other exponent",
-        ),
-        (
-            Refusal::Line(LineRefusal::Set(SetError::OtherGroupThreshold)),
-            "line 7: 24 other group threshold",
-        ),
-        (
-            Refusal::Line(LineRefusal::Set(SetError::OtherGroupCount)),
-            "line 7: 25 other group count",
-        ),
-        (
-            Refusal::Line(LineRefusal::Set(SetError::OtherLength)),
-            "line 7: 26 other length",
-        ),
-        (
-            Refusal::Line(LineRefusal::Set(SetError::OtherMemberThreshold { group: 15 })),
-            "line 7: 27 other member threshold in group 15",
-        ),
-        (
-            Refusal::Line(LineRefusal::Set(conflicting)),
-            "line 7: 28 conflicting share 3.12",
-        ),
         (Refusal::Lack(SetLack::NoShares), "29 no shares"),
         (Refusal::Lack(incomplete), "30 incomplete: 1 of 2 groups"),
         (Refusal::NotAQuorum, "62 cursor is no quorum"),
@@ -67,10 +73,7 @@ fn names_refusals_of_shares(rt: HostRuntime) -> Result<(), Fail> {
         ),
     ];
     for (refusal, text) in cases {
-        let line = if refusal.has_line() { Some(7) } else { None };
-        let told = format!(in alloc; "{}", FaultText::from(Fault { line, refusal }))?;
-        let wanted = format!(in alloc; "shamir: {text}")?;
-        assert_eq!(rt; told.as_str(), wanted.as_str());
+        expect_text(&rt, rt.alloc(), refusal, text)?;
     }
     Ok(())
 }
