@@ -15,7 +15,7 @@ use Rattle.s39_set.specs.declared.next.Tail.TheVariants.{Group, LaterGroups}
 use Rattle.s39_set.specs.Names.{name_cmp, names_cmp, names_in_group, AreNames, most_groups, most_members}
 use Rattle.s39_set.specs.Groups.{is_complete, first_members, members_of, groups_above}
 use Rattle.s39_set.specs.ShareSet.{IsShareSet, name_of}
-use Rattle.s39_set.specs.Quorums.{group_threshold_of, member_threshold_of, IsQuorum, IsFirstQuorumAfter, HasNoQuorumAfter}
+use Rattle.s39_set.specs.Quorums.{group_threshold_of, member_threshold_of, IsQuorum, IsFirstQuorumAfter}
 use Rattle.s39_set.specs.Masks.{is_in}
 use Rattle.s39_set.specs.Steps.{AreMasksOf, Knows, members_from, members_taken, groups_from, groups_taken, IsTailFor, groups_used, tail_names}
 use Rattle.s39_set.proofs.Thresholds.{HasJust}
@@ -115,9 +115,6 @@ module _ (shares : List ShareFields) (is : IsShareSet shares) (Q : List (ℕ × 
   pub none_behind_all : NoneBehind Q
   none_behind_all Z other =
       none_at_end (member_threshold_of shares) (map name_of shares) required.0 (groups-below shares is) Q (just Q quorum) Z (just (Q ++ Z) other)
-
-  pub last_from_none : NoneBehind [] → HasNoQuorumAfter shares (Some Q)
-  last_from_none none names other after = none names other after
 
   module _ (choice : Choice) (knows : Knows shares Q choice) (P S : List (ℕ × ℕ)) (x : ℕ × ℕ) (parts : Q ≡ P ++ x ∷ S) where
     abbrev T : ℕ → Option ℕ

@@ -92,14 +92,6 @@ pub value_interpolated : (n : ℕ) (points : List (ℕ × List ℕ)) (are : AreP
 unfolding value_at_place
 value_interpolated n points are x = (strings_have_a_value points x n are.places are.bytes are.lengths are.distinct).3
 
-pub length-value : (n : ℕ) (points : List (ℕ × List ℕ)) (are : ArePoints n points) (x : ℕ) → length (value_at_place n points are x) ≡ n
-unfolding value_at_place
-length-value n points are x = (strings_have_a_value points x n are.places are.bytes are.lengths are.distinct).1
-
-pub AreBytes-value : (n : ℕ) (points : List (ℕ × List ℕ)) (are : ArePoints n points) (x : ℕ) → AreBytes (value_at_place n points are x)
-unfolding value_at_place
-AreBytes-value n points are x = (strings_have_a_value points x n are.places are.bytes are.lengths are.distinct).2
-
 -- random shares, the digest share and the secret are such points
 pub are_base_points : (random_shares : List (List ℕ)) (key secret : List ℕ) → length random_shares + 2 ≤ most_shares
     → length key + digest_length ≡ length secret → AreBytes key → AreBytes secret

@@ -34,10 +34,6 @@ words_ascend : ascends word_list ≡ true
 unfolding word_list
 words_ascend = refl
 
-rows_ascend : ascends (map row_of word_list) ≡ true
-unfolding word_list
-rows_ascend = refl
-
 starts_ascend : ascends (map (take telling_letters) word_list) ≡ true
 unfolding word_list
 starts_ascend = refl
