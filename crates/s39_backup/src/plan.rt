@@ -59,6 +59,14 @@ impl Plan {
         read_plan(text.as_bytes())
     }
 
+    /// The plan of a text in bytes, which needn't be UTF-8, as `parse` gives it.
+    pub fn parse_bytes(text: &[u8]) -> Result<Plan, PlanError>
+        ensures reading { IsPlanReading text.now (result_map_both
+            (λ plan. (plan.group_threshold, plan.groups.items)) (λ error. error) result) }
+    {
+        read_plan(text)
+    }
+
     /// The number of random bytes that a backup of a secret of `n_bytes` bytes, from 16 to 128, takes: 2 for the
     /// identifier, and those of the group level and of each group (`s39_split::random_needed`). It is at most 32,574.
     pub fn random_needed(&self, n_bytes: usize) -> usize

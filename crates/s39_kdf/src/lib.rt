@@ -14,7 +14,7 @@ pub use key_derivation::{MAX_DERIVED_BYTES, pbkdf2};
 pub use keyed_hash::{MAC_BYTES, hmac};
 pub use limits::{
     BadPassphrase, BadSecretLength, Bytes, MAX_SECRET_BYTES, MIN_SECRET_BYTES, check_passphrase,
-    check_secret,
+    check_secret, check_secret_length,
 };
 pub use params::Params;
 

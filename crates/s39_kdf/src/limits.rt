@@ -64,17 +64,23 @@ fn is_printable(byte: u8) -> bool
     matches!(byte, 32..=126)
 }
 
+/// Accepts a length of a master secret exactly where it is even, from 16 to 128 bytes.
+pub fn check_secret_length(bytes: usize) -> Result<(), BadSecretLength>
+    ensures accepted { IsOk result ↔ IsSecretLength bytes }
+    ensures length { IfErr result (λ bad. bad.bytes ≡ bytes) }
+{
+    if bytes % 2 != 0 || bytes < MIN_SECRET_BYTES || MAX_SECRET_BYTES < bytes {
+        return Err(BadSecretLength { bytes });
+    }
+    Ok(())
+}
+
 /// Copies a master secret, exactly where its length is even, from 16 to 128 bytes.
 pub fn check_secret(secret: &[u8]) -> Result<Bytes, BadSecretLength>
     ensures accepted { IsOk result ↔ IsSecretLength (length secret.now) }
     ensures unchanged { IfOk result (λ bytes. bytes.items ≡ secret.now) }
     ensures length { IfErr result (λ bad. bad.bytes ≡ length secret.now) }
 {
-    let refusal = BadSecretLength {
-        bytes: secret.len(),
-    };
-    if secret.len() % 2 != 0 || secret.len() < MIN_SECRET_BYTES {
-        return Err(refusal);
-    }
-    Bytes::try_from(secret).map_err(|_| refusal)
+    check_secret_length(secret.len())?;
+    Ok(Bytes::try_from(secret).unwrap())
 }

@@ -13,6 +13,10 @@ pub record Input : Type 0 where
   pub bytes : List ℕ
   pub ended : Bool
 
+-- these bytes, after which the input ended
+abbrev pub whole : List ℕ → Input
+whole bytes = record { bytes = bytes; ended = true }
+
 abbrev pub is_line_feed : ℕ → Bool
 is_line_feed b = b == 10
 

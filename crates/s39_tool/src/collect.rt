@@ -3,11 +3,12 @@ ghost use Rattle.std.specs.Prelude.{◌≡◌, ◌+◌, ◌<◌, IfOk};
 ghost use Rattle.s39_set.specs.ShareSet.{IsShareSet};
 ghost use Rattle.s39_tool.specs.Accepted.{IsReadAs};
 ghost use Rattle.s39_tool.specs.Fault.{stop_failures};
+ghost use Rattle.s39_tool.specs.Input.{whole};
 ghost use Rattle.s39_tool.specs.Runs.{OfInput};
 
 use crate::device::Counting;
 use crate::fault::{LineRefusal, Stop};
-use crate::lines::{TakeLine, share_in, take_lines};
+use crate::lines::{TakeLine, share_in, take_lines, take_lines_of};
 use s39_set::ShareSet;
 use s39_set::laws::{one_more_is_added, same_shares_refuse_the_same};
 use std::io::Read;
@@ -57,4 +58,16 @@ pub(crate) fn set_of<R: Read>(input: &mut Counting<R>) -> Result<ShareSet, Stop<
     let mut set = ShareSet::new();
     take_lines(input, &mut set)?;
     Ok(set)
+}
+
+/// The set of the shares of lines in memory, as `set_of` gives it of an input that ends after them.
+pub(crate) fn set_in(bytes: &[u8]) -> Result<ShareSet, Stop<LineRefusal>>
+    ensures read { IsReadAs (whole bytes.now) result }
+    ensures is_set { IfOk result IsShareSet }
+{
+    same_shares_refuse_the_same();
+    one_more_is_added();
+    let mut shares = ShareSet::new();
+    take_lines_of(bytes, &mut shares)?;
+    Ok(shares)
 }

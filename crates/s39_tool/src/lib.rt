@@ -9,6 +9,7 @@ mod drill;
 mod fault;
 pub mod laws;
 mod lines;
+mod memory;
 mod output;
 mod recover;
 mod show;
@@ -17,6 +18,7 @@ pub use creating::run_create;
 pub use device::Counting;
 pub use drill::{Done, Undrilled, run_drill};
 pub use fault::{DeviceFailure, Fault, LineRefusal, Refusal, RefusedLine, Stop};
+pub use memory::recover_secret;
 pub use recover::{Unrecovered, run_recover};
 pub use s39_backup::{
     CreateError, Created, Members, Memo, Mismatch, Options, Plan, PlanError, RecoverError, create,

@@ -3,7 +3,7 @@ ghost use Rattle.std.specs.Prelude.{◌≡◌, ◌≢◌, ℕ, ◌+◌, ◌<◌,
 ghost use Rattle.std.specs.Io.KnownBytes.{Consumes};
 ghost use Rattle.s39_words.specs.Spelling.{is_separator};
 ghost use Rattle.s39_tool.specs.Fault.{stop_failures};
-ghost use Rattle.s39_tool.specs.Input.{longest_line, is_skipped};
+ghost use Rattle.s39_tool.specs.Input.{longest_line, is_skipped, whole};
 ghost use Rattle.s39_tool.specs.Lines.{Holds, IsRefusedBy};
 ghost use Rattle.s39_tool.specs.Midway.{RunsOver, ReachesOrStops, IsMidway};
 ghost use Rattle.s39_tool.specs.Runs.{OfInput};
@@ -218,4 +218,21 @@ pub(crate) fn take_lines<R: Read, T: TakeLine>(
             Err(_) => return Err(Stop::ReadFailed),
         }
     }
+}
+
+/// Takes the lines of an input that is in memory, in their order, until it ends or a line is refused: as `take_lines`
+/// does, but no read can fail.
+pub(crate) fn take_lines_of<T: TakeLine>(
+    bytes: &[u8],
+    taker: &mut T,
+) -> Result<(), Stop<T::Refusal>>
+    requires { T.can_take taker.old }
+    ensures { RunsOver T.takes (whole bytes.now) taker.old taker.new result }
+{
+    let mut last = Unfinished {
+        line: ArrayVec::new(),
+        number: 1,
+    };
+    last.take_piece(bytes, taker)?;
+    Ok(take_numbered(taker, &last.line, &mut last.number)?)
 }

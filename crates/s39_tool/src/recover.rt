@@ -81,7 +81,7 @@ pub fn run_recover<R: Read, W: Write>(
 }
 
 /// The secret that the least quorum of a set recovers.
-fn secret_of(set: &ShareSet, passphrase: &[u8]) -> Result<Bytes, Unrecovered>
+pub(crate) fn secret_of(set: &ShareSet, passphrase: &[u8]) -> Result<Bytes, Unrecovered>
     ensures secret { IfOk result (λ secret. HasOutcome set.now passphrase.now (Ok secret.items)) }
     ensures refused { IfErr result (IsUnrecovered set.now passphrase.now) }
 {

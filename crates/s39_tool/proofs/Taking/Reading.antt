@@ -4,7 +4,7 @@ use Rattle.std.proofs.lemmas.List.{append-nil, length-append}
 use Rattle.std.specs.Prelude.{◌≢◌, All}
 use Rattle.std.specs.Io.KnownBytes.{Consumes}
 use Rattle.s39_tool.specs.declared.fault.RefusedLine.{RefusedLine}
-use Rattle.s39_tool.specs.declared.fault.Stop.TheVariants.{ReadFailed}
+use Rattle.s39_tool.specs.declared.fault.Stop.TheVariants.{AtLine, ReadFailed}
 use Rattle.s39_tool.specs.Device.{Counted}
 use Rattle.s39_tool.specs.Input.{longest_line, parts_of, lines_of}
 use Rattle.s39_tool.specs.Fault.{line_number}
@@ -110,6 +110,13 @@ module _ {S C : Type 0} (takes : S → List ℕ → Result (Unit {0}) C → S �
   pub runs_to_end : (came u : List ℕ) (number : ℕ) (old mid new : S) → IsMidway takes came u number old mid → takes mid u (Ok tt) new
       → RunsOver takes (record { bytes = came; ended = true }) old new (Ok tt)
   runs_to_end came u number old mid new m t = (refl, rw m.parts (TakesLines-more m.lines u old mid new m.taken t))
+
+  -- the input ended: its last line is refused
+  pub runs_to_refusal : (came u : List ℕ) (number : ℕ) (refused : RefusedLine C) (old mid new : S) → IsMidway takes came u number old mid
+      → takes mid u (Err refused.refusal) new → refused.number ≡ number
+      → RunsOver takes (record { bytes = came; ended = true }) old new (Err (AtLine refused))
+  runs_to_refusal came u number refused old mid new m r n =
+      (mid, record { before = m.lines; line = u; after = []; parts = m.parts; taken = m.taken; refuses = r; number_is = n ∙ m.number_is })
 
   -- a read failed: the unfinished line is dropped
   pub runs_to_failure : (came u : List ℕ) (number : ℕ) (old new : S) → IsMidway takes came u number old new

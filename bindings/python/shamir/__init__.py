@@ -1,0 +1,161 @@
+"""SLIP-0039 backups, by the library libshamir.
+
+Each function hands its arguments to the library and what it answers back; no rule of the format stands here. The library
+is the file that the environment variable SHAMIR_LIBRARY names, or libshamir.so in this package's folder (`make lib`
+puts it there), or the system's libshamir.so. Calls share nothing, so they may run on any threads.
+"""
+from __future__ import annotations
+
+import ctypes
+import os
+import pathlib
+from dataclasses import dataclass
+from typing import Iterable, List, Optional, Tuple, Union
+
+__all__ = ["Refusal", "Share", "create", "parse", "random_needed", "recover"]
+
+Text = Union[str, bytes]
+
+TOO_SHORT = 1
+SECRET_BYTES_MAX = 128
+FIRST_ROOM = 4096
+
+
+class _Answer(ctypes.Structure):
+    _fields_ = [
+        ("code", ctypes.c_uint32),
+        ("mismatches", ctypes.c_uint32),
+        ("line", ctypes.c_uint64),
+        ("first", ctypes.c_uint64),
+        ("second", ctypes.c_uint64),
+        ("written", ctypes.c_uint64),
+    ]
+
+
+class _Share(ctypes.Structure):
+    _fields_ = [
+        ("id", ctypes.c_uint16),
+        ("extendable", ctypes.c_uint8),
+        ("exponent", ctypes.c_uint8),
+        ("group_index", ctypes.c_uint8),
+        ("group_threshold", ctypes.c_uint8),
+        ("group_count", ctypes.c_uint8),
+        ("member_index", ctypes.c_uint8),
+        ("member_threshold", ctypes.c_uint8),
+    ]
+
+
+_SLICE = [ctypes.c_char_p, ctypes.c_size_t]
+_ROOM = [ctypes.c_void_p, ctypes.c_size_t]
+
+
+def _loaded() -> ctypes.CDLL:
+    beside = pathlib.Path(__file__).parent / "libshamir.so"
+    library = ctypes.CDLL(os.environ.get("SHAMIR_LIBRARY") or (str(beside) if beside.exists() else "libshamir.so"))
+    for name, arguments in [
+        ("shamir_parse", _SLICE + [ctypes.POINTER(_Share)] + _ROOM),
+        ("shamir_random_needed", _SLICE + [ctypes.c_size_t]),
+        ("shamir_create", _SLICE * 3 + [ctypes.c_uint32] * 2 + _SLICE + _ROOM),
+        ("shamir_recover", _SLICE * 2 + _ROOM),
+    ]:
+        function = getattr(library, name)
+        function.argtypes, function.restype = arguments, _Answer
+    return library
+
+
+_library = _loaded()
+
+
+class Refusal(Exception):
+    """What the library refuses: `code` is the number of the cause, `line` the line that is refused, counted from 1, or None,
+    and `details` two numbers whose meaning by code is a table in shamir.h."""
+
+    def __init__(self, code: int, line: Optional[int], details: Tuple[int, int]):
+        super().__init__(code, line, details)
+        self.code, self.line, self.details = code, line, details
+
+    def __str__(self) -> str:
+        place = f"line {self.line}: " if self.line else ""
+        return f"{place}{self.code} {self.details[0]} {self.details[1]}"
+
+
+@dataclass(frozen=True)
+class Share:
+    """The fields of a mnemonic. Indices are counted from 0."""
+
+    id: int
+    extendable: bool
+    exponent: int
+    group_index: int
+    group_threshold: int
+    group_count: int
+    member_index: int
+    member_threshold: int
+    value: bytes
+
+
+def _bytes(text: Text) -> bytes:
+    return text.encode() if isinstance(text, str) else bytes(text)
+
+
+def _slice(data: bytes) -> Tuple[bytes, int]:
+    return data, len(data)
+
+
+def _checked(answer: _Answer) -> _Answer:
+    if answer.code:
+        raise Refusal(answer.code, answer.line or None, (answer.first, answer.second))
+    return answer
+
+
+def _filled(call, room: int) -> bytes:
+    """What a call writes into a buffer of so many bytes, or, where that is too short, into one that is long enough."""
+    while True:
+        buffer = ctypes.create_string_buffer(room)
+        answer = call(buffer, room)
+        if answer.code != TOO_SHORT:
+            return buffer.raw[: _checked(answer).written]
+        room = answer.first
+
+
+def _joined(lines: Union[Text, Iterable[Text]]) -> bytes:
+    if isinstance(lines, (str, bytes)):
+        return _bytes(lines)
+    return b"\n".join(_bytes(line) for line in lines)
+
+
+def parse(mnemonic: Text) -> Share:
+    """The share that a mnemonic spells. Raises `Refusal` 11 to 15."""
+    fields, line = _Share(), _bytes(mnemonic)
+    value = _filled(lambda out, room: _library.shamir_parse(*_slice(line), ctypes.byref(fields), out, room), SECRET_BYTES_MAX)
+    header = {name: getattr(fields, name) for name, _ in _Share._fields_}
+    return Share(**{**header, "extendable": bool(fields.extendable)}, value=value)
+
+
+def random_needed(plan: Text, secret_bytes: int) -> int:
+    """How many random bytes a backup of a secret of so many bytes takes. Raises `Refusal` 31 to 34, or 42."""
+    return _checked(_library.shamir_random_needed(*_slice(_bytes(plan)), secret_bytes)).first
+
+
+def create(
+    plan: Text, secret: bytes, passphrase: Text = b"", exponent: int = 0, extendable: bool = False, random: Optional[bytes] = None
+) -> List[str]:
+    """The mnemonics of a new backup of a secret, by group and member.
+
+    `plan` is TofN, or GT/T1ofN1,T2ofN2,..; the iteration exponent is 0 to 15. `random` are as many bytes as
+    `random_needed` says, which nobody can guess and which are used once; where it is None they come from `os.urandom`.
+    Raises `Refusal` 2, 31 to 34, or 41 to 43.
+    """
+    if random is None:
+        random = os.urandom(random_needed(plan, len(secret)))
+    given = _slice(_bytes(plan)) + _slice(secret) + _slice(_bytes(passphrase)) + (exponent, int(extendable)) + _slice(random)
+    return _filled(lambda out, room: _library.shamir_create(*given, out, room), FIRST_ROOM).decode().splitlines()
+
+
+def recover(lines: Union[Text, Iterable[Text]], passphrase: Text = b"") -> bytes:
+    """The secret of mnemonics, given as a text of lines or as a list of them: that of the least quorum among them.
+
+    A wrong passphrase isn't noticed: it gives another secret. Raises `Refusal` 11 to 30, 41, 51 or 71.
+    """
+    given = _slice(_joined(lines)) + _slice(_bytes(passphrase))
+    return _filled(lambda out, room: _library.shamir_recover(*given, out, room), SECRET_BYTES_MAX)

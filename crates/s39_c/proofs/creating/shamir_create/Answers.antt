@@ -1,0 +1,22 @@
+use Rattle.std.proofs.Common.{inr, refl}
+use Rattle.s39_tool.specs.Create.{Asked}
+use Rattle.s39_c.specs.Creating.{Asks}
+use Rattle.s39_c.proofs.creating.shamir_create.Goals as goal
+
+pub returns-in-Ok : goal.returns-in-Ok
+returns-in-Ok c =
+    let asked : Asked = record {
+      secret = c.args.secret.now;
+      passphrase = c.args.passphrase.now;
+      group_threshold = c.in-Ok.plan.group_threshold;
+      groups = c.in-Ok.plan.groups.items;
+      options = c.in-Some.options;
+    } in
+    let asks : Asks _ asked = record {
+      plan = c.in-Ok.ensures.reading;
+      secret = refl;
+      passphrase = refl;
+      exponent = c.in-Some.ensures.exponent;
+      extendable = c.in-Some.ensures.extendable;
+    } in
+    inr (inr (asked, asks, c.create_by.ensures))

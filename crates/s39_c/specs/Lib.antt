@@ -1,0 +1,4 @@
+pub mod Answers
+pub mod Parsing
+pub mod Creating
+pub mod Recovering

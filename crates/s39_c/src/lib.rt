@@ -1,0 +1,17 @@
+//! The engine for programs in C, and in all languages that call C: each export calls the engine over memory of its
+//! caller, and answers a number. `include/shamir.h` declares them.
+#![tactic(auto)]
+
+mod answer;
+mod creating;
+mod memory;
+mod parsing;
+mod recovering;
+
+pub use answer::ShamirAnswer;
+pub use creating::{shamir_create, shamir_random_needed};
+pub use parsing::{ShamirShare, shamir_parse};
+pub use recovering::shamir_recover;
+
+#[cfg(test)]
+mod tests;

@@ -1,0 +1,175 @@
+//! The exports, with values from outside.
+use super::*;
+
+/// The master secret of a published vector.
+const SECRET: [u8; 16] = *b"\xbb\x54\xaa\xc4\xb8\x9d\xc8\x68\xba\x37\xd9\xcc\x21\xb2\xce\xce";
+
+/// The mnemonic of that vector, of which one is enough.
+const ONE: &[u8] = b"duckling enlarge academic academic agency result length solution fridge kidney coal piece deal husband erode duke ajar critical decision keyboard";
+
+/// Five mnemonics of the plan `2/2of3,1of1,1of1`, made by another program from that secret, the passphrase `TREZOR` and
+/// the random bytes 0 to 25.
+const FIVE: &[u8] = b"academic aluminum acrobat leaf buyer drink heat negative damage union purchase photo inmate training amazing yield bucket wrote mule cluster\nacademic aluminum acrobat lily august piece column laser headset unusual blimp nuclear sweater criminal credit eyebrow trouble silent axis skin\nacademic aluminum acrobat lungs dive behavior mobile ting perfect ultimate weapon join paper involve clinic acrobat jerky preach gross usual\nacademic aluminum beard leader chest elite grant group club deploy increase divorce puny cylinder romp frequent crush ruler erode bucket\nacademic aluminum ceramic leader cylinder decorate mobile devote echo finger program firm starting dwarf grumpy harvest enforce raisin sprinkle phantom\n";
+
+/// A header that no mnemonic has.
+const NO_SHARE: ShamirShare = ShamirShare {
+    id: 65_535,
+    extendable: 255,
+    exponent: 255,
+    group_index: 255,
+    group_threshold: 255,
+    group_count: 255,
+    member_index: 255,
+    member_threshold: 255,
+};
+
+/// A refusal by its number, line and details.
+const fn refusal(code: u32, line: u64, first: u64, second: u64) -> ShamirAnswer {
+    ShamirAnswer {
+        code,
+        mismatches: 0,
+        line,
+        first,
+        second,
+        written: 0,
+    }
+}
+
+#[test]
+fn parses(rt: HostRuntime) {
+    let mut value = [7; 17];
+    let mut share = NO_SHARE;
+    let answer = shamir_parse(ONE, &mut share, &mut value);
+    assert_eq!(rt; answer, ShamirAnswer { written: 16, ..refusal(0, 0, 0, 0) });
+    assert_eq!(rt;
+        value,
+        *b"\x11\xbc\x60\x9d\x21\x74\x7c\x49\xba\x78\xc0\x70\x12\x93\xe4\x17\x07"
+    );
+    let fields = ShamirShare {
+        id: 7945,
+        extendable: 0,
+        exponent: 0,
+        group_index: 0,
+        group_threshold: 1,
+        group_count: 1,
+        member_index: 0,
+        member_threshold: 1,
+    };
+    assert_eq!(rt; share, fields);
+}
+
+#[test]
+fn refuses_mnemonics(rt: HostRuntime) {
+    let cases: [(&[u8], usize, ShamirAnswer); 5] = [
+        (ONE, 15, refusal(1, 0, 16, 0)),
+        (ONE, 0, refusal(1, 0, 16, 0)),
+        (b"", 16, refusal(12, 0, 0, 0)),
+        (b"academic academia", 16, refusal(11, 0, 2, 0)),
+        (
+            b"duckling enlarge academic academic agency result length solution fridge kidney coal piece deal husband erode duke ajar critical decision kidney",
+            16,
+            refusal(13, 0, 0, 0),
+        ),
+    ];
+    for (line, room, refused) in cases {
+        let mut value = [7; 16];
+        let mut share = NO_SHARE;
+        let answer = shamir_parse(line, &mut share, &mut value[..room]);
+        assert_eq!(rt; answer, refused);
+        assert_eq!(rt; value, [7; 16]);
+        assert_eq!(rt; share, NO_SHARE);
+    }
+}
+
+#[test]
+fn creates(rt: HostRuntime) {
+    let plan = b"2/2of3,1of1,1of1";
+    let needed = ShamirAnswer { first: 26, ..refusal(0, 0, 0, 0) };
+    assert_eq!(rt; shamir_random_needed(plan, 16), needed);
+    assert_eq!(rt; shamir_random_needed(plan, 17), refusal(42, 0, 17, 0));
+    assert_eq!(rt; shamir_random_needed(b"1of1,1of3", 16), refusal(31, 0, 0, 0));
+    let random = [
+        0, 1, 2, 3, 4, 5, 6, 7, 8, 9, 10, 11, 12, 13, 14, 15, 16, 17, 18, 19, 20, 21, 22, 23, 24,
+        25,
+    ];
+    let mut text = [7; 1024];
+    let room = FIVE.len();
+    let answer = shamir_create(plan, &SECRET, b"TREZOR", 0, 0, &random, &mut text[..room - 1]);
+    assert_eq!(rt; answer, refusal(1, 0, room as u64, 0));
+    assert!(rt; text.iter().all(|byte| *byte == 7));
+    let answer = shamir_create(plan, &SECRET, b"TREZOR", 0, 0, &random, &mut text[..room]);
+    assert_eq!(rt; answer, ShamirAnswer { written: room as u64, ..refusal(0, 0, 0, 0) });
+    assert_eq!(rt; &text[..room], FIVE);
+}
+
+#[test]
+fn refuses_creations(rt: HostRuntime) {
+    let cases: [(&[u8], usize, &[u8], u32, usize, ShamirAnswer); 6] = [
+        (b"0of0", 0, b"a\x07", 16, 0, refusal(2, 0, 0, 0)),
+        (b"2/1of3,5of2", 14, b"a\x07", 15, 0, refusal(34, 0, 0, 0)),
+        (b"2/2of2,3of2", 14, b"a\x07", 15, 0, refusal(33, 0, 1, 0)),
+        (b"1of1", 14, b"a\x07", 0, 0, refusal(41, 0, 2, 0)),
+        (b"1of1", 14, b"", 0, 0, refusal(42, 0, 14, 0)),
+        (b"1of1", 16, b"", 0, 3, refusal(43, 0, 2, 0)),
+    ];
+    for (plan, bytes, passphrase, exponent, random, refused) in cases {
+        let mut text = [7; 200];
+        let answer = shamir_create(
+            plan,
+            &SECRET[..bytes],
+            passphrase,
+            exponent,
+            0,
+            &[0; 3][..random],
+            &mut text,
+        );
+        assert_eq!(rt; answer, refused);
+        assert!(rt; text.iter().all(|byte| *byte == 7));
+    }
+}
+
+#[test]
+fn recovers(rt: HostRuntime) {
+    let two = b"shadow pistol academic always adequate wildlife fancy gross oasis cylinder mustang wrist rescue view short owner flip making coding armed\n# a comment\n\nshadow pistol academic acid actress prayer class unknown daughter sweater depict flip twice unkind craft early superior advocate guest smoking";
+    let cases: [(&[u8], [u8; 16]); 3] = [
+        (ONE, SECRET),
+        (FIVE, SECRET),
+        (
+            two,
+            *b"\xb4\x3c\xeb\x7e\x57\xa0\xea\x87\x66\x22\x16\x24\xd0\x1b\x08\x64",
+        ),
+    ];
+    for (lines, secret) in cases {
+        let mut out = [7; 16];
+        let short = shamir_recover(lines, b"TREZOR", &mut out[..15]);
+        assert_eq!(rt; short, refusal(1, 0, 16, 0));
+        assert_eq!(rt; out, [7; 16]);
+        let answer = shamir_recover(lines, b"TREZOR", &mut out);
+        assert_eq!(rt; answer, ShamirAnswer { written: 16, ..refusal(0, 0, 0, 0) });
+        assert_eq!(rt; out, secret);
+    }
+}
+
+#[test]
+fn refuses_lines(rt: HostRuntime) {
+    let cases: [(&[u8], &[u8], ShamirAnswer); 5] = [
+        (b"", b"", refusal(29, 0, 0, 0)),
+        (b"", b"a\x07", refusal(41, 0, 2, 0)),
+        (b"\n#\nacademic x", b"", refusal(11, 3, 2, 0)),
+        (
+            b"shadow pistol academic always adequate wildlife fancy gross oasis cylinder mustang wrist rescue view short owner flip making coding armed",
+            b"",
+            refusal(30, 0, 0, 1),
+        ),
+        (
+            b"shadow pistol academic always adequate wildlife fancy gross oasis cylinder mustang wrist rescue view short owner flip making coding armed\nduckling enlarge academic academic agency result length solution fridge kidney coal piece deal husband erode duke ajar critical decision keyboard",
+            b"",
+            refusal(21, 2, 0, 0),
+        ),
+    ];
+    for (lines, passphrase, refused) in cases {
+        let mut out = [7; 16];
+        assert_eq!(rt; shamir_recover(lines, passphrase, &mut out), refused);
+        assert_eq!(rt; out, [7; 16]);
+    }
+}

@@ -1,0 +1,131 @@
+/*
+ * shamir.h: SLIP-0039 backups for programs in C.
+ *
+ * Each function works on memory of its caller. It takes no memory, makes no system call, keeps nothing between calls, and
+ * returns whatever bytes it is given. Calls share nothing, so they may run on any threads at once. A call takes at most
+ * SHAMIR_STACK_BYTES bytes of stack.
+ *
+ * A slice is a pointer and the number of bytes there. Slices that a call writes overlap no other slice of the call; where
+ * the number of bytes is 0, the pointer isn't used, and may be NULL. Texts need no zero at their end, and none is written.
+ *
+ * Whatever is refused: nothing is written then.
+ *
+ * Not wiped: copies of secrets and passphrases may be left on the stack. Nor is the time of a call the same for all
+ * secrets. docs/LIBRARY.md says what is promised and what isn't.
+ */
+#ifndef SHAMIR_H
+#define SHAMIR_H
+
+#include <stddef.h>
+#include <stdint.h>
+
+#ifdef __cplusplus
+extern "C" {
+#endif
+
+/* The fewest and the most bytes of a master secret, and so of a share's value; the number is even. */
+#define SHAMIR_SECRET_BYTES_MIN 16
+#define SHAMIR_SECRET_BYTES_MAX 128
+
+/* The most random bytes that a backup takes. */
+#define SHAMIR_RANDOM_BYTES_MAX 32574
+
+/* The most bytes of a mnemonic, and of all mnemonics of a backup, each with a line feed behind it. */
+#define SHAMIR_MNEMONIC_BYTES_MAX 989
+#define SHAMIR_MNEMONICS_BYTES_MAX 253440
+
+/* The most bytes of stack that a call takes. */
+#define SHAMIR_STACK_BYTES 262144
+
+/* Numbers that only a library answers; the others are those of the command shamir. */
+#define SHAMIR_TOO_SHORT 1
+#define SHAMIR_OUT_OF_RANGE 2
+
+/* In the place of a group in a digest's mismatch: the digest of the group shares. */
+#define SHAMIR_OF_GROUPS 16
+
+/*
+ * What a call answers. Where code is 0, nothing was refused. Else it is the number of the first cause that applies:
+ *
+ *   code    what                                         first                       second
+ *   1       a slice is too short                         the bytes that are needed
+ *   2       a number is out of its range
+ *   11      a word isn't in the word list                its position, from 1
+ *   12      no mnemonic has so many words                their number
+ *   13      the checksum is bad
+ *   14      the padding is bad
+ *   15      the group threshold is above the group count
+ *   21..26  other identifier, extendable flag, exponent, group threshold, group count, length
+ *   27      other member threshold                       the group, from 0
+ *   28      a conflicting share                          the group                   the member, from 0
+ *   29      no shares
+ *   30      incomplete                                   the complete groups         the groups that are needed
+ *   31      the text is no plan
+ *   32      bad number of groups in the plan
+ *   33      bad number of members in a group of the plan the group
+ *   34      one of many is enough in a group of the plan the group
+ *   41      a byte of the passphrase isn't printable     its position, from 1
+ *   42      a secret may not have so many bytes          their number
+ *   43      another number of random bytes is needed     the number that is needed
+ *   51      a digest doesn't match                       the group, or SHAMIR_OF_GROUPS
+ *   71      a line has more than 1,024 bytes
+ *
+ * What has no meaning is 0.
+ */
+typedef struct shamir_answer {
+    uint32_t code;
+    uint32_t mismatches; /* 0; kept for answers about several quorums */
+    uint64_t line;       /* the line that is refused, from 1, for the codes 11 to 28 and 71 of lines */
+    uint64_t first;
+    uint64_t second;
+    uint64_t written; /* how many bytes the call wrote */
+} shamir_answer;
+
+/* The fields of a mnemonic but its value. */
+typedef struct shamir_share {
+    uint16_t id;             /* the identifier of the backup, below 2^15 */
+    uint8_t extendable;      /* the extendable flag, 0 or 1 */
+    uint8_t exponent;        /* the iteration exponent, 0 to 15 */
+    uint8_t group_index;     /* 0 to 15 */
+    uint8_t group_threshold; /* 1 to group_count */
+    uint8_t group_count;     /* 1 to 16 */
+    uint8_t member_index;    /* 0 to 15 */
+    uint8_t member_threshold; /* 1 to 16 */
+} shamir_share;
+
+/*
+ * Reads a mnemonic: its fields go to share, and its value to the front of value, SHAMIR_SECRET_BYTES_MIN to
+ * SHAMIR_SECRET_BYTES_MAX bytes. Refused: 11 to 15, and then 1.
+ */
+shamir_answer shamir_parse(const uint8_t *line, size_t line_bytes, shamir_share *share, uint8_t *value, size_t value_bytes);
+
+/*
+ * How many random bytes a backup of a secret of so many bytes takes, by the text of a plan: first of the answer. A plan
+ * is TofN, or GT/T1ofN1,T2ofN2,.. for several groups of which GT are needed. Refused: 31 to 34, and then 42.
+ */
+shamir_answer shamir_random_needed(const uint8_t *plan, size_t plan_bytes, size_t secret_bytes);
+
+/*
+ * Creates a backup of a secret: its mnemonics go to the front of mnemonics, by group and member, each with a line feed
+ * behind it. The passphrase may be empty. The iteration exponent is 0 to 15: the call takes 10,000 * 2^exponent
+ * iterations. The extendable flag is set where extendable isn't 0. random has just as many bytes as
+ * shamir_random_needed says; they come from a source that nobody can guess, and are used once. Refused: 2 for an exponent
+ * above 15, then 31 to 34, 41, 42, 43, and then 1.
+ */
+shamir_answer shamir_create(
+    const uint8_t *plan, size_t plan_bytes, const uint8_t *secret, size_t secret_bytes, const uint8_t *passphrase, size_t passphrase_bytes,
+    uint32_t exponent, uint32_t extendable, const uint8_t *random, size_t random_bytes, uint8_t *mnemonics, size_t mnemonics_bytes);
+
+/*
+ * Recovers the secret of lines, each a mnemonic, blank, or a comment that begins with a number sign: that of the least
+ * quorum among them. It goes to the front of secret. A wrong passphrase isn't noticed: it gives another secret. Refused:
+ * 41, then the first refused line (11 to 28, 71), then 29, 30, 51, and then 1.
+ */
+shamir_answer shamir_recover(
+    const uint8_t *lines, size_t lines_bytes, const uint8_t *passphrase, size_t passphrase_bytes, uint8_t *secret, size_t secret_bytes);
+
+#ifdef __cplusplus
+}
+#endif
+
+#endif
