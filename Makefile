@@ -1,7 +1,9 @@
 # shamir: `make` proves and builds, `make test` is the merge gate.
 #
-#   make check       the fast checks: commands and tables of the documents, the manual page, completions, terminals
-#                    (make test runs them too)
+#   make lib         proves and builds the library: libshamir.a, and libshamir.so for the Python binding
+#   make check       the fast checks: commands and tables of the documents, the manual page, completions, terminals, the
+#                    library (make test runs them too)
+#   make check-library   the library alone: its header, the C example, the Python binding, made cases
 #   make faults      lets each growth, read and write of the program fail in turn
 #   make compare     compares made cases with a plain reading of the standard in Python
 #   make bench       measures
@@ -19,26 +21,43 @@ BASH = $(SHARE)/bash-completion/completions
 ZSH = $(SHARE)/zsh/site-functions
 FISH = $(SHARE)/fish/vendor_completions.d
 DOCUMENTS = $(SHARE)/doc/shamir
+LIBRARIES = $(DESTDIR)$(PREFIX)/lib
+HEADERS = $(DESTDIR)$(PREFIX)/include
+SOURCES = $(shell find crates -path '*/out' -prune -o -type f -print) crates.txt
 
-.PHONY: all test check bench faults compare install uninstall dist clean
+.PHONY: all lib test check check-library bench faults compare install uninstall dist clean
 
 all: shamir
 
 # Proves every crate that the program stands on, builds it, and runs it once on its stored input.
-shamir: $(shell find crates -path '*/out' -prune -o -type f -print) crates.txt
+shamir: $(SOURCES)
 	cd crates/$(PROGRAM) && $(RT) run -- show < stdin > /dev/null
 	cp crates/$(PROGRAM)/out/$(PROGRAM) $@
+
+lib: libshamir.so
+
+# Proves every crate that the library stands on, and builds it.
+libshamir.a: $(SOURCES)
+	cd crates/s39_c && $(RT) lib > /dev/null
+	cp crates/s39_c/out/libs39_c.a $@
+
+libshamir.so: libshamir.a
+	$(CC) -shared -o $@ -Wl,--whole-archive libshamir.a -Wl,--no-whole-archive
+	cp $@ bindings/python/shamir/libshamir.so
 
 test:
 	@RT=$(RT) tools/gate
 
-check: shamir
+check: shamir check-library
 	@test "$$(./shamir --version)" = "shamir $(VERSION)"
 	@tools/recipes
 	@tools/texts
 	@tools/manual
 	@tools/completions
 	@tools/terminal
+
+check-library: shamir libshamir.so
+	@tools/library
 
 faults: shamir
 	cd crates/s39_growths && $(RT) run < stdin > /dev/null
@@ -51,8 +70,11 @@ bench: shamir
 	cd crates/s39_bench && $(RT) run > /dev/null
 	@python3 tools/bench
 
-install: shamir
-	install -d $(BIN) $(MANUAL) $(BASH) $(ZSH) $(FISH) $(DOCUMENTS)/docs $(DOCUMENTS)/examples
+install: shamir libshamir.a
+	install -d $(BIN) $(MANUAL) $(BASH) $(ZSH) $(FISH) $(DOCUMENTS)/docs $(DOCUMENTS)/examples $(LIBRARIES)/pkgconfig $(HEADERS)
+	install -m 644 libshamir.a $(LIBRARIES)/libshamir.a
+	install -m 644 include/shamir.h $(HEADERS)/shamir.h
+	sed 's|@PREFIX@|$(PREFIX)|; s|@VERSION@|$(VERSION)|' include/shamir.pc.in > $(LIBRARIES)/pkgconfig/shamir.pc
 	install -m 755 shamir $(BIN)/shamir
 	install -m 644 man/shamir.1 $(MANUAL)/shamir.1
 	install -m 644 completions/shamir.bash $(BASH)/shamir
@@ -64,6 +86,7 @@ install: shamir
 
 uninstall:
 	rm -f $(BIN)/shamir $(MANUAL)/shamir.1 $(BASH)/shamir $(ZSH)/_shamir $(FISH)/shamir.fish
+	rm -f $(LIBRARIES)/libshamir.a $(LIBRARIES)/pkgconfig/shamir.pc $(HEADERS)/shamir.h
 	rm -rf $(DOCUMENTS)
 
 dist:
@@ -71,4 +94,4 @@ dist:
 	sha256sum shamir-$(VERSION).tar.gz
 
 clean:
-	rm -rf shamir shamir-$(VERSION).tar.gz crates/*/out
+	rm -rf shamir libshamir.a libshamir.so bindings/python/shamir/libshamir.so shamir-$(VERSION).tar.gz crates/*/out

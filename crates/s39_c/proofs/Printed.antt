@@ -13,8 +13,11 @@ pub put_next : (text line old : List ℕ)
     → take (length text) (text ++ drop (length text) old) ++ line ++ drop (length text + length line) (text ++ drop (length text) old)
     ≡ (text ++ line) ++ drop (length (text ++ line)) old
 put_next text line old =
-    rw (take-append_seam text (drop (length text) old), drop-append-drop (length text) old text (length text + length line) (omega arith) refl,
-    length-append text line) refl
+    rw (
+      take-append_seam text (drop (length text) old),
+      drop-append-drop (length text) old text (length text + length line) (omega arith) refl,
+      length-append text line,
+    ) refl
 
 module _ (one_printed_form : (share : ShareFields) (text other : List ℕ) → IsPrinted text share → IsPrinted other share → text ≡ other) where
   lines_once : (shares : List ShareFields) (lines others : List (List ℕ)) → AllZip IsPrinted lines shares → AllZip IsPrinted others shares → lines ≡ others

@@ -95,7 +95,11 @@ impl From<Fault> for ShamirAnswer {
 
     fn from(fault: Fault) -> ShamirAnswer {
         let line = fault.line.unwrap_or(0);
-        refusal(u32::from(fault.refusal.code()), line, details(fault.refusal))
+        refusal(
+            u32::from(fault.refusal.code()),
+            line,
+            details(fault.refusal),
+        )
     }
 }
 

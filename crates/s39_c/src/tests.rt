@@ -5,11 +5,15 @@ use super::*;
 const SECRET: [u8; 16] = *b"\xbb\x54\xaa\xc4\xb8\x9d\xc8\x68\xba\x37\xd9\xcc\x21\xb2\xce\xce";
 
 /// The mnemonic of that vector, of which one is enough.
-const ONE: &[u8] = b"duckling enlarge academic academic agency result length solution fridge kidney coal piece deal husband erode duke ajar critical decision keyboard";
+const ONE: &[u8] =
+    b"duckling enlarge academic academic agency result length solution fridge kidney coal piece deal husband erode duke ajar critical decision keyboard";
 
 /// Five mnemonics of the plan `2/2of3,1of1,1of1`, made by another program from that secret, the passphrase `TREZOR` and
 /// the random bytes 0 to 25.
-const FIVE: &[u8] = b"academic aluminum acrobat leaf buyer drink heat negative damage union purchase photo inmate training amazing yield bucket wrote mule cluster\nacademic aluminum acrobat lily august piece column laser headset unusual blimp nuclear sweater criminal credit eyebrow trouble silent axis skin\nacademic aluminum acrobat lungs dive behavior mobile ting perfect ultimate weapon join paper involve clinic acrobat jerky preach gross usual\nacademic aluminum beard leader chest elite grant group club deploy increase divorce puny cylinder romp frequent crush ruler erode bucket\nacademic aluminum ceramic leader cylinder decorate mobile devote echo finger program firm starting dwarf grumpy harvest enforce raisin sprinkle phantom\n";
+const FIVE: &[u8] =
+    b"academic aluminum acrobat leaf buyer drink heat negative damage union purchase photo inmate training amazing yield bucket wrote mule cluster\nacademic aluminum acrobat lily august piece column laser headset unusual blimp nuclear sweater criminal credit eyebrow trouble silent axis skin\nacademic aluminum acrobat lungs dive behavior mobile ting perfect ultimate weapon join paper involve clinic acrobat jerky preach gross usual\nacademic aluminum beard leader chest elite grant group club deploy increase divorce puny cylinder romp frequent crush ruler erode bucket\nacademic aluminum ceramic leader cylinder decorate mobile devote echo finger program firm starting dwarf grumpy harvest enforce raisin sprinkle phantom\n";
+
+const FIVE_BYTES: usize = 715;
 
 /// A header that no mnemonic has.
 const NO_SHARE: ShamirShare = ShamirShare {
@@ -40,7 +44,13 @@ fn parses(rt: HostRuntime) {
     let mut value = [7; 17];
     let mut share = NO_SHARE;
     let answer = shamir_parse(ONE, &mut share, &mut value);
-    assert_eq!(rt; answer, ShamirAnswer { written: 16, ..refusal(0, 0, 0, 0) });
+    assert_eq!(rt;
+        answer,
+        ShamirAnswer {
+            written: 16,
+            ..refusal(0, 0, 0, 0)
+        }
+    );
     assert_eq!(rt;
         value,
         *b"\x11\xbc\x60\x9d\x21\x74\x7c\x49\xba\x78\xc0\x70\x12\x93\xe4\x17\x07"
@@ -84,45 +94,57 @@ fn refuses_mnemonics(rt: HostRuntime) {
 #[test]
 fn creates(rt: HostRuntime) {
     let plan = b"2/2of3,1of1,1of1";
-    let needed = ShamirAnswer { first: 26, ..refusal(0, 0, 0, 0) };
+    let needed = ShamirAnswer {
+        first: 26,
+        ..refusal(0, 0, 0, 0)
+    };
     assert_eq!(rt; shamir_random_needed(plan, 16), needed);
     assert_eq!(rt; shamir_random_needed(plan, 17), refusal(42, 0, 17, 0));
-    assert_eq!(rt; shamir_random_needed(b"1of1,1of3", 16), refusal(31, 0, 0, 0));
+    assert_eq!(rt;
+        shamir_random_needed(b"1of1,1of3", 16),
+        refusal(31, 0, 0, 0)
+    );
     let random = [
         0, 1, 2, 3, 4, 5, 6, 7, 8, 9, 10, 11, 12, 13, 14, 15, 16, 17, 18, 19, 20, 21, 22, 23, 24,
         25,
     ];
-    let mut text = [7; 1024];
-    let room = FIVE.len();
-    let answer = shamir_create(plan, &SECRET, b"TREZOR", 0, 0, &random, &mut text[..room - 1]);
-    assert_eq!(rt; answer, refusal(1, 0, room as u64, 0));
-    assert!(rt; text.iter().all(|byte| *byte == 7));
-    let answer = shamir_create(plan, &SECRET, b"TREZOR", 0, 0, &random, &mut text[..room]);
-    assert_eq!(rt; answer, ShamirAnswer { written: room as u64, ..refusal(0, 0, 0, 0) });
-    assert_eq!(rt; &text[..room], FIVE);
+    let mut short = [7; FIVE_BYTES - 1];
+    let answer = shamir_create(plan, &SECRET, b"TREZOR", 0, 0, &random, &mut short);
+    assert_eq!(rt; answer, refusal(1, 0, FIVE_BYTES as u64, 0));
+    assert!(rt; short.iter().all(|byte| *byte == 7));
+    let mut text = [7; FIVE_BYTES];
+    let answer = shamir_create(plan, &SECRET, b"TREZOR", 0, 0, &random, &mut text);
+    assert_eq!(rt;
+        answer,
+        ShamirAnswer {
+            written: FIVE_BYTES as u64,
+            ..refusal(0, 0, 0, 0)
+        }
+    );
+    assert_eq!(rt; text.as_slice(), FIVE);
 }
 
 #[test]
 fn refuses_creations(rt: HostRuntime) {
-    let cases: [(&[u8], usize, &[u8], u32, usize, ShamirAnswer); 6] = [
-        (b"0of0", 0, b"a\x07", 16, 0, refusal(2, 0, 0, 0)),
-        (b"2/1of3,5of2", 14, b"a\x07", 15, 0, refusal(34, 0, 0, 0)),
-        (b"2/2of2,3of2", 14, b"a\x07", 15, 0, refusal(33, 0, 1, 0)),
-        (b"1of1", 14, b"a\x07", 0, 0, refusal(41, 0, 2, 0)),
-        (b"1of1", 14, b"", 0, 0, refusal(42, 0, 14, 0)),
-        (b"1of1", 16, b"", 0, 3, refusal(43, 0, 2, 0)),
-    ];
-    for (plan, bytes, passphrase, exponent, random, refused) in cases {
-        let mut text = [7; 200];
-        let answer = shamir_create(
-            plan,
-            &SECRET[..bytes],
-            passphrase,
-            exponent,
+    let secret = SECRET.as_slice();
+    let cases: [(&[u8], &[u8], &[u8], u32, &[u8], ShamirAnswer); 6] = [
+        (b"0of0", b"", b"a\x07", 16, b"", refusal(2, 0, 0, 0)),
+        (b"2/1of3,5of2", b"", b"a\x07", 15, b"", refusal(34, 0, 0, 0)),
+        (b"2/2of2,3of2", b"", b"a\x07", 15, b"", refusal(33, 0, 1, 0)),
+        (b"1of1", b"", b"a\x07", 0, b"", refusal(41, 0, 2, 0)),
+        (
+            b"1of1",
+            b"fourteen bytes",
+            b"",
             0,
-            &[0; 3][..random],
-            &mut text,
-        );
+            b"",
+            refusal(42, 0, 14, 0),
+        ),
+        (b"1of1", secret, b"", 0, b"\0\0\0", refusal(43, 0, 2, 0)),
+    ];
+    for (plan, secret, passphrase, exponent, random, refused) in cases {
+        let mut text = [7; 200];
+        let answer = shamir_create(plan, secret, passphrase, exponent, 0, random, &mut text);
         assert_eq!(rt; answer, refused);
         assert!(rt; text.iter().all(|byte| *byte == 7));
     }
@@ -130,7 +152,8 @@ fn refuses_creations(rt: HostRuntime) {
 
 #[test]
 fn recovers(rt: HostRuntime) {
-    let two = b"shadow pistol academic always adequate wildlife fancy gross oasis cylinder mustang wrist rescue view short owner flip making coding armed\n# a comment\n\nshadow pistol academic acid actress prayer class unknown daughter sweater depict flip twice unkind craft early superior advocate guest smoking";
+    let two =
+        b"shadow pistol academic always adequate wildlife fancy gross oasis cylinder mustang wrist rescue view short owner flip making coding armed\n# a comment\n\nshadow pistol academic acid actress prayer class unknown daughter sweater depict flip twice unkind craft early superior advocate guest smoking";
     let cases: [(&[u8], [u8; 16]); 3] = [
         (ONE, SECRET),
         (FIVE, SECRET),
@@ -145,7 +168,13 @@ fn recovers(rt: HostRuntime) {
         assert_eq!(rt; short, refusal(1, 0, 16, 0));
         assert_eq!(rt; out, [7; 16]);
         let answer = shamir_recover(lines, b"TREZOR", &mut out);
-        assert_eq!(rt; answer, ShamirAnswer { written: 16, ..refusal(0, 0, 0, 0) });
+        assert_eq!(rt;
+            answer,
+            ShamirAnswer {
+                written: 16,
+                ..refusal(0, 0, 0, 0)
+            }
+        );
         assert_eq!(rt; out, secret);
     }
 }

@@ -8,8 +8,7 @@ pub loop-share-preserved : goal.loop-share-preserved
 loop-share-preserved c =
     let ((text, printed, is), few) = c.loop-share.invariant in
     let (line, of_share, items) = c.mnemonic_line.ensures in
-    let more : c.len-needed.result ≡ length (ended_line line) = c.len-needed.ensures.value ∙ ap length items in
-    (
+    let more : c.len-needed.result ≡ length (ended_line line) = c.len-needed.ensures.value ∙ ap length items in (
       (
         text ++ ended_line line,
         printed_next c.args.shares.now c.loop-share.share-index c.share-item.result text line c.loop-share-test.true c.share-item.is printed of_share,

@@ -29,8 +29,8 @@ loop-share-preserved c =
       printed_next c.args.shares.now c.loop-share.share-index c.share-item.result text line c.loop-share-test.true c.share-item.is printed of_share,
       rw (length-append text (ended_line line)) (omega (arith, at, more)),
       subst (λ n. c.put.new.out ≡ take n c.loop-share.out ++ ended_line line ++ drop (n + length (ended_line line)) c.loop-share.out) at
-      (subst (λ b. c.put.new.out ≡ take c.loop-share.written c.loop-share.out ++ b ++ drop (c.loop-share.written + length b) c.loop-share.out) bytes
-      c.put.ensures)
-      ∙ ap (λ o. take (length text) o ++ ended_line line ++ drop (length text + length (ended_line line)) o) out
-      ∙ put_next text (ended_line line) c.args.out.now,
+          (subst (λ b. c.put.new.out ≡ take c.loop-share.written c.loop-share.out ++ b ++ drop (c.loop-share.written + length b) c.loop-share.out) bytes
+          c.put.ensures)
+          ∙ ap (λ o. take (length text) o ++ ended_line line ++ drop (length text + length (ended_line line)) o) out
+          ∙ put_next text (ended_line line) c.args.out.now,
     )
