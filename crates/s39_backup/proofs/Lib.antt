@@ -21,3 +21,4 @@ pub mod SharesCreated
 pub mod Chosen
 pub mod HeldGroups
 pub mod SameShares
+pub mod AfterFirst

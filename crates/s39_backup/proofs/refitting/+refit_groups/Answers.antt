@@ -5,8 +5,9 @@ use Rattle.s39_split.specs.Sharing.{random_needed as level_random_needed}
 use Rattle.s39_backup.specs.declared.plan.Members.{Members}
 use Rattle.arrayvec.specs.ArrayVec.{array_vec_len}
 use Rattle.s39_backup.specs.Plan.{IsGroup}
-use Rattle.s39_backup.proofs.SameShares.{refitted-empty, refitted-whole, first_and_rest, after_first, sum_by-empty, sum_by-first_and_rest}
-use Rattle.s39_backup.proofs.SameShares.{All-after_first, length-after_first, get_or-after_first, slice_get-after_first}
+use Rattle.s39_backup.proofs.SameShares.{refitted-empty, refitted-whole}
+use Rattle.s39_backup.proofs.AfterFirst.{after_first, first_and_rest, sum_by-empty, sum_by-first_and_rest}
+use Rattle.s39_backup.proofs.AfterFirst.{All-after_first, length-after_first, get_or-after_first, slice_get-after_first}
 use Rattle.s39_backup.proofs.refitting.+refit_groups.Goals as goal
 
 pub returns-then-is_empty : goal.returns-then-is_empty
