@@ -34,6 +34,9 @@ extern "C" {
 #define SHAMIR_MNEMONIC_BYTES_MAX 989
 #define SHAMIR_MNEMONICS_BYTES_MAX 253440
 
+/* The most bytes that shamir_text writes. */
+#define SHAMIR_TEXT_BYTES_MAX 64
+
 /* The most bytes of stack that a call takes. */
 #define SHAMIR_STACK_BYTES 262144
 
@@ -123,6 +126,12 @@ shamir_answer shamir_create(
  */
 shamir_answer shamir_recover(
     const uint8_t *lines, size_t lines_bytes, const uint8_t *passphrase, size_t passphrase_bytes, uint8_t *secret, size_t secret_bytes);
+
+/*
+ * The text of an answer's code and details, as the command shamir prints it behind the number: it goes to the front of
+ * text, with no zero at its end. Refused: 1.
+ */
+shamir_answer shamir_text(const shamir_answer *answer, uint8_t *text, size_t text_bytes);
 
 #ifdef __cplusplus
 }

@@ -19,6 +19,7 @@ int main(int argc, char **argv)
     uint8_t secret[SHAMIR_SECRET_BYTES_MAX];
     const char *passphrase = argc > 2 ? argv[2] : "";
     FILE *file = argc > 1 ? fopen(argv[1], "rb") : NULL;
+    uint8_t text[SHAMIR_TEXT_BYTES_MAX];
     shamir_answer answer;
     size_t bytes;
     size_t i;
@@ -37,7 +38,8 @@ int main(int argc, char **argv)
 
     answer = shamir_recover(lines, bytes, (const uint8_t *)passphrase, strlen(passphrase), secret, sizeof secret);
     if (answer.code != 0) {
-        fprintf(stderr, "recover: line %lu: refused: %lu\n", (unsigned long)answer.line, (unsigned long)answer.code);
+        bytes = (size_t)shamir_text(&answer, text, sizeof text).written;
+        fprintf(stderr, "recover: %.*s\n", (int)bytes, (const char *)text);
         return 1;
     }
     for (i = 0; i < answer.written; i++) {

@@ -18,6 +18,7 @@ Text = Union[str, bytes]
 
 TOO_SHORT = 1
 SECRET_BYTES_MAX = 128
+TEXT_BYTES_MAX = 64
 FIRST_ROOM = 4096
 
 
@@ -57,6 +58,7 @@ def _loaded() -> ctypes.CDLL:
         ("shamir_random_needed", _SLICE + [ctypes.c_size_t]),
         ("shamir_create", _SLICE * 3 + [ctypes.c_uint32] * 2 + _SLICE + _ROOM),
         ("shamir_recover", _SLICE * 2 + _ROOM),
+        ("shamir_text", [ctypes.POINTER(_Answer)] + _ROOM),
     ]:
         function = getattr(library, name)
         function.argtypes, function.restype = arguments, _Answer
@@ -68,15 +70,15 @@ _library = _loaded()
 
 class Refusal(Exception):
     """What the library refuses: `code` is the number of the cause, `line` the line that is refused, counted from 1, or None,
-    and `details` two numbers whose meaning by code is a table in shamir.h."""
+    `details` two numbers whose meaning by code is a table in shamir.h, and `text` says it in words."""
 
-    def __init__(self, code: int, line: Optional[int], details: Tuple[int, int]):
-        super().__init__(code, line, details)
-        self.code, self.line, self.details = code, line, details
+    def __init__(self, code: int, line: Optional[int], details: Tuple[int, int], text: str):
+        super().__init__(code, line, details, text)
+        self.code, self.line, self.details, self.text = code, line, details, text
 
     def __str__(self) -> str:
         place = f"line {self.line}: " if self.line else ""
-        return f"{place}{self.code} {self.details[0]} {self.details[1]}"
+        return f"{place}{self.code} {self.text}"
 
 
 @dataclass(frozen=True)
@@ -104,7 +106,9 @@ def _slice(data: bytes) -> Tuple[bytes, int]:
 
 def _checked(answer: _Answer) -> _Answer:
     if answer.code:
-        raise Refusal(answer.code, answer.line or None, (answer.first, answer.second))
+        room = ctypes.create_string_buffer(TEXT_BYTES_MAX)
+        written = _library.shamir_text(ctypes.byref(answer), room, TEXT_BYTES_MAX).written
+        raise Refusal(answer.code, answer.line or None, (answer.first, answer.second), room.raw[:written].decode())
     return answer
 
 

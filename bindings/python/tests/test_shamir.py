@@ -37,6 +37,8 @@ class WorkedExamples(unittest.TestCase):
         self.refused(13, None, (0, 0), shamir.parse, ONE.replace("keyboard", "kidney"))
         self.refused(11, None, (2, 0), shamir.parse, "academic academia")
         self.refused(12, None, (0, 0), shamir.parse, "")
+        with self.assertRaisesRegex(shamir.Refusal, "^line 2: 11 unknown word 1$"):
+            shamir.recover("\nx")
 
     def test_create(self):
         self.assertEqual(shamir.random_needed(PLAN, 16), 26)

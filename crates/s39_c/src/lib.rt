@@ -7,11 +7,13 @@ mod creating;
 mod memory;
 mod parsing;
 mod recovering;
+mod telling;
 
 pub use answer::ShamirAnswer;
 pub use creating::{shamir_create, shamir_random_needed};
 pub use parsing::{ShamirShare, shamir_parse};
 pub use recovering::shamir_recover;
+pub use telling::shamir_text;
 
 #[cfg(test)]
 mod tests;

@@ -202,3 +202,32 @@ fn refuses_lines(rt: HostRuntime) {
         assert_eq!(rt; out, [7; 16]);
     }
 }
+
+#[test]
+fn tells(rt: HostRuntime) {
+    let cases: [(ShamirAnswer, &[u8]); 8] = [
+        (refusal(1, 0, 715, 0), b"slice too short: 715 bytes needed"),
+        (refusal(2, 0, 0, 0), b"number out of range"),
+        (refusal(11, 3, 2, 0), b"unknown word 2"),
+        (refusal(28, 2, 3, 12), b"conflicting share 3.12"),
+        (refusal(30, 0, 0, 1), b"incomplete: 0 of 1 groups"),
+        (refusal(43, 0, 26, 0), b"random bytes: 26 needed"),
+        (refusal(51, 0, 16, 0), b"digest mismatch of groups"),
+        (refusal(51, 0, 15, 0), b"digest mismatch in group 15"),
+    ];
+    for (answer, told) in cases {
+        let mut text = [7; 64];
+        let written = told.len() as u64;
+        let none = shamir_text(&answer, &mut []);
+        assert_eq!(rt; none, refusal(1, 0, written, 0));
+        let given = shamir_text(&answer, &mut text);
+        assert_eq!(rt;
+            given,
+            ShamirAnswer {
+                written,
+                ..refusal(0, 0, 0, 0)
+            }
+        );
+        assert!(rt; text.starts_with(told));
+    }
+}

@@ -1,13 +1,12 @@
-//! The program `shamir` but for its `main`: the command line, the commands over any reader and writers, the texts of
-//! faults, and the exit status.
+//! The program `shamir` but for its `main`: the command line, the commands over any reader and writers, and the
+//! exit status.
 #![tactic(auto)]
 
 mod command;
 mod patient;
 mod status;
-mod text;
 mod work;
 
 pub use command::{Job, NoJob, read_words};
+pub use s39_text::{FaultText, RefusalText};
 pub use status::{no_memory, no_words, program, program_at_terminal};
-pub use text::{FaultText, RefusalText};

@@ -3,8 +3,8 @@ ghost use Rattle.s39_cli.specs.Command.{IsInRange};
 
 use crate::command::{Job, NoJob, read_words};
 use crate::patient::Patient;
-use crate::text::FaultText;
 use crate::work::{Unready, Work};
+use s39_text::FaultText;
 use s39_tool::{Counting, DeviceFailure, Fault, Refusal};
 use std::alloc::Global;
 use std::io;

@@ -1,4 +1,5 @@
-//! The texts of faults.
+//! The texts of faults, as the program and the library give them.
+#![tactic(auto)]
 
 use s39_kdf::BadPassphrase;
 use s39_set::{BadCursor, SetError, SetLack};
