@@ -5,6 +5,9 @@ ghost use Rattle.s39_words.specs.Share.{IsShare};
 ghost use Rattle.s39_tool.specs.declared.creating.TheConstants.{ROOM};
 ghost use Rattle.s39_tool.specs.Create.{IsCreateOutput, HasRead, WritesPrinted};
 ghost use Rattle.s39_tool.specs.Device.{failure_of};
+ghost use Rattle.s39_tool.specs.Fault.{fault_of};
+ghost use Rattle.s39_kdf.specs.declared.limits.BadPassphrase.{BadPassphrase};
+ghost use Rattle.s39_kdf.specs.declared.limits.BadSecretLength.{BadSecretLength};
 ghost use Rattle.s39_tool.specs.Runs.{OfInput, Runs};
 
 use crate::device::Counting;
@@ -77,6 +80,10 @@ pub fn run_create<R: Read, W: Write>(
     // Of any devices.
     ensures untouched { IfErr result (λ fault.
         fault.refusal ≢ Refusal.Device DeviceFailure.Write → output.new ≡ output.old) }
+    ensures unread { (bad : BadPassphrase)
+        → result ≡ Err (fault_of (Refusal.Passphrase bad)) → input.new ≡ input.old }
+    ensures unread_of_a_bad_secret { (bad : BadSecretLength)
+        → result ≡ Err (fault_of (Refusal.SecretLength bad)) → input.new ≡ input.old }
 {
     check_passphrase(passphrase)?;
     check_secret(secret)?;
