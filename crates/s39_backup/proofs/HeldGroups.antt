@@ -1,6 +1,6 @@
 -- The groups that names hold, and their members among names.
 use Rattle.std.proofs.Common.{◌≡◌, ℕ, ◌+◌, ◌<◌, ◌≤◌, ◌==◌, List, [], ◌∷◌, ◌++◌, length, get_or, take, map, filter, All, AllPairs, Contains, Option}
-use Rattle.std.proofs.Common.{Some, None, true, false, cond, nat_lt, refl, sym, ap, subst, ◌∙◌, arith}
+use Rattle.std.proofs.Common.{Some, None, true, false, cond, ◌&&◌, nat_lt, refl, sym, ap, subst, ◌∙◌, arith}
 use Rattle.std.specs.Prelude.{IsSomeAnd}
 use Rattle.std.specs.List.{enumerate_from, slice_get}
 use Rattle.std.specs.declared.cmp.Ordering.TheVariants.{Less}
@@ -69,8 +69,8 @@ few_before names group i within here =
       sum_by-take-le (λ name. cond (name.0 == group) 1 0) names (i + 1),
     )
 
--- where a test says no
-pub not_less : (a b : ℕ) → nat_lt a b ≡ false → b ≤ a
+-- where a group isn't held
+pub not_less : (a b : ℕ) → (nat_lt 0 b && nat_lt a b) ≡ false → b ≤ a
 not_less a b fails = grind (arith, nat_tests)
 
 -- the places of groups stand in order

@@ -1,15 +1,16 @@
 -- Names that are two short of the thresholds of a plan: their shares fit every secret.
-use Rattle.std.specs.Prelude.{◌≡◌, ℕ, ◌-◌, ◌<◌, ◌≤◌, List, Bool, length, map, filter, nat_lt, All, Contains, IsSomeAnd}
+use Rattle.std.specs.Prelude.{◌≡◌, ℕ, ◌-◌, ◌<◌, ◌≤◌, List, Bool, ◌&&◌, length, map, filter, nat_lt, All, Contains, IsSomeAnd}
 use Rattle.std.specs.List.{enumerate_from, slice_get}
 use Rattle.s39_words.specs.declared.share.ShareFields.{ShareFields}
 use Rattle.s39_set.specs.Names.{names_in_group}
 use Rattle.s39_set.specs.ShareSet.{name_of}
 use Rattle.s39_backup.specs.declared.plan.Members.{Members}
 
--- A group is held where the names have at least one of it, and more than its member threshold less two. (That is 0
--- where the threshold is 1 or 2, so the first follows from the second.)
+-- a group is held where the names have at least one of it, and more than its member threshold less two
 abbrev pub is_held : List (ℕ × ℕ) → ℕ × Members → Bool
-is_held names group = nat_lt (group.1.threshold - 2) (length (names_in_group group.0 names))
+is_held names group =
+    let count = length (names_in_group group.0 names) in
+    nat_lt 0 count && nat_lt (group.1.threshold - 2) count
 
 -- the indices of the groups that are held
 abbrev pub held_groups : List (ℕ × ℕ) → List Members → List ℕ
