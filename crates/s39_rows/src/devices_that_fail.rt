@@ -4,6 +4,7 @@ ghost use Rattle.std.specs.Prelude.{◌<◌};
 
 use crate::create::{FIVE, RANDOM, SECRET, lines};
 use crate::devices::{Cut, Full, Slow};
+use crate::drill::SEVEN;
 use crate::vectors::{ONE_OF_ONE, ONE_OF_ONE_SECRET, SHOWN};
 use s39_kdf::check_secret;
 use s39_tool::{
@@ -159,15 +160,7 @@ struct Example {
 
 fn drilled(alloc: Global) -> Result<String, AllocError> {
     let mut all = String::new(alloc);
-    for quorum in [
-        "0.0+0.1+1.0",
-        "0.0+0.1+2.0",
-        "0.0+0.2+1.0",
-        "0.0+0.2+2.0",
-        "0.1+0.2+1.0",
-        "0.1+0.2+2.0",
-        "1.0+2.0",
-    ] {
+    for quorum in SEVEN {
         all.push_str(format!(in alloc; "{quorum} {SECRET}\n")?.as_str())?;
     }
     all.push_str("end\n")?;

@@ -22,7 +22,8 @@ fn drill<'a>(alloc: Global, options: &[&'a str]) -> Result<Vec<&'a str>, AllocEr
     Ok(words)
 }
 
-const SEVEN: [&str; 7] = [
+/// The quorums of the five mnemonics of `2/2of3,1of1,1of1`.
+pub const SEVEN: [&str; 7] = [
     "0.0+0.1+1.0",
     "0.0+0.1+2.0",
     "0.0+0.2+1.0",
