@@ -80,7 +80,7 @@ install: shamir libshamir.a
 	install -m 644 completions/shamir.bash $(BASH)/shamir
 	install -m 644 completions/_shamir $(ZSH)/_shamir
 	install -m 644 completions/shamir.fish $(FISH)/shamir.fish
-	install -m 644 README.md CHANGELOG.md SECURITY.md NOTICE $(DOCUMENTS)
+	install -m 644 README.md CHANGELOG.md CONTRIBUTING.md SECURITY.md NOTICE $(DOCUMENTS)
 	install -m 644 docs/*.md $(DOCUMENTS)/docs
 	install -m 644 examples/*.txt $(DOCUMENTS)/examples
 
