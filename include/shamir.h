@@ -34,6 +34,9 @@ extern "C" {
 #define SHAMIR_MNEMONIC_BYTES_MAX 989
 #define SHAMIR_MNEMONICS_BYTES_MAX 253440
 
+/* The most bytes that shamir_drill_next writes. */
+#define SHAMIR_LISTING_BYTES_MAX 3588
+
 /* The most bytes that shamir_text writes. */
 #define SHAMIR_TEXT_BYTES_MAX 64
 
@@ -71,13 +74,15 @@ extern "C" {
  *   42      a secret may not have so many bytes          their number
  *   43      another number of random bytes is needed     the number that is needed
  *   51      a digest doesn't match                       the group, or SHAMIR_OF_GROUPS
+ *   61      the text is no list of names
+ *   62      the names are no quorum
  *   71      a line has more than 1,024 bytes
  *
  * What has no meaning is 0.
  */
 typedef struct shamir_answer {
     uint32_t code;
-    uint32_t mismatches; /* 0; kept for answers about several quorums */
+    uint32_t mismatches; /* how many listed quorums are refused for a digest */
     uint64_t line;       /* the line that is refused, from 1, for the codes 11 to 28 and 71 of lines */
     uint64_t first;
     uint64_t second;
@@ -126,6 +131,17 @@ shamir_answer shamir_create(
  */
 shamir_answer shamir_recover(
     const uint8_t *lines, size_t lines_bytes, const uint8_t *passphrase, size_t passphrase_bytes, uint8_t *secret, size_t secret_bytes);
+
+/*
+ * Tries the first quorum among lines that comes after the one that the text after names, or the least, where that text is
+ * empty. What the command drill writes of it with a limit of 1 goes to the front of text: a line with the quorum and the
+ * secret in hexadecimal, or which digest doesn't match; and a last line, which is "end", or "more after " and the text to
+ * go on after. So a loop of such calls lists all quorums, each once. mismatches is 1 where the quorum is refused for a
+ * digest, else 0. Refused: 61, 41, then the first refused line (11 to 28, 71), then 29, 30, 62, and then 1.
+ */
+shamir_answer shamir_drill_next(
+    const uint8_t *lines, size_t lines_bytes, const uint8_t *passphrase, size_t passphrase_bytes, const uint8_t *after, size_t after_bytes,
+    uint8_t *text, size_t text_bytes);
 
 /*
  * The text of an answer's code and details, as the command shamir prints it behind the number: it goes to the front of

@@ -10,15 +10,16 @@ import ctypes
 import os
 import pathlib
 from dataclasses import dataclass
-from typing import Iterable, List, Optional, Tuple, Union
+from typing import Iterable, Iterator, List, Optional, Tuple, Union
 
-__all__ = ["Refusal", "Share", "create", "parse", "random_needed", "recover"]
+__all__ = ["Refusal", "Share", "create", "drill", "parse", "random_needed", "recover"]
 
 Text = Union[str, bytes]
 
 TOO_SHORT = 1
 SECRET_BYTES_MAX = 128
 TEXT_BYTES_MAX = 64
+MORE = b"more after "
 FIRST_ROOM = 4096
 
 
@@ -58,6 +59,7 @@ def _loaded() -> ctypes.CDLL:
         ("shamir_random_needed", _SLICE + [ctypes.c_size_t]),
         ("shamir_create", _SLICE * 3 + [ctypes.c_uint32] * 2 + _SLICE + _ROOM),
         ("shamir_recover", _SLICE * 2 + _ROOM),
+        ("shamir_drill_next", _SLICE * 3 + _ROOM),
         ("shamir_text", [ctypes.POINTER(_Answer)] + _ROOM),
     ]:
         function = getattr(library, name)
@@ -163,3 +165,22 @@ def recover(lines: Union[Text, Iterable[Text]], passphrase: Text = b"") -> bytes
     """
     given = _slice(_joined(lines)) + _slice(_bytes(passphrase))
     return _filled(lambda out, room: _library.shamir_recover(*given, out, room), SECRET_BYTES_MAX)
+
+
+def drill(lines: Union[Text, Iterable[Text]], passphrase: Text = b"", after: Text = b"") -> Iterator[Tuple[str, str]]:
+    """Each quorum of mnemonics, in order, or those that come after a given one: pairs of its names, as `0.0+0.2+1.0`, and of
+    what it recovers, the secret in hexadecimal or which digest doesn't match.
+
+    Each is computed when it is asked for. Raises `Refusal` 11 to 30, 41, 61, 62 or 71 before the first.
+    """
+    data, key, cursor = _joined(lines), _slice(_bytes(passphrase)), _bytes(after)
+    while True:
+        given = _slice(data) + key + _slice(cursor)
+        text = _filled(lambda out, room: _library.shamir_drill_next(*given, out, room), FIRST_ROOM)
+        *listed, last = text.splitlines()
+        for line in listed:
+            names, outcome = line.decode().split(" ", 1)
+            yield names, outcome
+        if not last.startswith(MORE):
+            return
+        cursor = last[len(MORE) :]

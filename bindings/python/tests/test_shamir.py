@@ -60,6 +60,15 @@ class WorkedExamples(unittest.TestCase):
         self.refused(21, 2, (0, 0), shamir.recover, [ONE, TWO[0]])
         self.refused(71, 1, (0, 0), shamir.recover, "#" * 1025)
 
+    def test_drill(self):
+        names = ["0.0+0.1+1.0", "0.0+0.1+2.0", "0.0+0.2+1.0", "0.0+0.2+2.0", "0.1+0.2+1.0", "0.1+0.2+2.0", "1.0+2.0"]
+        listed = [(it, SECRET.hex()) for it in names]
+        self.assertEqual(list(shamir.drill(FIVE, "TREZOR")), listed)
+        self.assertEqual(list(shamir.drill(FIVE[::-1], "TREZOR", after=names[4])), listed[5:])
+        self.assertEqual(list(shamir.drill(FIVE, "TREZOR", after=names[6])), [])
+        self.refused(62, None, (0, 0), list, shamir.drill(FIVE, after="0.1"))
+        self.refused(61, None, (0, 0), list, shamir.drill(FIVE, after="0.1+"))
+
 
 if __name__ == "__main__":
     unittest.main()

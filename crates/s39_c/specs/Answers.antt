@@ -99,6 +99,14 @@ plan_refused error = refusal (plan_code_of error) 0 (plan_details error)
 abbrev pub length_refused : ℕ → ShamirAnswer
 length_refused n = refusal 42 0 (n, 0)
 
+-- a text is no cursor
+abbrev pub cursor_refused : ShamirAnswer
+cursor_refused = refusal 61 0 (0, 0)
+
+-- nothing is refused, so many bytes are written, and so many of the quorums in them are refused for a digest
+abbrev pub listed : ℕ → ℕ → ShamirAnswer
+listed n mismatches = record { code = 0; mismatches = mismatches; line = 0; first = 0; second = 0; written = n }
+
 -- a run is refused
 abbrev pub refused : Fault → ShamirAnswer
 refused fault = refusal (code_of fault.refusal) (line_of fault.line) (details_of fault.refusal)

@@ -2,3 +2,4 @@ pub mod Answers
 pub mod Parsing
 pub mod Creating
 pub mod Recovering
+pub mod Drilling

@@ -1,9 +1,9 @@
 //! What a call answers.
 ghost use Rattle.std.specs.Prelude.{◌≡◌, ℕ};
-ghost use Rattle.s39_c.specs.Answers.{done, number, too_short, out_of_range, refusal, plan_refused, word_refused, refused, plan_details, word_details, set_details, lack_details, mismatch_details, line_details, details_of};
+ghost use Rattle.s39_c.specs.Answers.{done, number, too_short, out_of_range, refusal, plan_refused, cursor_refused, word_refused, refused, plan_details, word_details, set_details, lack_details, mismatch_details, line_details, details_of};
 
 use s39_backup::{Mismatch, PlanError};
-use s39_set::{SetError, SetLack};
+use s39_set::{BadCursor, SetError, SetLack};
 use s39_tool::{Fault, LineRefusal, Refusal};
 use s39_words::WordError;
 
@@ -79,6 +79,14 @@ impl From<PlanError> for ShamirAnswer {
 
     fn from(error: PlanError) -> ShamirAnswer {
         refusal(u32::from(error.code()), 0, plan_details(error))
+    }
+}
+
+impl From<BadCursor> for ShamirAnswer {
+    ghost from_gives = { λ error answer. answer ≡ cursor_refused };
+
+    fn from(error: BadCursor) -> ShamirAnswer {
+        refusal(u32::from(error.code()), 0, (0, 0))
     }
 }
 

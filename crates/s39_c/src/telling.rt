@@ -82,6 +82,8 @@ fn refusal_text(answer: &ShamirAnswer) -> Option<RefusalText> {
         41 => RefusalText::Passphrase(number),
         42 => RefusalText::SecretLength(number),
         43 => RefusalText::RandomLength(number),
+        61 => RefusalText::BadCursor,
+        62 => RefusalText::NotAQuorum,
         51 if answer.first == OF_GROUPS => RefusalText::DigestMismatchOfGroups,
         51 => RefusalText::DigestMismatchInGroup(group?),
         71 => RefusalText::LineTooLong,

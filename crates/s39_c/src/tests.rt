@@ -231,3 +231,45 @@ fn tells(rt: HostRuntime) {
         assert!(rt; text.starts_with(told));
     }
 }
+
+#[test]
+fn drills(rt: HostRuntime) {
+    let first = b"0.0+0.1+1.0 bb54aac4b89dc868ba37d9cc21b2cece\nmore after 0.0+0.1+1.0\n";
+    let cases: [(&[u8], &[u8]); 3] = [
+        (b"", first),
+        (
+            b"0.1+0.2+2.0",
+            b"1.0+2.0 bb54aac4b89dc868ba37d9cc21b2cece\nend\n",
+        ),
+        (b"1.0+2.0", b"end\n"),
+    ];
+    for (after, listed) in cases {
+        let mut text = [7; 100];
+        let written = listed.len() as u64;
+        let none = shamir_drill_next(FIVE, b"TREZOR", after, &mut []);
+        assert_eq!(rt; none, refusal(1, 0, written, 0));
+        let answer = shamir_drill_next(FIVE, b"TREZOR", after, &mut text);
+        assert_eq!(rt;
+            answer,
+            ShamirAnswer {
+                written,
+                ..refusal(0, 0, 0, 0)
+            }
+        );
+        assert!(rt; text.starts_with(listed));
+    }
+    let refused: [(&[u8], &[u8], ShamirAnswer); 4] = [
+        (b"0.1+", b"a\x07", refusal(61, 0, 0, 0)),
+        (b"0.1", b"a\x07", refusal(41, 0, 2, 0)),
+        (b"0.1", b"", refusal(62, 0, 0, 0)),
+        (b"0.0+0.1+2.0+3.0", b"", refusal(62, 0, 0, 0)),
+    ];
+    for (after, passphrase, refused) in refused {
+        let mut text = [7; 100];
+        assert_eq!(rt;
+            shamir_drill_next(FIVE, passphrase, after, &mut text),
+            refused
+        );
+        assert_eq!(rt; text, [7; 100]);
+    }
+}

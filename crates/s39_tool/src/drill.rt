@@ -142,7 +142,7 @@ fn drill<R: Read, W: Write>(
 }
 
 /// The quorum at which a drill of a set starts, if there is one.
-fn start_of(
+pub(crate) fn start_of(
     set: &ShareSet,
     after: Option<&Quorum>,
     looks: &mut Looks,
@@ -204,7 +204,7 @@ fn write_drill<W: Write>(
 }
 
 /// The quorum that comes after one of a set, if there is one.
-fn following(set: &ShareSet, quorum: &Quorum, looks: &mut Looks) -> Option<Quorum>
+pub(crate) fn following(set: &ShareSet, quorum: &Quorum, looks: &mut Looks) -> Option<Quorum>
     requires quorum { IsQuorum set.now quorum.now }
     requires looks { looks.old ≤ u64.MAX - most_step_looks }
     ensures next { IsNext set.now (Some quorum.now) result }
@@ -214,7 +214,11 @@ fn following(set: &ShareSet, quorum: &Quorum, looks: &mut Looks) -> Option<Quoru
 }
 
 /// What a quorum recovers with the passphrase of a memo, or the mismatch to which it combines.
-fn outcome_of(set: &ShareSet, quorum: &Quorum, memo: &mut Memo<'_>) -> Result<Bytes, Mismatch>
+pub(crate) fn outcome_of(
+    set: &ShareSet,
+    quorum: &Quorum,
+    memo: &mut Memo<'_>,
+) -> Result<Bytes, Mismatch>
     requires quorum { IsQuorum set.now quorum.now }
     requires params { AreParams set.now memo.old.params }
     ensures outcome { IsOutcome set.now quorum.now memo.old.passphrase (shown result) }
@@ -226,7 +230,7 @@ fn outcome_of(set: &ShareSet, quorum: &Quorum, memo: &mut Memo<'_>) -> Result<By
 }
 
 /// How many mismatches an outcome is: one, or none.
-fn mismatch_in(outcome: &Result<Bytes, Mismatch>) -> u32
+pub(crate) fn mismatch_in(outcome: &Result<Bytes, Mismatch>) -> u32
     ensures { result ≡ mismatch_in (shown outcome.now) }
 {
     match outcome {
@@ -236,7 +240,7 @@ fn mismatch_in(outcome: &Result<Bytes, Mismatch>) -> u32
 }
 
 /// The line of a quorum and its outcome.
-fn quorum_line(quorum: &Quorum, outcome: &Result<Bytes, Mismatch>) -> Line
+pub(crate) fn quorum_line(quorum: &Quorum, outcome: &Result<Bytes, Mismatch>) -> Line
     ensures { result.items ≡ quorum_line (quorum.now, shown outcome.now) }
 {
     let mut line = Line::new();
@@ -274,7 +278,7 @@ fn push_mismatch(line: &mut Line, mismatch: Mismatch)
 }
 
 /// The last line of a drill: after which quorum more remain, or that none do.
-fn last_line(quorum: &Quorum, more: bool) -> Line
+pub(crate) fn last_line(quorum: &Quorum, more: bool) -> Line
     ensures more { more ≡ true → result.items ≡ last_line (Some quorum.now) }
     ensures end { more ≡ false → result.items ≡ last_line None }
 {

@@ -13,6 +13,7 @@ mod memory;
 mod output;
 mod recover;
 mod show;
+mod stepping;
 
 pub use creating::run_create;
 pub use device::Counting;
@@ -25,3 +26,4 @@ pub use s39_backup::{
     recover_by, refit,
 };
 pub use show::run_show;
+pub use stepping::{DrillStep, drill_step};

@@ -19,7 +19,7 @@ use std::io::Write;
 const NAME_BYTES: usize = 6;
 
 /// The most bytes of a line: all names that there are, a space, a secret in hexadecimal, and a line feed.
-const LINE_BYTES: usize = NAME_BYTES * MAX_NAMES + 2 * MAX_SECRET_BYTES + 2;
+pub(crate) const LINE_BYTES: usize = NAME_BYTES * MAX_NAMES + 2 * MAX_SECRET_BYTES + 2;
 
 /// A line of an output, as it is made.
 pub(crate) type Line = ArrayVec<u8, LINE_BYTES>;
