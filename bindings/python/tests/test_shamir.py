@@ -69,6 +69,13 @@ class WorkedExamples(unittest.TestCase):
         self.refused(62, None, (0, 0), list, shamir.drill(FIVE, after="0.1"))
         self.refused(61, None, (0, 0), list, shamir.drill(FIVE, after="0.1+"))
 
+    def test_null(self):
+        library = shamir._library
+        self.assertEqual(library.shamir_recover(None, 0, None, 0, None, 0).code, 29)
+        self.assertEqual(library.shamir_random_needed(None, 0, 16).code, 31)
+        answer = library.shamir_create(b"1of1", 4, SECRET, 16, None, 0, 0, 0, b"\x1f\x09", 2, None, 0)
+        self.assertEqual((answer.code, answer.first > 100), (1, True))
+
 
 if __name__ == "__main__":
     unittest.main()
