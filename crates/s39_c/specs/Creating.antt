@@ -3,7 +3,6 @@ use Rattle.std.specs.Prelude.{◌≡◌, ◌≢◌, ◌⊎◌, ℕ, ◌≤◌, L
 use Rattle.s39_kdf.specs.Limits.{IsSecretLength}
 use Rattle.s39_backup.specs.declared.plan.Members.{Members}
 use Rattle.s39_backup.specs.declared.plan_error.PlanError.{PlanError}
-use Rattle.s39_backup.specs.declared.options.Options.{Options}
 use Rattle.s39_backup.specs.Plan.{IsPlanReading}
 use Rattle.s39_backup.specs.Created.{random_needed}
 use Rattle.s39_tool.specs.declared.fault.Fault.{Fault}

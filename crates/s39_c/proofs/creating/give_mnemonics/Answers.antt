@@ -1,4 +1,4 @@
-use Rattle.std.proofs.Common.{◌≡◌, ◌∙◌, inl, length, ap, sym, arith}
+use Rattle.std.proofs.Common.{◌≡◌, ◌∙◌, inl, length, ap, arith}
 use Rattle.s39_c.specs.Answers.{done}
 use Rattle.s39_c.proofs.Printed.{text_once}
 use Rattle.s39_c.proofs.creating.give_mnemonics.Goals as goal

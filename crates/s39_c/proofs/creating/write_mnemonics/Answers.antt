@@ -1,5 +1,5 @@
-use Rattle.std.proofs.Common.{◌≡◌, ◌≤◌, ◌+◌, ◌++◌, ◌∙◌, length, take, drop, ap, sym, subst, arith}
-use Rattle.std.proofs.lemmas.List.{length-append, length-drop}
+use Rattle.std.proofs.Common.{◌≡◌, ◌+◌, ◌++◌, ◌∙◌, length, take, drop, ap, subst, arith}
+use Rattle.std.proofs.lemmas.List.{length-append}
 use Rattle.s39_tool.specs.Create.{ended_line}
 use Rattle.s39_tool.proofs.Runs.Creating.{printed_next, printed_rest}
 use Rattle.s39_c.proofs.Printed.{put_next, text_once}
