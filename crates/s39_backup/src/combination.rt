@@ -123,7 +123,8 @@ fn first_share<'a>(set: &'a ShareSet, names: &[(u8, u8)]) -> &'a Share
 fn group_shares(set: &ShareSet, names: &[(u8, u8)]) -> Result<GroupShares, Mismatch>
     requires { IsExactQuorum set.now names.now }
     ensures shares { IfOk result (λ shares.
-        AreGroupShares set.now names.now (groups_of names.now) (indexed_group_shares shares.items)) }
+        AreGroupShares set.now names.now (groups_of names.now)
+        (indexed_group_shares shares.items)) }
     ensures mismatch { IfErr result (λ error. (group : ℕ)
         × (error ≡ Mismatch.InGroup group) × MismatchesInGroup set.now names.now group) }
 {

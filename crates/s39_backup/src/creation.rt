@@ -121,7 +121,8 @@ fn push_groups(
     requires few { length groups.now ≤ most_groups }
     requires as_many { length group_shares.now ≡ length groups.now }
     requires lengths { ShareOneLength group_shares.now (λ n. IsSecretLength n
-        × (length random.now ≡ sum_by (λ members. level_random_needed members.threshold n) groups.now)) }
+        × (length random.now
+        ≡ sum_by (λ members. level_random_needed members.threshold n) groups.now)) }
     ensures { AreCreatedGroups header.now.params header.now.group_threshold header.now.group_count
         groups.now (bytes_of group_shares.now) random.now [] out.new }
 {

@@ -1,12 +1,15 @@
 -- All quorums of a set, listed.
-use Rattle.std.proofs.Common.{◌≡◌, ◌≢◌, ℕ, Bool, true, List, [], ◌∷◌, ◌++◌, length, get_or, map, filter, take, All, Contains, Option, Some, None, Ordering, Less, Equal, Greater, nat_eq, refl, ap, subst, arith}
+use Rattle.std.proofs.Common.{◌≡◌, ◌≢◌, ℕ, Bool, true, List, [], ◌∷◌, ◌++◌, length, get_or, map, filter, take, All}
+use Rattle.std.proofs.Common.{Contains, Option, Some, None, Ordering, Less, Equal, Greater, nat_eq, refl, ap, subst}
+use Rattle.std.proofs.Common.{arith}
 use Rattle.std.specs.Prelude.{◌&&◌}
 use Rattle.std.specs.List.{list_all}
 use Rattle.std.specs.Ordering.{is_lt}
 use Rattle.std.specs.Option.{option_eq}
 use Rattle.std.proofs.lemmas.Bool.{and_parts, and_from, false≢true}
 use Rattle.std.proofs.lemmas.Cmp.{tied_itself}
-use Rattle.std.proofs.lemmas.List.Elements.{All-nil, All-cons, All-append, All-map, All-weaker, All-contains, filter_passes, Contains-append_left, Contains-append_right}
+use Rattle.std.proofs.lemmas.List.Elements.{All-nil, All-cons, All-append, All-map, All-weaker, All-contains}
+use Rattle.std.proofs.lemmas.List.Elements.{filter_passes, Contains-append_left, Contains-append_right}
 use Rattle.std.proofs.lemmas.List.Kept.{AllPairs-cons, AllPairs-filter}
 use Rattle.std.proofs.lemmas.List.Sums.{AllPass-from_list_all, list_all-from_AllPass}
 use Rattle.s39_words.specs.declared.share.ShareFields.{ShareFields}
@@ -15,7 +18,9 @@ use Rattle.s39_set.specs.Groups.{complete_groups}
 use Rattle.s39_set.specs.ShareSet.{IsShareSet, name_of}
 use Rattle.s39_set.specs.Quorums.{group_threshold_of, member_threshold_of, ComesAfter, HasJustTheMembers}
 use Rattle.s39_set.specs.Listing.{AreAllQuorumsAfter, IsListing}
-use Rattle.s39_set.proofs.Sublists.{IsSublist, none, keeps, leaves, nil-sublist, Contains-head, Contains-cons, Contains-filter, Contains-sublist, filter_kept, AllPairs-nil, AllPairs-head, AllPairs-tail, AllPairs-append, AllPairs-sublist}
+use Rattle.s39_set.proofs.Sublists.{IsSublist, none, keeps, leaves, nil-sublist, Contains-head, Contains-cons}
+use Rattle.s39_set.proofs.Sublists.{Contains-filter, Contains-sublist, filter_kept, AllPairs-nil, AllPairs-head}
+use Rattle.s39_set.proofs.Sublists.{AllPairs-tail, AllPairs-append, AllPairs-sublist}
 use Rattle.s39_set.proofs.Ascending.{name_cmp_total, names-sublist}
 use Rattle.s39_set.proofs.OptionTests.{same_from_option_eq, option_eq-same}
 use Rattle.s39_set.proofs.SetQuorums.{just_from_quorum, quorum_from_just, written_of_quorum}

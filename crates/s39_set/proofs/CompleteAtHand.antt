@@ -1,5 +1,6 @@
 -- Which groups are complete, from masks of the names at hand.
-use Rattle.std.proofs.Common.{◌≡◌, ◌<◌, ◌==◌, ◌+◌, ℕ, Bool, true, false, List, length, get_or, set, map, filter, Contains, Some, None, Less, nat_le, inl, inr, sym, ap, ◌∙◌, subst, arith}
+use Rattle.std.proofs.Common.{◌≡◌, ◌<◌, ◌==◌, ◌+◌, ℕ, Bool, true, false, List, length, get_or, set, map, filter}
+use Rattle.std.proofs.Common.{Contains, Some, None, Less, nat_le, inl, inr, sym, ap, ◌∙◌, subst, arith}
 use Rattle.std.specs.List.{range_with_len}
 use Rattle.std.specs.Prelude.{IsTrue}
 use Rattle.std.specs.Option.{option_map_or}

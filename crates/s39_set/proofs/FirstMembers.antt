@@ -1,5 +1,7 @@
 -- The first members of the first complete groups come first.
-use Rattle.std.proofs.Common.{◌≡◌, ◌≢◌, ℕ, zero, suc, ◌+◌, ◌<◌, ◌≤◌, ◌==◌, true, false, List, [], ◌∷◌, ◌++◌, length, get_or, filter, take, All, Contains, Option, Some, Less, Greater, refl, sym, ap, subst, ◌∙◌, ⊎_elim, le_refl, arith}
+use Rattle.std.proofs.Common.{◌≡◌, ◌≢◌, ℕ, zero, suc, ◌+◌, ◌<◌, ◌≤◌, ◌==◌, true, false, List, [], ◌∷◌, ◌++◌, length}
+use Rattle.std.proofs.Common.{get_or, filter, take, All, Contains, Option, Some, Less, Greater, refl, sym, ap, subst}
+use Rattle.std.proofs.Common.{◌∙◌, ⊎_elim, le_refl, arith}
 use Rattle.std.specs.List.{range_with_len}
 use Rattle.std.proofs.lemmas.Bool.{cases_Bool, le-leb, eq-eqb}
 use Rattle.std.proofs.lemmas.List.{length-take-le}
@@ -9,11 +11,15 @@ use Rattle.s39_set.specs.Names.{name_cmp, names_cmp, IsAscending, names_in_group
 use Rattle.s39_set.specs.Groups.{is_complete, complete_groups, first_members, members_of}
 use Rattle.s39_set.proofs.Thresholds.{HasJust}
 use Rattle.s39_set.proofs.Sublists.{Contains-filter, filter-none}
-use Rattle.s39_set.proofs.Orders.{All-append_left, All-append_right, AllPairs-append_left, AllPairs-append_right, slice_cmp-nil_not_greater, slice_cmp-first_less_not_greater, slice_cmp-append_not_greater, length-contained, first_elements_are_least}
+use Rattle.s39_set.proofs.Orders.{All-append_left, All-append_right, AllPairs-append_left, AllPairs-append_right}
+use Rattle.s39_set.proofs.Orders.{slice_cmp-nil_not_greater, slice_cmp-first_less_not_greater}
+use Rattle.s39_set.proofs.Orders.{slice_cmp-append_not_greater, length-contained, first_elements_are_least}
 use Rattle.s39_set.proofs.Ascending.{name_cmp_total, name_cmp_groups}
 use Rattle.s39_set.proofs.CompleteGroups.{threshold_from_complete}
 use Rattle.s39_set.proofs.MembersOf.{names_in_group-group}
-use Rattle.s39_set.proofs.GroupSplit.{split_at_group, names_in_group-back, names_in_group-joined, names_in_group-joined_later, is_complete-at, first_members-at, is_complete-none, filter-range_agree}
+use Rattle.s39_set.proofs.GroupSplit.{split_at_group, names_in_group-back, names_in_group-joined}
+use Rattle.s39_set.proofs.GroupSplit.{names_in_group-joined_later, is_complete-at, first_members-at, is_complete-none}
+use Rattle.s39_set.proofs.GroupSplit.{filter-range_agree}
 
 -- names at hand, of the groups from a on, have just the members that the thresholds ask, and `needed` of the k groups from a on
 pub record HasJustFrom (T : ℕ → Option ℕ) (N : List (ℕ × ℕ)) (a k needed : ℕ) (names : List (ℕ × ℕ)) : Type 0 where

@@ -1,5 +1,6 @@
 -- The names before a position of ascending names.
-use Rattle.std.proofs.Common.{◌≡◌, ◌≢◌, ◌+◌, ◌-◌, ◌<◌, ◌≤◌, ◌++◌, ◌==◌, ℕ, true, List, length, get_or, filter, take, not, All, Less, inl, inr, refl, sym, ap, subst, ◌∙◌, arith}
+use Rattle.std.proofs.Common.{◌≡◌, ◌≢◌, ◌+◌, ◌-◌, ◌<◌, ◌≤◌, ◌++◌, ◌==◌, ℕ, true, List, length, get_or, filter, take}
+use Rattle.std.proofs.Common.{not, All, Less, inl, inr, refl, sym, ap, subst, ◌∙◌, arith}
 use Rattle.std.specs.List.{range_with_len}
 use Rattle.std.proofs.lemmas.Bool.{cases_lt, ne_eqb, eq-eqb, false≢true}
 use Rattle.std.proofs.lemmas.List.{length-take-le, get_or-take, get_or_default}

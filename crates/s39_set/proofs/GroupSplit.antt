@@ -1,5 +1,7 @@
 -- Names split at a group, and the groups that are complete in the parts.
-use Rattle.std.proofs.Common.{◌≡◌, ℕ, zero, suc, ◌+◌, ◌<◌, ◌≤◌, ◌==◌, Bool, false, List, [], ◌∷◌, ◌++◌, length, get_or, filter, take, All, Option, Some, None, Less, nat_le, unwrap_or, refl, ap, ap₂, ◌∙◌, ⊎_elim, append-nil, arith}
+use Rattle.std.proofs.Common.{◌≡◌, ℕ, zero, suc, ◌+◌, ◌<◌, ◌≤◌, ◌==◌, Bool, false, List, [], ◌∷◌, ◌++◌, length, get_or}
+use Rattle.std.proofs.Common.{filter, take, All, Option, Some, None, Less, nat_le, unwrap_or, refl, ap, ap₂, ◌∙◌}
+use Rattle.std.proofs.Common.{⊎_elim, append-nil, arith}
 use Rattle.std.specs.List.{range_with_len}
 use Rattle.std.specs.Option.{option_map_or}
 use Rattle.std.proofs.lemmas.Bool.{cases_eq, lt-leb, eq-eqb, ne_eqb}

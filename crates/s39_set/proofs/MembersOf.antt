@@ -9,7 +9,9 @@ use Rattle.std.proofs.lemmas.List.{append-nil, flat_map_more, length-take-le}
 use Rattle.std.proofs.lemmas.List.Elements.{All-nil, All-append, All-contains, All-take, All-weaker, filter-append, filter_passes, All-contains_itself}
 use Rattle.s39_set.specs.Names.{name_cmp, IsAscending, names_in_group}
 use Rattle.s39_set.specs.Groups.{complete_groups, first_members, members_of}
-use Rattle.s39_set.proofs.Sublists.{IsSublist, AllPairs-nil, AllPairs-head, AllPairs-tail, AllPairs-append, AllPairs-sublist, All-sublist, Contains-sublist, Contains-head, Contains-cons, Contains-cases, Contains-nil, filter-all, filter-none, filter_kept, take-sublist}
+use Rattle.s39_set.proofs.Sublists.{IsSublist, AllPairs-nil, AllPairs-head, AllPairs-tail, AllPairs-append}
+use Rattle.s39_set.proofs.Sublists.{AllPairs-sublist, All-sublist, Contains-sublist, Contains-head, Contains-cons}
+use Rattle.s39_set.proofs.Sublists.{Contains-cases, Contains-nil, filter-all, filter-none, filter_kept, take-sublist}
 use Rattle.s39_set.proofs.Ascending.{name_cmp_groups}
 use Rattle.s39_set.proofs.Thresholds.{HasJust}
 use Rattle.s39_set.proofs.CompleteGroups.{Contains-complete_groups, complete_groups-below, complete_groups-threshold, complete_groups-ascending, same_groups}

@@ -10,7 +10,8 @@ use Rattle.s39_set.specs.Groups.{complete_groups, members_of}
 use Rattle.s39_set.proofs.Sublists.{IsSublist, length-sublist, same_from_length, take-sublist, filter_kept, AllPairs-sublist, Contains-sublist, Contains-filter}
 use Rattle.s39_set.proofs.Ascending.{names-sublist, same_names, same_names_from_length}
 use Rattle.s39_set.proofs.Thresholds.{Meets, HasJust}
-use Rattle.s39_set.proofs.CompleteGroups.{complete_groups-ascending, complete_groups-threshold, Contains-complete_groups, names_in_group-sublist, complete_groups-sublist}
+use Rattle.s39_set.proofs.CompleteGroups.{complete_groups-ascending, complete_groups-threshold}
+use Rattle.s39_set.proofs.CompleteGroups.{Contains-complete_groups, names_in_group-sublist, complete_groups-sublist}
 use Rattle.s39_set.proofs.MembersOf.{members_of-has_just}
 
 -- names with just what the thresholds ask meet them

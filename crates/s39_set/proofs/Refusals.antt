@@ -1,5 +1,6 @@
 -- What a share is refused for.
-use Rattle.std.proofs.Common.{◌≡◌, ◌≢◌, ℕ, Bool, true, false, List, [], ◌∷◌, length, get_or, find, filter, All, Option, Some, None, not, refl, sym, ap, ap₂, ◌∙◌, arith}
+use Rattle.std.proofs.Common.{◌≡◌, ◌≢◌, ℕ, Bool, true, false, List, [], ◌∷◌, length, get_or, find, filter, All, Option}
+use Rattle.std.proofs.Common.{Some, None, not, refl, sym, ap, ap₂, ◌∙◌, arith}
 use Rattle.std.specs.Prelude.{◌==◌, bytes_eq, if◌then◌else◌}
 use Rattle.std.specs.List.{list_any}
 use Rattle.std.specs.Option.{option_map}
@@ -9,7 +10,9 @@ use Rattle.s39_words.specs.declared.share.ShareFields.{ShareFields}
 use Rattle.s39_words.specs.Share.{flag_bit}
 use Rattle.s39_set.specs.declared.common.Common.{Common}
 use Rattle.s39_set.specs.declared.set_error.SetError.{SetError}
-use Rattle.s39_set.specs.declared.set_error.SetError.TheVariants.{OtherIdentifier, OtherExtendable, OtherExponent, OtherGroupThreshold, OtherGroupCount, OtherLength, OtherMemberThreshold, ConflictingShare}
+use Rattle.s39_set.specs.declared.set_error.SetError.TheVariants.{OtherIdentifier, OtherExtendable, OtherExponent}
+use Rattle.s39_set.specs.declared.set_error.SetError.TheVariants.{OtherGroupThreshold, OtherGroupCount, OtherLength}
+use Rattle.s39_set.specs.declared.set_error.SetError.TheVariants.{OtherMemberThreshold, ConflictingShare}
 use Rattle.s39_set.specs.ShareSet.{Agrees, IsShareSet, name_of, is_in_group, has_name, some_differs, refusal_of}
 use Rattle.s39_set.specs.Quorums.{member_threshold_of}
 use Rattle.s39_set.specs.Slots.{common_of, common_of_all, common_refusal_of, last_refusal_of}

@@ -1,16 +1,23 @@
 -- What can stand in the place of a name of a quorum, and behind it.
-use Rattle.std.proofs.Common.{◌≡◌, ◌≢◌, ℕ, zero, suc, ◌+◌, ◌-◌, ◌<◌, ◌≤◌, Bool, true, false, cond, List, [], ◌∷◌, ◌++◌, length, get_or, filter, take, All, AllPairs, Contains, Option, Some, Less, Greater, inl, inr, ⊎_elim, refl, sym, ap, subst, ◌∙◌, arith, length-append, nat_lt, le_refl}
+use Rattle.std.proofs.Common.{◌≡◌, ◌≢◌, ℕ, zero, suc, ◌+◌, ◌-◌, ◌<◌, ◌≤◌, Bool, true, false, cond, List, [], ◌∷◌, ◌++◌}
+use Rattle.std.proofs.Common.{length, get_or, filter, take, All, AllPairs, Contains, Option, Some, Less, Greater, inl}
+use Rattle.std.proofs.Common.{inr, ⊎_elim, refl, sym, ap, subst, ◌∙◌, arith, length-append, nat_lt, le_refl}
 use Rattle.std.specs.List.{range_with_len}
 use Rattle.std.proofs.lemmas.Bool.{cases_lt, cases_Bool, lt-ltb, le-ltb, false≢true}
 use Rattle.std.proofs.lemmas.List.{length-take-le}
 use Rattle.std.proofs.lemmas.List.FromFn.{get_or-range_with_len, length-range_with_len}
-use Rattle.std.proofs.lemmas.List.Elements.{All-nil, All-cons, All-head, All-append, All-contains, All-weaker, All-filter, All-take, All-contains_itself, filter_passes, Contains-append_left, Contains-append_right, Contains-append_cases}
+use Rattle.std.proofs.lemmas.List.Elements.{All-nil, All-cons, All-head, All-append, All-contains, All-weaker}
+use Rattle.std.proofs.lemmas.List.Elements.{All-filter, All-take, All-contains_itself, filter_passes}
+use Rattle.std.proofs.lemmas.List.Elements.{Contains-append_left, Contains-append_right, Contains-append_cases}
 use Rattle.std.proofs.lemmas.List.Kept.{AllPairs-filter, AllPairs-cons}
 use Rattle.s39_set.specs.Names.{name_cmp, names_cmp, IsAscending, most_groups}
 use Rattle.s39_set.specs.Groups.{is_complete, complete_groups, members_of, groups_above}
 use Rattle.s39_set.proofs.Thresholds.{HasJust}
-use Rattle.s39_set.proofs.Sublists.{length-sublist, same_from_length, take-sublist, filter_weaker, AllPairs-sublist, AllPairs-append, AllPairs-nil, AllPairs-head, AllPairs-tail, Contains-sublist, Contains-head, Contains-cons, Contains-cases, Contains-filter}
-use Rattle.s39_set.proofs.Orders.{All-append_left, All-append_right, AllPairs-append_left, AllPairs-append_right, slice_cmp-append_not_greater, first_elements_are_least}
+use Rattle.s39_set.proofs.Sublists.{length-sublist, same_from_length, take-sublist, filter_weaker, AllPairs-sublist}
+use Rattle.s39_set.proofs.Sublists.{AllPairs-append, AllPairs-nil, AllPairs-head, AllPairs-tail, Contains-sublist}
+use Rattle.s39_set.proofs.Sublists.{Contains-head, Contains-cons, Contains-cases, Contains-filter}
+use Rattle.s39_set.proofs.Orders.{All-append_left, All-append_right, AllPairs-append_left, AllPairs-append_right}
+use Rattle.s39_set.proofs.Orders.{slice_cmp-append_not_greater, first_elements_are_least}
 use Rattle.s39_set.proofs.Ascending.{name_cmp_total, name_cmp_groups, name_cmp_one_way, names-sublist, same_names, same_names_from_length}
 use Rattle.s39_set.proofs.CompleteGroups.{is_complete_from, threshold_from_complete, Contains-complete_groups, names_in_group-sublist}
 use Rattle.s39_set.proofs.MembersOf.{members_of-groups, members_of-has_just}
@@ -18,7 +25,9 @@ use Rattle.s39_set.proofs.GroupSplit.{groups-in_order, split_at_group}
 use Rattle.s39_set.proofs.FirstMembers.{HasJustFrom, least_from, before_later}
 use Rattle.s39_set.proofs.JustMembers.{has_members}
 use Rattle.s39_set.proofs.NamesBefore.{less_than}
-use Rattle.s39_set.proofs.Exact.{count, AreExact, passing, IsExact, complete_is_members, members_from_exact, exact_from_just, just_from_exact, passing-agree, passing-none, passing-split, count-earlier, count-here, count-later, count-behind, passing_above}
+use Rattle.s39_set.proofs.Exact.{count, AreExact, passing, IsExact, complete_is_members, members_from_exact}
+use Rattle.s39_set.proofs.Exact.{exact_from_just, just_from_exact, passing-agree, passing-none, passing-split}
+use Rattle.s39_set.proofs.Exact.{count-earlier, count-here, count-later, count-behind, passing_above}
 
 -- the names of a list that are of the group of a name and above it
 pub record AreAbove (names : List (ℕ × ℕ)) (x : ℕ × ℕ) (above : List (ℕ × ℕ)) : Type 0 where

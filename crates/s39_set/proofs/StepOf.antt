@@ -1,5 +1,7 @@
 -- A step of a set, from what its masks know.
-use Rattle.std.proofs.Common.{◌≡◌, ◌≢◌, ℕ, zero, suc, ◌+◌, ◌-◌, ◌<◌, ◌≤◌, ◌++◌, Bool, true, false, List, [], ◌∷◌, length, get_or, map, filter, take, All, AllPairs, Contains, Option, Some, None, Less, Greater, nat_lt, unwrap_or, refl, sym, ap, ap₂, subst, ◌∙◌, arith, add-one}
+use Rattle.std.proofs.Common.{◌≡◌, ◌≢◌, ℕ, zero, suc, ◌+◌, ◌-◌, ◌<◌, ◌≤◌, ◌++◌, Bool, true, false, List, [], ◌∷◌}
+use Rattle.std.proofs.Common.{length, get_or, map, filter, take, All, AllPairs, Contains, Option, Some, None, Less}
+use Rattle.std.proofs.Common.{Greater, nat_lt, unwrap_or, refl, sym, ap, ap₂, subst, ◌∙◌, arith, add-one}
 use Rattle.std.specs.List.{range_with_len, flat_map}
 use Rattle.std.specs.Prelude.{IsTrue}
 use Rattle.std.proofs.lemmas.Bool.{lt-ltb, false≢true}
@@ -20,7 +22,9 @@ use Rattle.s39_set.specs.Masks.{is_in}
 use Rattle.s39_set.specs.Steps.{AreMasksOf, Knows, members_from, members_taken, groups_from, groups_taken, IsTailFor, groups_used, tail_names}
 use Rattle.s39_set.proofs.Thresholds.{HasJust}
 use Rattle.s39_set.proofs.Sublists.{Contains-filter, Contains-head}
-use Rattle.s39_set.proofs.SetQuorums.{member_threshold-positive, groups-below, members-below, group_threshold-from_meets, just_from_quorum, quorum_from_just, just_from_set, set_from_just, written_of_quorum}
+use Rattle.s39_set.proofs.SetQuorums.{member_threshold-positive, groups-below, members-below}
+use Rattle.s39_set.proofs.SetQuorums.{group_threshold-from_meets, just_from_quorum, quorum_from_just, just_from_set}
+use Rattle.s39_set.proofs.SetQuorums.{set_from_just, written_of_quorum}
 use Rattle.s39_set.proofs.AtHand.{Contains-map, AllPairs-map, member-less}
 use Rattle.s39_set.proofs.JustMembers.{has_members}
 use Rattle.s39_set.proofs.CompleteAtHand.{names_in_group-masks}

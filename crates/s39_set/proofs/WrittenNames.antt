@@ -1,5 +1,6 @@
 -- The written form of names, cut at its plus signs.
-use Rattle.std.proofs.Common.{◌≡◌, ◌≢◌, ℕ, suc, ◌<◌, ◌==◌, Bool, false, List, [], ◌∷◌, length, get_or, map, take, All, Less, refl, sym, ap, ap₂, ◌∙◌, subst, arith}
+use Rattle.std.proofs.Common.{◌≡◌, ◌≢◌, ℕ, suc, ◌<◌, ◌==◌, Bool, false, List, [], ◌∷◌, length, get_or, map, take, All}
+use Rattle.std.proofs.Common.{Less, refl, sym, ap, ap₂, ◌∙◌, subst, arith}
 use Rattle.std.specs.List.{slice_split, join_with_byte}
 use Rattle.std.specs.Fmt.{decimal}
 use Rattle.std.proofs.lemmas.List.{length-map, take-map, get_or-map, length-take-le, get_or-take, get_or_default}

@@ -1,11 +1,14 @@
 -- Share sets: the shares of one backup that are at hand.
-use Rattle.std.specs.Prelude.{◌≡◌, ◌↔◌, ◌⊎◌, ℕ, List, ◌∷◌, ◌++◌, length, map, All, Contains, Option, Some, None, Bool, not, ◌==◌, ◌&&◌, bytes_eq, filter, if◌then◌else◌}
+use Rattle.std.specs.Prelude.{◌≡◌, ◌↔◌, ◌⊎◌, ℕ, List, ◌∷◌, ◌++◌, length, map, All, Contains, Option, Some, None, Bool}
+use Rattle.std.specs.Prelude.{not, ◌==◌, ◌&&◌, bytes_eq, filter, if◌then◌else◌}
 use Rattle.std.specs.List.{list_any}
 use Rattle.s39_words.specs.declared.share.ShareFields.{ShareFields}
 use Rattle.s39_words.specs.Share.{IsShare, flag_bit}
 use Rattle.s39_set.specs.Names.{IsAscending}
 use Rattle.s39_set.specs.declared.set_error.SetError.{SetError}
-use Rattle.s39_set.specs.declared.set_error.SetError.TheVariants.{OtherIdentifier, OtherExtendable, OtherExponent, OtherGroupThreshold, OtherGroupCount, OtherLength, OtherMemberThreshold, ConflictingShare}
+use Rattle.s39_set.specs.declared.set_error.SetError.TheVariants.{OtherIdentifier, OtherExtendable, OtherExponent}
+use Rattle.s39_set.specs.declared.set_error.SetError.TheVariants.{OtherGroupThreshold, OtherGroupCount, OtherLength}
+use Rattle.s39_set.specs.declared.set_error.SetError.TheVariants.{OtherMemberThreshold, ConflictingShare}
 
 -- a share's name
 abbrev pub name_of : ShareFields → ℕ × ℕ

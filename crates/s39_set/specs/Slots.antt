@@ -1,5 +1,6 @@
 -- How a set keeps its shares. No public contract cites this.
-use Rattle.std.specs.Prelude.{◌≡◌, ℕ, ◌+◌, ◌*◌, ◌<◌, List, [], ◌∷◌, length, filter, filter_map, Option, Some, None, not, ◌==◌, bytes_eq, IfSome, slice_index_or, if◌then◌else◌}
+use Rattle.std.specs.Prelude.{◌≡◌, ℕ, ◌+◌, ◌*◌, ◌<◌, List, [], ◌∷◌, length, filter, filter_map, Option, Some, None, not}
+use Rattle.std.specs.Prelude.{◌==◌, bytes_eq, IfSome, slice_index_or, if◌then◌else◌}
 use Rattle.std.specs.List.{list_any}
 use Rattle.std.specs.Option.{is_some}
 use Rattle.s39_words.specs.declared.share.ShareFields.{ShareFields}
@@ -7,7 +8,9 @@ use Rattle.s39_words.specs.Share.{flag_bit}
 use Rattle.s39_set.specs.declared.common.Common.{Common}
 use Rattle.s39_set.specs.declared.masks.Masks.{Masks}
 use Rattle.s39_set.specs.declared.set_error.SetError.{SetError}
-use Rattle.s39_set.specs.declared.set_error.SetError.TheVariants.{OtherIdentifier, OtherExtendable, OtherExponent, OtherGroupThreshold, OtherGroupCount, OtherLength, OtherMemberThreshold, ConflictingShare}
+use Rattle.s39_set.specs.declared.set_error.SetError.TheVariants.{OtherIdentifier, OtherExtendable, OtherExponent}
+use Rattle.s39_set.specs.declared.set_error.SetError.TheVariants.{OtherGroupThreshold, OtherGroupCount, OtherLength}
+use Rattle.s39_set.specs.declared.set_error.SetError.TheVariants.{OtherMemberThreshold, ConflictingShare}
 use Rattle.s39_set.specs.Names.{most_groups, most_members}
 use Rattle.s39_set.specs.Masks.{is_in}
 use Rattle.s39_set.specs.ShareSet.{IsShareSet, name_of, is_in_group, has_name, some_differs}

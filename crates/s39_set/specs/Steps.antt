@@ -1,5 +1,6 @@
 -- What a step to the next quorum knows. No public contract cites this.
-use Rattle.std.specs.Prelude.{◌≡◌, ℕ, ◌+◌, ◌-◌, ◌<◌, Bool, true, false, List, length, map, take, filter, Contains, IsTrue, ◌↔◌, ◌++◌, Option, Some, None, nat_lt, unwrap_or, slice_index_or}
+use Rattle.std.specs.Prelude.{◌≡◌, ℕ, ◌+◌, ◌-◌, ◌<◌, Bool, true, false, List, length, map, take, filter, Contains}
+use Rattle.std.specs.Prelude.{IsTrue, ◌↔◌, ◌++◌, Option, Some, None, nat_lt, unwrap_or, slice_index_or}
 use Rattle.std.specs.List.{range_with_len, flat_map}
 use Rattle.s39_words.specs.declared.share.ShareFields.{ShareFields}
 use Rattle.s39_set.specs.declared.masks.Masks.{Masks}

@@ -224,7 +224,8 @@ impl Choice {
         requires position { position < length names.now }
         requires looks { looks.old + most_tail_looks ≤ u64.MAX }
         ensures names { result
-            ≡ take position names.now ++ tail_names set.now self.now (name_at names.now position) tail }
+            ≡ take position names.now
+            ++ tail_names set.now self.now (name_at names.now position) tail }
         ensures at_least { looks.old ≤ looks.new }
         ensures at_most { looks.new ≤ looks.old + most_tail_looks }
     {

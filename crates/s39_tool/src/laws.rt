@@ -83,7 +83,8 @@ pub fn one_recover_output()
 /// An input has an output of `recover` with a passphrase.
 pub fn some_recover_output()
     ensures { (passphrase : List ℕ) (input : Input)
-        → (text : List ℕ) × (answer : Result (Unit {0}) Fault) × IsRecoverOutput passphrase input text answer }
+        → (text : List ℕ) × (answer : Result (Unit {0}) Fault)
+        × IsRecoverOutput passphrase input text answer }
 {
     passphrases_are_printable_or_not();
     every_input_is_read();
@@ -234,7 +235,8 @@ pub fn one_create_output()
         → (text ≡ other) × (answer ≡ another) }
     ensures exists { (asked : Asked) (input : Input)
         → IsPlan asked.group_threshold asked.groups → AreBytes asked.secret → AreBytes input.bytes
-        → (text : List ℕ) × (answer : Result (Unit {0}) Fault) × IsCreateOutput asked input text answer }
+        → (text : List ℕ) × (answer : Result (Unit {0}) Fault)
+        × IsCreateOutput asked input text answer }
 {
     passphrases_are_printable_or_not();
     one_creation();

@@ -154,8 +154,8 @@ impl Unfinished {
         requires part { All (λ b. b ≢ 10) part.now }
         ensures taken { (came : List ℕ) (first : T)
             → IsMidway T.takes came self.old.line.items self.old.number first taker.old
-            → ReachesOrStops T.takes (came ++ part.now ++ 10 ∷ []) self.new.line.items self.new.number
-            first taker.new result }
+            → ReachesOrStops T.takes (came ++ part.now ++ 10 ∷ [])
+            self.new.line.items self.new.number first taker.new result }
         ensures ready { OnOk result (T.can_take taker.new) }
     {
         if self.line.is_empty() && part.len() <= MAX_LINE_BYTES {

@@ -1,9 +1,11 @@
 -- The fields of a share and its words determine each other.
-use Rattle.std.proofs.Common.{◌≡◌, ℕ, ◌+◌, ◌-◌, ◌*◌, ◌/◌, ◌%◌, ◌^◌, ◌<◌, ◌≤◌, Bool, true, false, List, ◌++◌, length, take, drop, replicate, refl, sym, ap, ◌∙◌, arith, All, subst}
+use Rattle.std.proofs.Common.{◌≡◌, ℕ, ◌+◌, ◌-◌, ◌*◌, ◌/◌, ◌%◌, ◌^◌, ◌<◌, ◌≤◌, Bool, true, false, List, ◌++◌, length}
+use Rattle.std.proofs.Common.{take, drop, replicate, refl, sym, ap, ◌∙◌, arith, All, subst}
 use Rattle.std.specs.Prelude.{◌==◌}
 use Rattle.std.specs.Int.Digits.{number_from_digits}
 use Rattle.std.proofs.lemmas.Bool.Decides.{nat_tests}
-use Rattle.std.proofs.lemmas.List.{length-append, length-take-le, length-drop, take-append-drop, take_at, drop_at, append_assoc, length-replicate, append-nil, take_all}
+use Rattle.std.proofs.lemmas.List.{length-append, length-take-le, length-drop, take-append-drop, take_at, drop_at}
+use Rattle.std.proofs.lemmas.List.{append_assoc, length-replicate, append-nil, take_all}
 use Rattle.std.proofs.lemmas.List.Concat.{flat_map-append}
 use Rattle.std.proofs.lemmas.List.Elements.{All-append, All-take, All-drop, All-replicate}
 use Rattle.s39_words.specs.Layout.{IsIndex}
@@ -13,7 +15,9 @@ use Rattle.s39_words.specs.Share.{IsValue, IsShare, flag_bit, header_bits, value
 use Rattle.s39_words.specs.Reading.{IsWordCount, padding_length, bits_of_words, number_at, flag_of, stored_group_threshold, stored_group_count, padding_of}
 use Rattle.s39_words.specs.FieldsAt.{pieces, byte_count, share_value_at, fields_at}
 use Rattle.s39_words.proofs.Digits.{bits-below, number-bits-below, number-below, bits-number, zeros_from_number, number_from_zeros, bits-zeros}
-use Rattle.s39_words.proofs.Pieces.{length-pieces, length-joined, joined-below, pieces-below, joined-pieces, pieces-joined, cut-joined, joined-cut, length-cut, cut-below, take-add, take-joined, all_zeros}
+use Rattle.s39_words.proofs.Pieces.{length-pieces, length-joined, joined-below, pieces-below, joined-pieces}
+use Rattle.s39_words.proofs.Pieces.{pieces-joined, cut-joined, joined-cut, length-cut, cut-below, take-add, take-joined}
+use Rattle.s39_words.proofs.Pieces.{all_zeros}
 
 -- fields that are equal one by one
 pub same_fields : (f g : ShareFields) → f.id ≡ g.id → f.extendable ≡ g.extendable → f.exponent ≡ g.exponent → f.group_index ≡ g.group_index

@@ -1,5 +1,6 @@
 -- Lists of binary digits: the number that they write, and their pieces of one width.
-use Rattle.std.proofs.Common.{◌≡◌, ℕ, zero, suc, ◌+◌, ◌*◌, ◌/◌, ◌%◌, ◌^◌, ◌<◌, List, [], ◌∷◌, ◌++◌, length, replicate, refl, sym, ap, ◌∙◌, arith, one-add, All, subst}
+use Rattle.std.proofs.Common.{◌≡◌, ℕ, zero, suc, ◌+◌, ◌*◌, ◌/◌, ◌%◌, ◌^◌, ◌<◌, List, [], ◌∷◌, ◌++◌, length, replicate}
+use Rattle.std.proofs.Common.{refl, sym, ap, ◌∙◌, arith, one-add, All, subst}
 use Rattle.std.proofs.Math.Nat.{pow-zero, pow-suc, mod-eq_of_lt}
 use Rattle.std.specs.Int.{bit_at}
 use Rattle.std.specs.Int.Digits.{number_from_digits, number_from_digits_after}

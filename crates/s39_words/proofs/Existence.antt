@@ -15,7 +15,9 @@ use Rattle.s39_words.specs.Division.{Remainder, one_remainder, next_remainder}
 use Rattle.s39_words.specs.WordList.{index_of}
 use Rattle.s39_words.specs.Spelling.{words_of, HaveIndices}
 use Rattle.s39_words.specs.Printing.{listed_word, IsPrinted}
-use Rattle.s39_words.specs.Reading.{IsFirstUnknown, IsWordCount, PassesCount, PassesChecksum, PassesPadding, flag_of, value_field_length, padding_length, number_at, stored_group_threshold, stored_group_count, Reads}
+use Rattle.s39_words.specs.Reading.{IsFirstUnknown, IsWordCount, PassesCount, PassesChecksum, PassesPadding, flag_of}
+use Rattle.s39_words.specs.Reading.{value_field_length, padding_length, number_at, stored_group_threshold}
+use Rattle.s39_words.specs.Reading.{stored_group_count, Reads}
 use Rattle.s39_words.specs.FieldsAt.{fields_at}
 use Rattle.s39_words.proofs.Indices.{indices_below}
 use Rattle.s39_words.proofs.DataWords.{data_words-below, padding_from_number, number_from_padding}

@@ -1,5 +1,6 @@
 -- The indices of a text's words: one list of them, or a first word that has none.
-use Rattle.std.proofs.Common.{◌≡◌, ℕ, suc, true, ◌+◌, ◌<◌, ◌≤◌, min, List, [], ◌∷◌, ◌++◌, length, take, Some, None, Result, Ok, Err, append_assoc, refl, sym, ap, subst, ◌∙◌, ⊎_elim, arith}
+use Rattle.std.proofs.Common.{◌≡◌, ℕ, suc, true, ◌+◌, ◌<◌, ◌≤◌, min, List, [], ◌∷◌, ◌++◌, length, take, Some, None}
+use Rattle.std.proofs.Common.{Result, Ok, Err, append_assoc, refl, sym, ap, subst, ◌∙◌, ⊎_elim, arith}
 use Rattle.std.specs.Prelude.{map, All, IsSome, is_some, IsOk, OnOk, OnErr, ◌↔◌, bytes_eq}
 use Rattle.arrayvec.specs.ArrayVec.{ArrayVec}
 use Rattle.std.proofs.lemmas.Bool.{false≢true, cases_lt}

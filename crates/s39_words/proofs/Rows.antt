@@ -1,11 +1,13 @@
 -- The row of a word, as the code makes it.
-use Rattle.std.proofs.Common.{◌≡◌, ℕ, ◌+◌, ◌-◌, ◌*◌, ◌%◌, ◌^◌, ◌<◌, ◌≤◌, true, false, List, [], ◌∷◌, ◌++◌, length, get_or, take, drop, refl, sym, ap, subst, ◌∙◌, arith, add-one}
+use Rattle.std.proofs.Common.{◌≡◌, ℕ, ◌+◌, ◌-◌, ◌*◌, ◌%◌, ◌^◌, ◌<◌, ◌≤◌, true, false, List, [], ◌∷◌, ◌++◌, length}
+use Rattle.std.proofs.Common.{get_or, take, drop, refl, sym, ap, subst, ◌∙◌, arith, add-one}
 use Rattle.std.specs.Prelude.{map, All, IsTrue}
 use Rattle.std.specs.Char.{is_ascii_alphabetic, to_ascii_lowercase}
 use Rattle.std.specs.Str.{str_to_ascii_lowercase}
 use Rattle.std.proofs.lemmas.Bool.Decides.{nat_tests}
 use Rattle.std.proofs.lemmas.Nat.{shl_whole}
-use Rattle.std.proofs.lemmas.List.{length-map, length-append, length-take, length-take-le, map-append, append-nil, get_or-map, take_more, take_all, take-append-drop, take_rest, drop_more}
+use Rattle.std.proofs.lemmas.List.{length-map, length-append, length-take, length-take-le, map-append, append-nil}
+use Rattle.std.proofs.lemmas.List.{get_or-map, take_more, take_all, take-append-drop, take_rest, drop_more}
 use Rattle.std.proofs.lemmas.List.Elements.{All-nil, All-cons, All-append, All-more, All-weaker, All-from_get_or}
 use Rattle.s39_words.specs.Layout.{longest_word}
 use Rattle.s39_words.specs.FirstWord.{BeginsWith}

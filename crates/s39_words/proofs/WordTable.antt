@@ -1,5 +1,6 @@
 -- The word list, computed: its order, its letters, and the rows of the table.
-use Rattle.std.proofs.Common.{◌≡◌, ℕ, zero, suc, ◌+◌, ◌<◌, ◌≤◌, Bool, true, false, ◌&&◌, leb, List, [], ◌∷◌, length, take, get_or, Ordering, refl, sym, subst, arith, add-one}
+use Rattle.std.proofs.Common.{◌≡◌, ℕ, zero, suc, ◌+◌, ◌<◌, ◌≤◌, Bool, true, false, ◌&&◌, leb, List, [], ◌∷◌, length}
+use Rattle.std.proofs.Common.{take, get_or, Ordering, refl, sym, subst, arith, add-one}
 use Rattle.std.specs.Prelude.{nat_le, not, map, All, AllPairs, Decides}
 use Rattle.std.specs.List.{list_all}
 use Rattle.std.specs.Ordering.{nat_cmp, is_lt}

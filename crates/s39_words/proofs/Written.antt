@@ -1,5 +1,6 @@
 -- Binary digits written one number after another, and the words that they make.
-use Rattle.std.proofs.Common.{◌≡◌, ℕ, ◌+◌, ◌-◌, ◌*◌, ◌/◌, ◌%◌, ◌^◌, ◌<◌, ◌≤◌, List, [], ◌∷◌, ◌++◌, length, refl, sym, ap, ◌∙◌, subst, arith, All, bit_and, bit_or}
+use Rattle.std.proofs.Common.{◌≡◌, ℕ, ◌+◌, ◌-◌, ◌*◌, ◌/◌, ◌%◌, ◌^◌, ◌<◌, ◌≤◌, List, [], ◌∷◌, ◌++◌, length, refl, sym}
+use Rattle.std.proofs.Common.{ap, ◌∙◌, subst, arith, All, bit_and, bit_or}
 use Rattle.std.proofs.lemmas.Nat.{and_mask, or_shifted, one_shl, pow_pos, pow-add, mul-add-lt, mod_below, shr_below, shr_split, shl_whole}
 use Rattle.std.proofs.lemmas.List.{length-append, append_assoc, append-nil}
 use Rattle.std.proofs.lemmas.List.Concat.{flat_map-append}

@@ -1,5 +1,6 @@
 -- What a text is read as: the share that it spells, or the first cause for which it spells none.
-use Rattle.std.specs.Prelude.{◌≡◌, ℕ, suc, ◌+◌, ◌-◌, ◌*◌, ◌/◌, ◌%◌, ◌<◌, ◌≤◌, List, ◌∷◌, ◌++◌, All, length, take, drop, None, IsSome, Result, Ok, Err, Bool, ◌==◌}
+use Rattle.std.specs.Prelude.{◌≡◌, ℕ, suc, ◌+◌, ◌-◌, ◌*◌, ◌/◌, ◌%◌, ◌<◌, ◌≤◌, List, ◌∷◌, ◌++◌, All, length, take, drop}
+use Rattle.std.specs.Prelude.{None, IsSome, Result, Ok, Err, Bool, ◌==◌}
 use Rattle.std.specs.List.{flat_map}
 use Rattle.std.specs.Int.Digits.{number_from_digits}
 use Rattle.s39_kdf.specs.Limits.{shortest_secret, longest_secret}

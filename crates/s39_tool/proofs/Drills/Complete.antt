@@ -20,7 +20,8 @@ use Rattle.s39_tool.specs.declared.drill.Done.{Done}
 use Rattle.s39_tool.specs.Input.{Input}
 use Rattle.s39_tool.specs.Accepted.{IsReadAs}
 use Rattle.s39_tool.specs.OfBackup.{HoldsMnemonicsOf}
-use Rattle.s39_tool.specs.Drill.{Listed, quorum_line, last_line, mismatches_in, IsDrill, IsUndrilled, IsDrillOutput, ListsSecret, ListsSecretOrCause, DrillsCreated}
+use Rattle.s39_tool.specs.Drill.{Listed, quorum_line, last_line, mismatches_in, IsDrill, IsUndrilled, IsDrillOutput}
+use Rattle.s39_tool.specs.Drill.{ListsSecret, ListsSecretOrCause, DrillsCreated}
 use Rattle.s39_tool.proofs.Drills.Drilling.{Names}
 
 -- listed names are quorums

@@ -7,7 +7,9 @@ use Rattle.s39_set.specs.Quorums.{member_threshold_of}
 use Rattle.s39_set.proofs.MembersOf.{members_of-below, members_of_push}
 use Rattle.s39_set.proofs.Ranges.{first_passing, first_passing_more, first_passing_without, first_passing_full, first_passing-below}
 use Rattle.s39_set.proofs.least.first_members.Goals as goal
-use Rattle.s39_set.proofs.least.first_members.Goals.{then-groups-required+then-is_complete, else-groups-required, else-groups-required-via-then-groups-required+else-is_complete, else-groups-required-via-else-groups-required}
+use Rattle.s39_set.proofs.least.first_members.Goals.{then-groups-required+then-is_complete, else-groups-required}
+use Rattle.s39_set.proofs.least.first_members.Goals.{else-groups-required-via-then-groups-required+else-is_complete}
+use Rattle.s39_set.proofs.least.first_members.Goals.{else-groups-required-via-else-groups-required}
 
 pub push_first_members-requires-clause-earlier : goal.push_first_members-requires-clause-earlier
 push_first_members-requires-clause-earlier c =

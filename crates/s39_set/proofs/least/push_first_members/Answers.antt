@@ -6,7 +6,9 @@ use Rattle.s39_set.specs.Names.{name_cmp, names_in_group, most_members}
 use Rattle.s39_set.specs.ShareSet.{name_of}
 use Rattle.s39_set.proofs.FirstAtHand.{first_below, first_below_more, first_below_without, first_below_full, first_below-all, earlier-before}
 use Rattle.s39_set.proofs.least.push_first_members.Goals as goal
-use Rattle.s39_set.proofs.least.push_first_members.Goals.{then-is_at_hand+then-members-threshold, else-is_at_hand, else-is_at_hand-via-then-is_at_hand+else-members-threshold, else-is_at_hand-via-else-is_at_hand}
+use Rattle.s39_set.proofs.least.push_first_members.Goals.{then-is_at_hand+then-members-threshold, else-is_at_hand}
+use Rattle.s39_set.proofs.least.push_first_members.Goals.{else-is_at_hand-via-then-is_at_hand+else-members-threshold}
+use Rattle.s39_set.proofs.least.push_first_members.Goals.{else-is_at_hand-via-else-is_at_hand}
 
 pub push-requires-clause-later : goal.push-requires-clause-later
 push-requires-clause-later c =

@@ -4,7 +4,9 @@ use Rattle.s39_set.specs.Names.{name_cmp, most_members}
 use Rattle.s39_set.specs.Masks.{is_in}
 use Rattle.s39_set.proofs.RangesFrom.{first_from, first_from_more, first_from_without, first_from_full, all_before_next}
 use Rattle.s39_set.proofs.next.push_members.Goals as goal
-use Rattle.s39_set.proofs.next.push_members.Goals.{then-members-wanted+then-has, else-members-wanted, else-members-wanted-via-then-members-wanted+else-has, else-members-wanted-via-else-members-wanted}
+use Rattle.s39_set.proofs.next.push_members.Goals.{then-members-wanted+then-has, else-members-wanted}
+use Rattle.s39_set.proofs.next.push_members.Goals.{else-members-wanted-via-then-members-wanted+else-has}
+use Rattle.s39_set.proofs.next.push_members.Goals.{else-members-wanted-via-else-members-wanted}
 use Rattle.std.specs.List.{range_with_len}
 
 pub push-requires-clause-later : goal.push-requires-clause-later

@@ -3,7 +3,9 @@ use Rattle.std.proofs.lemmas.Result.{err_from_is_err_and}
 use Rattle.s39_backup.specs.Outcome.{IsOutcome}
 use Rattle.s39_tool.specs.Output.{WritesWhole, WritesPart}
 use Rattle.s39_tool.specs.Drill.{last_line, shown, mismatch_in, IsNext}
-use Rattle.s39_tool.proofs.Drills.Drilling.{Laws, IsDrilling, mismatch_most, more_after, drill_over, last_line_is, drilling_starts, drilling_fails, drilling_goes_on, drilling_ends, drilling_fails_last}
+use Rattle.s39_tool.proofs.Drills.Drilling.{Laws, IsDrilling, mismatch_most, more_after, drill_over, last_line_is}
+use Rattle.s39_tool.proofs.Drills.Drilling.{drilling_starts, drilling_fails, drilling_goes_on, drilling_ends}
+use Rattle.s39_tool.proofs.Drills.Drilling.{drilling_fails_last}
 use Rattle.s39_set.specs.Quorums.{IsFirstQuorumAfter}
 use Rattle.s39_tool.proofs.drill.write_drill.Goals as goal
 use Rattle.s39_tool.proofs.drill.write_drill.Goals.{then-left-eq0-via-then-left-eq0, then-left-eq0-via-else-left-eq0+then-is_none}

@@ -1,4 +1,5 @@
-use Rattle.std.proofs.Common.{◌≡◌, ◌+◌, ◌<◌, ◌≤◌, ◌++◌, [], ℕ, Bool, true, false, List, length, get_or, take, All, unwrap_or, sym, ap, subst, ◌∙◌, arith, append_assoc}
+use Rattle.std.proofs.Common.{◌≡◌, ◌+◌, ◌<◌, ◌≤◌, ◌++◌, [], ℕ, Bool, true, false, List, length, get_or, take, All}
+use Rattle.std.proofs.Common.{unwrap_or, sym, ap, subst, ◌∙◌, arith, append_assoc}
 use Rattle.std.specs.List.{flat_map}
 use Rattle.std.proofs.lemmas.List.{length_push, flat_map_more}
 use Rattle.std.proofs.lemmas.List.Elements.{All-append, All-weaker}
@@ -7,7 +8,9 @@ use Rattle.s39_set.specs.Steps.{members_from, members_taken}
 use Rattle.s39_set.proofs.RangesFrom.{first_from, first_from_more, first_from_without, first_from_full}
 use Rattle.s39_set.proofs.Pushed.{members-group, before_first}
 use Rattle.s39_set.proofs.next.Choice.push_groups.Goals as goal
-use Rattle.s39_set.proofs.next.Choice.push_groups.Goals.{then-groups-wanted+then-self-from, else-groups-wanted, else-groups-wanted-via-then-groups-wanted+else-self-from, else-groups-wanted-via-else-groups-wanted}
+use Rattle.s39_set.proofs.next.Choice.push_groups.Goals.{then-groups-wanted+then-self-from, else-groups-wanted}
+use Rattle.s39_set.proofs.next.Choice.push_groups.Goals.{else-groups-wanted-via-then-groups-wanted+else-self-from}
+use Rattle.s39_set.proofs.next.Choice.push_groups.Goals.{else-groups-wanted-via-else-groups-wanted}
 
 pub push_members-requires-clause-earlier : goal.push_members-requires-clause-earlier
 push_members-requires-clause-earlier c = before_first c.loop-group.group c.loop-group.quorum c.loop-group.invariant.earlier

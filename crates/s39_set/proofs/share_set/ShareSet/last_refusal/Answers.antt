@@ -4,7 +4,8 @@ use Rattle.s39_words.specs.declared.share.ShareFields.{ShareFields}
 use Rattle.s39_set.specs.declared.set_error.SetError.TheVariants.{OtherMemberThreshold, ConflictingShare}
 use Rattle.s39_set.specs.ShareSet.{has_name, is_in_group, some_differs}
 use Rattle.s39_set.specs.Quorums.{member_threshold_of}
-use Rattle.s39_set.proofs.Refusals.{last_refusal-threshold, last_refusal-value, last_from_failures, threshold-differs, threshold-fails, value_test, value_test-none, found_by_indices}
+use Rattle.s39_set.proofs.Refusals.{last_refusal-threshold, last_refusal-value, last_from_failures, threshold-differs}
+use Rattle.s39_set.proofs.Refusals.{threshold-fails, value_test, value_test-none, found_by_indices}
 use Rattle.s39_set.proofs.share_set.ShareSet.last_refusal.Goals as goal
 use Rattle.s39_set.proofs.share_set.ShareSet.last_refusal.Goals.{in-Some+else-threshold-member_threshold, in_default}
 
