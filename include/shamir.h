@@ -34,7 +34,7 @@ extern "C" {
 #define SHAMIR_MNEMONIC_BYTES_MAX 989
 #define SHAMIR_MNEMONICS_BYTES_MAX 253440
 
-/* The most bytes that shamir_drill_next writes. */
+/* So many bytes are enough for a quorum and the last line in the text of a drill. */
 #define SHAMIR_LISTING_BYTES_MAX 3588
 
 /* The most bytes that shamir_text writes. */
@@ -133,15 +133,16 @@ shamir_answer shamir_recover(
     const uint8_t *lines, size_t lines_bytes, const uint8_t *passphrase, size_t passphrase_bytes, uint8_t *secret, size_t secret_bytes);
 
 /*
- * Tries the first quorum among lines that comes after the one that the text after names, or the least, where that text is
- * empty. What the command drill writes of it with a limit of 1 goes to the front of text: a line with the quorum and the
- * secret in hexadecimal, or which digest doesn't match; and a last line, which is "end", or "more after " and the text to
- * go on after. So a loop of such calls lists all quorums, each once. mismatches is 1 where the quorum is refused for a
- * digest, else 0. Refused: 61, 41, then the first refused line (11 to 28, 71), then 29, 30, 62, and then 1.
+ * Tries the quorums of lines, as of shamir_recover, that come after the one that after names, as 0.0+0.2+1.0, or all where
+ * it is empty. What the command drill writes of them goes to the front of text, with the limit, or with the highest lower
+ * one with which it fits: a line for each quorum, with the secret in hexadecimal, or which digest doesn't match; and a last
+ * line, which is "end", or "more after " and the text to go on after. So a loop of such calls lists all quorums, each once.
+ * mismatches is how many of the listed quorums are refused for a digest. Refused: 2 for a limit of 0, then 61, 41, then the
+ * first refused line (11 to 28, 71), then 29, 30, 62, and then 1, with the bytes that the first quorum needs.
  */
-shamir_answer shamir_drill_next(
+shamir_answer shamir_drill(
     const uint8_t *lines, size_t lines_bytes, const uint8_t *passphrase, size_t passphrase_bytes, const uint8_t *after, size_t after_bytes,
-    uint8_t *text, size_t text_bytes);
+    uint32_t limit, uint8_t *text, size_t text_bytes);
 
 /*
  * The text of an answer's code and details, as the command shamir prints it behind the number: it goes to the front of

@@ -21,6 +21,8 @@ SECRET_BYTES_MAX = 128
 TEXT_BYTES_MAX = 64
 MORE = b"more after "
 FIRST_ROOM = 4096
+DRILL_ROOM = 1 << 16
+LIMIT_MAX = (1 << 32) - 1
 
 
 class _Answer(ctypes.Structure):
@@ -59,7 +61,7 @@ def _loaded() -> ctypes.CDLL:
         ("shamir_random_needed", _SLICE + [ctypes.c_size_t]),
         ("shamir_create", _SLICE * 3 + [ctypes.c_uint32] * 2 + _SLICE + _ROOM),
         ("shamir_recover", _SLICE * 2 + _ROOM),
-        ("shamir_drill_next", _SLICE * 3 + _ROOM),
+        ("shamir_drill", _SLICE * 3 + [ctypes.c_uint32] + _ROOM),
         ("shamir_text", [ctypes.POINTER(_Answer)] + _ROOM),
     ]:
         function = getattr(library, name)
@@ -171,12 +173,12 @@ def drill(lines: Union[Text, Iterable[Text]], passphrase: Text = b"", after: Tex
     """Each quorum of mnemonics, in order, or those that come after a given one: pairs of its names, as `0.0+0.2+1.0`, and of
     what it recovers, the secret in hexadecimal or which digest doesn't match.
 
-    Each is computed when it is asked for. Raises `Refusal` 11 to 30, 41, 61, 62 or 71 before the first.
+    They are computed in parts of so many as 64 kB hold. Raises `Refusal` 11 to 30, 41, 61, 62 or 71 before the first.
     """
     data, key, cursor = _joined(lines), _slice(_bytes(passphrase)), _bytes(after)
     while True:
-        given = _slice(data) + key + _slice(cursor)
-        text = _filled(lambda out, room: _library.shamir_drill_next(*given, out, room), FIRST_ROOM)
+        given = _slice(data) + key + _slice(cursor) + (LIMIT_MAX,)
+        text = _filled(lambda out, room: _library.shamir_drill(*given, out, room), DRILL_ROOM)
         *listed, last = text.splitlines()
         for line in listed:
             names, outcome = line.decode().split(" ", 1)

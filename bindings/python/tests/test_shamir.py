@@ -66,6 +66,10 @@ class WorkedExamples(unittest.TestCase):
         self.assertEqual(list(shamir.drill(FIVE, "TREZOR")), listed)
         self.assertEqual(list(shamir.drill(FIVE[::-1], "TREZOR", after=names[4])), listed[5:])
         self.assertEqual(list(shamir.drill(FIVE, "TREZOR", after=names[6])), [])
+        for room in [68, 113, 200]:
+            shamir.DRILL_ROOM, whole = room, shamir.DRILL_ROOM
+            self.assertEqual(list(shamir.drill(FIVE, "TREZOR")), listed)
+            shamir.DRILL_ROOM = whole
         self.refused(62, None, (0, 0), list, shamir.drill(FIVE, after="0.1"))
         self.refused(61, None, (0, 0), list, shamir.drill(FIVE, after="0.1+"))
 

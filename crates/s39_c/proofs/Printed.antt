@@ -1,23 +1,9 @@
 -- Mnemonics that are written one after the other.
 use Rattle.std.proofs.Common.{◌≡◌, ◌+◌, ℕ, List, [], ◌∷◌, ◌++◌, length, take, drop, refl, sym, ap, ap₂, ◌∙◌, arith}
 use Rattle.std.specs.List.{AllZip, flat_map}
-use Rattle.std.proofs.lemmas.List.{length-append}
-use Rattle.std.proofs.lemmas.Slice.{drop-append-drop}
-use Rattle.std.proofs.Math.Seq.{take-append_seam}
 use Rattle.s39_words.specs.declared.ShareFields.{ShareFields}
 use Rattle.s39_words.specs.Printing.{IsPrinted}
 use Rattle.s39_tool.specs.Create.{ended_line, ArePrintedLines}
-
--- bytes that are put behind those at the front of a slice
-pub put_next : (text line old : List ℕ)
-    → take (length text) (text ++ drop (length text) old) ++ line ++ drop (length text + length line) (text ++ drop (length text) old)
-    ≡ (text ++ line) ++ drop (length (text ++ line)) old
-put_next text line old =
-    rw (
-      take-append_seam text (drop (length text) old),
-      drop-append-drop (length text) old text (length text + length line) (omega arith) refl,
-      length-append text line,
-    ) refl
 
 module _ (one_printed_form : (share : ShareFields) (text other : List ℕ) → IsPrinted text share → IsPrinted other share → text ≡ other) where
   lines_once : (shares : List ShareFields) (lines others : List (List ℕ)) → AllZip IsPrinted lines shares → AllZip IsPrinted others shares → lines ≡ others

@@ -1,6 +1,6 @@
 -- What `shamir_create` and `shamir_random_needed` give.
-use Rattle.std.specs.Prelude.{◌≡◌, ◌≢◌, ◌⊎◌, ℕ, ◌≤◌, List, [], true, ◌↔◌, Ok, Err}
-use Rattle.s39_kdf.specs.Limits.{IsSecretLength}
+use Rattle.std.specs.Prelude.{◌≡◌, ◌≢◌, ◌⊎◌, ℕ, ◌<◌, ◌≤◌, ◌^◌, List, [], true, ◌↔◌, Ok, Err}
+use Rattle.s39_kdf.specs.Limits.{exponent_bits, IsSecretLength}
 use Rattle.s39_backup.specs.declared.plan.Members.{Members}
 use Rattle.s39_backup.specs.declared.plan_error.PlanError.{PlanError}
 use Rattle.s39_backup.specs.Plan.{IsPlanReading}
@@ -37,8 +37,8 @@ pub record Asks (wanted : Wanted) (asked : Asked) : Type 0 where
 -- The first that applies: an exponent above 15; a text that is no plan; and then what that plan gives.
 abbrev pub GivesBackup : Wanted → List ℕ → List ℕ → List ℕ → ShamirAnswer → Type 0
 GivesBackup wanted random old new answer =
-    ((16 ≤ wanted.exponent) × (new ≡ old) × (answer ≡ out_of_range))
-    ⊎ ((error : PlanError) × IsPlanReading wanted.plan (Err error) × (new ≡ old) × (answer ≡ plan_refused error))
+    ((2 ^ exponent_bits ≤ wanted.exponent) × (new ≡ old) × (answer ≡ out_of_range))
+    ⊎ ((wanted.exponent < 2 ^ exponent_bits) × (error : PlanError) × IsPlanReading wanted.plan (Err error) × (new ≡ old) × (answer ≡ plan_refused error))
     ⊎ ((asked : Asked) × Asks wanted asked × GivesMnemonics asked random old new answer)
 
 -- how many random bytes a plan's text takes for a secret of n bytes, or the refusal of the text, or of the length

@@ -1,5 +1,6 @@
 //! The creation of a backup.
-ghost use Rattle.std.specs.Prelude.{◌≡◌, ◌≢◌, ◌↔◌, ◌<◌, ◌≤◌, ℕ, List, All, length, true, IfSome, None, ◌++◌, drop};
+ghost use Rattle.std.specs.Prelude.{◌≡◌, ◌≢◌, ◌↔◌, ◌<◌, ◌≤◌, ◌^◌, ℕ, List, All, length, true, IfSome, None, ◌++◌, drop};
+ghost use Rattle.s39_kdf.specs.Limits.{exponent_bits};
 ghost use Rattle.s39_set.specs.Names.{most_names};
 ghost use Rattle.s39_words.specs.Share.{IsShare};
 ghost use Rattle.s39_tool.specs.Create.{ArePrintedLines, ended_line};
@@ -72,7 +73,7 @@ fn options_of(exponent: u32, extendable: u32) -> Option<Options>
     ensures exponent { IfSome result (λ options. options.exponent ≡ exponent) }
     ensures extendable { IfSome result (λ options.
         (options.extendable ≡ true) ↔ (extendable ≢ 0)) }
-    ensures none { result ≡ None → 16 ≤ exponent }
+    ensures none { result ≡ None → 2 ^ exponent_bits ≤ exponent }
 {
     if exponent < 16 {
         Some(Options {

@@ -1,59 +1,59 @@
-//! The drill, a quorum at a time.
+//! The drill.
 ghost use Rattle.std.specs.Option.{option_copied};
-ghost use Rattle.s39_c.specs.Drilling.{GivesListing, GivesStep};
+ghost use Rattle.std.specs.Prelude.{◌≤◌};
+ghost use Rattle.s39_c.specs.Drilling.{GivesListing, GivesDrill};
 
 use crate::answer::ShamirAnswer;
-use crate::memory::give;
 use s39_set::{Quorum, parse_quorum};
-use s39_tool::drill_step;
+use s39_tool::drill_lines;
 
-/// Tries the first quorum of the lines' shares that comes after the one that `after` writes, or the least, where that text
-/// is empty: the line of the quorum, where there is one, and the last line go to the front of `text`, as the command
-/// `drill` writes them with a limit of 1. `written` is the number of bytes, and `mismatches` 1 where the quorum is refused
-/// for a digest, else 0. The last line is `end`, or `more after` and a text to go on after.
+/// Tries the quorums of the lines' shares that come after the one that `after` writes, or all, where that text is empty:
+/// what the command `drill` writes of them goes to the front of `text`, with the limit, or with the highest lower one with
+/// which it fits. `written` is the number of bytes, and `mismatches` how many of the listed quorums are refused for a
+/// digest. The last line is `end`, or `more after` and a text to go on after.
 ///
-/// The first that applies is refused, and then the slice is unchanged: a text that is no list of names (61), what the
-/// command refuses of passphrase, lines and names, and that `text` is too short (1).
+/// The first that applies is refused, and then the slice is unchanged: a limit of 0 (2), a text that is no list of names
+/// (61), what the command refuses of passphrase, lines and names, and that `text` is too short for a quorum (1).
 #[unsafe(no_mangle)]
-pub extern "C" fn shamir_drill_next(
+pub extern "C" fn shamir_drill(
     lines: &[u8],
     passphrase: &[u8],
     after: &[u8],
+    limit: u32,
     text: &mut [u8],
 ) -> ShamirAnswer
-    ensures { GivesStep passphrase.now after.now lines.now text.old text.new result }
+    ensures { GivesDrill passphrase.now after.now limit lines.now text.old text.new result }
 {
+    if limit == 0 {
+        return ShamirAnswer::out_of_range();
+    }
     if after.is_empty() {
-        return give_listing(passphrase, None, lines, text);
+        return give_listing(passphrase, None, limit, lines, text);
     }
     match parse_quorum(after) {
-        Ok(quorum) => give_listing(passphrase, Some(&quorum), lines, text),
+        Ok(quorum) => give_listing(passphrase, Some(&quorum), limit, lines, text),
         Err(error) => ShamirAnswer::from(error),
     }
 }
 
-/// Writes what is listed after a quorum, or of all, to the front of a slice, where it fits.
+/// Writes what is listed after a quorum, or of all, to the front of a slice, as much as fits.
 fn give_listing(
     passphrase: &[u8],
     after: Option<&Quorum>,
+    limit: u32,
     lines: &[u8],
     text: &mut [u8],
 ) -> ShamirAnswer
-    ensures { GivesListing passphrase.now (option_copied after.entry) lines.now
+    requires { 1 ≤ limit }
+    ensures { GivesListing passphrase.now (option_copied after.entry) limit lines.now
         text.old text.new result }
 {
-    match drill_step(passphrase, after, lines) {
-        Ok(step) => {
-            let answer = give(step.text.as_slice(), text);
-            if answer.code == 0 {
-                ShamirAnswer {
-                    mismatches: step.mismatches,
-                    ..answer
-                }
-            } else {
-                answer
-            }
-        }
+    match drill_lines(passphrase, after, limit, lines, text) {
+        Ok(Ok(listing)) => ShamirAnswer {
+            mismatches: listing.mismatches,
+            ..ShamirAnswer::done(listing.written)
+        },
+        Ok(Err(short)) => ShamirAnswer::too_short(short.needed),
         Err(fault) => ShamirAnswer::from(fault),
     }
 }

@@ -12,7 +12,7 @@ mod telling;
 
 pub use answer::ShamirAnswer;
 pub use creating::{shamir_create, shamir_random_needed};
-pub use drilling::shamir_drill_next;
+pub use drilling::shamir_drill;
 pub use parsing::{ShamirShare, shamir_parse};
 pub use recovering::shamir_recover;
 pub use telling::shamir_text;

@@ -234,40 +234,69 @@ fn tells(rt: HostRuntime) {
 
 #[test]
 fn drills(rt: HostRuntime) {
-    let first = b"0.0+0.1+1.0 bb54aac4b89dc868ba37d9cc21b2cece\nmore after 0.0+0.1+1.0\n";
-    let cases: [(&[u8], &[u8]); 3] = [
-        (b"", first),
+    let parts: [(&[u8], u32, &[u8]); 4] = [
+        (
+            b"",
+            2,
+            b"0.0+0.1+1.0 bb54aac4b89dc868ba37d9cc21b2cece\n0.0+0.1+2.0 bb54aac4b89dc868ba37d9cc21b2cece\nmore after 0.0+0.1+2.0\n",
+        ),
+        (
+            b"0.1+0.2+1.0",
+            1,
+            b"0.1+0.2+2.0 bb54aac4b89dc868ba37d9cc21b2cece\nmore after 0.1+0.2+2.0\n",
+        ),
         (
             b"0.1+0.2+2.0",
+            9,
             b"1.0+2.0 bb54aac4b89dc868ba37d9cc21b2cece\nend\n",
         ),
-        (b"1.0+2.0", b"end\n"),
+        (b"1.0+2.0", 1, b"end\n"),
     ];
-    for (after, listed) in cases {
-        let mut text = [7; 100];
-        let written = listed.len() as u64;
-        let none = shamir_drill_next(FIVE, b"TREZOR", after, &mut []);
-        assert_eq!(rt; none, refusal(1, 0, written, 0));
-        let answer = shamir_drill_next(FIVE, b"TREZOR", after, &mut text);
-        assert_eq!(rt;
-            answer,
-            ShamirAnswer {
-                written,
-                ..refusal(0, 0, 0, 0)
-            }
-        );
+    for (after, limit, listed) in parts {
+        let mut text = [7; 150];
+        let answer = shamir_drill(FIVE, b"TREZOR", after, limit, &mut text);
+        assert_eq!(rt; answer, written(listed.len()));
         assert!(rt; text.starts_with(listed));
+        assert_eq!(rt; text[listed.len()], 7);
     }
-    let refused: [(&[u8], &[u8], ShamirAnswer); 4] = [
-        (b"0.1+", b"a\x07", refusal(61, 0, 0, 0)),
-        (b"0.1", b"a\x07", refusal(41, 0, 2, 0)),
-        (b"0.1", b"", refusal(62, 0, 0, 0)),
-        (b"0.0+0.1+2.0+3.0", b"", refusal(62, 0, 0, 0)),
+}
+
+/// So many bytes were written.
+fn written(bytes: usize) -> ShamirAnswer {
+    ShamirAnswer {
+        written: bytes as u64,
+        ..refusal(0, 0, 0, 0)
+    }
+}
+
+#[test]
+fn drills_what_fits(rt: HostRuntime) {
+    // A line has 45 bytes, and the last line 23.
+    let mut text = [7; 140];
+    for (room, bytes) in [(68, 68), (112, 68), (113, 113), (140, 113)] {
+        let answer = shamir_drill(FIVE, b"TREZOR", b"", 7, &mut text[..room]);
+        assert_eq!(rt; answer, written(bytes));
+        assert!(rt; text[..bytes].ends_with(b"\n"));
+    }
+    let mut narrow = [7; 67];
+    let answer = shamir_drill(FIVE, b"TREZOR", b"", 7, &mut narrow);
+    assert_eq!(rt; answer, refusal(1, 0, 68, 0));
+    assert_eq!(rt; narrow, [7; 67]);
+}
+
+#[test]
+fn refuses_drills(rt: HostRuntime) {
+    let refused: [(&[u8], u32, &[u8], ShamirAnswer); 5] = [
+        (b"0.1+", 0, b"a\x07", refusal(2, 0, 0, 0)),
+        (b"0.1+", 1, b"a\x07", refusal(61, 0, 0, 0)),
+        (b"0.1", 1, b"a\x07", refusal(41, 0, 2, 0)),
+        (b"0.1", 1, b"", refusal(62, 0, 0, 0)),
+        (b"0.0+0.1+2.0+3.0", 1, b"", refusal(62, 0, 0, 0)),
     ];
-    for (after, passphrase, refused) in refused {
+    for (after, limit, passphrase, refused) in refused {
         let mut text = [7; 100];
         assert_eq!(rt;
-            shamir_drill_next(FIVE, passphrase, after, &mut text),
+            shamir_drill(FIVE, passphrase, after, limit, &mut text),
             refused
         );
         assert_eq!(rt; text, [7; 100]);

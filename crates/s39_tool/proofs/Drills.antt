@@ -2,6 +2,7 @@
 pub mod Names
 pub mod Memos
 pub mod Drilling
+pub mod Filling
 pub mod Output
 pub mod Complete
 pub mod OneDrill

@@ -12,3 +12,4 @@ pub mod Recover
 pub mod Create
 pub mod OfBackup
 pub mod Drill
+pub mod Fitting

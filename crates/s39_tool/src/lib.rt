@@ -9,16 +9,17 @@ mod drill;
 mod fault;
 pub mod laws;
 mod lines;
+mod listing;
 mod memory;
 mod output;
 mod recover;
 mod show;
-mod stepping;
 
 pub use creating::run_create;
 pub use device::Counting;
 pub use drill::{Done, Undrilled, run_drill};
 pub use fault::{DeviceFailure, Fault, LineRefusal, Refusal, RefusedLine, Stop};
+pub use listing::{Listing, TooShort, drill_lines};
 pub use memory::recover_secret;
 pub use recover::{Unrecovered, run_recover};
 pub use s39_backup::{
@@ -26,4 +27,3 @@ pub use s39_backup::{
     recover_by, refit,
 };
 pub use show::run_show;
-pub use stepping::{DrillStep, drill_step};

@@ -12,6 +12,7 @@ use Rattle.s39_backup.specs.Outcome.{IsOutcome}
 use Rattle.s39_tool.specs.Device.{Counted}
 use Rattle.s39_tool.specs.Output.{WritesWhole, WritesPart}
 use Rattle.s39_tool.specs.Drill.{Listed, quorum_line, last_line, mismatches_in, mismatch_in, IsDrill, IsNext}
+use Rattle.s39_tool.specs.Fitting.{more_after}
 use Rattle.s39_tool.proofs.Runs.Writing.{nothing_written, both_written, part_after}
 
 abbrev pub Names : Type 0
@@ -128,11 +129,6 @@ module _ (laws : Laws) (set : List ShareFields) (passphrase : List ℕ) where
     -- every drill of a set with a quorum has a text, where its limit is at least 1
     pub some_drill_of : (reached : Option Names) (limit : ℕ) → SomeDrill reached (suc limit)
     some_drill_of reached limit = drill_or_end reached limit (λ next. some_drill next limit) (next_or_none reached)
-
--- after which quorum more remain
-abbrev pub more_after : Names → Option Names → Option Names
-more_after names None = None
-more_after names (Some next) = Some names
 
 -- the drill after the last listed quorum has no line
 pub drill_over : (laws : Laws) (set : List ShareFields) (passphrase : List ℕ) → IsShareSet set → (names : Names) (next : Option Names) (left : ℕ)

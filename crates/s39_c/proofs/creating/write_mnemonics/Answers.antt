@@ -2,7 +2,8 @@ use Rattle.std.proofs.Common.{◌≡◌, ◌+◌, ◌++◌, ◌∙◌, length, t
 use Rattle.std.proofs.lemmas.List.{length-append}
 use Rattle.s39_tool.specs.Create.{ended_line}
 use Rattle.s39_tool.proofs.Runs.Creating.{printed_next, printed_rest}
-use Rattle.s39_c.proofs.Printed.{put_next, text_once}
+use Rattle.s39_tool.proofs.Drills.Filling.{put_next}
+use Rattle.s39_c.proofs.Printed.{text_once}
 use Rattle.s39_c.proofs.creating.write_mnemonics.Goals as goal
 
 pub put-requires : goal.put-requires

@@ -3,7 +3,8 @@ use Rattle.std.proofs.lemmas.Result.{err_from_is_err_and}
 use Rattle.s39_backup.specs.Outcome.{IsOutcome}
 use Rattle.s39_tool.specs.Output.{WritesWhole, WritesPart}
 use Rattle.s39_tool.specs.Drill.{last_line, shown, mismatch_in, IsNext}
-use Rattle.s39_tool.proofs.Drills.Drilling.{Laws, IsDrilling, mismatch_most, more_after, drill_over, last_line_is}
+use Rattle.s39_tool.specs.Fitting.{more_after}
+use Rattle.s39_tool.proofs.Drills.Drilling.{Laws, IsDrilling, mismatch_most, drill_over, last_line_is}
 use Rattle.s39_tool.proofs.Drills.Drilling.{drilling_starts, drilling_fails, drilling_goes_on, drilling_ends}
 use Rattle.s39_tool.proofs.Drills.Drilling.{drilling_fails_last}
 use Rattle.s39_set.specs.Quorums.{IsFirstQuorumAfter}

@@ -1,4 +1,4 @@
-use Rattle.std.proofs.Common.{◌≡◌, [], ◌++◌, true, Ok, Err, refl, sym, subst}
+use Rattle.std.proofs.Common.{[], true, Ok, Err, subst}
 use Rattle.std.proofs.lemmas.List.{append-nil}
 use Rattle.std.proofs.lemmas.Result.{err_from_is_err_and}
 use Rattle.s39_tool.specs.Input.{lines_of}

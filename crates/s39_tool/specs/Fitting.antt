@@ -1,0 +1,93 @@
+-- A drill whose text fits into a slice.
+use Rattle.std.specs.Prelude.{◌≡◌, ℕ, ◌+◌, ◌<◌, ◌≤◌, List, ◌++◌, length, drop, Option, Some, None, Result, Ok, Err}
+use Rattle.s39_words.specs.declared.ShareFields.{ShareFields}
+use Rattle.s39_backup.specs.declared.combination.Mismatch.{Mismatch}
+use Rattle.s39_backup.specs.Outcome.{IsOutcome}
+use Rattle.s39_set.specs.Quorums.{IsFirstQuorumAfter}
+use Rattle.s39_tool.specs.declared.listing.Listing.{Listing}
+use Rattle.s39_tool.specs.declared.listing.TooShort.{TooShort}
+use Rattle.s39_tool.specs.Input.{Input}
+use Rattle.s39_tool.specs.Drill.{last_line, quorum_line, mismatch_in, IsDrill, IsDrillOutput, IsNext}
+
+-- a text stands at the front of a slice, and behind it what was there
+pub record IsInFront (text old new : List ℕ) : Type 0 where
+  pub fits : length text ≤ length old
+  pub bytes : new ≡ text ++ drop (length text) old
+
+-- What `drill` writes of the input with the limit, or with the highest lower one with which that fits into the slice,
+-- stands at its front.
+pub record ListsWhatFits (passphrase : List ℕ) (after : Option (List (ℕ × ℕ))) (limit : ℕ) (input : Input) (old new : List ℕ)
+    (listing : Listing) : Type 0 where
+  pub listed : ℕ
+  pub text : List ℕ
+  pub some : 1 ≤ listed
+  pub few : listed ≤ limit
+  pub output : IsDrillOutput passphrase after listed input text (Ok (record { mismatches = listing.mismatches }))
+  pub in_front : IsInFront text old new
+  pub written : listing.written ≡ length text
+  pub more_is_too_long : listed < limit → (longer : List ℕ) × (mismatches : ℕ)
+      × IsDrillOutput passphrase after (listed + 1) input longer (Ok (record { mismatches = mismatches })) × (length old < length longer)
+
+-- What `drill` writes of the input with a limit of 1 doesn't fit into so many bytes; it has as many as are needed.
+abbrev pub IsTooShort : List ℕ → Option (List (ℕ × ℕ)) → Input → ℕ → TooShort → Type 0
+IsTooShort passphrase after input room short =
+    (text : List ℕ) × (mismatches : ℕ) × IsDrillOutput passphrase after 1 input text (Ok (record { mismatches = mismatches }))
+    × (short.needed ≡ length text) × (room < length text)
+
+-- the listing in a slice, or that it is too short, and then nothing changes
+abbrev pub Lists : List ℕ → Option (List (ℕ × ℕ)) → ℕ → Input → List ℕ → List ℕ → Result Listing TooShort → Type 0
+Lists passphrase after limit input old new (Ok listing) = ListsWhatFits passphrase after limit input old new listing
+Lists passphrase after limit input old new (Err short) = IsTooShort passphrase after input (length old) short × (new ≡ old)
+
+-- Within a drill in a slice; no public contract cites this.
+
+-- after which quorum more remain
+abbrev pub more_after : List (ℕ × ℕ) → Option (List (ℕ × ℕ)) → Option (List (ℕ × ℕ))
+more_after names None = None
+more_after names (Some next) = Some names
+
+-- a quorum is tried: its line, the last line of a drill that ends with it, and what comes next
+pub record IsTried (set : List ShareFields) (passphrase : List ℕ) (names : List (ℕ × ℕ)) (line last : List ℕ)
+    (next : Option (List (ℕ × ℕ))) (mismatches : ℕ) : Type 0 where
+  pub outcome : Result (List ℕ) Mismatch
+  pub is_outcome : IsOutcome set names passphrase outcome
+  pub line_is : line ≡ quorum_line (names, outcome)
+  pub mismatches_are : mismatches ≡ mismatch_in outcome
+  pub is_next : IsNext set (Some names) next
+  pub last_is : last ≡ last_line (more_after names next)
+
+-- A drill of a set in a slice: with the limit, or with the highest lower one with which its text fits.
+pub record FillsSlice (set : List ShareFields) (passphrase : List ℕ) (after : Option (List (ℕ × ℕ))) (limit : ℕ) (old new : List ℕ)
+    (listing : Listing) : Type 0 where
+  pub listed : ℕ
+  pub lines : List ℕ
+  pub more : Option (List (ℕ × ℕ))
+  pub some : 1 ≤ listed
+  pub few : listed ≤ limit
+  pub drill : IsDrill set passphrase after listed lines more listing.mismatches
+  pub in_front : IsInFront (lines ++ last_line more) old new
+  pub written : listing.written ≡ length (lines ++ last_line more)
+  pub more_is_too_long : listed < limit → (longer : List ℕ) × (rest : Option (List (ℕ × ℕ))) × (mismatches : ℕ)
+      × IsDrill set passphrase after (listed + 1) longer rest mismatches × (length old < length (longer ++ last_line rest))
+
+-- the drill of a set in a slice, or that its first line doesn't fit, and then nothing changes
+abbrev pub Fills : List ShareFields → List ℕ → Option (List (ℕ × ℕ)) → ℕ → List ℕ → List ℕ → Result Listing TooShort → Type 0
+Fills set passphrase after limit old new (Ok listing) = FillsSlice set passphrase after limit old new listing
+Fills set passphrase after limit old new (Err short) =
+    ((lines : List ℕ) × (more : Option (List (ℕ × ℕ))) × (mismatches : ℕ) × IsDrill set passphrase after 1 lines more mismatches
+    × (short.needed ≡ length (lines ++ last_line more)) × (length old < length (lines ++ last_line more)))
+    × (new ≡ old)
+
+-- of a drill that starts at a quorum, so many lines stand at the front of a slice, up to the line of another quorum
+pub record IsFilling (set : List ShareFields) (passphrase : List ℕ) (start : List (ℕ × ℕ)) (listed : ℕ) (old new last : List ℕ)
+    (written : ℕ) (next : Option (List (ℕ × ℕ))) (mismatches : ℕ) : Type 0 where
+  pub lines : List ℕ
+  pub reached : List (ℕ × ℕ)
+  pub bytes : new ≡ lines ++ drop (length lines) old
+  pub written_is : written ≡ length lines
+  pub fits : written + length last ≤ length old
+  pub is_next : IsNext set (Some reached) next
+  pub last_is : last ≡ last_line (more_after reached next)
+  pub goes_on : (after : Option (List (ℕ × ℕ))) → IsFirstQuorumAfter set after start
+      → (limit : ℕ) (rest : List ℕ) (more : Option (List (ℕ × ℕ))) (m : ℕ) → IsDrill set passphrase (Some reached) limit rest more m
+      → IsDrill set passphrase after (listed + limit) (lines ++ rest) more (mismatches + m)

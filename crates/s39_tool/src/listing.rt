@@ -1,0 +1,218 @@
+//! The drill of lines in memory, into a slice.
+ghost use Rattle.std.specs.Prelude.{◌≡◌, ◌≢◌, ℕ, List, Option, ◌+◌, ◌*◌, ◌-◌, ◌<◌, ◌≤◌, ◌++◌, [], All, Some, None, Ok, Err, IfOk, IfErr, IsErr, length, take, drop};
+ghost use Rattle.std.specs.Option.{option_copied};
+ghost use Rattle.s39_kdf.specs.Limits.{IsPrintable};
+ghost use Rattle.s39_set.specs.Looks.{most_step_looks};
+ghost use Rattle.s39_set.specs.Quorums.{IsQuorum, IsFirstQuorumAfter};
+ghost use Rattle.s39_set.specs.ShareSet.{IsShareSet};
+ghost use Rattle.s39_backup.specs.Outcome.{AreParams};
+ghost use Rattle.s39_tool.specs.Input.{whole};
+ghost use Rattle.s39_tool.specs.Drill.{IsDrillOutput, last_line};
+ghost use Rattle.s39_tool.specs.Fitting.{IsInFront, Lists, IsTried, Fills, IsFilling};
+
+use crate::collect::set_in;
+use crate::drill::{following, last_line, mismatch_in, outcome_of, quorum_line, start_of};
+use crate::fault::Fault;
+use crate::output::Line;
+use s39_backup::laws::every_quorum_has_an_outcome;
+use s39_backup::{Memo, params_of};
+use s39_kdf::check_passphrase;
+use s39_set::laws::{listings_join, one_listing, walks_list_all};
+use s39_set::{Looks, Quorum, ShareSet};
+
+/// What a drill wrote into a slice.
+#[derive(Clone, Copy, Debug, PartialEq, Eq)]
+pub struct Listing {
+    /// How many bytes its text has.
+    pub written: usize,
+    /// How many of the listed quorums were refused for a digest.
+    pub mismatches: u32,
+}
+
+/// A slice is too short for the line of a quorum and the last line.
+#[derive(Clone, Copy, Debug, PartialEq, Eq)]
+pub struct TooShort {
+    /// How many bytes are needed.
+    pub needed: usize,
+}
+
+/// Tries the quorums of the lines' shares that come after a given one (all, where there is none), and puts to the front of
+/// `text` what `run_drill` writes of them with the limit, or with the highest lower one with which it fits. So the last
+/// line there is `end`, or `more after ` and the quorum after which another call goes on. Where not even the first line
+/// fits, the answer is how many bytes it needs with the last one. A line with no byte but separators, or whose first other
+/// byte is `#`, is skipped.
+///
+/// The first that applies is refused:
+///
+/// - `Passphrase` where a byte of it isn't printable;
+/// - the first refused line with its number: a word error, `TooLong` for more than 1,024 bytes, or `Set` where its
+///   share can't join those before it;
+/// - `Lack` where the shares have no quorum;
+/// - `NotAQuorum` where the given names aren't one.
+///
+/// Then, and where the slice is too short, it is unchanged. A wrong passphrase isn't noticed: as a rule it gives other
+/// secrets. The caller keeps `limit` at least 1.
+pub fn drill_lines(
+    passphrase: &[u8],
+    after: Option<&Quorum>,
+    limit: u32,
+    lines: &[u8],
+    text: &mut [u8],
+) -> Result<Result<Listing, TooShort>, Fault>
+    requires some { 1 ≤ limit }
+    ensures listed { IfOk result (Lists passphrase.now (option_copied after.entry) limit
+        (whole lines.now) text.old text.new) }
+    ensures refused { IfErr result (λ fault.
+        IsDrillOutput passphrase.now (option_copied after.entry) limit (whole lines.now)
+        [] (Err fault)) }
+    ensures unchanged { IsErr result → text.new ≡ text.old }
+{
+    listings_join();
+    check_passphrase(passphrase)?;
+    let set = set_in(lines)?;
+    let mut looks = Looks::new();
+    let Some(start) = start_of(&set, after, &mut looks)? else {
+        return Ok(put_end(text));
+    };
+    Ok(fill(&set, start, passphrase, limit, &mut looks, text))
+}
+
+/// Puts the text of a drill without a quorum to the front of a slice.
+fn put_end(text: &mut [u8]) -> Result<Listing, TooShort>
+    ensures listed { IfOk result (λ listing. IsInFront (last_line None) text.old text.new
+        × (listing.written ≡ length (last_line None)) × (listing.mismatches ≡ 0)) }
+    ensures short { IfErr result (λ short. (short.needed ≡ length (last_line None))
+        × (length text.old < length (last_line None)) × (text.new ≡ text.old)) }
+{
+    let end = b"end\n";
+    if text.len() < end.len() {
+        return Err(TooShort { needed: end.len() });
+    }
+    put(text, 0, end);
+    Ok(Listing {
+        written: end.len(),
+        mismatches: 0,
+    })
+}
+
+/// Puts the drill of a set that starts at this quorum to the front of a slice.
+fn fill(
+    set: &ShareSet,
+    start: Quorum,
+    passphrase: &[u8],
+    limit: u32,
+    looks: &mut Looks,
+    text: &mut [u8],
+) -> Result<Listing, TooShort>
+    requires is_set { IsShareSet set.now }
+    requires quorum { IsQuorum set.now start }
+    requires printable { All IsPrintable passphrase.now }
+    requires some { 1 ≤ limit }
+    requires looks { looks.old ≤ most_step_looks }
+    ensures { (after : Option (List (ℕ × ℕ))) → IsFirstQuorumAfter set.now after start
+        → Fills set.now passphrase.now after limit text.old text.new result }
+{
+    every_quorum_has_an_outcome();
+    listings_join();
+    one_listing();
+    walks_list_all();
+    let mut memo = Memo::new(passphrase, params_of(set, &start));
+    let first = try_quorum(set, &start, &mut memo, looks);
+    let mut written = put_line(text, 0, &first)?;
+    let mut mismatches = first.mismatches;
+    let mut last = first.last;
+    let mut next = first.next;
+    let mut left = limit - 1;
+    while left > 0 {
+        let Some(quorum) = next else {
+            return Ok(ended(text, written, &last, mismatches));
+        };
+        let tried = try_quorum(set, &quorum, &mut memo, looks);
+        let Ok(end) = put_line(text, written, &tried) else {
+            return Ok(ended(text, written, &last, mismatches));
+        };
+        written = end;
+        mismatches += tried.mismatches;
+        last = tried.last;
+        next = tried.next;
+        left -= 1;
+    }
+    Ok(ended(text, written, &last, mismatches))
+}
+
+/// A quorum that was tried.
+#[derive(Drop)]
+struct Tried {
+    /// Its line.
+    line: Line,
+    /// The last line of a drill that ends with it.
+    last: Line,
+    /// The quorum that comes after it.
+    next: Option<Quorum>,
+    /// 1 where its outcome is a mismatch, else 0.
+    mismatches: u32,
+}
+
+/// Tries a quorum.
+fn try_quorum(set: &ShareSet, quorum: &Quorum, memo: &mut Memo<'_>, looks: &mut Looks) -> Tried
+    requires quorum { IsQuorum set.now quorum.now }
+    requires params { AreParams set.now memo.old.params }
+    requires looks { looks.old ≤ u64.MAX - most_step_looks }
+    ensures tried { IsTried set.now memo.old.passphrase quorum.now result.line.items
+        result.last.items result.next result.mismatches }
+    ensures passphrase { memo.new.passphrase ≡ memo.old.passphrase }
+    ensures params { memo.new.params ≡ memo.old.params }
+    ensures looks { looks.new ≤ looks.old + most_step_looks }
+    ensures one { result.mismatches ≤ 1 }
+{
+    let outcome = outcome_of(set, quorum, memo);
+    let next = following(set, quorum, looks);
+    Tried {
+        line: quorum_line(quorum, &outcome),
+        last: last_line(quorum, next.is_some()),
+        next,
+        mismatches: mismatch_in(&outcome),
+    }
+}
+
+/// Puts the line of a quorum behind what is written, where the last line fits behind it, and gives the end of it.
+fn put_line(text: &mut [u8], written: usize, tried: &Tried) -> Result<usize, TooShort>
+    requires { written ≤ length text.old }
+    ensures fits { IfOk result (λ end. (end ≡ written + length tried.now.line.items)
+        × (end + length tried.now.last.items ≤ length text.old)
+        × (text.new ≡ take written text.old ++ tried.now.line.items ++ drop end text.old)) }
+    ensures short { IfErr result (λ short.
+        (short.needed ≡ written + length tried.now.line.items + length tried.now.last.items)
+        × (length text.old < short.needed) × (text.new ≡ text.old)) }
+{
+    let end = written + tried.line.len();
+    let needed = end + tried.last.len();
+    if text.len() < needed {
+        return Err(TooShort { needed });
+    }
+    put(text, written, tried.line.as_slice());
+    Ok(end)
+}
+
+/// Puts the last line behind what is written.
+fn ended(text: &mut [u8], written: usize, last: &Line, mismatches: u32) -> Listing
+    requires { written + length last.now.items ≤ length text.old }
+    ensures text { text.new ≡ take written text.old ++ last.now.items
+        ++ drop (written + length last.now.items) text.old }
+    ensures written { result.written ≡ written + length last.now.items }
+    ensures mismatches { result.mismatches ≡ mismatches }
+{
+    put(text, written, last.as_slice());
+    Listing {
+        written: written + last.len(),
+        mismatches,
+    }
+}
+
+/// Puts bytes to a place of a slice, and leaves what is before and behind them.
+fn put(text: &mut [u8], at: usize, bytes: &[u8])
+    requires { at + length bytes.now ≤ length text.old }
+    ensures { text.new ≡ take at text.old ++ bytes.now ++ drop (at + length bytes.now) text.old }
+{
+    text[at..at + bytes.len()].copy_from_slice(bytes);
+}
