@@ -134,9 +134,9 @@ shamir_answer shamir_recover(
 
 /*
  * Tries the quorums of lines, as of shamir_recover, that come after the one that after names, as 0.0+0.2+1.0, or all where
- * it is empty. What the command drill writes of them goes to the front of text, with the limit, or with the highest lower
- * one with which it fits: a line for each quorum, with the secret in hexadecimal, or which digest doesn't match; and a last
- * line, which is "end", or "more after " and the text to go on after. So a loop of such calls lists all quorums, each once.
+ * it is empty. What the command drill writes of them goes to the front of text, with the limit, or with a lower one where
+ * one quorum more doesn't fit: a line for each quorum, with the secret in hexadecimal, or which digest doesn't match; and a
+ * last line, which is "end", or "more after " and the text to go on after. So a loop of such calls lists all quorums, each once.
  * mismatches is how many of the listed quorums are refused for a digest. Refused: 2 for a limit of 0, then 61, 41, then the
  * first refused line (11 to 28, 71), then 29, 30, 62, and then 1, with the bytes that the first quorum needs.
  */

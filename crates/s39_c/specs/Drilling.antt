@@ -10,9 +10,9 @@ use Rattle.s39_tool.specs.Fitting.{ListsWhatFits, IsTooShort}
 use Rattle.s39_c.specs.declared.answer.ShamirAnswer.{ShamirAnswer}
 use Rattle.s39_c.specs.Answers.{too_short, listed, out_of_range, cursor_refused, refused}
 
--- What the command `drill` writes of these lines after a quorum, or from the first on, with the limit, or with the highest
--- lower one with which it fits; or how many bytes the first quorum needs; or the refusal that the command answers. After
--- the last two the slice is as it was.
+-- What the command `drill` writes of these lines after a quorum, or from the first on, with the limit, or with a lower one
+-- where one quorum more doesn't fit; or how many bytes the first quorum needs; or the refusal that the command answers.
+-- After the last two the slice is as it was.
 abbrev pub GivesListing : List ℕ → Option (List (ℕ × ℕ)) → ℕ → List ℕ → List ℕ → List ℕ → ShamirAnswer → Type 0
 GivesListing passphrase after limit lines old new answer =
     ((listing : Listing) × ListsWhatFits passphrase after limit (whole lines) old new listing

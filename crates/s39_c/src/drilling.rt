@@ -8,9 +8,9 @@ use s39_set::{Quorum, parse_quorum};
 use s39_tool::drill_lines;
 
 /// Tries the quorums of the lines' shares that come after the one that `after` writes, or all, where that text is empty:
-/// what the command `drill` writes of them goes to the front of `text`, with the limit, or with the highest lower one with
-/// which it fits. `written` is the number of bytes, and `mismatches` how many of the listed quorums are refused for a
-/// digest. The last line is `end`, or `more after` and a text to go on after.
+/// what the command `drill` writes of them goes to the front of `text`, with the limit, or with a lower one, where with one
+/// quorum more it doesn't fit. `written` is the number of bytes, and `mismatches` how many of the listed quorums are refused
+/// for a digest. The last line is `end`, or `more after` and a text to go on after.
 ///
 /// The first that applies is refused, and then the slice is unchanged: a limit of 0 (2), a text that is no list of names
 /// (61), what the command refuses of passphrase, lines and names, and that `text` is too short for a quorum (1).

@@ -3,7 +3,7 @@
 ghost use Rattle.std.specs.Prelude.{◌<◌};
 
 use crate::create::{FIVE, RANDOM, SECRET, lines};
-use crate::devices::{Cut, Full, Slow};
+use crate::devices::{Cut, Full, Interrupted, Slow};
 use crate::drill::SEVEN;
 use crate::vectors::{ONE_OF_ONE, ONE_OF_ONE_SECRET, SHOWN};
 use s39_kdf::check_secret;
@@ -343,6 +343,41 @@ fn answers_a_write_of_nothing(rt: HostRuntime) -> Result<(), Fail> {
         let outcome = outcome_of(command, example.input.as_slice(), Full);
         assert_eq!(rt; outcome.answer, Err(WRITE_FAILED), "{command:?}");
         assert_eq!(rt; outcome.failures, (0, 1));
+    }
+    Ok(())
+}
+
+/// A reader of which the system interrupts the first call, and that has no bytes.
+#[derive(Drop)]
+struct InterruptedAtFirst {
+    calls: usize,
+}
+
+impl Read for InterruptedAtFirst {
+    fn read(&mut self, _buf: &mut [u8]) -> io::Result<usize> {
+        self.calls = self.calls.saturating_add(1);
+        if self.calls == 1 {
+            return Err(io::Error::from(ErrorKind::Interrupted));
+        }
+        Ok(0)
+    }
+}
+
+#[test]
+fn tries_no_interrupted_call_again(rt: HostRuntime) -> Result<(), Fail> {
+    let alloc = rt.alloc();
+    for command in COMMANDS {
+        let input = InterruptedAtFirst { calls: 0 };
+        let read = outcome_of(command, input, Vec::new(alloc));
+        assert_eq!(rt; read.answer, Err(READ_FAILED), "{command:?}");
+        assert_eq!(rt; (read.failures, read.input.calls), ((1, 0), 1));
+        assert!(rt; read.output.is_empty());
+        let example = example_of(alloc, command)?;
+        let pipe = Interrupted::new(alloc);
+        let written = outcome_of(command, example.input.as_slice(), pipe);
+        assert_eq!(rt; written.answer, Err(WRITE_FAILED), "{command:?}");
+        assert_eq!(rt; (written.failures, written.output.calls), ((0, 1), 1));
+        assert!(rt; written.output.bytes.is_empty());
     }
     Ok(())
 }

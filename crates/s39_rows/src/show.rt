@@ -9,12 +9,38 @@ use crate::vectors::{
 };
 use s39_cli::program;
 use s39_words::laws::read_back;
-use s39_words::{parse, print};
+use s39_words::{WordError, parse, print};
+use std::alloc::{AllocError, Global};
 use std::test::Fail;
 
 /// `ONE_OF_ONE` with capitals, and with other separators.
 const SPACED: &str =
     "\tDUCKLING  enlarge ACADEMIC academic agency\t\tRESULT length solution fridge kidney coal piece deal husband erode duke ajar critical decision keyboard \r";
+
+/// A mnemonic with `zero` in place of the words at these places, counted from 0.
+fn with_zeros(alloc: Global, mnemonic: &str, places: &[usize]) -> Result<String, AllocError> {
+    let mut changed = String::new(alloc);
+    for (place, word) in mnemonic.split_ascii_whitespace().enumerate() {
+        let is_wrong = places.contains(&place);
+        changed.push_str(if is_wrong { "zero" } else { word })?;
+        changed.push_str(" ")?;
+    }
+    Ok(changed)
+}
+
+#[test]
+fn refuses_three_wrong_words(rt: HostRuntime) -> Result<(), Fail> {
+    for places in [&[4_usize][..], &[4, 19], &[4, 19, 32]] {
+        let changed = with_zeros(rt.alloc(), ONE_OF_ONE_256_BITS, places)?;
+        assert_eq!(rt;
+            parse(changed.as_bytes()).err(),
+            Some(WordError::BadChecksum)
+        );
+    }
+    let exchanged = parse(EXTENDABLE_TWO_WORDS_EXCHANGED.as_bytes());
+    assert_eq!(rt; exchanged.err(), Some(WordError::BadChecksum));
+    Ok(())
+}
 
 #[test]
 fn prints_the_text_that_it_read(rt: HostRuntime) -> Result<(), Fail> {

@@ -14,7 +14,7 @@ pub record IsInFront (text old new : List ℕ) : Type 0 where
   pub fits : length text ≤ length old
   pub bytes : new ≡ text ++ drop (length text) old
 
--- What `drill` writes of the input with the limit, or with the highest lower one with which that fits into the slice,
+-- What `drill` writes of the input with the limit, or with a lower one where one quorum more doesn't fit into the slice,
 -- stands at its front.
 pub record ListsWhatFits (passphrase : List ℕ) (after : Option (List (ℕ × ℕ))) (limit : ℕ) (input : Input) (old new : List ℕ)
     (listing : Listing) : Type 0 where
@@ -56,7 +56,7 @@ pub record IsTried (set : List ShareFields) (passphrase : List ℕ) (names : Lis
   pub is_next : IsNext set (Some names) next
   pub last_is : last ≡ last_line (more_after names next)
 
--- A drill of a set in a slice: with the limit, or with the highest lower one with which its text fits.
+-- A drill of a set in a slice: with the limit, or with a lower one where one quorum more doesn't fit.
 pub record FillsSlice (set : List ShareFields) (passphrase : List ℕ) (after : Option (List (ℕ × ℕ))) (limit : ℕ) (old new : List ℕ)
     (listing : Listing) : Type 0 where
   pub listed : ℕ

@@ -37,8 +37,8 @@ pub struct TooShort {
 }
 
 /// Tries the quorums of the lines' shares that come after a given one (all, where there is none), and puts to the front of
-/// `text` what `run_drill` writes of them with the limit, or with the highest lower one with which it fits. So the last
-/// line there is `end`, or `more after ` and the quorum after which another call goes on. Where not even the first line
+/// `text` what `run_drill` writes of them with the limit, or with a lower one, where with one quorum more it doesn't fit. So
+/// the last line there is `end`, or `more after ` and the quorum after which another call goes on. Where not even the first line
 /// fits, the answer is how many bytes it needs with the last one. A line with no byte but separators, or whose first other
 /// byte is `#`, is skipped.
 ///

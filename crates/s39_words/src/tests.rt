@@ -4,9 +4,11 @@ use crate::laws::read_back;
 use crate::printing::word_at;
 use crate::word_list::rows;
 use crate::word_reader::{after_separators, first_word};
-use crate::{MAX_TEXT_BYTES, WordError, parse, print};
+use crate::{MAX_TEXT_BYTES, Share, ShareFields, WordError, parse, print};
 use arrayvec::ArrayVec;
+use s39_kdf::Bytes;
 use sha2::{Digest, Sha256};
+use std::process::Abort;
 use std::test::Fail;
 
 // Each field at its highest and the value 00 01 02 .. 7f, as a plain Python reading of the standard spells it.
@@ -112,14 +114,12 @@ fn leaves_the_flag(place: usize, kept: u16, index: u16) -> bool {
     place != 1 || kept >> 4 & 1 == index >> 4 & 1
 }
 
-// Each 31st word of the list at each place. The contract of `parse` is about all 112,018 such texts.
-#[test]
-fn one_wrong_word(rt: HostRuntime) {
+/// How many mnemonics differ from this one in one word, and not in the flag: each has a bad checksum.
+fn tried_wrong_words(rt: &impl Abort, mnemonic: &[u8]) -> u32 {
     let mut tried = 0_u32;
-    let mnemonic = LONGEST_VALUE.as_bytes();
     for (place, word) in mnemonic.split(|byte| *byte == b' ').enumerate() {
         let kept = index_of_word(word).unwrap_or(0);
-        for index in (0..1024).step_by(31) {
+        for index in 0..1024 {
             if index != kept && leaves_the_flag(place, kept, index) {
                 let changed = with_word(mnemonic, place, word_at(index));
                 assert_eq!(rt; parse(&changed).err(), Some(WordError::BadChecksum));
@@ -127,7 +127,28 @@ fn one_wrong_word(rt: HostRuntime) {
             }
         }
     }
-    assert_eq!(rt; tried, 3715);
+    tried
+}
+
+// Every word of the list in place of every word of the first vector, which its fields give.
+#[test]
+fn one_wrong_word(rt: HostRuntime) -> Result<(), Fail> {
+    let value = b"\x11\xbc\x60\x9d\x21\x74\x7c\x49\xba\x78\xc0\x70\x12\x93\xe4\x17";
+    let Some(share) = Share::new(ShareFields {
+        id: 7945,
+        extendable: false,
+        exponent: 0,
+        group_index: 0,
+        group_threshold: 1,
+        group_count: 1,
+        member_index: 0,
+        member_threshold: 1,
+        value: Bytes::try_from(&value[..])?,
+    }) else {
+        rt.abort();
+    };
+    assert_eq!(rt; tried_wrong_words(&rt, &print(&share)), 19_948);
+    Ok(())
 }
 
 #[test]
