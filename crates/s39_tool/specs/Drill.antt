@@ -1,5 +1,5 @@
 -- The output of `drill`.
-use Rattle.std.specs.Prelude.{◌≡◌, ◌⊎◌, ℕ, List, [], ◌∷◌, ◌++◌, All, codes, map, filter, length, is_err, Option, Some, None, IfSome, Result, Ok, Err}
+use Rattle.std.specs.Prelude.{◌≡◌, ◌↔◌, ◌⊎◌, ℕ, suc, List, [], ◌∷◌, ◌++◌, All, codes, map, filter, length, is_err, Option, Some, None, IfSome, Result, Ok, Err}
 use Rattle.std.specs.Fmt.{decimal}
 use Rattle.std.specs.List.{flat_map}
 use Rattle.arrayvec.specs.ArrayVec.{ArrayVec}
@@ -9,7 +9,8 @@ use Rattle.s39_words.specs.declared.ShareFields.{ShareFields}
 use Rattle.s39_set.specs.declared.set_lack.SetLack.{SetLack}
 use Rattle.s39_set.specs.Quorums.{IsQuorum, IsFirstQuorumAfter, HasNoQuorumAfter}
 use Rattle.s39_set.specs.Lack.{IsLack}
-use Rattle.s39_set.specs.Listing.{IsListing}
+use Rattle.s39_set.specs.ShareSet.{IsShareSet}
+use Rattle.s39_set.specs.Listing.{AreAllQuorumsAfter, IsListing, IsWalk}
 use Rattle.s39_set.specs.Written.{quorum_text}
 use Rattle.s39_backup.specs.declared.combination.Mismatch.{Mismatch}
 use Rattle.s39_backup.specs.declared.combination.Mismatch.TheVariants.{InGroup, OfGroups}
@@ -144,6 +145,18 @@ DrillsCreated passphrase after limit input text answer =
     → (set : List ShareFields) × IsReadAs input (Ok set) × ListsSecretOrCause set secret after limit text answer
 
 -- Within a run; no public contract cites this.
+
+-- what is known of listings and of outcomes
+pub record DrillLaws : Type 0 where
+  pub first : (set : List ShareFields) (given : Option (List (ℕ × ℕ))) (names : List (ℕ × ℕ)) (limit : ℕ) (others : List (List (ℕ × ℕ)))
+      → IsFirstQuorumAfter set given names → IsListing set (Some names) limit others → IsListing set given (suc limit) (names ∷ others)
+  pub none : (set : List ShareFields) (given : Option (List (ℕ × ℕ))) (limit : ℕ) → HasNoQuorumAfter set given → IsListing set given limit []
+  pub exists : (set : List ShareFields) (given : Option (List (ℕ × ℕ))) (limit : ℕ) → IsShareSet set
+      → (listed : List (List (ℕ × ℕ))) × IsListing set given limit listed
+  pub walks : (set : List ShareFields) (given : Option (List (ℕ × ℕ))) (quorums : List (List (ℕ × ℕ)))
+      → (IsWalk set given quorums ↔ AreAllQuorumsAfter set given quorums)
+  pub outcome : (set : List ShareFields) (names : List (ℕ × ℕ)) (passphrase : List ℕ) → IsShareSet set → IsQuorum set names
+      → (outcome : Result (List ℕ) Mismatch) × IsOutcome set names passphrase outcome
 
 -- the first quorum after what was reached, or none, where none comes after
 abbrev pub IsNext : List ShareFields → Option (List (ℕ × ℕ)) → Option (List (ℕ × ℕ)) → Type 0

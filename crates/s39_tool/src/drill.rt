@@ -17,12 +17,11 @@ ghost use Rattle.s39_tool.specs.Runs.{Runs};
 use crate::collect::set_of;
 use crate::device::Counting;
 use crate::fault::{DeviceFailure, Fault, Refusal};
-use crate::laws::created_backups_drill;
+use crate::laws::{created_backups_drill, drill_laws};
 use crate::output::{Line, WriteFailed, push_field, push_hex, push_names, push_text, write_text};
-use s39_backup::laws::every_quorum_has_an_outcome;
 use s39_backup::{Memo, Mismatch, combine_quorum, params_of};
 use s39_kdf::{Bytes, check_passphrase};
-use s39_set::laws::{listings_join, one_listing, walks_list_all};
+use s39_set::laws::listings_join;
 use s39_set::{Looks, NotAQuorum, Quorum, SetLack, ShareSet, first, next_after};
 use std::io::{Read, Write};
 
@@ -181,10 +180,7 @@ fn write_drill<W: Write>(
     ensures { (after : Option (List (ℕ × ℕ))) → IsFirstQuorumAfter set.now after start
         → WritesDrill W.contents output.old set.now passphrase.now after limit result output.new }
 {
-    every_quorum_has_an_outcome();
-    listings_join();
-    one_listing();
-    walks_list_all();
+    drill_laws();
     let mut memo = Memo::new(passphrase, params_of(set, &start));
     let mut quorum = start;
     let mut mismatches = 0;

@@ -15,7 +15,7 @@ ghost use Rattle.s39_tool.specs.Create.{Asked, IsCreateOutput};
 ghost use Rattle.s39_tool.specs.Show.{IsShowOutput};
 ghost use Rattle.s39_tool.specs.Recover.{IsRecoverOutput};
 ghost use Rattle.s39_tool.specs.declared.drill.Done.{Done};
-ghost use Rattle.s39_tool.specs.Drill.{IsDrill, IsDrillOutput, DrillsCreated};
+ghost use Rattle.s39_tool.specs.Drill.{DrillLaws, IsDrill, IsDrillOutput, DrillsCreated};
 ghost use Rattle.s39_tool.specs.OfBackup.{HoldsMnemonicsOf, RecoversCreated};
 ghost use Rattle.s39_backup.specs.Created.{AreOfBackup, most_random};
 
@@ -141,6 +141,16 @@ pub fn created_backups_recover()
     mnemonics_of_a_backup_are_a_set();
 }
 
+/// What is known of listings and of outcomes, as drills rest on it.
+pub(crate) fn drill_laws()
+    ensures { DrillLaws }
+{
+    every_quorum_has_an_outcome();
+    listings_join();
+    one_listing();
+    walks_list_all();
+}
+
 /// A set has one drill with a passphrase, after a list of names or from its first quorum on, and up to a limit: one
 /// text, one answer whether more remain, and one number of mismatches.
 pub fn one_drill()
@@ -156,10 +166,8 @@ pub fn one_drill()
         × IsDrill set passphrase after (suc limit) text more mismatches }
 {
     one_outcome();
-    every_quorum_has_an_outcome();
-    listings_join();
     one_listing();
-    walks_list_all();
+    drill_laws();
 }
 
 /// The lines of a drill that ends with `more after` a quorum, followed by the drill after that quorum, are the drill up
@@ -203,10 +211,7 @@ pub fn some_drill_output()
     accepted_inputs_are_share_sets();
     every_input_is_read();
     quorum_or_lack();
-    every_quorum_has_an_outcome();
-    listings_join();
-    one_listing();
-    walks_list_all();
+    drill_laws();
 }
 
 /// Of mnemonics of a created backup, an output of `drill` with the passphrase of the creation is just the quorums in

@@ -13,11 +13,11 @@ ghost use Rattle.s39_tool.specs.Fitting.{IsInFront, Lists, IsTried, Fills, IsFil
 use crate::collect::set_in;
 use crate::drill::{following, last_line, mismatch_in, outcome_of, quorum_line, start_of};
 use crate::fault::Fault;
+use crate::laws::drill_laws;
 use crate::output::Line;
-use s39_backup::laws::every_quorum_has_an_outcome;
 use s39_backup::{Memo, params_of};
 use s39_kdf::check_passphrase;
-use s39_set::laws::{listings_join, one_listing, walks_list_all};
+use s39_set::laws::listings_join;
 use s39_set::{Looks, Quorum, ShareSet};
 
 /// What a drill wrote into a slice.
@@ -112,10 +112,7 @@ fn fill(
     ensures { (after : Option (List (ℕ × ℕ))) → IsFirstQuorumAfter set.now after start
         → Fills set.now passphrase.now after limit text.old text.new result }
 {
-    every_quorum_has_an_outcome();
-    listings_join();
-    one_listing();
-    walks_list_all();
+    drill_laws();
     let mut memo = Memo::new(passphrase, params_of(set, &start));
     let first = try_quorum(set, &start, &mut memo, looks);
     let mut written = put_line(text, 0, &first)?;

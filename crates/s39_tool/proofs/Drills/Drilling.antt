@@ -1,32 +1,22 @@
 -- A drill, a quorum at a time.
 use Rattle.std.proofs.Common.{◌≡◌, ℕ, zero, suc, ◌+◌, ◌≤◌, List, [], ◌∷◌, ◌++◌, map, Bool, true, false, is_some, ◌⊎◌}
-use Rattle.std.proofs.Common.{inl, inr, refl, sym, ap, ◌∙◌, subst, append_assoc, append-nil, arith, ◌↔◌, Option, Some}
+use Rattle.std.proofs.Common.{inl, inr, refl, sym, ap, ◌∙◌, subst, append_assoc, append-nil, arith, Option, Some}
 use Rattle.std.proofs.Common.{None, Result, Ok, Err}
 use Rattle.std.proofs.lemmas.List.Elements.{All-nil, All-cons}
 use Rattle.s39_words.specs.declared.ShareFields.{ShareFields}
 use Rattle.s39_set.specs.ShareSet.{IsShareSet}
 use Rattle.s39_set.specs.Quorums.{IsQuorum, IsFirstQuorumAfter, HasNoQuorumAfter}
-use Rattle.s39_set.specs.Listing.{AreAllQuorumsAfter, IsListing, IsWalk}
+use Rattle.s39_set.specs.Listing.{IsListing, IsWalk}
 use Rattle.s39_backup.specs.declared.combination.Mismatch.{Mismatch}
 use Rattle.s39_backup.specs.Outcome.{IsOutcome}
 use Rattle.s39_tool.specs.Device.{Counted}
 use Rattle.s39_tool.specs.Output.{WritesWhole, WritesPart}
-use Rattle.s39_tool.specs.Drill.{Listed, quorum_line, last_line, mismatches_in, mismatch_in, IsDrill, IsNext}
+use Rattle.s39_tool.specs.Drill.{DrillLaws, Listed, quorum_line, last_line, mismatches_in, mismatch_in, IsDrill, IsNext}
 use Rattle.s39_tool.specs.Fitting.{more_after}
 use Rattle.s39_tool.proofs.Runs.Writing.{nothing_written, both_written, part_after}
 
 abbrev pub Names : Type 0
 Names = List (ℕ × ℕ)
-
--- what is known of listings and of outcomes
-pub record Laws : Type 0 where
-  pub first : (set : List ShareFields) (given : Option Names) (names : Names) (limit : ℕ) (others : List Names)
-      → IsFirstQuorumAfter set given names → IsListing set (Some names) limit others → IsListing set given (suc limit) (names ∷ others)
-  pub none : (set : List ShareFields) (given : Option Names) (limit : ℕ) → HasNoQuorumAfter set given → IsListing set given limit []
-  pub exists : (set : List ShareFields) (given : Option Names) (limit : ℕ) → IsShareSet set → (listed : List Names) × IsListing set given limit listed
-  pub walks : (set : List ShareFields) (given : Option Names) (quorums : List Names) → (IsWalk set given quorums ↔ AreAllQuorumsAfter set given quorums)
-  pub outcome : (set : List ShareFields) (names : Names) (passphrase : List ℕ) → IsShareSet set → IsQuorum set names
-      → (outcome : Result (List ℕ) Mismatch) × IsOutcome set names passphrase outcome
 
 pub mismatch_most : (outcome : Result (List ℕ) Mismatch) → mismatch_in outcome ≤ 1
 mismatch_most (Ok secret) = omega arith
@@ -50,7 +40,7 @@ drill_ends set passphrase reached limit listing none = record {
   mismatches_are = refl;
 }
 
-module _ (laws : Laws) (set : List ShareFields) (passphrase : List ℕ) where
+module _ (laws : DrillLaws) (set : List ShareFields) (passphrase : List ℕ) where
   -- a quorum and its outcome, and then the drill after it
   pub drill_step : (reached : Option Names) (limit : ℕ) (names : Names) (outcome : Result (List ℕ) Mismatch) (text : List ℕ) (more : Option Names) (m : ℕ)
       → IsFirstQuorumAfter set reached names → IsOutcome set names passphrase outcome → IsDrill set passphrase (Some names) limit text more m
@@ -131,7 +121,7 @@ module _ (laws : Laws) (set : List ShareFields) (passphrase : List ℕ) where
     some_drill_of reached limit = drill_or_end reached limit (λ next. some_drill next limit) (next_or_none reached)
 
 -- the drill after the last listed quorum has no line
-pub drill_over : (laws : Laws) (set : List ShareFields) (passphrase : List ℕ) → IsShareSet set → (names : Names) (next : Option Names) (left : ℕ)
+pub drill_over : (laws : DrillLaws) (set : List ShareFields) (passphrase : List ℕ) → IsShareSet set → (names : Names) (next : Option Names) (left : ℕ)
     → IsNext set (Some names) next
     → (left ≡ 0) ⊎ (is_some next ≡ false) → IsDrill set passphrase (Some names) left [] (more_after names next) 0
 drill_over laws set passphrase is names None left none over = drill_ends set passphrase (Some names) left (laws.none set (Some names) left none) none
@@ -170,7 +160,7 @@ module _ {W : Type 0} (contents : W → Option (List ℕ)) (old : Counted W) (se
     goes_on = λ after first. (after, first, λ rest more m d. subst (λ n. IsDrill set passphrase after limit rest more n) (zero-left m) d);
   }
 
-  module _ (laws : Laws) (new after_line : Counted W) (quorum : Names) (left mismatches : ℕ) (outcome : Result (List ℕ) Mismatch)
+  module _ (laws : DrillLaws) (new after_line : Counted W) (quorum : Names) (left mismatches : ℕ) (outcome : Result (List ℕ) Mismatch)
       (d : IsDrilling contents old new set passphrase start limit quorum (suc left) mismatches) (is : IsOutcome set quorum passphrase outcome) where
     abbrev pub line : List ℕ
     line = quorum_line (quorum, outcome)

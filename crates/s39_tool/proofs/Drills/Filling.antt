@@ -16,9 +16,9 @@ use Rattle.s39_tool.specs.declared.listing.Listing.{Listing}
 use Rattle.s39_tool.specs.declared.listing.TooShort.{TooShort}
 use Rattle.s39_tool.specs.Input.{Input}
 use Rattle.s39_tool.specs.Accepted.{IsReadAs}
-use Rattle.s39_tool.specs.Drill.{last_line, IsDrill, IsDrillOutput}
+use Rattle.s39_tool.specs.Drill.{DrillLaws, last_line, IsDrill, IsDrillOutput}
 use Rattle.s39_tool.specs.Fitting.{IsInFront, Lists, more_after, IsTried, FillsSlice, Fills, IsFilling}
-use Rattle.s39_tool.proofs.Drills.Drilling.{Names, Laws, drill_ends, drill_step, drill_over}
+use Rattle.s39_tool.proofs.Drills.Drilling.{Names, drill_ends, drill_step, drill_over}
 use Rattle.s39_tool.proofs.Drills.Output.{drilled}
 
 -- bytes that are put behind those at the front of a slice
@@ -41,7 +41,7 @@ put_at text line old new after at is place put =
     ∙ ap (λ t. take (length text) t ++ line ++ drop (length text + length line) t) is
     ∙ put_next text line old
 
-module _ (laws : Laws) (set : List ShareFields) (passphrase : List ℕ) where
+module _ (laws : DrillLaws) (set : List ShareFields) (passphrase : List ℕ) where
   -- a quorum that is tried is a drill of one quorum, before any other
   tried_then : (after : Option Names) (names : Names) (line last : List ℕ) (next : Option Names) (m : ℕ)
       → IsFirstQuorumAfter set after names → IsTried set passphrase names line last next m

@@ -4,7 +4,7 @@ use Rattle.s39_backup.specs.Outcome.{IsOutcome}
 use Rattle.s39_tool.specs.Output.{WritesWhole, WritesPart}
 use Rattle.s39_tool.specs.Drill.{last_line, shown, mismatch_in, IsNext}
 use Rattle.s39_tool.specs.Fitting.{more_after}
-use Rattle.s39_tool.proofs.Drills.Drilling.{Laws, IsDrilling, mismatch_most, drill_over, last_line_is}
+use Rattle.s39_tool.proofs.Drills.Drilling.{IsDrilling, mismatch_most, drill_over, last_line_is}
 use Rattle.s39_tool.proofs.Drills.Drilling.{drilling_starts, drilling_fails, drilling_goes_on, drilling_ends}
 use Rattle.s39_tool.proofs.Drills.Drilling.{drilling_fails_last}
 use Rattle.s39_set.specs.Quorums.{IsFirstQuorumAfter}
@@ -26,13 +26,6 @@ loop-outcome-preserved g c =
     let inv = c.loop-outcome.invariant in
     let left = c.loop-outcome.left - 1 in
     let outcome = shown c.outcome_of-outcome.result in
-    let laws : Laws = record {
-      first = c.listings_join.ensures.first;
-      none = c.listings_join.ensures.none;
-      exists = c.one_listing.ensures.exists;
-      walks = c.walks_list_all.ensures;
-      outcome = c.every_quorum_has_an_outcome.ensures;
-    } in
     let counted : c.mismatch_in-mismatches.result ≡ mismatch_in outcome = c.mismatch_in-mismatches.ensures in
     let first : IsFirstQuorumAfter c.args.set.now (Some c.loop-outcome.quorum) c.unwrap-quorum.result =
     subst (IsNext c.args.set.now (Some c.loop-outcome.quorum)) c.unwrap-quorum.ensures c.following-next.ensures.next in
@@ -41,7 +34,7 @@ loop-outcome-preserved g c =
       drilling =
           subst (λ k. IsDrilling g.W.Write.contents c.args.output.now c.write_text.new.output c.args.set.now c.args.passphrase.now c.args.start c.args.limit
           c.unwrap-quorum.result left (c.loop-outcome.mismatches + k)) (sym counted)
-          (drilling_goes_on g.W.Write.contents c.args.output.now c.args.set.now c.args.passphrase.now c.args.start c.args.limit laws
+          (drilling_goes_on g.W.Write.contents c.args.output.now c.args.set.now c.args.passphrase.now c.args.start c.args.limit c.drill_laws.ensures
           c.loop-outcome.output c.write_text.new.output c.loop-outcome.quorum left c.loop-outcome.mismatches outcome
           (subst (λ n. IsDrilling g.W.Write.contents c.args.output.now c.loop-outcome.output c.args.set.now c.args.passphrase.now c.args.start c.args.limit
           c.loop-outcome.quorum n c.loop-outcome.mismatches) (omega (arith, inv.some)) inv.drilling)
@@ -61,15 +54,8 @@ returns-in_err-write_text g c =
     let inv = c.loop-outcome.invariant in
     let left = c.loop-outcome.left - 1 in
     let outcome = shown c.outcome_of-outcome.result in
-    let laws : Laws = record {
-      first = c.listings_join.ensures.first;
-      none = c.listings_join.ensures.none;
-      exists = c.one_listing.ensures.exists;
-      walks = c.walks_list_all.ensures;
-      outcome = c.every_quorum_has_an_outcome.ensures;
-    } in
     let p = err_from_is_err_and c.from_residual.result c.from_residual.ensures.1 in
-    rw p.1 (drilling_fails g.W.Write.contents c.args.output.now c.args.set.now c.args.passphrase.now c.args.start c.args.limit laws
+    rw p.1 (drilling_fails g.W.Write.contents c.args.output.now c.args.set.now c.args.passphrase.now c.args.start c.args.limit c.drill_laws.ensures
     c.loop-outcome.output c.write_text.new.output c.loop-outcome.quorum left c.loop-outcome.mismatches outcome
     (subst (λ n. IsDrilling g.W.Write.contents c.args.output.now c.loop-outcome.output c.args.set.now c.args.passphrase.now c.args.start c.args.limit
     c.loop-outcome.quorum n c.loop-outcome.mismatches) (omega (arith, inv.some)) inv.drilling)
@@ -83,24 +69,17 @@ returns-in_err-write_text-2 g c =
     let inv = c.loop-outcome.invariant in
     let left = c.loop-outcome.left - 1 in
     let outcome = shown c.outcome_of-outcome.result in
-    let laws : Laws = record {
-      first = c.listings_join.ensures.first;
-      none = c.listings_join.ensures.none;
-      exists = c.one_listing.ensures.exists;
-      walks = c.walks_list_all.ensures;
-      outcome = c.every_quorum_has_an_outcome.ensures;
-    } in
     let next = c.following-next.result in
     let more = more_after c.loop-outcome.quorum next in
     let done : (left ≡ 0) ⊎ (is_some next ≡ false) = elim c.then-left-eq0.branch [
       | then-left-eq0-via-then-left-eq0 w ↦ inl w.if-left-eq0.true
       | then-left-eq0-via-else-left-eq0+then-is_none w ↦ inr (w.is_none.ensures ∙ ap not w.if-is_none.true)
     ] in
-    let last = drill_over laws c.args.set.now c.args.passphrase.now c.requires.is_set c.loop-outcome.quorum next left c.following-next.ensures.next done in
+    let last = drill_over c.drill_laws.ensures c.args.set.now c.args.passphrase.now c.requires.is_set c.loop-outcome.quorum next left c.following-next.ensures.next done in
     let line : c.as_slice-then-left-eq0.result.now ≡ last_line more = c.as_slice-then-left-eq0.ensures.value
     ∙ last_line_is c.loop-outcome.quorum next c.is_some.result c.last_line.result.items c.is_some.ensures c.last_line.ensures.more c.last_line.ensures.end in
     let p = err_from_is_err_and c.from_residual-in_err-write_text-2.result c.from_residual-in_err-write_text-2.ensures.1 in
-    rw p.1 (λ after first. drilling_fails_last g.W.Write.contents c.args.output.now c.args.set.now c.args.passphrase.now c.args.start c.args.limit laws
+    rw p.1 (λ after first. drilling_fails_last g.W.Write.contents c.args.output.now c.args.set.now c.args.passphrase.now c.args.start c.args.limit c.drill_laws.ensures
     c.loop-outcome.output c.write_text.new.output c.loop-outcome.quorum left c.loop-outcome.mismatches outcome
     (subst (λ n. IsDrilling g.W.Write.contents c.args.output.now c.loop-outcome.output c.args.set.now c.args.passphrase.now c.args.start c.args.limit
     c.loop-outcome.quorum n c.loop-outcome.mismatches) (omega (arith, inv.some)) inv.drilling)
@@ -115,13 +94,6 @@ returns-then-left-eq0 g c =
     let inv = c.loop-outcome.invariant in
     let left = c.loop-outcome.left - 1 in
     let outcome = shown c.outcome_of-outcome.result in
-    let laws : Laws = record {
-      first = c.listings_join.ensures.first;
-      none = c.listings_join.ensures.none;
-      exists = c.one_listing.ensures.exists;
-      walks = c.walks_list_all.ensures;
-      outcome = c.every_quorum_has_an_outcome.ensures;
-    } in
     let counted : c.mismatch_in-mismatches.result ≡ mismatch_in outcome = c.mismatch_in-mismatches.ensures in
     let next = c.following-next.result in
     let more = more_after c.loop-outcome.quorum next in
@@ -129,10 +101,10 @@ returns-then-left-eq0 g c =
       | then-left-eq0-via-then-left-eq0 w ↦ inl w.if-left-eq0.true
       | then-left-eq0-via-else-left-eq0+then-is_none w ↦ inr (w.is_none.ensures ∙ ap not w.if-is_none.true)
     ] in
-    let last = drill_over laws c.args.set.now c.args.passphrase.now c.requires.is_set c.loop-outcome.quorum next left c.following-next.ensures.next done in
+    let last = drill_over c.drill_laws.ensures c.args.set.now c.args.passphrase.now c.requires.is_set c.loop-outcome.quorum next left c.following-next.ensures.next done in
     let line : c.as_slice-then-left-eq0.result.now ≡ last_line more = c.as_slice-then-left-eq0.ensures.value
     ∙ last_line_is c.loop-outcome.quorum next c.is_some.result c.last_line.result.items c.is_some.ensures c.last_line.ensures.more c.last_line.ensures.end in
-    rw counted (λ after first. drilling_ends g.W.Write.contents c.args.output.now c.args.set.now c.args.passphrase.now c.args.start c.args.limit laws
+    rw counted (λ after first. drilling_ends g.W.Write.contents c.args.output.now c.args.set.now c.args.passphrase.now c.args.start c.args.limit c.drill_laws.ensures
     c.loop-outcome.output c.write_text.new.output c.loop-outcome.quorum left c.loop-outcome.mismatches outcome
     (subst (λ n. IsDrilling g.W.Write.contents c.args.output.now c.loop-outcome.output c.args.set.now c.args.passphrase.now c.args.start c.args.limit
     c.loop-outcome.quorum n c.loop-outcome.mismatches) (omega (arith, inv.some)) inv.drilling)

@@ -7,10 +7,5 @@ returns-clause-once c = λ set passphrase after limit text other more another mi
     one_drill c.one_listing.ensures.once c.one_outcome.ensures set passphrase is after limit text other more another mismatches others
 
 pub returns-clause-exists : goal.returns-clause-exists
-returns-clause-exists c = λ set passphrase after limit is. (let d = some_drill_of (record {
-  first = c.listings_join.ensures.first;
-  none = c.listings_join.ensures.none;
-  exists = c.one_listing.ensures.exists;
-  walks = c.walks_list_all.ensures;
-  outcome = c.every_quorum_has_an_outcome.ensures;
-}) set passphrase is after limit in (d.text, d.more, d.mismatches, d.drill))
+returns-clause-exists c = λ set passphrase after limit is.
+    (let d = some_drill_of c.drill_laws.ensures set passphrase is after limit in (d.text, d.more, d.mismatches, d.drill))

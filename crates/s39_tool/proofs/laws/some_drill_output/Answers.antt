@@ -3,11 +3,5 @@ use Rattle.s39_tool.proofs.laws.some_drill_output.Goals as goal
 
 pub returns : goal.returns
 returns c = λ passphrase after limit input.
-    some_drill_output (record {
-      first = c.listings_join.ensures.first;
-      none = c.listings_join.ensures.none;
-      exists = c.one_listing.ensures.exists;
-      walks = c.walks_list_all.ensures;
-      outcome = c.every_quorum_has_an_outcome.ensures;
-    }) c.passphrases_are_printable_or_not.ensures.some c.one_lack.ensures.none
+    some_drill_output c.drill_laws.ensures c.passphrases_are_printable_or_not.ensures.some c.one_lack.ensures.none
     c.accepted_inputs_are_share_sets.ensures c.every_input_is_read.ensures c.quorum_or_lack.ensures passphrase limit input after
