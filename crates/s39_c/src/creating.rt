@@ -17,6 +17,9 @@ use s39_tool::Fault;
 use s39_words::laws::{every_share_has_a_printed_form, one_printed_form};
 use s39_words::{MAX_TEXT_BYTES, Share, print};
 
+/// The greatest iteration exponent.
+const MAX_EXPONENT: u32 = 15;
+
 /// The most bytes of a mnemonic and a line feed.
 const LINE_BYTES: usize = MAX_TEXT_BYTES + 1;
 
@@ -75,7 +78,7 @@ fn options_of(exponent: u32, extendable: u32) -> Option<Options>
         (options.extendable ≡ true) ↔ (extendable ≢ 0)) }
     ensures none { result ≡ None → 2 ^ exponent_bits ≤ exponent }
 {
-    if exponent < 16 {
+    if exponent <= MAX_EXPONENT {
         Some(Options {
             exponent: exponent as u8,
             extendable: extendable != 0,

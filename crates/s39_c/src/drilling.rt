@@ -1,11 +1,14 @@
 //! The drill.
 ghost use Rattle.std.specs.Option.{option_copied};
 ghost use Rattle.std.specs.Prelude.{◌≤◌};
+ghost use Rattle.s39_tool.specs.Drill.{IsDrillOutput, DrillsCreated};
+ghost use Rattle.s39_tool.specs.Input.{whole};
 ghost use Rattle.s39_c.specs.Drilling.{GivesListing, GivesDrill};
 
 use crate::answer::ShamirAnswer;
 use s39_set::{Quorum, parse_quorum};
 use s39_tool::drill_lines;
+use s39_tool::laws::created_backups_drill;
 
 /// Tries the quorums of the lines' shares that come after the one that `after` writes, or all, where that text is empty:
 /// what the command `drill` writes of them goes to the front of `text`, with the limit, or with a lower one, where with one
@@ -22,8 +25,13 @@ pub extern "C" fn shamir_drill(
     limit: u32,
     text: &mut [u8],
 ) -> ShamirAnswer
-    ensures { GivesDrill passphrase.now after.now limit lines.now text.old text.new result }
+    ensures drills { GivesDrill (λ names n. IsDrillOutput passphrase.now names n (whole lines.now))
+        after.now limit text.old text.new result }
+    // Of mnemonics of a created backup, with the passphrase of the creation: just the quorums, each with its secret.
+    ensures complete { GivesDrill (λ names n. DrillsCreated passphrase.now names n (whole lines.now))
+        after.now limit text.old text.new result }
 {
+    created_backups_drill();
     if limit == 0 {
         return ShamirAnswer::out_of_range();
     }
@@ -45,8 +53,9 @@ fn give_listing(
     text: &mut [u8],
 ) -> ShamirAnswer
     requires { 1 ≤ limit }
-    ensures { GivesListing passphrase.now (option_copied after.entry) limit lines.now
-        text.old text.new result }
+    ensures { GivesListing
+        (λ n. IsDrillOutput passphrase.now (option_copied after.entry) n (whole lines.now))
+        limit text.old text.new result }
 {
     match drill_lines(passphrase, after, limit, lines, text) {
         Ok(Ok(listing)) => ShamirAnswer {

@@ -4,40 +4,40 @@ use Rattle.s39_words.specs.declared.ShareFields.{ShareFields}
 use Rattle.s39_backup.specs.declared.combination.Mismatch.{Mismatch}
 use Rattle.s39_backup.specs.Outcome.{IsOutcome}
 use Rattle.s39_set.specs.Quorums.{IsFirstQuorumAfter}
+use Rattle.s39_tool.specs.declared.drill.Done.{Done}
+use Rattle.s39_tool.specs.declared.fault.Fault.{Fault}
 use Rattle.s39_tool.specs.declared.listing.Listing.{Listing}
 use Rattle.s39_tool.specs.declared.listing.TooShort.{TooShort}
-use Rattle.s39_tool.specs.Input.{Input}
-use Rattle.s39_tool.specs.Drill.{last_line, quorum_line, mismatch_in, IsDrill, IsDrillOutput, IsNext}
+use Rattle.s39_tool.specs.Drill.{last_line, quorum_line, mismatch_in, IsDrill, IsNext}
 
 -- a text stands at the front of a slice, and behind it what was there
 pub record IsInFront (text old new : List ℕ) : Type 0 where
   pub fits : length text ≤ length old
   pub bytes : new ≡ text ++ drop (length text) old
 
--- What `drill` writes of the input with the limit, or with a lower one where one quorum more doesn't fit into the slice,
--- stands at its front.
-pub record ListsWhatFits (passphrase : List ℕ) (after : Option (List (ℕ × ℕ))) (limit : ℕ) (input : Input) (old new : List ℕ)
-    (listing : Listing) : Type 0 where
+-- What a drill writes with the limit, or with a lower one where one quorum more doesn't fit into the slice, stands at its
+-- front: a drill that has these outputs with each limit.
+pub record ListsWhatFits (IsOutput : ℕ → List ℕ → Result Done Fault → Type 0) (limit : ℕ) (old new : List ℕ) (listing : Listing) : Type 0 where
   pub listed : ℕ
   pub text : List ℕ
   pub some : 1 ≤ listed
   pub few : listed ≤ limit
-  pub output : IsDrillOutput passphrase after listed input text (Ok (record { mismatches = listing.mismatches }))
+  pub output : IsOutput listed text (Ok (record { mismatches = listing.mismatches }))
   pub in_front : IsInFront text old new
   pub written : listing.written ≡ length text
   pub more_is_too_long : listed < limit → (longer : List ℕ) × (mismatches : ℕ)
-      × IsDrillOutput passphrase after (listed + 1) input longer (Ok (record { mismatches = mismatches })) × (length old < length longer)
+      × IsOutput (listed + 1) longer (Ok (record { mismatches = mismatches })) × (length old < length longer)
 
--- What `drill` writes of the input with a limit of 1 doesn't fit into so many bytes; it has as many as are needed.
-abbrev pub IsTooShort : List ℕ → Option (List (ℕ × ℕ)) → Input → ℕ → TooShort → Type 0
-IsTooShort passphrase after input room short =
-    (text : List ℕ) × (mismatches : ℕ) × IsDrillOutput passphrase after 1 input text (Ok (record { mismatches = mismatches }))
+-- What it writes with a limit of 1 doesn't fit into so many bytes; it has as many as are needed.
+abbrev pub IsTooShort : (ℕ → List ℕ → Result Done Fault → Type 0) → ℕ → TooShort → Type 0
+IsTooShort IsOutput room short =
+    (text : List ℕ) × (mismatches : ℕ) × IsOutput 1 text (Ok (record { mismatches = mismatches }))
     × (short.needed ≡ length text) × (room < length text)
 
 -- the listing in a slice, or that it is too short, and then nothing changes
-abbrev pub Lists : List ℕ → Option (List (ℕ × ℕ)) → ℕ → Input → List ℕ → List ℕ → Result Listing TooShort → Type 0
-Lists passphrase after limit input old new (Ok listing) = ListsWhatFits passphrase after limit input old new listing
-Lists passphrase after limit input old new (Err short) = IsTooShort passphrase after input (length old) short × (new ≡ old)
+abbrev pub Lists : (ℕ → List ℕ → Result Done Fault → Type 0) → ℕ → List ℕ → List ℕ → Result Listing TooShort → Type 0
+Lists IsOutput limit old new (Ok listing) = ListsWhatFits IsOutput limit old new listing
+Lists IsOutput limit old new (Err short) = IsTooShort IsOutput (length old) short × (new ≡ old)
 
 -- Within a drill in a slice; no public contract cites this.
 

@@ -60,8 +60,9 @@ pub fn drill_lines(
     text: &mut [u8],
 ) -> Result<Result<Listing, TooShort>, Fault>
     requires some { 1 ≤ limit }
-    ensures listed { IfOk result (Lists passphrase.now (option_copied after.entry) limit
-        (whole lines.now) text.old text.new) }
+    ensures listed { IfOk result (Lists
+        (λ n. IsDrillOutput passphrase.now (option_copied after.entry) n (whole lines.now))
+        limit text.old text.new) }
     ensures refused { IfErr result (λ fault.
         IsDrillOutput passphrase.now (option_copied after.entry) limit (whole lines.now)
         [] (Err fault)) }

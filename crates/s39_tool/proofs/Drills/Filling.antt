@@ -202,7 +202,7 @@ module _ (none : (set : List ShareFields) (given : Option Names) (limit : ℕ) �
 
   -- the drill of the input's set is that of the input
   pub fills_lists : (result : Result Listing TooShort) → Fills set passphrase after limit old new result
-      → Lists passphrase after limit input old new result
+      → Lists (λ n. IsDrillOutput passphrase after n input) limit old new result
   fills_lists (Ok listing) f = record {
     listed = f.listed;
     text = f.lines ++ last_line f.more;
@@ -221,7 +221,7 @@ module _ (none : (set : List ShareFields) (given : Option Names) (limit : ℕ) �
   pub end_lists : HasNoQuorumAfter set after → 1 ≤ limit → (result : Result Listing TooShort)
       → IfOk result (λ listing. IsInFront (last_line None) old new × (listing.written ≡ length (last_line None)) × (listing.mismatches ≡ 0))
       → IfErr result (λ short. (short.needed ≡ length (last_line None)) × (length old < length (last_line None)) × (new ≡ old))
-      → Lists passphrase after limit input old new result
+      → Lists (λ n. IsDrillOutput passphrase after n input) limit old new result
   end_lists over some (Ok listing) ok err = record {
     listed = limit;
     text = last_line None;

@@ -1,0 +1,37 @@
+-- What a drill gives of mnemonics of a created backup.
+use Rattle.std.proofs.Common.{◌+◌, ℕ, List, [], inl, inr}
+use Rattle.std.specs.Prelude.{Option, Result, Ok, Err}
+use Rattle.s39_tool.specs.declared.drill.Done.{Done}
+use Rattle.s39_tool.specs.declared.fault.Fault.{Fault}
+use Rattle.s39_tool.specs.Input.{Input}
+use Rattle.s39_tool.specs.Drill.{IsDrillOutput, DrillsCreated}
+use Rattle.s39_c.specs.declared.answer.ShamirAnswer.{ShamirAnswer}
+use Rattle.s39_c.specs.Drilling.{GivesListing}
+
+module _ (created_backups_drill : (passphrase : List ℕ) (after : Option (List (ℕ × ℕ))) (limit : ℕ) (input : Input) (text : List ℕ)
+    (answer : Result Done Fault) → IsDrillOutput passphrase after limit input text answer → DrillsCreated passphrase after limit input text answer)
+    (passphrase : List ℕ) (after : Option (List (ℕ × ℕ))) (input : Input) (limit : ℕ) (old new : List ℕ) (answer : ShamirAnswer) where
+  created : (n : ℕ) (text : List ℕ) (answer : Result Done Fault) → IsDrillOutput passphrase after n input text answer
+      → DrillsCreated passphrase after n input text answer
+  created n = created_backups_drill passphrase after n input
+
+  pub gives_created : GivesListing (λ n. IsDrillOutput passphrase after n input) limit old new answer
+      → GivesListing (λ n. DrillsCreated passphrase after n input) limit old new answer
+  gives_created (inl (listing, fits, is)) = inl (
+    listing,
+    record {
+      listed = fits.listed;
+      text = fits.text;
+      some = fits.some;
+      few = fits.few;
+      output = created fits.listed fits.text (Ok (record { mismatches = listing.mismatches })) fits.output;
+      in_front = fits.in_front;
+      written = fits.written;
+      more_is_too_long = λ below.
+          let (longer, mismatches, output, long) = fits.more_is_too_long below in (longer, mismatches, created (fits.listed + 1) longer (Ok (record { mismatches = mismatches })) output, long);
+    },
+    is,
+  )
+  gives_created (inr (inl (short, (text, mismatches, output, needed, room), same, is))) =
+      inr (inl (short, (text, mismatches, created 1 text (Ok (record { mismatches = mismatches })) output, needed, room), same, is))
+  gives_created (inr (inr (fault, output, same, is))) = inr (inr (fault, created limit [] (Err fault) output, same, is))
