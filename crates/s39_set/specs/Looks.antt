@@ -1,4 +1,4 @@
--- How many looks a call may add.
+-- How many looks a call may add: questions whether a set has a share, and turns of loops.
 use Rattle.std.specs.Prelude.{ℕ, ◌+◌, ◌*◌}
 use Rattle.s39_set.specs.Names.{most_groups, most_members, most_names}
 

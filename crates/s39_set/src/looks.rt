@@ -1,11 +1,12 @@
-//! Counted looks: a look is one question whether a set has a share.
+//! Counted looks: questions whether a set has a share, and turns of loops.
 ghost use Rattle.std.specs.Prelude.{◌≡◌, ◌+◌, ◌<◌, ◌↔◌, map, Contains, IsTrue};
 ghost use Rattle.s39_set.specs.ShareSet.{name_of};
 
 use crate::share_set::ShareSet;
 use std::marker::Model;
 
-/// A count of looks. A look is one question whether a set has a share.
+/// A count of looks: the questions whether a set has a share (`has`), and the turns of loops of the functions that
+/// take looks (`turn`), one for each run of a loop's body.
 #[derive(Debug, Drop)]
 pub struct Looks {
     count: u64,
@@ -27,14 +28,14 @@ impl Looks {
         Looks { count: 0 }
     }
 
-    /// How many looks were taken.
+    /// How many looks were taken, questions and turns.
     pub fn count(&self) -> u64
         ensures { result ≡ self.now }
     {
         self.count
     }
 
-    /// Adds one to the count, which the caller keeps below `u64::MAX`.
+    /// Adds one to the count, for a turn of a loop or a question. The caller keeps the count below `u64::MAX`.
     pub fn turn(&mut self)
         requires { self.old < u64.MAX }
         ensures { self.new ≡ self.old + 1 }
@@ -51,8 +52,8 @@ impl Default for Looks {
     }
 }
 
-/// Whether a set has the share of this group and member index, `false` for an index over 15. It adds one to the
-/// looks, whose count the caller keeps below `u64::MAX`.
+/// Whether a set has the share of this group and member index, `false` for an index over 15. The question is one look
+/// more; the caller keeps their count below `u64::MAX`.
 pub fn has(set: &ShareSet, group: u8, member: u8, looks: &mut Looks) -> bool
     requires { looks.old < u64.MAX }
     ensures has { IsTrue result ↔ Contains (map name_of set.now) (group, member) }

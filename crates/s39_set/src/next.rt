@@ -1,11 +1,13 @@
 //! The quorum that comes next.
-ghost use Rattle.std.specs.Prelude.{◌≡◌, ◌+◌, ◌-◌, ◌<◌, ◌≤◌, ◌++◌, Some, None, true, false, length, map, take, All, Contains, IsTrue, OnOk, OnErr, IfOk, IfSome, Ok};
+ghost use Rattle.std.specs.Prelude.{◌≡◌, ◌+◌, ◌-◌, ◌<◌, ◌≤◌, ◌++◌, Some, None, true, false, length, map, take, All, Contains, IsTrue};
+ghost use Rattle.std.specs.Prelude.{OnOk, OnErr, IfOk, IfSome, Ok};
 ghost use Rattle.std.specs.declared.cmp.Ordering.TheVariants.{Less};
 ghost use Rattle.s39_set.specs.Names.{most_groups, most_members, most_names, name_cmp, AreNames};
 ghost use Rattle.s39_set.specs.Looks.{most_step_looks, most_name_looks, most_group_looks, most_choice_looks, most_position_looks, most_tail_looks};
 ghost use Rattle.s39_set.specs.ShareSet.{IsShareSet, name_of};
 ghost use Rattle.s39_set.specs.Quorums.{IsQuorum, IsFirstQuorumAfter, HasNoQuorumAfter};
-ghost use Rattle.s39_set.specs.Steps.{name_at, earlier_of_group, AreMasksOf, members_from, groups_taken, AreCompleteGroups, Knows, HasSpareMember, AllAreChosen, HasSpareGroup, AllAreUsed, groups_used, IsTailFor, tail_names};
+ghost use Rattle.s39_set.specs.Steps.{name_at, earlier_of_group, AreMasksOf, members_from, groups_taken, AreCompleteGroups, Knows};
+ghost use Rattle.s39_set.specs.Steps.{HasSpareMember, AllAreChosen, HasSpareGroup, AllAreUsed, groups_used, IsTailFor, tail_names};
 
 use crate::limits::{GROUPS, MAX_GROUPS, MAX_MEMBERS, MAX_NAMES};
 use crate::looks::{Looks, has};
