@@ -14,7 +14,7 @@ use crate::laws::{every_quorum_combines, one_combination};
 use arrayvec::ArrayVec;
 use s39_kdf::{Bytes, Params};
 use s39_set::laws::quorums_are_exact;
-use s39_set::{MAX_GROUPS, Quorum, ShareSet, share_at};
+use s39_set::{MAX_GROUPS, Quorum, ShareSet, are_a_share_set, share_at};
 use s39_split::{DigestMismatch, MAX_SHARES, Points, combine};
 use s39_words::Share;
 
@@ -62,22 +62,6 @@ pub fn combine_quorum(set: &ShareSet, quorum: &Quorum) -> Result<Bytes, Mismatch
     are_a_share_set(set);
     one_combination();
     every_quorum_combines();
-    combine_levels(set, quorum)
-}
-
-/// The encrypted secret to which the shares of a quorum combine, or the mismatch of a digest.
-fn combine_levels(set: &ShareSet, quorum: &Quorum) -> Result<Bytes, Mismatch>
-    requires { IsQuorum set.now quorum.now }
-    ensures encrypted { IfOk result (λ encrypted.
-        IsCombination set.now quorum.now (Ok encrypted.items)) }
-    ensures mismatch { IfErr result (λ mismatch.
-        IsCombination set.now quorum.now (Err mismatch)) }
-    ensures length { IfOk result (λ encrypted.
-        All (λ share. array_vec_len share.value ≡ array_vec_len encrypted) set.now) }
-    ensures even { IfOk result (λ encrypted. array_vec_len encrypted % 2 ≡ 0) }
-    ensures long { IfOk result (λ encrypted. shortest_secret ≤ array_vec_len encrypted) }
-{
-    are_a_share_set(set);
     quorums_are_exact();
     let shares = group_shares(set, quorum.pairs())?;
     match combine_all(&lend(&shares)) {
@@ -98,13 +82,6 @@ pub fn params_of(set: &ShareSet, quorum: &Quorum) -> Params
         extendable: fields.extendable,
         exponent: fields.exponent,
     }
-}
-
-/// The shares of a set are of one backup, each once.
-pub(crate) fn are_a_share_set(set: &ShareSet)
-    ensures { IsShareSet set.now }
-{
-    let _ = share_at(set, 0, 0);
 }
 
 /// The share of the first name of a quorum.

@@ -7,10 +7,10 @@ ghost use Rattle.s39_backup.specs.declared.combination.Mismatch.{Mismatch};
 ghost use Rattle.s39_backup.specs.Outcome.{IsOutcome};
 ghost use Rattle.s39_backup.specs.Created.{AreOfBackup};
 
-use crate::combination::{Mismatch, are_a_share_set, combine_quorum, params_of};
+use crate::combination::{Mismatch, combine_quorum, params_of};
 use crate::laws::{every_quorum_recovers, one_outcome};
 use s39_kdf::{Bytes, decrypt};
-use s39_set::{Looks, Quorum, ShareSet, is_quorum};
+use s39_set::{Looks, NotAQuorum, Quorum, ShareSet, are_a_share_set, is_quorum};
 
 /// Why a quorum gives no secret.
 #[derive(Clone, Copy, Debug, PartialEq, Eq)]
@@ -29,7 +29,7 @@ impl RecoverError {
         ensures { result ≡ code_of self.now }
     {
         match self {
-            RecoverError::NotAQuorum => 62,
+            RecoverError::NotAQuorum => NotAQuorum.code(),
             RecoverError::DigestMismatch(mismatch) => mismatch.code(),
         }
     }
@@ -79,19 +79,6 @@ pub fn recover_quorum(set: &ShareSet, quorum: &Quorum, passphrase: &[u8]) -> Res
     are_a_share_set(set);
     one_outcome();
     every_quorum_recovers();
-    decipher_quorum(set, quorum, passphrase)
-}
-
-/// The secret that a quorum of a set recovers with a passphrase, or the mismatch to which its shares combine.
-fn decipher_quorum(set: &ShareSet, quorum: &Quorum, passphrase: &[u8]) -> Result<Bytes, Mismatch>
-    requires { IsQuorum set.now quorum.now }
-    ensures secret { IfOk result (λ secret.
-        IsOutcome set.now quorum.now passphrase.now (Ok secret.items)) }
-    ensures mismatch { IfErr result (λ mismatch.
-        IsOutcome set.now quorum.now passphrase.now (Err mismatch)) }
-    ensures length { IfOk result (λ secret.
-        All (λ share. array_vec_len share.value ≡ array_vec_len secret) set.now) }
-{
     let encrypted = combine_quorum(set, quorum)?;
     Ok(decrypt(&encrypted, passphrase, params_of(set, quorum)))
 }

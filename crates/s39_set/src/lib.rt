@@ -16,13 +16,13 @@ mod share_set;
 
 pub use cursor::{BadCursor, parse_quorum};
 pub use least::first;
-pub use limits::{MAX_GROUPS, MAX_MEMBERS, MAX_NAMES, MAX_STEP_LOOKS, MAX_TEST_LOOKS};
+pub use limits::{GROUPS, MAX_GROUPS, MAX_MEMBERS, MAX_NAMES, MAX_STEP_LOOKS, MAX_TEST_LOOKS};
 pub use looks::{Looks, has};
 pub use next::{NotAQuorum, next_after};
 pub use quorum::{Quorum, is_quorum};
 pub use set_error::{Added, SetError};
 pub use set_lack::SetLack;
-pub use share_set::{ShareSet, share_at};
+pub use share_set::{ShareSet, are_a_share_set, share_at};
 
 #[cfg(test)]
 mod next_tests;

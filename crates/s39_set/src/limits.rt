@@ -7,13 +7,13 @@ pub const MAX_GROUPS: u8 = 16;
 pub const MAX_MEMBERS: u8 = 16;
 
 /// The most names of shares, each a group and a member index.
-pub const MAX_NAMES: usize = 256;
+pub const MAX_NAMES: usize = GROUPS * MAX_MEMBERS as usize;
 
-/// The most looks that the test whether names are a quorum adds.
+/// The most looks, questions and turns, that the test whether names are a quorum adds.
 pub const MAX_TEST_LOOKS: u64 = 1_024;
 
 /// The most looks that the step to the next quorum adds, however many quorums there are.
 pub const MAX_STEP_LOOKS: u64 = 16_384;
 
-/// The most groups, as the length of an array.
-pub(crate) const GROUPS: usize = 16;
+/// The most groups of a backup, as the length of a list or an array.
+pub const GROUPS: usize = MAX_GROUPS as usize;

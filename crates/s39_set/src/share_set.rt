@@ -173,6 +173,15 @@ pub(crate) fn indices_at(slot: usize) -> (u8, u8)
     ((slot / members) as u8, (slot % members) as u8)
 }
 
+/// A set's shares are those of an `IsShareSet`: of one backup, each once, in the order of their names. It does nothing;
+/// a proof takes this from a call of it.
+pub fn are_a_share_set(set: &ShareSet)
+    ensures { IsShareSet set.now }
+{
+    // That the field is named tells a proof what the set keeps.
+    let _ = &set.slots;
+}
+
 /// The share of this group and member index: `None` exactly where the set has none, as for an index over 15.
 pub fn share_at(set: &ShareSet, group: u8, member: u8) -> Option<&Share>
     ensures share { option_copied result ≡ find (has_name group member) set.now }
