@@ -14,8 +14,8 @@ use crate::laws::one_plan_reading;
 use crate::plan_error::PlanError;
 use crate::plan_text::plan_form;
 use arrayvec::ArrayVec;
-use s39_set::MAX_MEMBERS;
-use s39_split::{MAX_SHARES, random_needed};
+use s39_set::{GROUPS, MAX_MEMBERS};
+use s39_split::random_needed;
 
 /// How many members of a group are needed, and how many there are.
 #[derive(Clone, Copy, Debug, Default, PartialEq, Eq)]
@@ -33,7 +33,7 @@ pub struct Plan {
     /// How many groups are needed.
     pub group_threshold: u8,
     /// Each group's members.
-    pub groups: ArrayVec<Members, MAX_SHARES>,
+    pub groups: ArrayVec<Members, GROUPS>,
     ghost is_plan: { IsPlan group_threshold groups.items },
 }
 
@@ -55,16 +55,30 @@ impl Plan {
             → reading ≡ result_map_both
             (λ plan. (plan.group_threshold, plan.groups.items)) (λ error. error) result }
     {
-        one_plan_reading();
-        read_plan(text.as_bytes())
+        Plan::parse_bytes(text.as_bytes())
     }
 
     /// The plan of a text in bytes, which needn't be UTF-8, as `parse` gives it.
     pub fn parse_bytes(text: &[u8]) -> Result<Plan, PlanError>
         ensures reading { IsPlanReading text.now (result_map_both
             (λ plan. (plan.group_threshold, plan.groups.items)) (λ error. error) result) }
+        ensures only { (reading : Result (ℕ × List Members) PlanError)
+            → IsPlanReading text.now reading
+            → reading ≡ result_map_both
+            (λ plan. (plan.group_threshold, plan.groups.items)) (λ error. error) result }
     {
-        read_plan(text)
+        one_plan_reading();
+        let Some((group_threshold, groups)) = plan_form(text) else {
+            return Err(PlanError::BadPlan);
+        };
+        if groups.count > GROUPS || groups.count < usize::from(group_threshold) {
+            return Err(PlanError::PlanGroups);
+        }
+        check_groups(groups.first.as_slice())?;
+        Ok(Plan {
+            group_threshold,
+            groups: groups.first,
+        })
     }
 
     /// The number of random bytes that a backup of a secret of `n_bytes` bytes, from 16 to 128, takes: 2 for the
@@ -82,24 +96,6 @@ impl Plan {
         }
         needed
     }
-}
-
-/// The plan of a text, or the first cause for which it is refused.
-fn read_plan(text: &[u8]) -> Result<Plan, PlanError>
-    ensures { IsPlanReading text.now (result_map_both
-        (λ plan. (plan.group_threshold, plan.groups.items)) (λ error. error) result) }
-{
-    let Some((group_threshold, groups)) = plan_form(text) else {
-        return Err(PlanError::BadPlan);
-    };
-    if groups.count > MAX_SHARES || groups.count < usize::from(group_threshold) {
-        return Err(PlanError::PlanGroups);
-    }
-    check_groups(groups.first.as_slice())?;
-    Ok(Plan {
-        group_threshold,
-        groups: groups.first,
-    })
 }
 
 /// The first group that a plan can't have, and why.

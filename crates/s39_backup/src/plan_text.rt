@@ -2,17 +2,18 @@
 ghost use Rattle.std.specs.Prelude.{◌≡◌, ◌≢◌, ℕ, ◌+◌, ◌<◌, List, [], ◌∷◌, ◌++◌, length, None, IfSome};
 ghost use Rattle.s39_backup.specs.declared.plan.Members.{Members};
 ghost use Rattle.s39_backup.specs.Plan.{PlanForm};
-ghost use Rattle.s39_backup.specs.PlanText.{BeginsWithNoDigit, BeginsWithDigit, BeginsWithNumber, BeginsWithMembers, BeginsWithGroupThreshold, IsGroupsText, IsListOf, ListsGroupsOf, ListsPlanOf};
+ghost use Rattle.s39_backup.specs.PlanText.{BeginsWithNoDigit, BeginsWithDigit, BeginsWithNumber, BeginsWithMembers, BeginsWithGroupThreshold};
+ghost use Rattle.s39_backup.specs.PlanText.{IsGroupsText, IsListOf, ListsGroupsOf, ListsPlanOf};
 
 use crate::plan::Members;
 use arrayvec::ArrayVec;
-use s39_split::MAX_SHARES;
+use s39_set::GROUPS;
 
 /// The groups of a plan's text, whatever their numbers: how many there are, and the first sixteen.
 #[derive(Drop)]
 pub(crate) struct GroupList {
     pub(crate) count: usize,
-    pub(crate) first: ArrayVec<Members, MAX_SHARES>,
+    pub(crate) first: ArrayVec<Members, GROUPS>,
 }
 
 impl GroupList {
@@ -23,7 +24,7 @@ impl GroupList {
         ensures list { (groups : List Members) → IsListOf self.old groups
             → IsListOf self.new (groups ++ members ∷ []) }
     {
-        if self.first.len() < MAX_SHARES {
+        if self.first.len() < GROUPS {
             self.first.push(members);
         }
         self.count += 1;
