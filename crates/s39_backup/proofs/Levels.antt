@@ -162,7 +162,7 @@ module _ (set : List ShareFields) (names : List (ℕ × ℕ)) (quorum : IsExactQ
   value_bytes-even =
       let (share, among) = some_share set (length (groups_of names)) group_threshold_is in
       ap (λ n. n % 2) (sym (All-contains (λ s. length s.value.items ≡ value_bytes_of set) set share (values_agree set quorum.is_set) among))
-      ∙ (All-contains IsShare set share quorum.is_set.each among).value.even
+      ∙ (All-contains IsShare set share quorum.is_set.each among).value.count.0
 
   -- there is a group
   pub some_group : 0 < length (groups_of names)

@@ -1,5 +1,5 @@
 -- The shares of a created backup have their fields in range.
-use Rattle.std.proofs.Common.{◌≡◌, ℕ, ◌%◌, ◌<◌, List, [], ◌∷◌, ◌++◌, length, get_or, All, Contains, sym, ap, ◌∙◌, subst, arith}
+use Rattle.std.proofs.Common.{◌≡◌, ℕ, ◌<◌, List, [], ◌∷◌, ◌++◌, length, get_or, All, Contains, sym, ap, ◌∙◌, subst, arith}
 use Rattle.std.specs.List.{concat}
 use Rattle.std.proofs.lemmas.List.Elements.{All-nil, All-cons, All-head, All-tail, All-contains_itself, Contains-get_or}
 use Rattle.std.proofs.lemmas.Option.{slice_get_within}
@@ -68,8 +68,6 @@ module _ (as_long : SharesAreAsLong) (are_bytes : SharesAreBytes) (keeps : Encry
       let same : length is.value ≡ length secret =
       sym (ap (λ (s : ShareFields). length s.value.items) is.share_is) ∙ long shares passphrase secret backup as_long share is
       ∙ (keeps passphrase created.params secret created.encrypted created.encryption).0 in
-      let least = so_long.1 in
-      let greatest = so_long.2 in
       subst IsShare (sym is.share_is) (record {
         id = created.params.id_in_range;
         exponent = created.params.exponent_in_range;
@@ -82,9 +80,7 @@ module _ (as_long : SharesAreAsLong) (are_bytes : SharesAreBytes) (keeps : Encry
         member_threshold_in_range = omega arith;
         value = record {
           bytes = All-at AreBytes is.others is.member is.value (All-at (All AreBytes) created.values is.place is.others values_bytes is.values_are) is.value_is;
-          even = ap (λ (n : ℕ). n % 2) same ∙ so_long.0;
-          at_least = omega arith;
-          at_most = omega arith;
+          count = subst IsSecretLength (sym same) so_long;
         };
       })
 

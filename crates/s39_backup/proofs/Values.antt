@@ -53,7 +53,7 @@ values_agree (s ∷ ss) is k d below = (is.agree k d below 0 d (omega arith)).va
 pub value_bytes-long : (set : List ShareFields) (share : ShareFields) → IsShareSet set → Contains set share → shortest_secret ≤ value_bytes_of set
 value_bytes-long set share is among =
     let valid : IsShare share = All-contains IsShare set share is.each among in
-    let long : shortest_secret ≤ length share.value.items = valid.value.at_least in
+    let long : shortest_secret ≤ length share.value.items = valid.value.count.1 in
     let same : length share.value.items ≡ value_bytes_of set =
     All-contains (λ s. length s.value.items ≡ value_bytes_of set) set share (values_agree set is) among in
     omega arith

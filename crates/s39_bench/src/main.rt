@@ -12,7 +12,7 @@ ghost use Rattle.arrayvec.specs.ArrayVec.{array_vec_len};
 
 mod steps;
 
-use s39_kdf::{Bytes, Params, check_secret, encrypt};
+use s39_kdf::{Bytes, MAX_EXPONENT, Params, check_secret, encrypt};
 use s39_split::{combine, split};
 use std::{env, io};
 
@@ -28,7 +28,7 @@ const SECRET_BYTES: usize = 32;
 const RANDOM_BYTES: usize = 220;
 
 fn derive_keys(rt: &impl Print, exponent: u8) -> io::Result<()> {
-    if exponent > 15 {
+    if exponent > MAX_EXPONENT {
         return Err(io::Error::from(io::ErrorKind::InvalidInput));
     }
     let params = Params {

@@ -1,7 +1,7 @@
 //! Laws of the cipher and of the limits, each proved as the contract of a function that does nothing.
-ghost use Rattle.std.specs.Prelude.{◌≡◌};
+ghost use Rattle.std.specs.Prelude.{◌≡◌, ◌+◌, ◌^◌};
 ghost use Rattle.s39_kdf.specs.Cipher.{EncryptsOneSecret, SecretsHaveOneEncryption, TextsHaveOneSecret, EncryptionKeepsLengthAndBytes};
-ghost use Rattle.s39_kdf.specs.Limits.{shortest_secret, longest_secret};
+ghost use Rattle.s39_kdf.specs.Limits.{shortest_secret, longest_secret, exponent_bits};
 ghost use Rattle.s39_kdf.specs.Passphrases.{PassphrasesHaveOneFirstUnprintable, PrintablePassphrasesHaveNone, PassphrasesArePrintableOrNot};
 ghost use Rattle.s39_kdf.specs.Hmac.{block_length, mac_length};
 ghost use Rattle.s39_kdf.specs.Pbkdf2.{longest_derived_key};
@@ -9,11 +9,13 @@ ghost use Rattle.s39_kdf.specs.Pbkdf2.{longest_derived_key};
 use crate::key_derivation::MAX_DERIVED_BYTES;
 use crate::keyed_hash::{BLOCK_BYTES, MAC_BYTES};
 use crate::limits::{MAX_SECRET_BYTES, MIN_SECRET_BYTES};
+use crate::params::MAX_EXPONENT;
 
 /// The constants are the numbers by which the definitions go.
 pub fn numbers()
     ensures shortest { MIN_SECRET_BYTES ≡ shortest_secret }
     ensures longest { MAX_SECRET_BYTES ≡ longest_secret }
+    ensures exponent { MAX_EXPONENT + 1 ≡ 2 ^ exponent_bits }
     ensures block { BLOCK_BYTES ≡ block_length }
     ensures mac { MAC_BYTES ≡ mac_length }
     ensures derived { MAX_DERIVED_BYTES ≡ longest_derived_key }

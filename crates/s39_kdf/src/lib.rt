@@ -16,7 +16,7 @@ pub use limits::{
     BadPassphrase, BadSecretLength, Bytes, MAX_SECRET_BYTES, MIN_SECRET_BYTES, check_passphrase,
     check_secret, check_secret_length,
 };
-pub use params::Params;
+pub use params::{MAX_EXPONENT, Params};
 
 #[cfg(test)]
 mod tests;

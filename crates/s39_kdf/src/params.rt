@@ -2,6 +2,9 @@
 ghost use Rattle.std.specs.Prelude.{◌≡◌, ◌<◌, ◌^◌};
 ghost use Rattle.s39_kdf.specs.Limits.{id_bits, exponent_bits};
 
+/// The greatest iteration exponent.
+pub const MAX_EXPONENT: u8 = 15;
+
 /// The fields of a backup on which the encryption of its master secret depends (SLIP-0039, "Encryption
 /// of the master secret").
 #[derive(Clone, Copy, PartialEq, Eq, Debug)]

@@ -116,19 +116,19 @@ module _ (f : ShareFields) (ok : IsShare f) (checksum : List ℕ) (three : lengt
 
   pub padding_length-is : padding_length (length (data_words f ++ checksum)) ≡ padding_before (length f.value.items)
   padding_length-is =
-      let even : length f.value.items % 2 ≡ 0 = ok.value.even in
+      let even : length f.value.items % 2 ≡ 0 = ok.value.count.0 in
       omega (arith, length-words)
 
   byte_count-is : byte_count (length (data_words f ++ checksum)) ≡ length f.value.items
   byte_count-is =
-      let even : length f.value.items % 2 ≡ 0 = ok.value.even in
+      let even : length f.value.items % 2 ≡ 0 = ok.value.count.0 in
       omega (arith, length-words, padding_length-is)
 
   pub is_word_count : IsWordCount (length (data_words f ++ checksum))
   is_word_count =
-      let even : length f.value.items % 2 ≡ 0 = ok.value.even in
-      let low : 16 ≤ length f.value.items = ok.value.at_least in
-      let high : length f.value.items ≤ 128 = ok.value.at_most in
+      let even : length f.value.items % 2 ≡ 0 = ok.value.count.0 in
+      let low : 16 ≤ length f.value.items = ok.value.count.1 in
+      let high : length f.value.items ≤ 128 = ok.value.count.2 in
       record {
         padding = omega (arith, length-words);
         at_least = omega (arith, length-words);
@@ -281,9 +281,11 @@ module _ (ws : List ℕ) (count : IsWordCount (length ws)) where
       record {
         bytes = pieces-below 8 (byte_count (length ws)) (drop (40 + padding_length (length ws)) (bits_of_words ws))
             (All-drop (λ b. b < 2) (40 + padding_length (length ws)) (bits_of_words ws) (joined-below 10 ws)) value-room;
-        even = ap (λ n. n % 2) length-share_value_at ∙ count-even;
-        at_least = omega (arith, length-share_value_at, value-whole);
-        at_most = omega (arith, length-share_value_at, value-whole);
+        count = (
+          ap (λ n. n % 2) length-share_value_at ∙ count-even,
+          omega (arith, length-share_value_at, value-whole),
+          omega (arith, length-share_value_at, value-whole),
+        );
       }
 
   -- the fields in the words are in their ranges, but for the thresholds
@@ -393,7 +395,7 @@ module _ (f : ShareFields) where
 
   pub written-room : (i : ℕ) → IsShare f → i < length f.value.items → length (written_until i) + 8 ≤ 1070
   written-room i ok l =
-      let high : length f.value.items ≤ 128 = ok.value.at_most in
+      let high : length f.value.items ≤ 128 = ok.value.count.2 in
       omega (
         arith,
         length-append (before) (value_bits (take i f.value.items)),

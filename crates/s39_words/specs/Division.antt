@@ -2,7 +2,7 @@
 -- these a law cites `generator_times` and `packed`; no other public contract cites one.
 use Rattle.std.specs.Prelude.{ℕ, ◌+◌, ◌*◌, ◌/◌, ◌%◌, ◌^◌}
 use Rattle.s39_field.specs.FieldProduct.{word_field}
-use Rattle.s39_words.specs.Layout.{word_list_length}
+use Rattle.s39_words.specs.Layout.{word_list_length, word_bits}
 
 -- what division leaves: the coefficients of x^2 and of x, and the constant one
 pub record Remainder : Type 0 where
@@ -36,4 +36,8 @@ packed r = (r.square * word_list_length + r.linear) * word_list_length + r.const
 
 -- the remainder in such a number
 abbrev pub unpacked : ℕ → Remainder
-unpacked n = record { square = n / 2 ^ 20; linear = n / 2 ^ 10 % 2 ^ 10; constant = n % 2 ^ 10 }
+unpacked n = record {
+  square = n / 2 ^ (2 * word_bits);
+  linear = n / 2 ^ word_bits % 2 ^ word_bits;
+  constant = n % 2 ^ word_bits;
+}

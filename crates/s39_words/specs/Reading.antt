@@ -7,7 +7,8 @@ use Rattle.s39_kdf.specs.Limits.{shortest_secret, longest_secret}
 use Rattle.s39_words.specs.declared.share.ShareFields.{ShareFields}
 use Rattle.s39_words.specs.declared.word_error.WordError.{WordError}
 use Rattle.s39_words.specs.declared.word_error.WordError.TheVariants.{UnknownWord, WordCount, BadChecksum, BadPadding, GroupThreshold}
-use Rattle.s39_words.specs.Layout.{word_bits, header_length, most_padding, checksum_length}
+use Rattle.s39_words.specs.Layout.{word_bits, count_bits, byte_pair_bits, header_length, most_padding, checksum_length}
+use Rattle.s39_words.specs.Layout.{flag_place, group_threshold_place, group_count_place}
 use Rattle.s39_words.specs.Bits.{bits}
 use Rattle.s39_words.specs.Checksum.{IsValidChecksum}
 use Rattle.s39_words.specs.WordList.{index_of}
@@ -29,7 +30,7 @@ value_field_length n = word_bits * (n - (header_length / word_bits + checksum_le
 
 -- the number of padding bits before the value, which has an even number of bytes
 abbrev pub padding_length : ℕ → ℕ
-padding_length n = value_field_length n % 16
+padding_length n = value_field_length n % byte_pair_bits
 
 -- a mnemonic may have n words: not too much padding, and a value as long as a master secret may be
 pub record IsWordCount (n : ℕ) : Type 0 where
@@ -47,14 +48,14 @@ number_at indices place width = number_from_digits 2 (take width (drop place (bi
 
 -- the extendable flag
 abbrev pub flag_of : List ℕ → Bool
-flag_of indices = number_at indices 15 1 == 1
+flag_of indices = number_at indices flag_place 1 == 1
 
 -- the group threshold and the group count, both less one as they are stored
 abbrev pub stored_group_threshold : List ℕ → ℕ
-stored_group_threshold indices = number_at indices 24 4
+stored_group_threshold indices = number_at indices group_threshold_place count_bits
 
 abbrev pub stored_group_count : List ℕ → ℕ
-stored_group_count indices = number_at indices 28 4
+stored_group_count indices = number_at indices group_count_place count_bits
 
 -- the bits between the fields before the value and the value
 abbrev pub padding_of : List ℕ → List ℕ

@@ -1,17 +1,16 @@
 -- A share, and its data words (SLIP-0039, "Format of the share mnemonic").
-use Rattle.std.specs.Prelude.{◌≡◌, ℕ, ◌-◌, ◌%◌, ◌^◌, ◌<◌, ◌≤◌, List, ◌++◌, All, Bool, length, replicate, if◌then◌else◌}
+use Rattle.std.specs.Prelude.{ℕ, ◌-◌, ◌%◌, ◌^◌, ◌<◌, ◌≤◌, List, ◌++◌, Bool, length, replicate, if◌then◌else◌}
 use Rattle.std.specs.List.{flat_map}
-use Rattle.s39_kdf.specs.Limits.{shortest_secret, longest_secret, id_bits, exponent_bits}
+use Rattle.s39_kdf.specs.Bytes.{AreBytes}
+use Rattle.s39_kdf.specs.Limits.{IsSecretLength, id_bits, exponent_bits}
 use Rattle.s39_words.specs.declared.share.ShareFields.{ShareFields}
-use Rattle.s39_words.specs.Layout.{most_groups, most_members}
+use Rattle.s39_words.specs.Layout.{count_bits, most_groups, most_members, word_bits}
 use Rattle.s39_words.specs.Bits.{bits, cut_in_tens}
 
--- an even number of bytes, as many as a master secret may have
+-- bytes, as many as a master secret may have
 pub record IsValue (value : List ℕ) : Type 0 where
-  pub bytes : All (λ b. b < 256) value
-  pub even : length value % 2 ≡ 0
-  pub at_least : shortest_secret ≤ length value
-  pub at_most : length value ≤ longest_secret
+  pub bytes : AreBytes value
+  pub count : IsSecretLength (length value)
 
 -- the fields of a share that can be printed and read
 pub record IsShare (f : ShareFields) : Type 0 where
@@ -33,17 +32,17 @@ flag_bit flag = if flag then 1 else 0
 -- the fields before the value, 40 digits; thresholds and the group count are stored less one
 abbrev pub header_bits : ShareFields → List ℕ
 header_bits f =
-    bits 15 f.id ++ bits 1 (flag_bit f.extendable) ++ bits 4 f.exponent
-    ++ bits 4 f.group_index ++ bits 4 (f.group_threshold - 1) ++ bits 4 (f.group_count - 1)
-    ++ bits 4 f.member_index ++ bits 4 (f.member_threshold - 1)
+    bits id_bits f.id ++ bits 1 (flag_bit f.extendable) ++ bits exponent_bits f.exponent
+    ++ bits count_bits f.group_index ++ bits count_bits (f.group_threshold - 1) ++ bits count_bits (f.group_count - 1)
+    ++ bits count_bits f.member_index ++ bits count_bits (f.member_threshold - 1)
 
 -- the value's bytes, eight digits each
 abbrev pub value_bits : List ℕ → List ℕ
 value_bits value = flat_map (bits 8) value
 
--- the fewest zeros that make n digits a multiple of ten
+-- the fewest zeros that make n digits whole words
 abbrev pub padding_bits : ℕ → List ℕ
-padding_bits n = replicate ((10 - n % 10) % 10) 0
+padding_bits n = replicate ((word_bits - n % word_bits) % word_bits) 0
 
 -- all fields but the checksum, joined and cut in tens
 abbrev pub data_words : ShareFields → List ℕ

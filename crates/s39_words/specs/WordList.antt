@@ -5,6 +5,7 @@ use Rattle.std.specs.List.{slice_split}
 use Rattle.std.specs.Ordering.{nat_cmp}
 use Rattle.std.specs.declared.cmp.Ordering.TheVariants.{Less}
 use Rattle.std.specs.Cmp.Lexicographic.{slice_cmp}
+use Rattle.s39_words.specs.Layout.{longest_word}
 use Prim.Native.String.{String}
 
 -- the words of a line, which single spaces separate
@@ -22,11 +23,11 @@ ComesBefore v w = slice_cmp nat_cmp v w ≡ Less
 -- a word that eight bytes can hold
 pub record FitsRow (word : List ℕ) : Type 0 where
   pub letters : All IsLetter word
-  pub short : length word ≤ 8
+  pub short : length word ≤ longest_word
 
 -- eight bytes that hold a word: its letters, then spaces
 abbrev pub row_of : List ℕ → List ℕ
-row_of word = word ++ replicate (8 - length word) 32
+row_of word = word ++ replicate (longest_word - length word) 32
 
 -- a row as one number, its first byte the highest
 unfoldable pub number_of_row : List ℕ → ℕ

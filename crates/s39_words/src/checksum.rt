@@ -1,14 +1,14 @@
 //! The checksum of a mnemonic, RS1024 (SLIP-0039, "Checksum").
-ghost use Rattle.std.specs.Prelude.{◌≡◌, ◌↔◌, ℕ, ◌^◌, ◌<◌, List, ◌++◌, All, IsTrue, length, fold};
-ghost use Rattle.s39_words.specs.Layout.{IsIndex, checksum_length};
+ghost use Rattle.std.specs.Prelude.{◌≡◌, ◌↔◌, ℕ, ◌*◌, ◌^◌, ◌<◌, List, ◌++◌, All, IsTrue, length, fold};
+ghost use Rattle.s39_words.specs.Layout.{IsIndex, checksum_length, word_bits};
 ghost use Rattle.s39_words.specs.Checksum.{IsValidChecksum, customization_string};
 ghost use Rattle.s39_words.specs.Division.{packed, unpacked, generator_times, next_remainder, one_remainder};
 
-use crate::size::WORD_BITS;
+use crate::size::{CHECKSUM_WORDS, WORD_BITS};
 
 /// The lower coefficients of the generator, each times 2^i in the field of 1,024 elements, for i from 0 to 9:
 /// ten bits for each coefficient, that of x^2 highest.
-pub(crate) const GENERATOR_TIMES: [u32; 10] = [
+pub(crate) const GENERATOR_TIMES: [u32; WORD_BITS] = [
     0x00E0_E040,
     0x01C1_C080,
     0x0383_8100,
@@ -31,7 +31,7 @@ const LOWER_COEFFICIENTS: u32 = (1 << (2 * WORD_BITS)) - 1;
 #[derive(Clone, Copy)]
 struct Register {
     bits: u32,
-    ghost three_coefficients: { bits < 2 ^ 30 },
+    ghost three_coefficients: { bits < 2 ^ (3 * word_bits) },
 }
 
 impl Register {
@@ -108,7 +108,7 @@ pub(crate) fn is_valid_checksum(extendable: bool, words: &[u16]) -> bool
 }
 
 /// The checksum of these data words: three indices in the word list.
-pub(crate) fn checksum_of(extendable: bool, data_words: &[u16]) -> [u16; 3]
+pub(crate) fn checksum_of(extendable: bool, data_words: &[u16]) -> [u16; CHECKSUM_WORDS]
     requires { All IsIndex data_words.now }
     ensures in_range { All IsIndex result }
     ensures valid { IsValidChecksum extendable (data_words.now ++ result) }

@@ -1,7 +1,10 @@
 //! Facts about the definitions, each the contract of a function that does nothing, but for `read_back`.
-ghost use Rattle.std.specs.Prelude.{◌≡◌, ◌≢◌, ℕ, ◌^◌, ◌<◌, ◌≤◌, Bool, List, [], ◌++◌, All, AllPairs, Contains, Result, length, slice_index, take};
+ghost use Rattle.std.specs.Prelude.{◌≡◌, ◌≢◌, ℕ, ◌^◌, ◌<◌, ◌≤◌, Bool, List, [], ◌++◌, All, AllPairs, Contains, Result, length};
+ghost use Rattle.std.specs.Prelude.{slice_index, take};
 ghost use Rattle.s39_kdf.specs.Limits.{id_bits, exponent_bits};
-ghost use Rattle.s39_words.specs.Layout.{IsIndex, word_list_length, shortest_word, longest_word, telling_letters, word_bits, header_length, most_groups, most_members, most_padding, checksum_length, fewest_words, most_words, longest_text};
+ghost use Rattle.s39_words.specs.Layout.{IsIndex, word_list_length, shortest_word, longest_word, telling_letters, word_bits, header_length, count_bits, byte_pair_bits};
+ghost use Rattle.s39_words.specs.Layout.{flag_place, exponent_place, group_index_place, group_threshold_place, group_count_place, member_index_place, member_threshold_place};
+ghost use Rattle.s39_words.specs.Layout.{most_groups, most_members, most_padding, checksum_length, fewest_words, most_words, longest_text};
 ghost use Rattle.s39_words.specs.declared.share.ShareFields.{ShareFields};
 ghost use Rattle.s39_words.specs.declared.word_error.WordError.{WordError as Cause};
 ghost use Rattle.s39_words.specs.Checksum.{IsValidChecksum};
@@ -17,8 +20,10 @@ use crate::checksum::GENERATOR_TIMES;
 use crate::printing::print;
 use crate::share::Share;
 use crate::size::{
-    CHECKSUM_WORDS, EXPONENT_BITS, HEADER_BITS, ID_BITS, MAX_GROUPS, MAX_LETTERS, MAX_MEMBERS,
-    MAX_PADDING_BITS, MAX_TEXT_BYTES, MAX_WORDS, MIN_WORDS, WORD_BITS,
+    BYTE_PAIR_BITS, CHECKSUM_WORDS, COUNT_BITS, EXPONENT_BITS, EXPONENT_PLACE, FLAG_PLACE,
+    GROUP_COUNT_PLACE, GROUP_INDEX_PLACE, GROUP_THRESHOLD_PLACE, HEADER_BITS, ID_BITS, MAX_GROUPS,
+    MAX_LETTERS, MAX_MEMBERS, MAX_PADDING_BITS, MAX_TEXT_BYTES, MAX_WORDS, MEMBER_INDEX_PLACE,
+    MEMBER_THRESHOLD_PLACE, MIN_WORDS, WORD_BITS,
 };
 use crate::spelling::parse;
 use crate::word_error::WordError;
@@ -30,6 +35,15 @@ pub fn numbers()
     ensures header { HEADER_BITS ≡ header_length }
     ensures id { ID_BITS ≡ id_bits }
     ensures exponent { EXPONENT_BITS ≡ exponent_bits }
+    ensures count { COUNT_BITS ≡ count_bits }
+    ensures flag_at { FLAG_PLACE ≡ flag_place }
+    ensures exponent_at { EXPONENT_PLACE ≡ exponent_place }
+    ensures group_index_at { GROUP_INDEX_PLACE ≡ group_index_place }
+    ensures group_threshold_at { GROUP_THRESHOLD_PLACE ≡ group_threshold_place }
+    ensures group_count_at { GROUP_COUNT_PLACE ≡ group_count_place }
+    ensures member_index_at { MEMBER_INDEX_PLACE ≡ member_index_place }
+    ensures member_threshold_at { MEMBER_THRESHOLD_PLACE ≡ member_threshold_place }
+    ensures pair { BYTE_PAIR_BITS ≡ byte_pair_bits }
     ensures groups { MAX_GROUPS ≡ most_groups }
     ensures members { MAX_MEMBERS ≡ most_members }
     ensures padding { MAX_PADDING_BITS ≡ most_padding }
@@ -39,7 +53,7 @@ pub fn numbers()
     ensures text { MAX_TEXT_BYTES ≡ longest_text }
 {}
 
-/// A mnemonic has 20 to 110 words, and there is one of each of these numbers.
+/// A mnemonic has 20 to 110 words: it may have 20, it may have 110, and it may have no fewer and no more.
 pub fn word_counts()
     ensures least { IsWordCount fewest_words }
     ensures greatest { IsWordCount most_words }

@@ -16,9 +16,10 @@ mod word_writer;
 
 pub use printing::print;
 pub use share::{Share, ShareFields};
-pub use size::MAX_TEXT_BYTES;
+pub use size::{ID_BITS, MAX_GROUPS, MAX_MEMBERS, MAX_TEXT_BYTES};
 pub use spelling::parse;
 pub use word_error::WordError;
+pub use word_reader::is_separator;
 
 #[cfg(test)]
 mod tests;

@@ -6,7 +6,11 @@ ghost use Rattle.s39_words.specs.FieldsAt.{share_value_at, fields_at};
 ghost use Rattle.s39_words.specs.Share.{IsShare, header_bits, data_words};
 
 use crate::share::{Share, ShareFields};
-use crate::size::{EXPONENT_BITS, HEADER_BITS, ID_BITS, MAX_DATA_WORDS, OTHER_WORDS, WORD_BITS};
+use crate::size::{
+    BYTE_PAIR_BITS, COUNT_BITS, EXPONENT_BITS, EXPONENT_PLACE, FLAG_PLACE, GROUP_COUNT_PLACE,
+    GROUP_INDEX_PLACE, GROUP_THRESHOLD_PLACE, HEADER_BITS, ID_BITS, MAX_DATA_WORDS,
+    MEMBER_INDEX_PLACE, MEMBER_THRESHOLD_PLACE, OTHER_WORDS, WORD_BITS,
+};
 use crate::word_writer::WordWriter;
 use arrayvec::ArrayVec;
 use s39_kdf::Bytes;
@@ -32,7 +36,7 @@ pub(crate) fn has_flag(words: &[u16]) -> bool
     requires count { IsWordCount (length words.now) }
     ensures { result ≡ flag_of words.now }
 {
-    number_at(words, ID_BITS, 1) == 1
+    number_at(words, FLAG_PLACE, 1) == 1
 }
 
 /// The fields in the words of a mnemonic, or `None` where a padding bit isn't 0.
@@ -46,12 +50,12 @@ pub(crate) fn fields_of(words: &[u16]) -> Option<ShareFields>
         value: value_of(words)?,
         id: number_at(words, 0, ID_BITS),
         extendable: has_flag(words),
-        exponent: number_at(words, 16, EXPONENT_BITS) as u8,
-        group_index: number_at(words, 20, 4) as u8,
-        group_threshold: number_at(words, 24, 4) as u8 + 1,
-        group_count: number_at(words, 28, 4) as u8 + 1,
-        member_index: number_at(words, 32, 4) as u8,
-        member_threshold: number_at(words, 36, 4) as u8 + 1,
+        exponent: number_at(words, EXPONENT_PLACE, EXPONENT_BITS) as u8,
+        group_index: number_at(words, GROUP_INDEX_PLACE, COUNT_BITS) as u8,
+        group_threshold: number_at(words, GROUP_THRESHOLD_PLACE, COUNT_BITS) as u8 + 1,
+        group_count: number_at(words, GROUP_COUNT_PLACE, COUNT_BITS) as u8 + 1,
+        member_index: number_at(words, MEMBER_INDEX_PLACE, COUNT_BITS) as u8,
+        member_threshold: number_at(words, MEMBER_THRESHOLD_PLACE, COUNT_BITS) as u8 + 1,
     })
 }
 
@@ -63,7 +67,7 @@ fn value_of(words: &[u16]) -> Option<Bytes>
     ensures value { IfSome result (λ value. value.items ≡ share_value_at words.now) }
 {
     let digits = WORD_BITS * (words.len() - OTHER_WORDS);
-    let padding = digits % 16;
+    let padding = digits % BYTE_PAIR_BITS;
     if number_at(words, HEADER_BITS, padding) != 0 {
         return None;
     }
@@ -99,10 +103,10 @@ fn header_of(fields: &ShareFields) -> WordWriter
     words.write(fields.id, ID_BITS);
     words.write(u16::from(fields.extendable), 1);
     words.write(u16::from(fields.exponent), EXPONENT_BITS);
-    words.write(u16::from(fields.group_index), 4);
-    words.write(u16::from(fields.group_threshold - 1), 4);
-    words.write(u16::from(fields.group_count - 1), 4);
-    words.write(u16::from(fields.member_index), 4);
-    words.write(u16::from(fields.member_threshold - 1), 4);
+    words.write(u16::from(fields.group_index), COUNT_BITS);
+    words.write(u16::from(fields.group_threshold - 1), COUNT_BITS);
+    words.write(u16::from(fields.group_count - 1), COUNT_BITS);
+    words.write(u16::from(fields.member_index), COUNT_BITS);
+    words.write(u16::from(fields.member_threshold - 1), COUNT_BITS);
     words
 }

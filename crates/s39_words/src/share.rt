@@ -3,7 +3,7 @@ ghost use Rattle.std.specs.Prelude.{◌≡◌, ◌↔◌, IsTrue, IsSome, IfSome
 ghost use Rattle.s39_words.specs.Share.{IsValue};
 
 use crate::size::{EXPONENT_BITS, ID_BITS, MAX_GROUPS, MAX_MEMBERS};
-use s39_kdf::{Bytes, MAX_SECRET_BYTES, MIN_SECRET_BYTES};
+use s39_kdf::{Bytes, check_secret_length};
 use std::marker::Model;
 
 /// The fields of a share, before their ranges are known to hold.
@@ -146,9 +146,9 @@ impl Share {
     }
 }
 
-/// Whether a share may have this value: an even number of bytes from 16 to 128.
+/// Whether a share may have this value: as many bytes as a master secret may have.
 fn is_value(value: &[u8]) -> bool
     ensures { IsTrue result ↔ IsValue value.now }
 {
-    value.len() % 2 == 0 && MIN_SECRET_BYTES <= value.len() && value.len() <= MAX_SECRET_BYTES
+    check_secret_length(value.len()).is_ok()
 }

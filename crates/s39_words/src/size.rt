@@ -11,16 +11,43 @@ pub(crate) const WORD_BITS: usize = 10;
 pub(crate) const HEADER_BITS: usize = 40;
 
 /// The bits of an identifier.
-pub(crate) const ID_BITS: usize = 15;
+pub const ID_BITS: usize = 15;
 
 /// The bits of an iteration exponent.
 pub(crate) const EXPONENT_BITS: usize = 4;
 
+/// The bits of an index of a group or a member, and of a threshold and the group count, which are stored less one.
+pub(crate) const COUNT_BITS: usize = 4;
+
+/// The place of the extendable flag, of one bit, behind the identifier.
+pub(crate) const FLAG_PLACE: usize = ID_BITS;
+
+/// The place of the iteration exponent.
+pub(crate) const EXPONENT_PLACE: usize = FLAG_PLACE + 1;
+
+/// The place of the group index.
+pub(crate) const GROUP_INDEX_PLACE: usize = EXPONENT_PLACE + EXPONENT_BITS;
+
+/// The place of the group threshold.
+pub(crate) const GROUP_THRESHOLD_PLACE: usize = GROUP_INDEX_PLACE + COUNT_BITS;
+
+/// The place of the group count.
+pub(crate) const GROUP_COUNT_PLACE: usize = GROUP_THRESHOLD_PLACE + COUNT_BITS;
+
+/// The place of the member index.
+pub(crate) const MEMBER_INDEX_PLACE: usize = GROUP_COUNT_PLACE + COUNT_BITS;
+
+/// The place of the member threshold.
+pub(crate) const MEMBER_THRESHOLD_PLACE: usize = MEMBER_INDEX_PLACE + COUNT_BITS;
+
 /// The most groups of a backup.
-pub(crate) const MAX_GROUPS: u8 = 16;
+pub const MAX_GROUPS: u8 = 16;
 
 /// The most members of a group.
-pub(crate) const MAX_MEMBERS: u8 = 16;
+pub const MAX_MEMBERS: u8 = 16;
+
+/// The bits of two bytes: a value has an even number of bytes.
+pub(crate) const BYTE_PAIR_BITS: usize = 16;
 
 /// The most bits of padding before the value.
 pub(crate) const MAX_PADDING_BITS: usize = 8;

@@ -9,7 +9,7 @@ ghost use Rattle.s39_words.specs.Mistyping.{IsMnemonic, IsMistyped};
 use crate::checksum::is_valid_checksum;
 use crate::packing::{fields_of, has_flag};
 use crate::share::Share;
-use crate::size::{MAX_PADDING_BITS, MAX_WORDS, MIN_WORDS, OTHER_WORDS, WORD_BITS};
+use crate::size::{BYTE_PAIR_BITS, MAX_PADDING_BITS, MAX_WORDS, MIN_WORDS, OTHER_WORDS, WORD_BITS};
 use crate::word_error::WordError;
 use crate::word_reader::{after_separators, first_word};
 use arrayvec::ArrayVec;
@@ -76,5 +76,5 @@ fn is_word_count(words: usize) -> bool
     ensures { IsTrue result ↔ IsWordCount words }
 {
     (MIN_WORDS..=MAX_WORDS).contains(&words)
-        && WORD_BITS * (words - OTHER_WORDS) % 16 <= MAX_PADDING_BITS
+        && WORD_BITS * (words - OTHER_WORDS) % BYTE_PAIR_BITS <= MAX_PADDING_BITS
 }

@@ -33,8 +33,8 @@ struct FirstRow<'a> {
     rest: &'a [u8],
 }
 
-/// Whether this byte stands between words.
-fn separates(byte: u8) -> bool
+/// Whether this byte stands between words: a space, a tab or a carriage return.
+pub fn is_separator(byte: u8) -> bool
     ensures { result ≡ is_separator byte }
 {
     byte == b' ' || byte == b'\t' || byte == b'\r'
@@ -47,7 +47,7 @@ pub(crate) fn after_separators(text: &[u8]) -> &[u8]
     ensures short { length result.now ≤ length text.now }
 {
     let mut rest = text;
-    while !rest.is_empty() && separates(rest[0]) {
+    while !rest.is_empty() && is_separator(rest[0]) {
         rest = &rest[1..];
     }
     rest
@@ -87,7 +87,7 @@ fn first_row(text: &[u8]) -> Option<FirstRow<'_>>
 {
     let mut number = SPACES;
     for (i, byte) in text.iter().enumerate() {
-        if separates(*byte) {
+        if is_separator(*byte) {
             return Some(FirstRow {
                 number,
                 rest: &text[i..],

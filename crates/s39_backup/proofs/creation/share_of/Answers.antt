@@ -23,8 +23,6 @@ unwrap-requires-2 c =
                 let same = get_or_default c.args.value.now k d 0 below in
                 let fits = c.type_inv.value k in
                 omega arith;
-            even = c.requires.value.0;
-            at_least = c.requires.value.1;
-            at_most = c.requires.value.2;
+            count = c.requires.value;
           });
     })

@@ -7,8 +7,8 @@ use Rattle.s39_words.proofs.word_reader.first_row.Goals as goal
 pub loop-i-init : goal.loop-i-init
 loop-i-init c = holds-none c.args.text.now
 
-pub returns-then-separates-clause-row : goal.returns-then-separates-clause-row
-returns-then-separates-clause-row c =
+pub returns-then-is_separator-clause-row : goal.returns-then-is_separator-clause-row
+returns-then-is_separator-clause-row c =
     let here : is_separator (get_or c.args.text.now c.loop-i.i 0) ≡ true = search rules in
     row_at_separator c.args.text.now c.loop-i.number c.loop-i.i c.loop-i.invariant c.loop-i-test.true here
 
