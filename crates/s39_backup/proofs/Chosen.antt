@@ -1,5 +1,5 @@
 -- The shares by which a level is refitted: those that are kept, and the lowest others.
-use Rattle.std.proofs.Common.{◌≡◌, ◌≢◌, ℕ, ◌+◌, ◌<◌, ◌≤◌, List, [], ◌∷◌, ◌++◌, length, get_or, take, map, All, AllPairs, Contains, Some, refl, sym}
+use Rattle.std.proofs.Common.{◌≡◌, ◌≢◌, ℕ, ◌+◌, ◌<◌, ◌≤◌, List, [], ◌∷◌, ◌++◌, length, get_or, take, map, All, AllPairs, Contains, Some, sym}
 use Rattle.std.proofs.Common.{ap, subst, ◌∙◌}
 use Rattle.std.proofs.Common.{inl, inr, arith}
 use Rattle.std.specs.List.{slice_get}
@@ -23,18 +23,6 @@ pub record AreChosen (kept : List ℕ) (number index next others : ℕ) (indices
   pub counted : length indices + others + length kept ≡ number + next
   pub full : 0 < others → length indices ≡ index
   pub short : length indices ≤ index
-
-pub chosen-none : (kept : List ℕ) (number others : ℕ) → others + length kept ≡ number → AreChosen kept number 0 0 others []
-chosen-none kept number others h = record {
-  placed = omega arith;
-  before = λ k d within. absurd (omega arith);
-  later = λ j d from within. omega arith;
-  ascending = λ i j d before within. absurd (omega arith);
-  below = λ k d within. absurd (omega arith);
-  counted = omega arith;
-  full = λ some. refl;
-  short = omega arith;
-}
 
 module _ (kept : List ℕ) (sorted : AllPairs (λ a b. a < b) kept) (number index next others : ℕ) (indices : List ℕ)
     (so_far : AreChosen kept number index next others indices) where
@@ -115,12 +103,6 @@ module _ (kept : List ℕ) (sorted : AllPairs (λ a b. a < b) kept) (number inde
 
     pub chosen-kept_all : All (Contains indices) kept
     chosen-kept_all = subst (All (Contains indices)) (take_all next kept (omega (arith, chosen-all))) so_far.before
-
-    pub chosen-number : number ≤ count → length indices ≡ number
-    chosen-number enough = elim (cases_lt 0 others) [
-      | inl some ↦ absurd (let f = so_far.full some in let c = so_far.counted in omega (arith, chosen-all))
-      | inr none ↦ let c = so_far.counted in omega (arith, chosen-all)
-    ]
 
 -- the shares with these indices
 abbrev pub lent : List (List ℕ) → List ℕ → List (ℕ × List ℕ)

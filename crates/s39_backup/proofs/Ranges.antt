@@ -1,9 +1,9 @@
 -- The numbers of a range, and those that pass a test.
-use Rattle.std.proofs.Common.{◌≡◌, ◌≢◌, ℕ, zero, suc, ◌+◌, ◌-◌, ◌<◌, Bool, true, [], ◌∷◌, ◌++◌, filter, AllPairs, sym, ap, ◌∙◌, arith}
+use Rattle.std.proofs.Common.{◌≡◌, ◌≢◌, ℕ, zero, suc, ◌+◌, ◌-◌, ◌<◌, Bool, true, [], ◌∷◌, ◌++◌, filter, AllPairs, ap, ◌∙◌, arith}
 use Rattle.std.specs.List.{range_with_len}
 use Rattle.std.proofs.lemmas.List.{append_assoc}
 use Rattle.std.proofs.lemmas.List.Elements.{filter-append}
-use Rattle.std.proofs.lemmas.List.FromFn.{length-range_with_len, get_or-range_with_len}
+use Rattle.s39_set.proofs.CompleteGroups.{range-ascending}
 use Rattle.s39_set.proofs.Ranges.{filter-range_more_yes}
 
 pub range-append : (a m n k : ℕ) → k ≡ m + n → range_with_len a k ≡ range_with_len a m ++ range_with_len (a + m) n
@@ -18,11 +18,7 @@ range-append a (suc m) n (suc k) e =
     ap (λ xs. a ∷ xs) (rest ∙ ap (λ b. range_with_len (a + 1) m ++ range_with_len b n) start)
 
 pub range-distinct : (n : ℕ) → AllPairs (λ a b. a ≢ b) (range_with_len 0 n)
-range-distinct n i j d before within =
-    let short : j < n = omega (arith, length-range_with_len 0 n) in
-    let first = get_or-range_with_len 0 n i d (omega arith) in
-    let second = get_or-range_with_len 0 n j d short in
-    λ same. let e : 0 + i ≡ 0 + j = sym first ∙ same ∙ second in omega arith
+range-distinct n i j d before within = let less = range-ascending n i j d before within in λ same. omega (arith, same)
 
 module _ (p : ℕ → Bool) (n total : ℕ) where
   -- a number that passes stands between the others that do

@@ -1,5 +1,5 @@
 -- The groups of which enough members are there.
-use Rattle.std.proofs.Common.{◌≡◌, ℕ, ◌<◌, ◌≤◌, ◌==◌, true, false, List, length, get_or, Option, Some, None, refl, ap, ◌∙◌, arith}
+use Rattle.std.proofs.Common.{◌≡◌, ℕ, ◌+◌, ◌-◌, ◌<◌, ◌≤◌, ◌==◌, true, false, List, length, get_or, Option, Some, None, refl, ap, ◌∙◌, arith}
 use Rattle.std.specs.Prelude.{nat_le}
 use Rattle.std.specs.List.{All, AllPairs, Contains, range_with_len}
 use Rattle.std.specs.Option.{option_map_or}
@@ -19,22 +19,33 @@ pub same_groups : (xs ys : List ℕ) → AllPairs (λ a b. a < b) xs → AllPair
 same_groups = same_from_elements (λ a b. a < b) groups_one_way
 
 -- the numbers of a range ascend
+pub range_from-ascending : (a n : ℕ) → AllPairs (λ i j. i < j) (range_with_len a n)
+range_from-ascending a n i j d less within =
+    let short : j < n = omega (arith, length-range_with_len a n) in
+    omega (arith, get_or-range_with_len a n i d (omega arith), get_or-range_with_len a n j d short)
+
 pub range-ascending : (n : ℕ) → AllPairs (λ a b. a < b) (range_with_len 0 n)
-range-ascending n i j d before below =
-    let within : j < n = omega (arith, length-range_with_len 0 n) in
-    omega (arith, get_or-range_with_len 0 n i d (omega arith), get_or-range_with_len 0 n j d within)
+range-ascending n = range_from-ascending 0 n
 
--- each is below the end
+-- each is from the start on, and below the end
+pub range_from-bounds : (a n : ℕ) → All (λ g. (a ≤ g) × (g < a + n)) (range_with_len a n)
+range_from-bounds a n k d within =
+    let short : k < n = omega (arith, length-range_with_len a n) in
+    let at = get_or-range_with_len a n k d short in
+    (omega (arith, at), omega (arith, at))
+
 pub range-below : (n : ℕ) → All (λ g. g < n) (range_with_len 0 n)
-range-below n k d below =
-    let within : k < n = omega (arith, length-range_with_len 0 n) in
-    omega (arith, get_or-range_with_len 0 n k d within)
+range-below n k d below = omega (arith, (range_from-bounds 0 n k d below).1)
 
--- each number below the end is one of them
+-- each number between them is one of them
+pub Contains-range_from : (a n g : ℕ) → a ≤ g → g < a + n → Contains (range_with_len a n) g
+Contains-range_from a n g from below =
+    let short : g - a < n = omega arith in
+    let at : get_or (range_with_len a n) (g - a) g ≡ g = omega (arith, get_or-range_with_len a n (g - a) g short) in
+    (g - a, omega (arith, length-range_with_len a n), at)
+
 pub Contains-range : (n g : ℕ) → g < n → Contains (range_with_len 0 n) g
-Contains-range n g below =
-    let at : get_or (range_with_len 0 n) g g ≡ g = omega (arith, get_or-range_with_len 0 n g g below) in
-    (g, (omega (arith, length-range_with_len 0 n)), at)
+Contains-range n g below = Contains-range_from 0 n g (omega arith) (omega arith)
 
 -- a group's threshold, and that so many of its members are there
 pub record HasThreshold (T : ℕ → Option ℕ) (names : List (ℕ × ℕ)) (g : ℕ) : Type 0 where

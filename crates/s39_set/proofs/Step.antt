@@ -5,7 +5,6 @@ use Rattle.std.proofs.Common.{inr, ⊎_elim, refl, sym, ap, subst, ◌∙◌, ar
 use Rattle.std.specs.List.{range_with_len}
 use Rattle.std.proofs.lemmas.Bool.{cases_lt, cases_Bool, lt-ltb, le-ltb, false≢true}
 use Rattle.std.proofs.lemmas.List.{length-take-le}
-use Rattle.std.proofs.lemmas.List.FromFn.{get_or-range_with_len, length-range_with_len}
 use Rattle.std.proofs.lemmas.List.Elements.{All-nil, All-cons, All-head, All-append, All-contains, All-weaker}
 use Rattle.std.proofs.lemmas.List.Elements.{All-filter, All-take, All-contains_itself, filter_passes}
 use Rattle.std.proofs.lemmas.List.Elements.{Contains-append_left, Contains-append_right, Contains-append_cases}
@@ -20,6 +19,7 @@ use Rattle.s39_set.proofs.Orders.{All-append_left, All-append_right, AllPairs-ap
 use Rattle.s39_set.proofs.Orders.{slice_cmp-append_not_greater, first_elements_are_least}
 use Rattle.s39_set.proofs.Ascending.{name_cmp_total, name_cmp_groups, name_cmp_one_way, names-sublist, same_names, same_names_from_length}
 use Rattle.s39_set.proofs.CompleteGroups.{is_complete_from, threshold_from_complete, Contains-complete_groups, names_in_group-sublist}
+use Rattle.s39_set.proofs.CompleteGroups.{range_from-ascending, range_from-bounds}
 use Rattle.s39_set.proofs.MembersOf.{members_of-groups, members_of-has_just}
 use Rattle.s39_set.proofs.GroupSplit.{groups-in_order, split_at_group}
 use Rattle.s39_set.proofs.FirstMembers.{HasJustFrom, least_from, before_later}
@@ -267,17 +267,6 @@ module _ (T : ℕ → Option ℕ) (N : List (ℕ × ℕ)) (G : ℕ) (positive : 
     -- the first so many complete groups after x's
     abbrev pub groups_taken : ℕ → List ℕ
     groups_taken n = take n (filter (is_complete T N) (groups_above x.0))
-
-    range_from-ascending : (a n : ℕ) → AllPairs (λ i j. i < j) (range_with_len a n)
-    range_from-ascending a n i j d less within =
-        let short : j < n = omega (arith, length-range_with_len a n) in
-        omega (arith, get_or-range_with_len a n i d (omega arith), get_or-range_with_len a n j d short)
-
-    range_from-bounds : (a n : ℕ) → All (λ g. (a ≤ g) × (g < a + n)) (range_with_len a n)
-    range_from-bounds a n k d within =
-        let short : k < n = omega (arith, length-range_with_len a n) in
-        let at = get_or-range_with_len a n k d short in
-        (omega (arith, at), omega (arith, at))
 
     taken-bounds : (n : ℕ) → All (λ g. ((x.0 + 1) ≤ g) × (g < (x.0 + 1) + (most_groups - (x.0 + 1)))) (groups_taken n)
     taken-bounds n =

@@ -1,12 +1,11 @@
 -- A step of a set, from what its masks know.
 use Rattle.std.proofs.Common.{◌≡◌, ◌≢◌, ℕ, zero, suc, ◌+◌, ◌-◌, ◌<◌, ◌≤◌, ◌++◌, Bool, true, false, List, [], ◌∷◌}
-use Rattle.std.proofs.Common.{length, get_or, map, filter, take, All, AllPairs, Contains, Option, Some, None, Less}
+use Rattle.std.proofs.Common.{length, get_or, map, filter, take, All, Contains, Option, Some, None, Less}
 use Rattle.std.proofs.Common.{Greater, nat_lt, unwrap_or, refl, sym, ap, ap₂, subst, ◌∙◌, arith, add-one}
 use Rattle.std.specs.List.{range_with_len, flat_map}
 use Rattle.std.specs.Prelude.{IsTrue}
 use Rattle.std.proofs.lemmas.Bool.{lt-ltb, false≢true}
 use Rattle.std.proofs.lemmas.Bool.Decides.{nat_tests}
-use Rattle.std.proofs.lemmas.List.FromFn.{get_or-range_with_len, length-range_with_len}
 use Rattle.std.proofs.lemmas.List.Elements.{Contains-append_right, All-head, All-tail, All-map, All-filter, All-take, All-contains, filter_passes}
 use Rattle.std.proofs.lemmas.List.Kept.{AllPairs-filter}
 use Rattle.s39_words.specs.declared.share.ShareFields.{ShareFields}
@@ -28,28 +27,12 @@ use Rattle.s39_set.proofs.SetQuorums.{set_from_just, written_of_quorum}
 use Rattle.s39_set.proofs.AtHand.{Contains-map, AllPairs-map, member-less}
 use Rattle.s39_set.proofs.JustMembers.{has_members}
 use Rattle.s39_set.proofs.CompleteAtHand.{names_in_group-masks}
+use Rattle.s39_set.proofs.CompleteGroups.{range_from-ascending, range_from-bounds, Contains-range_from}
 use Rattle.s39_set.proofs.Exact.{passing-agree, passing_above}
 use Rattle.s39_set.proofs.Step.{AreAbove, least_of_group, least_of_later, nothing_greater}
 use Rattle.s39_set.proofs.NextQuorum.{none_at_end, none_before, first_there, comes_after}
 
 -- ---- lists from masks
-
-range-ascending_from : (a n : ℕ) → AllPairs (λ i j. i < j) (range_with_len a n)
-range-ascending_from a n i j d less within =
-    let short : j < n = omega (arith, length-range_with_len a n) in
-    omega (arith, get_or-range_with_len a n i d (omega arith), get_or-range_with_len a n j d short)
-
-range-bounds_from : (a n : ℕ) → All (λ g. (a ≤ g) × (g < a + n)) (range_with_len a n)
-range-bounds_from a n k d within =
-    let short : k < n = omega (arith, length-range_with_len a n) in
-    let at = get_or-range_with_len a n k d short in
-    (omega (arith, at), omega (arith, at))
-
-Contains-range_from : (a n g : ℕ) → a ≤ g → g < a + n → Contains (range_with_len a n) g
-Contains-range_from a n g from below =
-    let short : g - a < n = omega arith in
-    let at : get_or (range_with_len a n) (g - a) g ≡ g = omega (arith, get_or-range_with_len a n (g - a) g short) in
-    (g - a, omega (arith, length-range_with_len a n), at)
 
 higher_member : (g m h n : ℕ) → g ≡ h → name_cmp (h, m) (g, n) ≡ Less → m < n
 higher_member g m h n same less = grind (arith, nat_tests)
@@ -62,13 +45,13 @@ above_from_masks masks names x masks_are low low_g low_m =
     let members = filter p (range_with_len (x.1 + 1) (most_members - (x.1 + 1))) in
     let bounds : All (λ m. ((x.1 + 1) ≤ m) × (m < (x.1 + 1) + (most_members - (x.1 + 1)))) members =
     All-filter p (λ m. ((x.1 + 1) ≤ m) × (m < (x.1 + 1) + (most_members - (x.1 + 1)))) (range_with_len (x.1 + 1) (most_members - (x.1 + 1)))
-    (range-bounds_from (x.1 + 1) (most_members - (x.1 + 1))) in
+    (range_from-bounds (x.1 + 1) (most_members - (x.1 + 1))) in
     record {
       ascending =
           AllPairs-map (λ a b. name_cmp a b ≡ Less) (λ m. (x.0, m)) members
           (λ i j d before within. member-less x.0 (get_or members i d) (get_or members j d)
           (AllPairs-filter (λ a b. a < b) p (range_with_len (x.1 + 1) (most_members - (x.1 + 1)))
-          (range-ascending_from (x.1 + 1) (most_members - (x.1 + 1))) i j d before within));
+          (range_from-ascending (x.1 + 1) (most_members - (x.1 + 1))) i j d before within));
       group = All-map (λ n. n.0 ≡ x.0) (λ m. (x.0, m)) members (λ k d within. refl);
       higher = All-map (λ n. name_cmp x n ≡ Less) (λ m. (x.0, m)) members
           (λ k d within. let b = bounds k d within in member-less x.0 x.1 (get_or members k d) (omega (arith, b.0)));
@@ -173,7 +156,7 @@ module _ (shares : List ShareFields) (is : IsShareSet shares) (Q : List (ℕ × 
         let bounds : All (λ g. ((x.0 + 1) ≤ g) × (g < (x.0 + 1) + (most_groups - (x.0 + 1)))) groups =
         All-take (λ g. ((x.0 + 1) ≤ g) × (g < (x.0 + 1) + (most_groups - (x.0 + 1)))) n (filter (is_complete T N) (groups_above x.0))
         (All-filter (is_complete T N) (λ g. ((x.0 + 1) ≤ g) × (g < (x.0 + 1) + (most_groups - (x.0 + 1)))) (groups_above x.0)
-        (range-bounds_from (x.0 + 1) (most_groups - (x.0 + 1)))) in
+        (range_from-bounds (x.0 + 1) (most_groups - (x.0 + 1)))) in
         ap (λ gs. flat_map (members_taken shares choice.at_hand) (take n gs)) groups_same
         ∙ flat_map-same (members_taken shares choice.at_hand) (first_members T N) groups
         (λ k d within.
@@ -209,7 +192,7 @@ module _ (shares : List ShareFields) (is : IsShareSet shares) (Q : List (ℕ × 
         (λ first g within complete.
         let low = low_g in
         let b = All-contains (λ h. ((x.0 + 1) ≤ h) × (h < (x.0 + 1) + (most_groups - (x.0 + 1)))) (groups_above x.0) g
-        (range-bounds_from (x.0 + 1) (most_groups - (x.0 + 1))) within in
+        (range_from-bounds (x.0 + 1) (most_groups - (x.0 + 1))) within in
         let small : g < most_groups = omega (arith, b.1) in
         let more : x.0 < g = omega (arith, b.0) in
         let some = tail.1 first g more small (knows.complete g small ∙ complete) in
