@@ -7,22 +7,25 @@ puts it there), or the system's libshamir.so. Calls share nothing, so they may r
 from __future__ import annotations
 
 import ctypes
+import operator
 import os
 import pathlib
-from dataclasses import dataclass
-from typing import Iterable, Iterator, List, Optional, Tuple, Union
+from dataclasses import dataclass, field
+from typing import Any, Callable, Iterable, Iterator, List, Optional, Tuple, Union
 
 __all__ = ["Refusal", "Share", "create", "drill", "parse", "random_needed", "recover"]
 
-Text = Union[str, bytes]
+Data = Union[bytes, bytearray, memoryview]
+Text = Union[str, Data]
 
-TOO_SHORT = 1
+# Rooms that are long enough, as shamir.h names them.
 SECRET_BYTES_MAX = 128
+MNEMONICS_BYTES_MAX = 253440
 TEXT_BYTES_MAX = 64
-MORE = b"more after "
-FIRST_ROOM = 4096
+
 DRILL_ROOM = 1 << 16
 LIMIT_MAX = (1 << 32) - 1
+MORE = b"more after "
 
 
 class _Answer(ctypes.Structure):
@@ -97,15 +100,28 @@ class Share:
     group_count: int
     member_index: int
     member_threshold: int
-    value: bytes
+    value: bytes = field(repr=False)
+
+
+def _data(data: Data) -> bytes:
+    """The bytes of what lends bytes; TypeError of the rest, as of a number."""
+    return data if isinstance(data, bytes) else memoryview(data).tobytes()
 
 
 def _bytes(text: Text) -> bytes:
-    return text.encode() if isinstance(text, str) else bytes(text)
+    return text.encode() if isinstance(text, str) else _data(text)
 
 
 def _slice(data: bytes) -> Tuple[bytes, int]:
     return data, len(data)
+
+
+def _number(number: int, kind: Any) -> int:
+    """A whole number that fits this type of C, which ctypes would cut without a word."""
+    whole, bits = operator.index(number), 8 * ctypes.sizeof(kind)
+    if not 0 <= whole < 1 << bits:
+        raise OverflowError(f"{whole} isn't a number of {bits} bits")
+    return whole
 
 
 def _checked(answer: _Answer) -> _Answer:
@@ -116,24 +132,27 @@ def _checked(answer: _Answer) -> _Answer:
     return answer
 
 
-def _filled(call, room: int) -> bytes:
-    """What a call writes into a buffer of so many bytes, or, where that is too short, into one that is long enough."""
-    while True:
-        buffer = ctypes.create_string_buffer(room)
-        answer = call(buffer, room)
-        if answer.code != TOO_SHORT:
-            return buffer.raw[: _checked(answer).written]
-        room = answer.first
+def _filled(call: Callable[[Any, int], _Answer], room: int) -> bytes:
+    """What a call writes into a buffer of so many bytes."""
+    buffer = ctypes.create_string_buffer(room)
+    written = _checked(call(buffer, room)).written
+    return ctypes.string_at(buffer, written)
+
+
+def _line(text: Text) -> bytes:
+    """A line of a list, which may have its line feed, as those of a file have."""
+    line = _bytes(text)
+    return line[:-1] if line.endswith(b"\n") else line
 
 
 def _joined(lines: Union[Text, Iterable[Text]]) -> bytes:
-    if isinstance(lines, (str, bytes)):
+    if isinstance(lines, (str, bytes, bytearray, memoryview)):
         return _bytes(lines)
-    return b"\n".join(_bytes(line) for line in lines)
+    return b"\n".join(map(_line, lines))
 
 
 def parse(mnemonic: Text) -> Share:
-    """The share that a mnemonic spells. Raises `Refusal` 11 to 15."""
+    """The share that a mnemonic spells: one line, without its line feed. Raises `Refusal` 11 to 15."""
     fields, line = _Share(), _bytes(mnemonic)
     value = _filled(lambda out, room: _library.shamir_parse(*_slice(line), ctypes.byref(fields), out, room), SECRET_BYTES_MAX)
     header = {name: getattr(fields, name) for name, _ in _Share._fields_}
@@ -142,11 +161,11 @@ def parse(mnemonic: Text) -> Share:
 
 def random_needed(plan: Text, secret_bytes: int) -> int:
     """How many random bytes a backup of a secret of so many bytes takes. Raises `Refusal` 31 to 34, or 42."""
-    return _checked(_library.shamir_random_needed(*_slice(_bytes(plan)), secret_bytes)).first
+    return _checked(_library.shamir_random_needed(*_slice(_bytes(plan)), _number(secret_bytes, ctypes.c_size_t))).first
 
 
 def create(
-    plan: Text, secret: bytes, passphrase: Text = b"", exponent: int = 0, extendable: bool = False, random: Optional[bytes] = None
+    plan: Text, secret: Data, passphrase: Text = b"", exponent: int = 0, extendable: bool = False, random: Optional[Data] = None
 ) -> List[str]:
     """The mnemonics of a new backup of a secret, by group and member.
 
@@ -154,16 +173,23 @@ def create(
     `random_needed` says, which nobody can guess and which are used once; where it is None they come from `os.urandom`.
     Raises `Refusal` 2, 31 to 34, or 41 to 43.
     """
-    if random is None:
-        random = os.urandom(random_needed(plan, len(secret)))
-    given = _slice(_bytes(plan)) + _slice(secret) + _slice(_bytes(passphrase)) + (exponent, int(extendable)) + _slice(random)
-    return _filled(lambda out, room: _library.shamir_create(*given, out, room), FIRST_ROOM).decode().splitlines()
+    text, key, whole, power = _bytes(plan), _bytes(passphrase), _data(secret), _number(exponent, ctypes.c_uint32)
+    drawn = _random_for(text, len(whole)) if random is None else _data(random)
+    given = _slice(text) + _slice(whole) + _slice(key) + (power, 1 if extendable else 0) + _slice(drawn)
+    return _filled(lambda out, room: _library.shamir_create(*given, out, room), MNEMONICS_BYTES_MAX).decode().splitlines()
+
+
+def _random_for(plan: bytes, secret_bytes: int) -> bytes:
+    """As many random bytes as a backup needs. Where the library says no number there are none: it refuses the backup too."""
+    needed = _library.shamir_random_needed(*_slice(plan), secret_bytes)
+    return b"" if needed.code else os.urandom(needed.first)
 
 
 def recover(lines: Union[Text, Iterable[Text]], passphrase: Text = b"") -> bytes:
     """The secret of mnemonics, given as a text of lines or as a list of them: that of the least quorum among them.
 
-    A wrong passphrase isn't noticed: it gives another secret. Raises `Refusal` 11 to 30, 41, 51 or 71.
+    A line of a list may have its line feed. A wrong passphrase isn't noticed: it gives another secret. Raises `Refusal`
+    11 to 30, 41, 51 or 71.
     """
     given = _slice(_joined(lines)) + _slice(_bytes(passphrase))
     return _filled(lambda out, room: _library.shamir_recover(*given, out, room), SECRET_BYTES_MAX)
@@ -171,9 +197,11 @@ def recover(lines: Union[Text, Iterable[Text]], passphrase: Text = b"") -> bytes
 
 def drill(lines: Union[Text, Iterable[Text]], passphrase: Text = b"", after: Text = b"") -> Iterator[Tuple[str, str]]:
     """Each quorum of mnemonics, in order, or those that come after a given one: pairs of its names, as `0.0+0.2+1.0`, and of
-    what it recovers, the secret in hexadecimal or which digest doesn't match.
+    what it recovers, the secret in hexadecimal, or which digest doesn't match, as `digest mismatch in group 0` or
+    `digest mismatch of groups`.
 
-    They are computed in parts of so many as 64 kB hold. Raises `Refusal` 11 to 30, 41, 61, 62 or 71 before the first.
+    They are computed in parts of so many as 64 kB hold. Nothing is looked at before the first `next`, which raises `Refusal`
+    11 to 30, 41, 61, 62 or 71; a digest that doesn't match is no refusal here.
     """
     data, key, cursor = _joined(lines), _slice(_bytes(passphrase)), _bytes(after)
     while True:
