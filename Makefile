@@ -7,11 +7,16 @@
 #   make faults      lets each growth, read and write of the program fail in turn
 #   make compare     compares made cases with a plain reading of the standard in Python
 #   make bench       measures
-#   make install     into PREFIX (by default /usr/local), below DESTDIR; make uninstall takes it out again
+#   make install     into PREFIX (by default /usr/local), the library into LIBDIR (by default PREFIX/lib), below DESTDIR;
+#                    make uninstall takes it out again
 #   make dist        an archive of the committed sources, the same bytes each time
 RT ?= rt
 PREFIX ?= /usr/local
+LIBDIR ?= $(PREFIX)/lib
 VERSION = 1.0.0
+# As shamir.pc names them: paths that don't hang on the folder where make ran.
+override PREFIX := $(abspath $(PREFIX))
+override LIBDIR := $(abspath $(LIBDIR))
 # The crate of the program: the one that has a main, but for the bench and the examples over arrays.
 PROGRAM = $(filter-out s39_bench s39_growths,$(patsubst crates/%/src/main.rt,%,$(wildcard crates/*/src/main.rt)))
 BIN = $(DESTDIR)$(PREFIX)/bin
@@ -21,7 +26,7 @@ BASH = $(SHARE)/bash-completion/completions
 ZSH = $(SHARE)/zsh/site-functions
 FISH = $(SHARE)/fish/vendor_completions.d
 DOCUMENTS = $(SHARE)/doc/shamir
-LIBRARIES = $(DESTDIR)$(PREFIX)/lib
+LIBRARIES = $(DESTDIR)$(LIBDIR)
 HEADERS = $(DESTDIR)$(PREFIX)/include
 SOURCES = $(shell find crates -path '*/out' -prune -o -type f -print) crates.txt
 
@@ -42,7 +47,7 @@ libshamir.a: $(SOURCES)
 	cp crates/s39_c/out/libs39_c.a $@
 
 libshamir.so: libshamir.a
-	$(CC) -shared -o $@ -Wl,--whole-archive libshamir.a -Wl,--no-whole-archive
+	$(CC) $(LDFLAGS) -shared -Wl,-soname,$@ -o $@ -Wl,--whole-archive libshamir.a -Wl,--no-whole-archive
 	cp $@ bindings/python/shamir/libshamir.so
 
 test:
@@ -71,10 +76,12 @@ bench: shamir
 	@python3 tools/bench
 
 install: shamir libshamir.a
-	install -d $(BIN) $(MANUAL) $(BASH) $(ZSH) $(FISH) $(DOCUMENTS)/docs $(DOCUMENTS)/examples $(LIBRARIES)/pkgconfig $(HEADERS)
+	install -d $(BIN) $(MANUAL) $(BASH) $(ZSH) $(FISH) $(DOCUMENTS)/docs $(DOCUMENTS)/examples/c $(LIBRARIES)/pkgconfig $(HEADERS)
 	install -m 644 libshamir.a $(LIBRARIES)/libshamir.a
 	install -m 644 include/shamir.h $(HEADERS)/shamir.h
-	sed 's|@PREFIX@|$(PREFIX)|; s|@VERSION@|$(VERSION)|' include/shamir.pc.in > $(LIBRARIES)/pkgconfig/shamir.pc
+	sed 's|@PREFIX@|$(PREFIX)|; s|@LIBDIR@|$(LIBDIR:$(PREFIX)/%=$${prefix}/%)|; s|@VERSION@|$(VERSION)|' include/shamir.pc.in \
+		> $(LIBRARIES)/pkgconfig/shamir.pc
+	chmod 644 $(LIBRARIES)/pkgconfig/shamir.pc
 	install -m 755 shamir $(BIN)/shamir
 	install -m 644 man/shamir.1 $(MANUAL)/shamir.1
 	install -m 644 completions/shamir.bash $(BASH)/shamir
@@ -83,6 +90,7 @@ install: shamir libshamir.a
 	install -m 644 README.md CHANGELOG.md CONTRIBUTING.md SECURITY.md NOTICE $(DOCUMENTS)
 	install -m 644 docs/*.md $(DOCUMENTS)/docs
 	install -m 644 examples/*.txt $(DOCUMENTS)/examples
+	install -m 644 examples/c/recover.c $(DOCUMENTS)/examples/c
 
 uninstall:
 	rm -f $(BIN)/shamir $(MANUAL)/shamir.1 $(BASH)/shamir $(ZSH)/_shamir $(FISH)/shamir.fish

@@ -5,8 +5,9 @@
  * returns whatever bytes it is given. Calls share nothing, so they may run on any threads at once. A call takes at most
  * SHAMIR_STACK_BYTES bytes of stack.
  *
- * A slice is a pointer and the number of bytes there. Slices that a call writes overlap no other slice of the call; where
- * the number of bytes is 0, the pointer isn't used, and may be NULL. Texts need no zero at their end, and none is written.
+ * A slice is a pointer and the number of bytes there. What a call writes, a slice or a struct, overlaps nothing else that
+ * the call is given. Where the number of bytes is 0, the pointer isn't used, and may be NULL; a pointer to a struct may not.
+ * The number counts no zero at a text's end: a zero byte that is counted is a byte of the text. None is written.
  *
  * Whatever is refused: nothing is written then.
  *
@@ -34,8 +35,17 @@ extern "C" {
 #define SHAMIR_MNEMONIC_BYTES_MAX 989
 #define SHAMIR_MNEMONICS_BYTES_MAX 253440
 
-/* So many bytes are enough for a quorum and the last line in the text of a drill. */
-#define SHAMIR_LISTING_BYTES_MAX 3588
+/* The most mnemonics of a backup. */
+#define SHAMIR_MNEMONICS_MAX 256
+
+/* The most bytes of a line that is read, be it a comment, its line feed not counted. */
+#define SHAMIR_LINE_BYTES_MAX 1024
+
+/* The most bytes of a list of names, as of a quorum: enough to keep the text to go on after. */
+#define SHAMIR_NAMES_BYTES_MAX 1215
+
+/* So many bytes are enough for the longest line of a quorum and the last line, and so for each call of a drill. */
+#define SHAMIR_LISTING_BYTES_ENOUGH 2700
 
 /* The most bytes that shamir_text writes. */
 #define SHAMIR_TEXT_BYTES_MAX 64
@@ -103,7 +113,9 @@ typedef struct shamir_share {
 
 /*
  * Reads a mnemonic: its fields go to share, and its value to the front of value, SHAMIR_SECRET_BYTES_MIN to
- * SHAMIR_SECRET_BYTES_MAX bytes. Refused: 11 to 15, and then 1.
+ * SHAMIR_SECRET_BYTES_MAX bytes. The line comes without its line feed, which would be a byte of its last word (11). Words
+ * stand apart by spaces, tabs and carriage returns, as many as there are, and capitals count as small letters. share may
+ * not be NULL. Refused: 11 to 15, and then 1.
  */
 shamir_answer shamir_parse(const uint8_t *line, size_t line_bytes, shamir_share *share, uint8_t *value, size_t value_bytes);
 
@@ -126,19 +138,29 @@ shamir_answer shamir_create(
 
 /*
  * Recovers the secret of lines, each a mnemonic, blank, or a comment that begins with a number sign: that of the least
- * quorum among them. It goes to the front of secret. A wrong passphrase isn't noticed: it gives another secret. Refused:
- * 41, then the first refused line (11 to 28, 71), then 29, 30, 51, and then 1.
+ * quorum among them. A line ends with a line feed, which the last may lack. The secret goes to the front of secret. A wrong
+ * passphrase isn't noticed: it gives another secret. Refused: 41, then the first refused line (11 to 28, 71), then 29, 30,
+ * 51, and then 1.
+ *
+ * The call takes 10,000 * 2^exponent iterations, with the exponent that the mnemonics say: at 15 these are some minutes.
+ * shamir_parse tells the exponent before. Where the slice is too short, 1 comes after that work.
  */
 shamir_answer shamir_recover(
     const uint8_t *lines, size_t lines_bytes, const uint8_t *passphrase, size_t passphrase_bytes, uint8_t *secret, size_t secret_bytes);
 
 /*
  * Tries the quorums of lines, as of shamir_recover, that come after the one that after names, as 0.0+0.2+1.0, or all where
- * it is empty. What the command drill writes of them goes to the front of text, with the limit, or with a lower one where
- * one quorum more doesn't fit: a line for each quorum, with the secret in hexadecimal, or which digest doesn't match; and a
- * last line, which is "end", or "more after " and the text to go on after. So a loop of such calls lists all quorums, each once.
- * mismatches is how many of the listed quorums are refused for a digest. Refused: 2 for a limit of 0, then 61, 41, then the
- * first refused line (11 to 28, 71), then 29, 30, 62, and then 1, with the bytes that the first quorum needs.
+ * it is empty. What the command drill writes of them goes to the front of text: a line for each quorum, with the secret in
+ * hexadecimal, or which digest doesn't match; and a last line, which is "end", or "more after " and the text to go on after.
+ * The call stops at the limit, or before the first quorum whose line doesn't fit with the last line behind it. So a loop of
+ * such calls lists all quorums, each once. mismatches is how many of the listed quorums are refused for a digest.
+ *
+ * Refused: 2 for a limit of 0, then 61, 41, then the first refused line (11 to 28, 71), then 29, 30, 62, and then 1 where
+ * not even one quorum fits: first is what its line and the last line need. That is 4 where no quorum comes after the named
+ * one, for "end" and a line feed. SHAMIR_LISTING_BYTES_ENOUGH is always enough, and more room takes fewer calls.
+ *
+ * The call takes 10,000 * 2^exponent iterations, with the exponent that the mnemonics say, for each value that quorums
+ * combine to: mostly all combine to one, but each call begins anew, and 1 comes after that work too.
  */
 shamir_answer shamir_drill(
     const uint8_t *lines, size_t lines_bytes, const uint8_t *passphrase, size_t passphrase_bytes, const uint8_t *after, size_t after_bytes,
@@ -146,7 +168,8 @@ shamir_answer shamir_drill(
 
 /*
  * The text of an answer's code and details, as the command shamir prints it behind the number: it goes to the front of
- * text, with no zero at its end. Refused: 1.
+ * text, with no zero at its end. Of the codes that the command doesn't have it is "done" for 0, "slice too short: N bytes
+ * needed" for 1, "number out of range" for 2, and "unknown answer" for all others. answer may not be NULL. Refused: 1.
  */
 shamir_answer shamir_text(const shamir_answer *answer, uint8_t *text, size_t text_bytes);
 

@@ -4,7 +4,7 @@
  *   cc -std=c89 -Iinclude examples/c/recover.c libshamir.a -o recover
  *   ./recover FILE [PASSPHRASE]
  *
- * It ends with status 1 where the library refuses the file, and with 2 where the file can't be read.
+ * It ends with status 1 where the library refuses the file, and with 2 where the file can't be read or the words are others.
  */
 #include <stdio.h>
 #include <string.h>
@@ -13,33 +13,56 @@
 
 /* More lines than a backup has, of the longest. */
 static uint8_t lines[2 * SHAMIR_MNEMONICS_BYTES_MAX];
+static uint8_t secret[SHAMIR_SECRET_BYTES_MAX];
 
-int main(int argc, char **argv)
+/* Clears memory; volatile keeps the compiler from leaving that out. */
+static void clear(volatile uint8_t *bytes, size_t count)
 {
-    uint8_t secret[SHAMIR_SECRET_BYTES_MAX];
-    const char *passphrase = argc > 2 ? argv[2] : "";
-    FILE *file = argc > 1 ? fopen(argv[1], "rb") : NULL;
-    uint8_t text[SHAMIR_TEXT_BYTES_MAX];
-    shamir_answer answer;
-    size_t bytes;
-    size_t i;
+    while (count > 0) {
+        bytes[--count] = 0;
+    }
+}
+
+/* Reads a file into lines; gives 0 where it can't be read or is too long. */
+static int read_lines(const char *name, size_t *bytes)
+{
+    FILE *file = fopen(name, "rb");
+    int whole;
 
     if (file == NULL) {
-        fprintf(stderr, "usage: recover FILE [PASSPHRASE]\n");
-        return 2;
+        perror(name);
+        return 0;
     }
-    bytes = fread(lines, 1, sizeof lines, file);
-    if (ferror(file) || !feof(file)) {
-        fprintf(stderr, "recover: the file can't be read, or is too long\n");
-        fclose(file);
-        return 2;
+    *bytes = fread(lines, 1, sizeof lines, file);
+    whole = !ferror(file) && feof(file);
+    if (!whole) {
+        fprintf(stderr, "%s: it can't be read, or is too long\n", name);
     }
     fclose(file);
+    return whole;
+}
 
-    answer = shamir_recover(lines, bytes, (const uint8_t *)passphrase, strlen(passphrase), secret, sizeof secret);
+/* Prints a refusal as the command shamir does: its line where it has one, its number and its text. */
+static void print_refusal(const shamir_answer *answer)
+{
+    uint8_t text[SHAMIR_TEXT_BYTES_MAX];
+    size_t bytes = (size_t)shamir_text(answer, text, sizeof text).written;
+
+    fprintf(stderr, "recover: ");
+    if (answer->line != 0) {
+        fprintf(stderr, "line %lu: ", (unsigned long)answer->line);
+    }
+    fprintf(stderr, "%lu %.*s\n", (unsigned long)answer->code, (int)bytes, (const char *)text);
+}
+
+/* Prints the secret of what was read, or why there is none, and gives the status. */
+static int recover(size_t bytes, const char *passphrase)
+{
+    shamir_answer answer = shamir_recover(lines, bytes, (const uint8_t *)passphrase, strlen(passphrase), secret, sizeof secret);
+    size_t i;
+
     if (answer.code != 0) {
-        bytes = (size_t)shamir_text(&answer, text, sizeof text).written;
-        fprintf(stderr, "recover: %.*s\n", (int)bytes, (const char *)text);
+        print_refusal(&answer);
         return 1;
     }
     for (i = 0; i < answer.written; i++) {
@@ -47,4 +70,19 @@ int main(int argc, char **argv)
     }
     printf("\n");
     return 0;
+}
+
+int main(int argc, char **argv)
+{
+    int status = 2;
+    size_t bytes;
+
+    if (argc < 2 || argc > 3) {
+        fprintf(stderr, "usage: recover FILE [PASSPHRASE]\n");
+    } else if (read_lines(argv[1], &bytes)) {
+        status = recover(bytes, argc == 3 ? argv[2] : "");
+    }
+    clear(lines, sizeof lines);
+    clear(secret, sizeof secret);
+    return status;
 }
