@@ -1,0 +1,168 @@
+/*
+ * Makes the calls of libshamir that are greatest, in memory of the sizes that shamir.h names and on a stack that is no
+ * longer than it says: a call that takes more meets pages that may not be touched, and ends the program.
+ *
+ * It creates backups of sixteen groups, all needed, of a secret of the most bytes, reads each mnemonic, recovers, drills in
+ * parts of one quorum, and asks for the text of each code. The backups and drills go to standard output, as the commands
+ * print them, and how many bytes of the stack were touched to standard error. tools/library compares them with the program.
+ */
+#define _DEFAULT_SOURCE
+#include <pthread.h>
+#include <stdio.h>
+#include <stdlib.h>
+#include <string.h>
+#include <sys/mman.h>
+
+#include "shamir.h"
+
+/* What lies below the stack, so much that no call reaches over it. */
+#define GUARD_BYTES (16 * 1024 * 1024)
+#define UNTOUCHED 0xA5
+
+#define GROUPS "16of16,16of16,16of16,16of16,16of16,16of16,16of16,16of16,16of16,16of16,16of16,16of16,16of16,16of16,16of16"
+static const char *const plans[] = {"16/16of16," GROUPS, "16/15of16," GROUPS};
+static const char passphrase[] = "TREZOR";
+static uint8_t secret[SHAMIR_SECRET_BYTES_MAX];
+static uint8_t random_bytes[SHAMIR_RANDOM_BYTES_MAX];
+static uint8_t mnemonics[SHAMIR_MNEMONICS_BYTES_MAX];
+static uint8_t mnemonic[SHAMIR_MNEMONIC_BYTES_MAX];
+static uint8_t value[SHAMIR_SECRET_BYTES_MAX];
+static uint8_t listing[SHAMIR_LISTING_BYTES_ENOUGH];
+static uint8_t cursor[SHAMIR_NAMES_BYTES_MAX];
+static uint8_t text[SHAMIR_TEXT_BYTES_MAX];
+
+/* Ends the program where a call refused. */
+static size_t done(const char *call, shamir_answer answer)
+{
+    if (answer.code != 0) {
+        fprintf(stderr, "%s: %u\n", call, (unsigned)answer.code);
+        exit(1);
+    }
+    return (size_t)answer.written;
+}
+
+/* Reads each mnemonic of a backup, in a buffer of its own. */
+static void parse_each(size_t bytes)
+{
+    size_t begin = 0;
+    size_t end;
+    shamir_share share;
+
+    for (end = 0; end < bytes; end++) {
+        if (mnemonics[end] == '\n') {
+            if (end - begin > sizeof mnemonic) {
+                fprintf(stderr, "a mnemonic of %lu bytes\n", (unsigned long)(end - begin));
+                exit(1);
+            }
+            memcpy(mnemonic, mnemonics + begin, end - begin);
+            done("shamir_parse", shamir_parse(mnemonic, end - begin, &share, value, sizeof value));
+            begin = end + 1;
+        }
+    }
+}
+
+/* Drills a backup in parts, for each of which the listing has room. */
+static void drill_parts(size_t bytes)
+{
+    static const char more[] = "\nmore after ";
+    const size_t more_bytes = sizeof more - 1;
+    size_t cursor_bytes = 0;
+    size_t written;
+    size_t last;
+
+    for (;;) {
+        written = done("shamir_drill", shamir_drill(
+            mnemonics, bytes, (const uint8_t *)passphrase, strlen(passphrase), cursor, cursor_bytes, UINT32_MAX, listing, sizeof listing));
+        fwrite(listing, 1, written, stdout);
+        for (last = written - 2; listing[last] != '\n'; last--) {
+        }
+        if (memcmp(listing + last, more, more_bytes) != 0) {
+            return;
+        }
+        cursor_bytes = written - 1 - last - more_bytes;
+        if (cursor_bytes > sizeof cursor) {
+            fprintf(stderr, "names of %lu bytes\n", (unsigned long)cursor_bytes);
+            exit(1);
+        }
+        memcpy(cursor, listing + last + more_bytes, cursor_bytes);
+    }
+}
+
+/* Asks for the text of each code, with the greatest details. */
+static void text_of_each(void)
+{
+    shamir_answer answer;
+    uint64_t detail;
+
+    memset(&answer, 0, sizeof answer);
+    for (answer.code = 0; answer.code < 100; answer.code++) {
+        for (detail = 0; detail < 2; detail++) {
+            answer.first = detail == 0 ? UINT64_MAX : UINT8_MAX;
+            answer.second = answer.first;
+            done("shamir_text", shamir_text(&answer, text, sizeof text));
+        }
+    }
+}
+
+static void *calls(void *unused)
+{
+    const uint8_t *key = (const uint8_t *)passphrase;
+    const uint8_t *plan;
+    shamir_answer needed;
+    size_t plan_bytes;
+    size_t bytes;
+    size_t i;
+
+    for (i = 0; i < sizeof plans / sizeof plans[0]; i++) {
+        plan = (const uint8_t *)plans[i];
+        plan_bytes = strlen(plans[i]);
+        needed = shamir_random_needed(plan, plan_bytes, sizeof secret);
+        done("shamir_random_needed", needed);
+        if (needed.first > sizeof random_bytes) {
+            fprintf(stderr, "%lu random bytes\n", (unsigned long)needed.first);
+            exit(1);
+        }
+        bytes = done("shamir_create", shamir_create(
+            plan, plan_bytes, secret, sizeof secret, key, strlen(passphrase), 0, 0, random_bytes, (size_t)needed.first, mnemonics, sizeof mnemonics));
+        fwrite(mnemonics, 1, bytes, stdout);
+        parse_each(bytes);
+        if (done("shamir_recover", shamir_recover(mnemonics, bytes, key, strlen(passphrase), value, sizeof value)) != sizeof secret
+            || memcmp(value, secret, sizeof secret) != 0) {
+            fprintf(stderr, "shamir_recover: another secret\n");
+            exit(1);
+        }
+        drill_parts(bytes);
+    }
+    text_of_each();
+    return unused;
+}
+
+int main(void)
+{
+    size_t i;
+    pthread_attr_t attributes;
+    pthread_t thread;
+    uint8_t *memory = mmap(NULL, GUARD_BYTES + SHAMIR_STACK_BYTES, PROT_NONE, MAP_PRIVATE | MAP_ANONYMOUS, -1, 0);
+    uint8_t *stack = memory + GUARD_BYTES;
+
+    if (memory == MAP_FAILED || mprotect(stack, SHAMIR_STACK_BYTES, PROT_READ | PROT_WRITE) != 0) {
+        fprintf(stderr, "no memory\n");
+        return 2;
+    }
+    memset(stack, UNTOUCHED, SHAMIR_STACK_BYTES);
+    for (i = 0; i < sizeof secret; i++) {
+        secret[i] = (uint8_t)i;
+    }
+    for (i = 0; i < sizeof random_bytes; i++) {
+        random_bytes[i] = (uint8_t)(7 * i + 3);
+    }
+    if (pthread_attr_init(&attributes) != 0 || pthread_attr_setstack(&attributes, stack, SHAMIR_STACK_BYTES) != 0
+        || pthread_create(&thread, &attributes, calls, NULL) != 0 || pthread_join(thread, NULL) != 0) {
+        fprintf(stderr, "no thread\n");
+        return 2;
+    }
+    for (i = 0; i < SHAMIR_STACK_BYTES && stack[i] == UNTOUCHED; i++) {
+    }
+    fprintf(stderr, "%lu\n", (unsigned long)(SHAMIR_STACK_BYTES - i));
+    return 0;
+}
