@@ -15,13 +15,10 @@ use crate::options::Options;
 use crate::plan::{Members, Plan};
 use s39_kdf::{Bytes, Params, check_passphrase, check_secret, encrypt};
 use s39_split::{MAX_SHARES, random_needed, split};
-use s39_words::{Share, ShareFields};
+use s39_words::{ID_BITS, Share, ShareFields};
 
 /// How many random bytes the identifier takes.
 pub(crate) const ID_BYTES: usize = 2;
-
-/// How many bits of them the identifier has.
-pub(crate) const ID_BITS: u32 = 15;
 
 /// Creates a backup of a secret with a passphrase (SLIP-0039): its shares, by group, then member.
 ///

@@ -1,7 +1,7 @@
 //! Facts about the definitions, each the contract of a function that does nothing.
 ghost use Rattle.std.specs.Prelude.{◌≡◌, ℕ, List, length, All, Contains, Result, Ok, None, replicate};
 ghost use Rattle.s39_kdf.specs.Bytes.{AreBytes};
-ghost use Rattle.s39_kdf.specs.Limits.{longest_secret, id_bits, IsSecretLength};
+ghost use Rattle.s39_kdf.specs.Limits.{longest_secret, IsSecretLength};
 ghost use Rattle.s39_set.specs.Names.{most_groups, most_members};
 ghost use Rattle.s39_backup.specs.declared.plan.Members.{Members};
 ghost use Rattle.s39_backup.specs.declared.create_error.CreateError.{CreateError};
@@ -18,7 +18,7 @@ ghost use Rattle.s39_backup.specs.Combination.{IsCombination};
 ghost use Rattle.s39_backup.specs.Outcome.{IsOutcome};
 ghost use Rattle.s39_backup.specs.Memo.{most_kept};
 
-use crate::creation::{ID_BITS, ID_BYTES};
+use crate::creation::ID_BYTES;
 use crate::memo::MAX_KEPT;
 use s39_kdf::laws::{
     encryption_keeps_length_and_bytes, encrypts_one_secret, one_encryption,
@@ -34,7 +34,6 @@ use s39_split::laws::{
 /// all of them needed, takes the most random bytes.
 pub fn numbers()
     ensures identifier { ID_BYTES ≡ identifier_length }
-    ensures identifier_bits { ID_BITS ≡ id_bits }
     ensures kept { MAX_KEPT ≡ most_kept }
     ensures most { random_needed most_groups
         (replicate most_groups (record { threshold = most_members; count = most_members }))

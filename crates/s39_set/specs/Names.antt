@@ -4,14 +4,8 @@ use Rattle.std.specs.Ordering.{nat_cmp, ordering_then}
 use Rattle.std.specs.declared.cmp.Ordering.{Ordering}
 use Rattle.std.specs.declared.cmp.Ordering.TheVariants.{Less}
 use Rattle.std.specs.Cmp.Lexicographic.{slice_cmp}
-
--- a backup has at most so many groups
-abbrev pub most_groups : ℕ
-most_groups = 16
-
--- a group has at most so many members
-abbrev pub most_members : ℕ
-most_members = 16
+-- a backup has at most so many groups, and a group so many members
+pub use Rattle.s39_words.specs.Layout.{most_groups, most_members}
 
 -- so many names there are
 abbrev pub most_names : ℕ

@@ -1,10 +1,6 @@
 //! How many groups, members and names there may be, as the standard has them, and how many looks a call may add.
 
-/// The most groups of a backup.
-pub const MAX_GROUPS: u8 = 16;
-
-/// The most members of a group.
-pub const MAX_MEMBERS: u8 = 16;
+pub use s39_words::{MAX_GROUPS, MAX_MEMBERS};
 
 /// The most names of shares, each a group and a member index.
 pub const MAX_NAMES: usize = GROUPS * MAX_MEMBERS as usize;
