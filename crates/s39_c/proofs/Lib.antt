@@ -1,2 +1,1 @@
 mod Outputs
-mod Printed

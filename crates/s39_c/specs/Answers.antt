@@ -17,6 +17,8 @@ use Rattle.s39_tool.specs.declared.fault.LineRefusal.TheVariants.{Word, Set}
 use Rattle.s39_tool.specs.declared.fault.Refusal.{Refusal}
 use Rattle.s39_tool.specs.declared.fault.Refusal.TheVariants.{Line, Lack, Passphrase, SecretLength, RandomLength, DigestMismatch}
 use Rattle.s39_tool.specs.declared.fault.Fault.{Fault}
+use Rattle.s39_tool.specs.declared.memory.Unwritten.{Unwritten}
+use Rattle.s39_tool.specs.declared.memory.Unwritten.TheVariants.{Refused, TooShort}
 use Rattle.s39_tool.specs.Fault.{code_of}
 use Rattle.s39_c.specs.declared.answer.ShamirAnswer.{ShamirAnswer}
 
@@ -110,6 +112,11 @@ listed n mismatches = record { code = 0; mismatches = mismatches; line = 0; firs
 -- a run is refused
 abbrev pub refused : Fault → ShamirAnswer
 refused fault = refusal (code_of fault.refusal) (line_of fault.line) (details_of fault.refusal)
+
+-- nothing is put into a slice
+abbrev pub unwritten : Unwritten → ShamirAnswer
+unwritten (Refused fault) = refused fault
+unwritten (TooShort short) = too_short short.needed
 
 -- These bytes stand at the front of a slice, and behind them what was there; or they don't fit, and it is as it was.
 abbrev pub Gives : List ℕ → List ℕ → List ℕ → ShamirAnswer → Type 0

@@ -39,7 +39,7 @@ abbrev pub GivesBackup : Wanted → List ℕ → List ℕ → List ℕ → Shami
 GivesBackup wanted random old new answer =
     ((2 ^ exponent_bits ≤ wanted.exponent) × (new ≡ old) × (answer ≡ out_of_range))
     ⊎ ((wanted.exponent < 2 ^ exponent_bits) × (error : PlanError) × IsPlanReading wanted.plan (Err error) × (new ≡ old) × (answer ≡ plan_refused error))
-    ⊎ ((asked : Asked) × Asks wanted asked × GivesMnemonics asked random old new answer)
+    ⊎ ((wanted.exponent < 2 ^ exponent_bits) × (asked : Asked) × Asks wanted asked × GivesMnemonics asked random old new answer)
 
 -- how many random bytes a plan's text takes for a secret of n bytes, or the refusal of the text, or of the length
 abbrev pub GivesNumber : List ℕ → ℕ → ShamirAnswer → Type 0

@@ -4,7 +4,7 @@ use Rattle.s39_set.specs.Written.{IsWrittenForm}
 use Rattle.s39_tool.specs.declared.drill.Done.{Done}
 use Rattle.s39_tool.specs.declared.fault.Fault.{Fault}
 use Rattle.s39_tool.specs.declared.listing.Listing.{Listing}
-use Rattle.s39_tool.specs.declared.listing.TooShort.{TooShort}
+use Rattle.s39_tool.specs.declared.memory.TooShort.{TooShort}
 use Rattle.s39_tool.specs.Fitting.{ListsWhatFits, IsTooShort}
 use Rattle.s39_c.specs.declared.answer.ShamirAnswer.{ShamirAnswer}
 use Rattle.s39_c.specs.Answers.{too_short, listed, out_of_range, cursor_refused, refused}

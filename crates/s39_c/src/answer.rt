@@ -4,7 +4,7 @@ ghost use Rattle.s39_c.specs.Answers.{done, number, too_short, out_of_range, ref
 
 use s39_backup::{Mismatch, PlanError};
 use s39_set::{BadCursor, SetError, SetLack};
-use s39_tool::{Fault, LineRefusal, Refusal};
+use s39_tool::{Fault, LineRefusal, Refusal, Unwritten};
 use s39_words::WordError;
 
 /// The code of a slice that is too short for what would be written.
@@ -108,6 +108,19 @@ impl From<Fault> for ShamirAnswer {
             line,
             details(fault.refusal),
         )
+    }
+}
+
+impl From<Unwritten> for ShamirAnswer {
+    ghost use Rattle.s39_c.specs.Answers.{unwritten};
+
+    ghost from_gives = { λ cause answer. answer ≡ unwritten cause };
+
+    fn from(cause: Unwritten) -> ShamirAnswer {
+        match cause {
+            Unwritten::Refused(fault) => ShamirAnswer::from(fault),
+            Unwritten::TooShort(short) => ShamirAnswer::too_short(short.needed),
+        }
     }
 }
 

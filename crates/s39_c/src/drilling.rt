@@ -58,11 +58,10 @@ fn give_listing(
         limit text.old text.new result }
 {
     match drill_lines(passphrase, after, limit, lines, text) {
-        Ok(Ok(listing)) => ShamirAnswer {
+        Ok(listing) => ShamirAnswer {
             mismatches: listing.mismatches,
             ..ShamirAnswer::done(listing.written)
         },
-        Ok(Err(short)) => ShamirAnswer::too_short(short.needed),
-        Err(fault) => ShamirAnswer::from(fault),
+        Err(cause) => ShamirAnswer::from(cause),
     }
 }

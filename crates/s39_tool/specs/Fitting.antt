@@ -1,5 +1,5 @@
--- A drill whose text fits into a slice.
-use Rattle.std.specs.Prelude.{◌≡◌, ℕ, ◌+◌, ◌<◌, ◌≤◌, List, ◌++◌, length, drop, Option, Some, None, Result, Ok, Err}
+-- Texts that are put into slices.
+use Rattle.std.specs.Prelude.{◌≡◌, ℕ, ◌+◌, ◌<◌, ◌≤◌, List, ◌++◌, length, drop, [], Option, Some, None, Result, Ok, Err}
 use Rattle.s39_words.specs.declared.ShareFields.{ShareFields}
 use Rattle.s39_backup.specs.declared.combination.Mismatch.{Mismatch}
 use Rattle.s39_backup.specs.Outcome.{IsOutcome}
@@ -7,7 +7,9 @@ use Rattle.s39_set.specs.Quorums.{IsFirstQuorumAfter}
 use Rattle.s39_tool.specs.declared.drill.Done.{Done}
 use Rattle.s39_tool.specs.declared.fault.Fault.{Fault}
 use Rattle.s39_tool.specs.declared.listing.Listing.{Listing}
-use Rattle.s39_tool.specs.declared.listing.TooShort.{TooShort}
+use Rattle.s39_tool.specs.declared.memory.TooShort.{TooShort}
+use Rattle.s39_tool.specs.declared.memory.Unwritten.{Unwritten}
+use Rattle.s39_tool.specs.declared.memory.Unwritten.TheVariants.{Refused, TooShort as SliceTooShort}
 use Rattle.s39_tool.specs.Drill.{last_line, quorum_line, mismatch_in, IsDrill, IsNext}
 
 -- a text stands at the front of a slice, and behind it what was there
@@ -34,10 +36,19 @@ IsTooShort IsOutput room short =
     (text : List ℕ) × (mismatches : ℕ) × IsOutput 1 text (Ok (record { mismatches = mismatches }))
     × (short.needed ≡ length text) × (room < length text)
 
--- the listing in a slice, or that it is too short, and then nothing changes
-abbrev pub Lists : (ℕ → List ℕ → Result Done Fault → Type 0) → ℕ → List ℕ → List ℕ → Result Listing TooShort → Type 0
+-- the listing in a slice; or that it is too short, or the refusal, and then nothing changes
+abbrev pub Lists : (ℕ → List ℕ → Result Done Fault → Type 0) → ℕ → List ℕ → List ℕ → Result Listing Unwritten → Type 0
 Lists IsOutput limit old new (Ok listing) = ListsWhatFits IsOutput limit old new listing
-Lists IsOutput limit old new (Err short) = IsTooShort IsOutput (length old) short × (new ≡ old)
+Lists IsOutput limit old new (Err (SliceTooShort short)) = IsTooShort IsOutput (length old) short × (new ≡ old)
+Lists IsOutput limit old new (Err (Refused fault)) = IsOutput limit [] (Err fault) × (new ≡ old)
+
+-- Of a command with these outputs: its text stands at the front of a slice, and the answer is its length; or it doesn't
+-- fit, or is refused, and then nothing changes.
+abbrev pub Puts : (List ℕ → Result (Unit {0}) Fault → Type 0) → List ℕ → List ℕ → Result ℕ Unwritten → Type 0
+Puts IsOutput old new (Ok written) = (text : List ℕ) × IsOutput text (Ok tt) × IsInFront text old new × (written ≡ length text)
+Puts IsOutput old new (Err (SliceTooShort short)) =
+    (text : List ℕ) × IsOutput text (Ok tt) × (short.needed ≡ length text) × (length old < length text) × (new ≡ old)
+Puts IsOutput old new (Err (Refused fault)) = IsOutput [] (Err fault) × (new ≡ old)
 
 -- Within a drill in a slice; no public contract cites this.
 

@@ -3,7 +3,7 @@ ghost use Rattle.std.specs.Prelude.{◌≡◌, ◌≢◌, ◌+◌, ◌<◌, ◌�
 ghost use Rattle.s39_words.specs.Printing.{IsPrinted};
 ghost use Rattle.s39_words.specs.Share.{IsShare};
 ghost use Rattle.s39_tool.specs.declared.creating.TheConstants.{ROOM};
-ghost use Rattle.s39_tool.specs.Create.{IsCreateOutput, HasRead, WritesPrinted};
+ghost use Rattle.s39_tool.specs.Create.{IsCreateOutput, HasRead, WritesPrinted, ended_line};
 ghost use Rattle.s39_tool.specs.Device.{failure_of};
 ghost use Rattle.s39_tool.specs.Fault.{fault_of};
 ghost use Rattle.s39_kdf.specs.declared.limits.BadPassphrase.{BadPassphrase};
@@ -135,8 +135,8 @@ fn write_mnemonics<W: Write>(output: &mut Counting<W>, shares: &[Share]) -> Resu
 }
 
 /// The line of a share's mnemonic.
-fn mnemonic_line(share: &Share) -> Line
-    ensures { (text : List ℕ) × IsPrinted text share.now × (result.items ≡ text ++ 10 ∷ []) }
+pub(crate) fn mnemonic_line(share: &Share) -> Line
+    ensures { (text : List ℕ) × IsPrinted text share.now × (result.items ≡ ended_line text) }
 {
     let mut line = Line::new();
     push_text(&mut line, &print(share));

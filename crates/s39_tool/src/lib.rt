@@ -19,8 +19,8 @@ pub use creating::run_create;
 pub use device::Counting;
 pub use drill::{Done, Undrilled, run_drill};
 pub use fault::{DeviceFailure, Fault, LineRefusal, Refusal, RefusedLine, Stop};
-pub use listing::{Listing, TooShort, drill_lines};
-pub use memory::recover_secret;
+pub use listing::{Listing, drill_lines};
+pub use memory::{TooShort, Unwritten, create_lines, recover_secret};
 pub use recover::{Unrecovered, run_recover};
 pub use s39_backup::{
     CreateError, Created, Members, Memo, Mismatch, Options, Plan, PlanError, RecoverError, create,

@@ -1,19 +1,21 @@
 //! The drill of lines in memory, into a slice.
-ghost use Rattle.std.specs.Prelude.{◌≡◌, ◌≢◌, ℕ, List, Option, ◌+◌, ◌*◌, ◌-◌, ◌<◌, ◌≤◌, ◌++◌, [], All, Some, None, Ok, Err, IfOk, IfErr, IsErr, length, take, drop};
+ghost use Rattle.std.specs.Prelude.{◌≡◌, ◌≢◌, ℕ, List, Option, ◌+◌, ◌*◌, ◌-◌, ◌<◌, ◌≤◌, ◌++◌, [], All, Some, None, Ok, Err, IfOk, IfErr, IsOk, length, take, drop};
 ghost use Rattle.std.specs.Option.{option_copied};
 ghost use Rattle.s39_kdf.specs.Limits.{IsPrintable};
 ghost use Rattle.s39_set.specs.Looks.{most_step_looks};
 ghost use Rattle.s39_set.specs.Quorums.{IsQuorum, IsFirstQuorumAfter};
 ghost use Rattle.s39_set.specs.ShareSet.{IsShareSet};
 ghost use Rattle.s39_backup.specs.Outcome.{AreParams};
+ghost use Rattle.s39_tool.specs.Accepted.{IsReadAs};
 ghost use Rattle.s39_tool.specs.Input.{whole};
-ghost use Rattle.s39_tool.specs.Drill.{IsDrillOutput, last_line};
+ghost use Rattle.s39_tool.specs.Drill.{IsDrillOutput, StartsAt, last_line};
 ghost use Rattle.s39_tool.specs.Fitting.{IsInFront, Lists, IsTried, Fills, IsFilling};
 
 use crate::collect::set_in;
 use crate::drill::{following, last_line, mismatch_in, outcome_of, quorum_line, start_of};
 use crate::fault::Fault;
 use crate::laws::drill_laws;
+use crate::memory::{TooShort, Unwritten};
 use crate::output::Line;
 use s39_backup::{Memo, params_of};
 use s39_kdf::check_passphrase;
@@ -27,13 +29,6 @@ pub struct Listing {
     pub written: usize,
     /// How many of the listed quorums were refused for a digest.
     pub mismatches: u32,
-}
-
-/// A slice is too short for the line of a quorum and the last line.
-#[derive(Clone, Copy, Debug, PartialEq, Eq)]
-pub struct TooShort {
-    /// How many bytes are needed.
-    pub needed: usize,
 }
 
 /// Tries the quorums of the lines' shares that come after a given one (all, where there is none), and puts to the front of
@@ -58,24 +53,42 @@ pub fn drill_lines(
     limit: u32,
     lines: &[u8],
     text: &mut [u8],
-) -> Result<Result<Listing, TooShort>, Fault>
+) -> Result<Listing, Unwritten>
     requires some { 1 ≤ limit }
-    ensures listed { IfOk result (Lists
-        (λ n. IsDrillOutput passphrase.now (option_copied after.entry) n (whole lines.now))
-        limit text.old text.new) }
-    ensures refused { IfErr result (λ fault.
-        IsDrillOutput passphrase.now (option_copied after.entry) limit (whole lines.now)
-        [] (Err fault)) }
-    ensures unchanged { IsErr result → text.new ≡ text.old }
+    ensures { Lists (λ n. IsDrillOutput passphrase.now (option_copied after.entry) n (whole lines.now))
+        limit text.old text.new result }
 {
     listings_join();
+    let mut looks = Looks::new();
+    let (set, start) = start_in(passphrase, after, lines, &mut looks)?;
+    match start {
+        Some(start) => Ok(fill(&set, start, passphrase, limit, &mut looks, text)?),
+        None => Ok(put_end(text)?),
+    }
+}
+
+/// The set of the lines' shares, and the quorum at which a drill of it starts, if there is one.
+fn start_in(
+    passphrase: &[u8],
+    after: Option<&Quorum>,
+    lines: &[u8],
+    looks: &mut Looks,
+) -> Result<(ShareSet, Option<Quorum>), Fault>
+    requires none { looks.old ≡ 0 }
+    ensures printable { IsOk result → All IsPrintable passphrase.now }
+    ensures read { IfOk result (λ found. IsReadAs (whole lines.now) (Ok found.0)) }
+    ensures is_set { IfOk result (λ found. IsShareSet found.0) }
+    ensures starts { IfOk result (λ found.
+        StartsAt found.0 (option_copied after.entry) found.1) }
+    ensures refused { IfErr result (λ fault. (limit : ℕ)
+        → IsDrillOutput passphrase.now (option_copied after.entry) limit (whole lines.now)
+        [] (Err fault)) }
+    ensures looks { looks.new ≤ most_step_looks }
+{
     check_passphrase(passphrase)?;
     let set = set_in(lines)?;
-    let mut looks = Looks::new();
-    let Some(start) = start_of(&set, after, &mut looks)? else {
-        return Ok(put_end(text));
-    };
-    Ok(fill(&set, start, passphrase, limit, &mut looks, text))
+    let start = start_of(&set, after, looks)?;
+    Ok((set, start))
 }
 
 /// Puts the text of a drill without a quorum to the front of a slice.
@@ -208,7 +221,7 @@ fn ended(text: &mut [u8], written: usize, last: &Line, mismatches: u32) -> Listi
 }
 
 /// Puts bytes to a place of a slice, and leaves what is before and behind them.
-fn put(text: &mut [u8], at: usize, bytes: &[u8])
+pub(crate) fn put(text: &mut [u8], at: usize, bytes: &[u8])
     requires { at + length bytes.now ≤ length text.old }
     ensures { text.new ≡ take at text.old ++ bytes.now ++ drop (at + length bytes.now) text.old }
 {

@@ -1,22 +1,22 @@
 -- A drill in a slice, a line at a time.
 use Rattle.std.proofs.Common.{◌≡◌, ℕ, suc, ◌+◌, ◌<◌, ◌≤◌, List, [], ◌++◌, length, take, drop, is_some, false, ◌⊎◌}
 use Rattle.std.proofs.Common.{inl, refl, sym, ap, ◌∙◌, subst, append_assoc, append-nil, arith}
-use Rattle.std.proofs.Common.{Option, Some, None, IfSome, All, Result, Ok, Err, IfOk, IfErr}
+use Rattle.std.proofs.Common.{Option, Some, None, All, Result, Ok, Err, IfOk, IfErr}
 use Rattle.std.proofs.lemmas.List.{length-append}
 use Rattle.std.proofs.lemmas.Slice.{drop-append-drop}
 use Rattle.std.proofs.Math.Seq.{take-append_seam}
 use Rattle.s39_kdf.specs.Limits.{IsPrintable}
 use Rattle.s39_words.specs.declared.ShareFields.{ShareFields}
 use Rattle.s39_set.specs.ShareSet.{IsShareSet}
-use Rattle.s39_set.specs.declared.set_lack.SetLack.{SetLack}
-use Rattle.s39_set.specs.Quorums.{IsQuorum, IsFirstQuorumAfter, HasNoQuorumAfter}
-use Rattle.s39_set.specs.Lack.{IsLack}
+use Rattle.s39_set.specs.Quorums.{IsFirstQuorumAfter, HasNoQuorumAfter}
 use Rattle.s39_set.specs.Listing.{IsListing}
 use Rattle.s39_tool.specs.declared.listing.Listing.{Listing}
-use Rattle.s39_tool.specs.declared.listing.TooShort.{TooShort}
+use Rattle.s39_tool.specs.declared.memory.TooShort.{TooShort}
+use Rattle.s39_tool.specs.declared.memory.Unwritten.{Unwritten}
+use Rattle.s39_tool.specs.declared.memory.Unwritten.TheVariants.{TooShort as SliceTooShort}
 use Rattle.s39_tool.specs.Input.{Input}
 use Rattle.s39_tool.specs.Accepted.{IsReadAs}
-use Rattle.s39_tool.specs.Drill.{DrillLaws, last_line, IsDrill, IsDrillOutput}
+use Rattle.s39_tool.specs.Drill.{DrillLaws, last_line, IsDrill, IsDrillOutput, IsNext, StartsAt}
 use Rattle.s39_tool.specs.Fitting.{IsInFront, Lists, more_after, IsTried, FillsSlice, Fills, IsFilling}
 use Rattle.s39_tool.proofs.Drills.Drilling.{Names, drill_ends, drill_step, drill_over}
 use Rattle.s39_tool.proofs.Drills.Output.{drilled}
@@ -192,18 +192,21 @@ module _ (laws : DrillLaws) (set : List ShareFields) (passphrase : List ℕ) whe
               (f.lines ++ line, more_after quorum then, m + n, whole, omega (arith, size, short));
         }
 
+-- what is answered of a drill in a slice
+abbrev pub answered : Result Listing TooShort → Result Listing Unwritten
+answered (Ok listing) = Ok listing
+answered (Err short) = Err (SliceTooShort short)
+
 module _ (none : (set : List ShareFields) (given : Option Names) (limit : ℕ) → HasNoQuorumAfter set given → IsListing set given limit [])
     (passphrase : List ℕ) (after : Option Names) (printable : All IsPrintable passphrase) (input : Input) (set : List ShareFields)
-    (read : IsReadAs input (Ok set)) (no_lack : (lack : SetLack) → ¬ IsLack set lack) (cursor : IfSome after (IsQuorum set)) (limit : ℕ)
-    (old new : List ℕ) where
+    (read : IsReadAs input (Ok set)) (next : Option Names) (starts : StartsAt set after next) (limit : ℕ) (old new : List ℕ) where
   output : (listed : ℕ) (lines : List ℕ) (more : Option Names) (m : ℕ) → IsDrill set passphrase after listed lines more m
       → IsDrillOutput passphrase after listed input (lines ++ last_line more) (Ok (record { mismatches = m }))
-  output listed lines more m d = drilled passphrase after listed printable input set lines more m read no_lack cursor d
+  output listed lines more m d = drilled passphrase after listed printable input set lines more m read starts.no_lack starts.cursor d
 
-  -- the drill of the input's set is that of the input
-  pub fills_lists : (result : Result Listing TooShort) → Fills set passphrase after limit old new result
-      → Lists (λ n. IsDrillOutput passphrase after n input) limit old new result
-  fills_lists (Ok listing) f = record {
+  lists : (result : Result Listing TooShort) → Fills set passphrase after limit old new result
+      → Lists (λ n. IsDrillOutput passphrase after n input) limit old new (answered result)
+  lists (Ok listing) f = record {
     listed = f.listed;
     text = f.lines ++ last_line f.more;
     some = f.some;
@@ -214,15 +217,21 @@ module _ (none : (set : List ShareFields) (given : Option Names) (limit : ℕ) �
     more_is_too_long = λ below.
         let (longer, rest, m, d, long) = f.more_is_too_long below in (longer ++ last_line rest, m, output (f.listed + 1) longer rest m d, long);
   }
-  fills_lists (Err short) f =
+  lists (Err short) f =
       let ((lines, more, m, d, needed, long), same) = f in ((lines ++ last_line more, m, output 1 lines more m d, needed, long), same)
 
+  -- the drill of the input's set is that of the input
+  pub fills_lists : (start : Names) → next ≡ Some start → (result : Result Listing TooShort)
+      → ((given : Option Names) → IsFirstQuorumAfter set given start → Fills set passphrase given limit old new result)
+      → Lists (λ n. IsDrillOutput passphrase after n input) limit old new (answered result)
+  fills_lists start is result fills = lists result (fills after (subst (IsNext set after) is starts.starts))
+
   -- no quorum is left
-  pub end_lists : HasNoQuorumAfter set after → 1 ≤ limit → (result : Result Listing TooShort)
+  pub end_lists : next ≡ None → 1 ≤ limit → (result : Result Listing TooShort)
       → IfOk result (λ listing. IsInFront (last_line None) old new × (listing.written ≡ length (last_line None)) × (listing.mismatches ≡ 0))
       → IfErr result (λ short. (short.needed ≡ length (last_line None)) × (length old < length (last_line None)) × (new ≡ old))
-      → Lists (λ n. IsDrillOutput passphrase after n input) limit old new result
-  end_lists over some (Ok listing) ok err = record {
+      → Lists (λ n. IsDrillOutput passphrase after n input) limit old new (answered result)
+  end_lists is some (Ok listing) ok err = let over : HasNoQuorumAfter set after = subst (IsNext set after) is starts.starts in record {
     listed = limit;
     text = last_line None;
     some = some;
@@ -233,5 +242,6 @@ module _ (none : (set : List ShareFields) (given : Option Names) (limit : ℕ) �
     written = ok.1;
     more_is_too_long = λ below. absurd (omega (arith, below));
   }
-  end_lists over some (Err short) ok err =
+  end_lists is some (Err short) ok err =
+      let over : HasNoQuorumAfter set after = subst (IsNext set after) is starts.starts in
       ((last_line None, 0, output 1 [] None 0 (drill_ends set passphrase after 1 (none set after 1 over) over), err.0, err.1), err.2)

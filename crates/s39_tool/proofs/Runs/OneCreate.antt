@@ -19,10 +19,7 @@ use Rattle.s39_tool.proofs.Runs.Creating.{printed_all}
 
 -- ---- one output
 
-module _ (one_creation : (asked : Asked) (random : List ℕ) (r s : Result (List ShareFields) CreateError) → Creates asked random r → Creates asked random s
-    → r ≡ s)
-    (none_unprintable : PrintablePassphrasesHaveNone)
-    (one_printed_form : (share : ShareFields) (text other : List ℕ) → IsPrinted text share → IsPrinted other share → text ≡ other) where
+module _ (one_printed_form : (share : ShareFields) (text other : List ℕ) → IsPrinted text share → IsPrinted other share → text ≡ other) where
   lines_once : (shares : List ShareFields) (lines others : List (List ℕ)) → AllZip IsPrinted lines shares → AllZip IsPrinted others shares → lines ≡ others
   lines_once [] [] [] p q = refl
   lines_once [] [] (o ∷ os) p q = absurd q
@@ -32,9 +29,14 @@ module _ (one_creation : (asked : Asked) (random : List ℕ) (r s : Result (List
   lines_once (s ∷ ss) (l ∷ ls) (o ∷ os) p q =
       ap₂ (λ (x : List ℕ) (xs : List (List ℕ)). x ∷ xs) (one_printed_form s l o p.0 q.0) (lines_once ss ls os p.1 q.1)
 
-  text_once : (shares : List ShareFields) (text other : List ℕ) → ArePrintedLines shares text → ArePrintedLines shares other → text ≡ other
+  -- shares have one text
+  pub text_once : (shares : List ShareFields) (text other : List ℕ) → ArePrintedLines shares text → ArePrintedLines shares other → text ≡ other
   text_once shares text other p q = p.text_is ∙ ap (flat_map ended_line) (lines_once shares p.lines q.lines p.printed q.printed) ∙ sym q.text_is
 
+module _ (one_creation : (asked : Asked) (random : List ℕ) (r s : Result (List ShareFields) CreateError) → Creates asked random r → Creates asked random s
+    → r ≡ s)
+    (none_unprintable : PrintablePassphrasesHaveNone)
+    (one_printed_form : (share : ShareFields) (text other : List ℕ) → IsPrinted text share → IsPrinted other share → text ≡ other) where
   -- a refusal that applies isn't a failed read
   not_both : (asked : Asked) (input : Input) (error : CreateError) → Creates asked input.bytes (Err error) → Applies input error → FailsBefore asked input → ⊥
   not_both asked input (Passphrase bad) creates applies fails = none_unprintable asked.passphrase bad.position fails.printable creates
@@ -71,7 +73,7 @@ module _ (one_creation : (asked : Asked) (random : List ℕ) (r s : Result (List
   create_once asked input text other (Ok _) (Ok _) (shares, ended, creates, printed) (others, ended', creates', printed') =
       let both = one_creation asked input.bytes (Ok shares) (Ok others) creates creates' in
       let same : shares ≡ others = cc in
-      (text_once others text other (subst (λ s. ArePrintedLines s text) same printed) printed', refl)
+      (text_once one_printed_form others text other (subst (λ s. ArePrintedLines s text) same printed) printed', refl)
   create_once asked input text other (Ok _) (Err g) (shares, ended, creates, printed) q = absurd (written_not_stopped asked input shares g ended creates q.1)
   create_once asked input text other (Err f) (Ok _) p (shares, ended, creates, printed) = absurd (written_not_stopped asked input shares f ended creates p.1)
   create_once asked input text other (Err f) (Err g) p q = (p.0 ∙ sym q.0, ap Err (fault_once asked input f g p.1 q.1))

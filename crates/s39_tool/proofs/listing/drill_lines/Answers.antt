@@ -1,26 +1,39 @@
-use Rattle.std.proofs.Common.{subst, refl}
+use Rattle.std.proofs.Common.{refl, Ok, Err}
+use Rattle.std.proofs.lemmas.Result.{err_from_is_err_and}
 use Rattle.std.specs.Option.{option_copied}
-use Rattle.s39_set.specs.Quorums.{IsFirstQuorumAfter, HasNoQuorumAfter}
 use Rattle.s39_tool.specs.Input.{whole}
-use Rattle.s39_tool.specs.Drill.{IsNext}
 use Rattle.s39_tool.proofs.Drills.Filling.{fills_lists, end_lists}
 use Rattle.s39_tool.proofs.listing.drill_lines.Goals as goal
 
-pub returns-in_default-clause-listed : goal.returns-in_default-clause-listed
-returns-in_default-clause-listed c =
-    let set = c.in_ok-set.set in
-    let after = option_copied c.args.after in
-    let starts = c.in_ok-start.ensures.start in
-    let none : HasNoQuorumAfter set after = subst (IsNext set after) c.in_default.is starts.starts in
-    end_lists c.listings_join.ensures.none c.args.passphrase.now after (c.in_ok-check_passphrase.ensures.accepted.0 refl) (whole c.args.lines.now) set
-    c.in_ok-set.ensures.read starts.no_lack starts.cursor c.args.limit c.args.text.now c.put_end.new.text none c.requires.some c.put_end.result
-    c.put_end.ensures.listed c.put_end.ensures.short
+pub returns-in_err-set : goal.returns-in_err-set
+returns-in_err-set c =
+    let p = err_from_is_err_and c.from_residual.result c.from_residual.ensures.1 in
+    rw (p.1, p.2) (c.in_err-set.ensures.refused c.args.limit, refl)
 
-pub returns-clause-listed : goal.returns-clause-listed
-returns-clause-listed c =
-    let set = c.in_ok-set.set in
-    let after = option_copied c.args.after in
-    let starts = c.in_ok-start.ensures.start in
-    let first : IsFirstQuorumAfter set after c.in-Some.start = subst (IsNext set after) c.in-Some.is starts.starts in
-    fills_lists c.listings_join.ensures.none c.args.passphrase.now after (c.in_ok-check_passphrase.ensures.accepted.0 refl) (whole c.args.lines.now) set
-    c.in_ok-set.ensures.read starts.no_lack starts.cursor c.args.limit c.args.text.now c.fill.new.text c.fill.result (c.fill.ensures after first)
+pub returns-in_ok-fill-in-Some : goal.returns-in_ok-fill-in-Some
+returns-in_ok-fill-in-Some c =
+    fills_lists c.listings_join.ensures.none c.args.passphrase.now (option_copied c.args.after) (c.in_ok-set.ensures.printable refl)
+    (whole c.args.lines.now) c.in_ok-set.set c.in_ok-set.ensures.read c.in_ok-set.start c.in_ok-set.ensures.starts c.args.limit c.args.text.now
+    c.fill.new.text c.in-Some.start c.in-Some.is (Ok c.in_ok-fill-in-Some.field-0) c.in_ok-fill-in-Some.ensures
+
+pub returns-in_err-fill-in-Some : goal.returns-in_err-fill-in-Some
+returns-in_err-fill-in-Some c =
+    let p = err_from_is_err_and c.from_residual-in_err-fill-in-Some.result c.from_residual-in_err-fill-in-Some.ensures.1 in
+    rw (p.1, p.2) (fills_lists c.listings_join.ensures.none c.args.passphrase.now (option_copied c.args.after) (c.in_ok-set.ensures.printable refl)
+    (whole c.args.lines.now) c.in_ok-set.set c.in_ok-set.ensures.read c.in_ok-set.start c.in_ok-set.ensures.starts c.args.limit c.args.text.now
+    c.fill.new.text c.in-Some.start c.in-Some.is (Err c.in_err-fill-in-Some.field-0.0) c.in_err-fill-in-Some.ensures)
+
+pub returns-in_ok-put_end-in-None : goal.returns-in_ok-put_end-in-None
+returns-in_ok-put_end-in-None c =
+    end_lists c.listings_join.ensures.none c.args.passphrase.now (option_copied c.args.after) (c.in_ok-set.ensures.printable refl)
+    (whole c.args.lines.now) c.in_ok-set.set c.in_ok-set.ensures.read c.in_ok-set.start c.in_ok-set.ensures.starts c.args.limit c.args.text.now
+    c.put_end.new.text c.in-None.is c.requires.some (Ok c.in_ok-put_end-in-None.field-0) c.in_ok-put_end-in-None.ensures.listed
+    c.in_ok-put_end-in-None.ensures.short
+
+pub returns-in_err-put_end-in-None : goal.returns-in_err-put_end-in-None
+returns-in_err-put_end-in-None c =
+    let p = err_from_is_err_and c.from_residual-in_err-put_end-in-None.result c.from_residual-in_err-put_end-in-None.ensures.1 in
+    rw (p.1, p.2) (end_lists c.listings_join.ensures.none c.args.passphrase.now (option_copied c.args.after) (c.in_ok-set.ensures.printable refl)
+    (whole c.args.lines.now) c.in_ok-set.set c.in_ok-set.ensures.read c.in_ok-set.start c.in_ok-set.ensures.starts c.args.limit c.args.text.now
+    c.put_end.new.text c.in-None.is c.requires.some (Err c.in_err-put_end-in-None.field-0.0) c.in_err-put_end-in-None.ensures.listed
+    c.in_err-put_end-in-None.ensures.short)

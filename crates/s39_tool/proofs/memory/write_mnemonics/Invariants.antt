@@ -1,6 +1,6 @@
 use Rattle.std.proofs.Common.{◌≡◌, ◌++◌, ℕ, List, length, take, drop}
 use Rattle.s39_tool.specs.Create.{ArePrintedLines}
-use Rattle.s39_c.proofs.creating.write_mnemonics.Given as goal
+use Rattle.s39_tool.proofs.memory.write_mnemonics.Given as goal
 
 abbrev pub invariant-loop-share : goal.invariant-loop-share
 invariant-loop-share l =
