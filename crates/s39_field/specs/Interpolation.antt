@@ -50,10 +50,10 @@ module _ {F : Type 0} (f : Operations F) where
   weighted_sum (w ∷ ws) [] = f.zero
   weighted_sum (w ∷ ws) (value ∷ values) = f.add (f.mul w value) (weighted_sum ws values)
 
-  -- two polynomials with no more coefficients than there are distinct places, equal at each place,
-  -- differ at most in zeros at the ends of their lists: each coefficient of their difference is zero
-  abbrev pub PlacesDetermineCoefficients : Type 0
-  PlacesDetermineCoefficients =
+  -- this holds of any two polynomials with no more coefficients than there are distinct places, equal
+  -- at each place
+  abbrev pub PlacesDetermine : (List F → List F → Type 0) → Type 0
+  PlacesDetermine Holds =
       (places cs ds : List F)
       → All f.IsElement places
       → All f.IsElement cs
@@ -62,21 +62,16 @@ module _ {F : Type 0} (f : Operations F) where
       → length cs ≤ length places
       → length ds ≤ length places
       → All (λ p. value_at f cs p ≡ value_at f ds p) places
-      → All (λ c. c ≡ f.zero) (sum_of f cs ds)
+      → Holds cs ds
+
+  -- they differ at most in zeros at the ends of their lists: each coefficient of their difference is
+  -- zero
+  abbrev pub PlacesDetermineCoefficients : Type 0
+  PlacesDetermineCoefficients = PlacesDetermine (λ cs ds. All (λ c. c ≡ f.zero) (sum_of f cs ds))
 
   -- so they are equal everywhere
   abbrev pub PlacesDetermineValues : Type 0
-  PlacesDetermineValues =
-      (places cs ds : List F)
-      → All f.IsElement places
-      → All f.IsElement cs
-      → All f.IsElement ds
-      → AllPairs (λ p q. p ≢ q) places
-      → length cs ≤ length places
-      → length ds ≤ length places
-      → All (λ p. value_at f cs p ≡ value_at f ds p) places
-      → (x : F)
-      → value_at f cs x ≡ value_at f ds x
+  PlacesDetermineValues = PlacesDetermine (λ cs ds. (x : F) → value_at f cs x ≡ value_at f ds x)
 
   -- points at distinct places have one value at x
   abbrev pub PointsHaveOneValue : Type 0

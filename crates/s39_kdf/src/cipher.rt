@@ -9,9 +9,10 @@ use crate::limits::{Bytes, MAX_SECRET_BYTES};
 use crate::params::Params;
 use arrayvec::ArrayVec;
 
+/// The most bytes of half a secret.
 const MAX_HALF_BYTES: usize = MAX_SECRET_BYTES / 2;
 
-// Half a secret, while it is encrypted or decrypted.
+/// Half a secret, while it is encrypted or decrypted.
 type Half = ArrayVec<u8, MAX_HALF_BYTES>;
 
 /// Encrypts a secret of an even number of bytes (SLIP-0039, "Encryption of the master secret"). The result is as long
@@ -49,6 +50,7 @@ pub fn decrypt(encrypted: &Bytes, passphrase: &[u8], params: Params) -> Bytes
     join(&h0, &h1)
 }
 
+/// The two halves of an even number of bytes.
 fn halves(bytes: &Bytes) -> (&[u8], &[u8])
     requires { array_vec_len bytes.now % 2 ≡ 0 }
     ensures whole { bytes.now.items ≡ result.0.now ++ result.1.now }
@@ -58,7 +60,7 @@ fn halves(bytes: &Bytes) -> (&[u8], &[u8])
     bytes.split_at(bytes.len() / 2)
 }
 
-// One half, xored with the round function of the other. A round is undone by the same step.
+/// One half, xored with the round function of the other. A round is undone by the same step.
 fn round(i: u8, half: &[u8], other: &[u8], passphrase: &[u8], params: Params) -> Half
     requires same_length { length half.now ≡ length other.now }
     requires fits { length other.now ≤ MAX_HALF_BYTES }
@@ -76,7 +78,7 @@ fn round(i: u8, half: &[u8], other: &[u8], passphrase: &[u8], params: Params) ->
     changed
 }
 
-// Fills `out`, as long as the half, with the round function of that half.
+/// Fills `out`, as long as the half, with the round function of that half.
 #[tactic(auto, unfolding(crate::specs::Cipher::round_function))]
 fn round_function(i: u8, half: &[u8], passphrase: &[u8], params: Params, out: &mut [u8])
     requires same_length { length out.old ≡ length half.now }
@@ -93,6 +95,7 @@ fn round_function(i: u8, half: &[u8], passphrase: &[u8], params: Params, out: &m
     }
 }
 
+/// The two halves, joined.
 fn join(front: &[u8], back: &[u8]) -> Bytes
     requires { length front.now + length back.now ≤ MAX_SECRET_BYTES }
     ensures { result.items ≡ front.now ++ back.now }

@@ -34,7 +34,7 @@ pub fn pbkdf2(password: &[&[u8]], salt: &[&[u8]], iterations: u32, out: &mut [u8
     }
 }
 
-// The block of this number: the xor of as many HMACs as there are iterations, each of the one before.
+/// The block of this number: the xor of as many HMACs as there are iterations, each of the one before.
 #[tactic(auto, using(crate::proofs::Lengths::block_one), unfolding(crate::specs::Pbkdf2::block, crate::specs::Pbkdf2::iterate))]
 fn block(key: &PreparedKey, salt: &[&[u8]], number: u32, iterations: u32) -> [u8; MAC_BYTES]
     requires { 1 ≤ iterations }
@@ -50,7 +50,7 @@ fn block(key: &PreparedKey, salt: &[&[u8]], number: u32, iterations: u32) -> [u8
     sum
 }
 
-// The HMAC of the salt and a block's number.
+/// The HMAC of the salt and a block's number.
 #[tactic(auto, unfolding(crate::specs::Pbkdf2::iterate))]
 fn first_iteration(key: &PreparedKey, salt: &[&[u8]], number: u32) -> [u8; MAC_BYTES]
     ensures { (password : List ℕ) → HoldsKey key.now password
@@ -62,7 +62,7 @@ fn first_iteration(key: &PreparedKey, salt: &[&[u8]], number: u32) -> [u8; MAC_B
     key.finish(inner)
 }
 
-// The HMAC of the one before.
+/// The HMAC of the one before.
 fn next_iteration(key: &PreparedKey, before: &[u8; MAC_BYTES]) -> [u8; MAC_BYTES]
     ensures { (password : List ℕ) → HoldsKey key.now password → result ≡ hmac password before.now }
 {
@@ -71,6 +71,7 @@ fn next_iteration(key: &PreparedKey, before: &[u8; MAC_BYTES]) -> [u8; MAC_BYTES
     key.finish(inner)
 }
 
+/// Xors the bytes into the sum.
 fn xor_into(sum: &mut [u8; MAC_BYTES], bytes: &[u8; MAC_BYTES])
     ensures { sum.new ≡ xor_of sum.old bytes.now }
 {

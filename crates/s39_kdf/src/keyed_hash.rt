@@ -12,7 +12,7 @@ use sha2::{Digest, Sha256};
 /// The length of an HMAC-SHA256, in bytes.
 pub const MAC_BYTES: usize = 32;
 
-// The bytes of a block of SHA-256.
+/// The bytes of a block of SHA-256.
 pub(crate) const BLOCK_BYTES: usize = 64;
 
 /// The HMAC-SHA256 of a message under a key, each given as parts that are joined in order (RFC 2104, section 2).
@@ -25,8 +25,8 @@ pub fn hmac(key: &[&[u8]], message: &[&[u8]]) -> [u8; MAC_BYTES]
     key.finish(inner)
 }
 
-// A key whose two padded blocks are hashed already, so that an HMAC of a short message costs two
-// compressions.
+/// A key whose two padded blocks are hashed already, so that an HMAC of a short message costs two
+/// compressions.
 #[derive(Drop)]
 pub(crate) struct PreparedKey {
     inner: Sha256,
@@ -34,6 +34,7 @@ pub(crate) struct PreparedKey {
 }
 
 impl PreparedKey {
+    /// The key in these parts, joined in order.
     pub(crate) fn new(key: &[&[u8]]) -> PreparedKey
         ensures { HoldsKey result (joined_parts key.now) }
     {
@@ -44,14 +45,14 @@ impl PreparedKey {
         }
     }
 
-    // The hasher to which the message is added.
+    /// The hasher to which the message is added.
     pub(crate) fn begin(&self) -> Sha256
         ensures { (key : List ℕ) → HoldsKey self.now key → Holds256 result (inner_pad key) }
     {
         self.inner.clone().unwrap()
     }
 
-    // The HMAC of the message that was added to the hasher of `begin`.
+    /// The HMAC of the message that was added to the hasher of `begin`.
     #[tactic(auto, unfolding(crate::specs::Hmac::hmac))]
     pub(crate) fn finish(&self, inner: Sha256) -> [u8; MAC_BYTES]
         ensures { (key message : List ℕ) → HoldsKey self.now key
@@ -63,7 +64,7 @@ impl PreparedKey {
     }
 }
 
-// Adds the parts to the hasher's message.
+/// Adds the parts to the hasher's message.
 pub(crate) fn absorb(hasher: &mut Sha256, parts: &[&[u8]])
     ensures { (m : List ℕ) → Holds256 hasher.old m
         → Holds256 hasher.new (m ++ joined_parts parts.now) }
@@ -73,6 +74,7 @@ pub(crate) fn absorb(hasher: &mut Sha256, parts: &[&[u8]])
     }
 }
 
+/// The key in these parts, or its digest where it is longer than a block.
 #[tactic(auto, using(crate::proofs::Parts::joined_front_le))]
 fn short_key(key: &[&[u8]]) -> ArrayVec<u8, BLOCK_BYTES>
     ensures { result.items ≡ short_key (joined_parts key.now) }
@@ -86,6 +88,7 @@ fn short_key(key: &[&[u8]]) -> ArrayVec<u8, BLOCK_BYTES>
     short
 }
 
+/// The SHA-256 of the parts, joined in order.
 fn digest_of(parts: &[&[u8]]) -> ArrayVec<u8, BLOCK_BYTES>
     ensures { result.items ≡ sha256 (joined_parts parts.now) }
 {
@@ -97,6 +100,7 @@ fn digest_of(parts: &[&[u8]]) -> ArrayVec<u8, BLOCK_BYTES>
     bytes
 }
 
+/// The key in these parts as a block: the short key, filled up with zeros.
 fn block_key(key: &[&[u8]]) -> [u8; BLOCK_BYTES]
     ensures { result ≡ block_key (joined_parts key.now) }
 {
@@ -108,6 +112,7 @@ fn block_key(key: &[&[u8]]) -> [u8; BLOCK_BYTES]
     block.into_inner().unwrap()
 }
 
+/// A block with each byte xored with the pad.
 fn padded_with(pad: u8, block: &[u8; BLOCK_BYTES]) -> [u8; BLOCK_BYTES]
     ensures { result ≡ padded_with pad block.now }
 {

@@ -21,7 +21,7 @@ pub struct BadPassphrase {
 }
 
 impl BadPassphrase {
-    /// The number of this refusal.
+    /// The number of this refusal, 41.
     pub fn code(&self) -> u8
         ensures { result ≡ 41 }
     {
@@ -37,7 +37,7 @@ pub struct BadSecretLength {
 }
 
 impl BadSecretLength {
-    /// The number of this refusal.
+    /// The number of this refusal, 42.
     pub fn code(&self) -> u8
         ensures { result ≡ 42 }
     {
@@ -58,6 +58,7 @@ pub fn check_passphrase(passphrase: &[u8]) -> Result<(), BadPassphrase>
     Ok(())
 }
 
+/// Whether a byte is a printable character of ASCII.
 fn is_printable(byte: u8) -> bool
     ensures { IsTrue result ↔ IsPrintable byte }
 {

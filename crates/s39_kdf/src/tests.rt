@@ -44,7 +44,8 @@ fn hmac_vectors(rt: HostRuntime) {
         ),
         (
             &[0xaa; 131],
-            b"This is a test using a larger than block-size key and a larger than block-size data. The key needs to be hashed before being used by the HMAC algorithm.",
+            b"This is a test using a larger than block-size key and a larger than block-size data. \
+              The key needs to be hashed before being used by the HMAC algorithm.",
             b"\x9b\x09\xff\xa7\x1b\x94\x2f\xcb\x27\x63\x5f\xbc\xd5\xb0\xe9\x44\
               \xbf\xdc\x63\x64\x4f\x07\x13\x93\x8a\x7f\x51\x53\x5c\x3a\x35\xe2",
         ),
@@ -148,7 +149,7 @@ struct Case<'a> {
     encrypted: &'a [u8],
 }
 
-// The secret of each case encrypts as it says, and the other way round.
+/// The secret of each case encrypts as it says, and the other way round.
 fn check_cases(rt: &impl Abort, cases: &[Case]) -> Result<(), Fail> {
     for case in cases {
         let secret = check_secret(case.secret).expect(rt, "a secret");

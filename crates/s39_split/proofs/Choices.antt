@@ -68,7 +68,7 @@ module _ (threshold : ℕ) (secret random key : List ℕ) (shares : List (List �
       interpolates_by_others (base_of threshold key secret shares) base.distinct base.places chosen x y (as_many ∙ sym base.number)
       (λ k d within. base.share_interpolated (get_or chosen k d).0 (get_or chosen k d).1 (choice.belong k d within)) h
 
-  pub several_combine : Combines threshold chosen (Some secret)
+  several_combine : Combines threshold chosen (Some secret)
       × ((outcome : Option (List ℕ)) → Combines threshold chosen outcome → outcome ≡ Some secret)
   several_combine =
       let at_secret = from_chosen secret_place secret base.secret_interpolated in

@@ -7,7 +7,7 @@ ghost use Rattle.s39_kdf.specs.Bytes.{AreBytes};
 use crate::places::DIGEST_BYTES;
 use s39_kdf::{Bytes, hmac};
 
-// The digest of a secret under a key.
+/// The digest of a secret under a key.
 pub(crate) fn digest_of(key: &[u8], secret: &[u8]) -> [u8; DIGEST_BYTES]
     ensures value { result ≡ digest_of key.now secret.now }
     ensures of_secret { AreBytes secret.now }
@@ -16,7 +16,7 @@ pub(crate) fn digest_of(key: &[u8], secret: &[u8]) -> [u8; DIGEST_BYTES]
     [mac[0], mac[1], mac[2], mac[3]]
 }
 
-// The digest of the secret, followed by its key.
+/// The digest of the secret, followed by its key.
 pub(crate) fn digest_share(key: &[u8], secret: &Bytes) -> Bytes
     requires { length key.now + digest_length ≡ array_vec_len secret.now }
     ensures value { result.items ≡ digest_share key.now secret.now.items }

@@ -52,7 +52,7 @@ pub fn fit(
     random
 }
 
-// The known shares, then the digest share and the secret.
+/// The known shares, then the digest share and the secret.
 fn points_of<'a, 'k: 'a>(
     known: &[(u8, &'k Bytes)],
     digest_share: &'a Bytes,

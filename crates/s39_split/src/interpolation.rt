@@ -12,7 +12,7 @@ use crate::places::MAX_SHARES;
 use s39_field::{Field, Gf256, scaled_sum, weights};
 use s39_kdf::{Bytes, MAX_SECRET_BYTES};
 
-// The one byte string that the points interpolate at `place`. A point is a place and a byte string.
+/// The one byte string that the points interpolate at `place`. A point is a place and a byte string.
 pub(crate) fn interpolate(points: &[(u8, &Bytes)], place: u8) -> Bytes
     requires some { 0 < length points.now }
     requires few { length points.now ≤ most_shares }
@@ -29,7 +29,7 @@ pub(crate) fn interpolate(points: &[(u8, &Bytes)], place: u8) -> Bytes
     value
 }
 
-// The weight of each point's value in the value at `place`.
+/// The weight of each point's value in the value at `place`.
 fn weights_at(points: &[(u8, &Bytes)], place: u8) -> [Gf256; MAX_SHARES]
     requires few { length points.now ≤ most_shares }
     requires distinct { AreDistinct (indexed_bytes points.now) }
@@ -52,7 +52,7 @@ fn weights_at(points: &[(u8, &Bytes)], place: u8) -> [Gf256; MAX_SHARES]
     out
 }
 
-// Adds `weight` times each byte of the row to the value's byte at its position.
+/// Adds `weight` times each byte of the row to the value's byte at its position.
 fn add_scaled(value: &mut Bytes, weight: Gf256, row: &[u8])
     requires { array_vec_len value.old ≡ length row.now }
     ensures len { array_vec_len value.new ≡ length row.now }
@@ -64,6 +64,7 @@ fn add_scaled(value: &mut Bytes, weight: Gf256, row: &[u8])
     scaled_sum(value, weight, row);
 }
 
+/// So many zero bytes.
 fn zeros(n: usize) -> Bytes
     requires { n ≤ longest_secret }
     ensures { result.items ≡ replicate n 0 }

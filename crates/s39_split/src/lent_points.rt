@@ -15,7 +15,7 @@ pub struct Points<'a> {
     len: usize,
 }
 
-// As many points as there may be. An array has no empty place, so those that are left hold the first point.
+/// As many points as there may be. An array has no empty place, so those that are left hold the first point.
 #[derive(Clone, Copy)]
 struct Row<'a> {
     points: [(u8, &'a Bytes); MAX_SHARES],

@@ -52,7 +52,7 @@ pub fn split(t: u8, secret: &Bytes, random: &[u8], out: &mut [Bytes])
     }
 }
 
-// Each share becomes the secret.
+/// Each share becomes the secret.
 fn fill(out: &mut [Bytes], secret: &Bytes)
     ensures { All (λ share. share.items ≡ secret.now.items) out.new }
 {
@@ -61,13 +61,14 @@ fn fill(out: &mut [Bytes], secret: &Bytes)
     }
 }
 
-// A copy of bytes, which takes no memory.
+/// A copy of bytes, which takes no memory.
 pub(crate) fn copied(bytes: &Bytes) -> Bytes
     ensures { result.items ≡ bytes.now.items }
 {
     Bytes::try_from(bytes.as_slice()).unwrap()
 }
 
+/// Splits a secret at a threshold of two or more.
 fn split_several(t: u8, secret: &Bytes, random: &[u8], out: &mut [Bytes])
     requires several { 2 ≤ t }
     requires enough { t ≤ length out.old }
@@ -84,7 +85,7 @@ fn split_several(t: u8, secret: &Bytes, random: &[u8], out: &mut [Bytes])
     interpolate_from(t - 2, points.as_slice(), other_shares);
 }
 
-// The shares become what the points interpolate at `first` and the places after it.
+/// The shares become what the points interpolate at `first` and the places after it.
 fn interpolate_from(first: u8, points: &[(u8, &Bytes)], shares: &mut [Bytes])
     requires some { 0 < length points.now }
     requires few { length points.now ≤ most_shares }
@@ -100,7 +101,7 @@ fn interpolate_from(first: u8, points: &[(u8, &Bytes)], shares: &mut [Bytes])
     }
 }
 
-// Cuts bytes into shares of `n` bytes.
+/// Cuts bytes into shares of `n` bytes.
 fn cut(bytes: &[u8], n: usize, shares: &mut [Bytes])
     requires fits { n ≤ longest_secret }
     requires length { length bytes.now ≡ length shares.old * n }
@@ -112,7 +113,7 @@ fn cut(bytes: &[u8], n: usize, shares: &mut [Bytes])
     }
 }
 
-// The points of which a split makes its shares.
+/// The points of which a split makes its shares.
 fn base_points<'a>(
     random_shares: &'a [Bytes],
     digest_share: &'a Bytes,

@@ -5,12 +5,13 @@ ghost use Rattle.arrayvec.specs.ArrayVec.{array_vec_len};
 use super::*;
 use s39_kdf::{Bytes, Params, decrypt};
 
-// The share values of two published mnemonics of which two are needed, with the members 0 and 2.
+/// The share value of member 0 of two published mnemonics, both of which are needed.
 const MEMBER_0: [u8; 16] = *b"\x06\xab\x48\xfe\xf4\xbe\xdc\x8c\xe5\x8b\xae\xef\x0a\x73\xf7\x6e";
 
+/// That of member 2.
 const MEMBER_2: [u8; 16] = *b"\x08\xfb\x14\xb6\x6e\x69\x2e\x25\xdf\xe2\xed\xf5\x32\x89\xed\x62";
 
-// Combines the two, with their first bytes changed.
+/// Combines the two, with their first bytes changed.
 fn two_needed(change_0: u8, change_2: u8) -> Result<Bytes, DigestMismatch>
     ensures { IfOk result (λ secret. array_vec_len secret ≡ 16) }
 {
@@ -54,7 +55,7 @@ fn random_bytes(rt: HostRuntime) {
     assert_eq!(rt; random_needed(16, 128), 1916);
 }
 
-// Combines `t` of the shares, with the indices `start`, `start + stride`, .. modulo 16.
+/// Combines `t` of the shares, with the indices `start`, `start + stride`, .. modulo 16.
 fn combined(
     t: u8,
     start: usize,

@@ -20,7 +20,7 @@ use Rattle.s39_words.proofs.Pieces.{pieces-joined, cut-joined, joined-cut, lengt
 use Rattle.s39_words.proofs.Pieces.{all_zeros}
 
 -- fields that are equal one by one
-pub same_fields : (f g : ShareFields) → f.id ≡ g.id → f.extendable ≡ g.extendable → f.exponent ≡ g.exponent → f.group_index ≡ g.group_index
+same_fields : (f g : ShareFields) → f.id ≡ g.id → f.extendable ≡ g.extendable → f.exponent ≡ g.exponent → f.group_index ≡ g.group_index
     → f.group_threshold ≡ g.group_threshold → f.group_count ≡ g.group_count → f.member_index ≡ g.member_index → f.member_threshold ≡ g.member_threshold
     → f.value.items ≡ g.value.items → f ≡ g
 same_fields f g a b c d e h i j k =

@@ -1,14 +1,16 @@
 -- The row of a word, as the code makes it.
 use Rattle.std.proofs.Common.{◌≡◌, ℕ, ◌+◌, ◌-◌, ◌*◌, ◌%◌, ◌^◌, ◌<◌, ◌≤◌, true, false, List, [], ◌∷◌, ◌++◌, length}
-use Rattle.std.proofs.Common.{get_or, take, drop, refl, sym, ap, subst, ◌∙◌, arith, add-one}
+use Rattle.std.proofs.Common.{get_or, take, drop, replicate, ⊎_elim, refl, sym, ap, subst, ◌∙◌, arith, add-one}
 use Rattle.std.specs.Prelude.{map, All, IsTrue}
 use Rattle.std.specs.Char.{is_ascii_alphabetic, to_ascii_lowercase}
 use Rattle.std.specs.Str.{str_to_ascii_lowercase}
+use Rattle.std.proofs.lemmas.Bool.{cases_lt}
 use Rattle.std.proofs.lemmas.Bool.Decides.{nat_tests}
 use Rattle.std.proofs.lemmas.Nat.{shl_whole}
-use Rattle.std.proofs.lemmas.List.{length-map, length-append, length-take, length-take-le, map-append, append-nil}
+use Rattle.std.proofs.lemmas.List.{length-map, length-append, length-replicate, length-take, length-take-le, map-append, append-nil}
 use Rattle.std.proofs.lemmas.List.{get_or-map, take_more, take_all, take-append-drop, take_rest, drop_more}
-use Rattle.std.proofs.lemmas.List.Elements.{All-nil, All-cons, All-append, All-more, All-weaker, All-from_get_or}
+use Rattle.std.proofs.Math.ListN.{get_or-eq_default}
+use Rattle.std.proofs.lemmas.List.Elements.{All-nil, All-cons, All-append, All-replicate, All-more, All-weaker, All-from_get_or}
 use Rattle.s39_words.specs.Layout.{longest_word}
 use Rattle.s39_words.specs.FirstWord.{BeginsWith}
 use Rattle.s39_words.specs.Spelling.{is_separator}
@@ -54,63 +56,25 @@ number_more (a ∷ b ∷ c ∷ d ∷ e ∷ f ∷ []) letter few l = omega (arith
 number_more (a ∷ b ∷ c ∷ d ∷ e ∷ f ∷ g ∷ []) letter few l = omega (arith, l)
 number_more (a ∷ b ∷ c ∷ d ∷ e ∷ f ∷ g ∷ h ∷ word) letter few l = absurd (omega arith)
 
-number_below : (word : List ℕ) → length word ≤ longest_word → All IsLetter word → number_of_row (row_of word) < 2 ^ 64
+-- a row has eight bytes
+pub length-row : (w : List ℕ) → FitsRow w → length (row_of w) ≡ longest_word
+length-row w fits = omega (arith, length-append w (replicate (longest_word - length w) 32), length-replicate {A = ℕ} (longest_word - length w) 32, fits.short)
+
+pub row-bytes : (w : List ℕ) → FitsRow w → (i : ℕ) → get_or (row_of w) i 0 < 256
+row-bytes w fits i =
+    let letters = All-weaker IsLetter (λ b. b < 256) (λ c l. omega (arith, l)) w fits.letters in
+    let all = All-append (λ b. b < 256) w (replicate (longest_word - length w) 32) letters
+    (All-replicate (λ b. b < 256) (longest_word - length w) 32 (omega arith)) in
+    ⊎_elim
+    (λ inside. all i 0 inside)
+    (λ outside. let none = get_or-eq_default (row_of w) 0 outside in omega (arith, none))
+    (cases_lt i (length (row_of w)))
+
+number_below : (word : List ℕ) → FitsRow word → number_of_row (row_of word) < 2 ^ 64
 unfolding number_of_row
-number_below [] few all =
-    omega arith
-number_below (a ∷ []) few all =
-    let p0 : IsLetter a = all 0 0 (omega arith) in
-    omega arith
-number_below (a ∷ b ∷ []) few all =
-    let p0 : IsLetter a = all 0 0 (omega arith) in
-    let p1 : IsLetter b = all 1 0 (omega arith) in
-    omega arith
-number_below (a ∷ b ∷ c ∷ []) few all =
-    let p0 : IsLetter a = all 0 0 (omega arith) in
-    let p1 : IsLetter b = all 1 0 (omega arith) in
-    let p2 : IsLetter c = all 2 0 (omega arith) in
-    omega arith
-number_below (a ∷ b ∷ c ∷ d ∷ []) few all =
-    let p0 : IsLetter a = all 0 0 (omega arith) in
-    let p1 : IsLetter b = all 1 0 (omega arith) in
-    let p2 : IsLetter c = all 2 0 (omega arith) in
-    let p3 : IsLetter d = all 3 0 (omega arith) in
-    omega arith
-number_below (a ∷ b ∷ c ∷ d ∷ e ∷ []) few all =
-    let p0 : IsLetter a = all 0 0 (omega arith) in
-    let p1 : IsLetter b = all 1 0 (omega arith) in
-    let p2 : IsLetter c = all 2 0 (omega arith) in
-    let p3 : IsLetter d = all 3 0 (omega arith) in
-    let p4 : IsLetter e = all 4 0 (omega arith) in
-    omega arith
-number_below (a ∷ b ∷ c ∷ d ∷ e ∷ f ∷ []) few all =
-    let p0 : IsLetter a = all 0 0 (omega arith) in
-    let p1 : IsLetter b = all 1 0 (omega arith) in
-    let p2 : IsLetter c = all 2 0 (omega arith) in
-    let p3 : IsLetter d = all 3 0 (omega arith) in
-    let p4 : IsLetter e = all 4 0 (omega arith) in
-    let p5 : IsLetter f = all 5 0 (omega arith) in
-    omega arith
-number_below (a ∷ b ∷ c ∷ d ∷ e ∷ f ∷ g ∷ []) few all =
-    let p0 : IsLetter a = all 0 0 (omega arith) in
-    let p1 : IsLetter b = all 1 0 (omega arith) in
-    let p2 : IsLetter c = all 2 0 (omega arith) in
-    let p3 : IsLetter d = all 3 0 (omega arith) in
-    let p4 : IsLetter e = all 4 0 (omega arith) in
-    let p5 : IsLetter f = all 5 0 (omega arith) in
-    let p6 : IsLetter g = all 6 0 (omega arith) in
-    omega arith
-number_below (a ∷ b ∷ c ∷ d ∷ e ∷ f ∷ g ∷ h ∷ []) few all =
-    let p0 : IsLetter a = all 0 0 (omega arith) in
-    let p1 : IsLetter b = all 1 0 (omega arith) in
-    let p2 : IsLetter c = all 2 0 (omega arith) in
-    let p3 : IsLetter d = all 3 0 (omega arith) in
-    let p4 : IsLetter e = all 4 0 (omega arith) in
-    let p5 : IsLetter f = all 5 0 (omega arith) in
-    let p6 : IsLetter g = all 6 0 (omega arith) in
-    let p7 : IsLetter h = all 7 0 (omega arith) in
-    omega arith
-number_below (a ∷ b ∷ c ∷ d ∷ e ∷ f ∷ g ∷ h ∷ i ∷ word) few all = absurd (omega arith)
+number_below word fits =
+    let byte = row-bytes word fits in
+    omega (arith, byte 0, byte 1, byte 2, byte 3, byte 4, byte 5, byte 6, byte 7)
 
 -- the same, as the code has it
 pub with_letter_is : (word : List ℕ) (number letters letter x : ℕ) → length word ≡ letters → letters < longest_word → number ≡ number_of_row (row_of word)
@@ -132,8 +96,10 @@ pub with_letter_fits : (word : List ℕ) (number letters letter x : ℕ) → len
     → All IsLetter word → number + x * 2 ^ (8 * (7 - letters)) % 2 ^ 64 < 2 ^ 64
 with_letter_fits word number letters letter x length_is few number_is l x_is all =
     subst (λ n. n < 2 ^ 64) (sym (with_letter_is word number letters letter x length_is few number_is l x_is))
-    (number_below (word ++ letter ∷ []) (simp length-append (omega arith))
-    (All-append IsLetter word (letter ∷ []) all (All-cons IsLetter letter [] l (All-nil IsLetter))))
+    (number_below (word ++ letter ∷ []) (record {
+      letters = All-append IsLetter word (letter ∷ []) all (All-cons IsLetter letter [] l (All-nil IsLetter));
+      short = simp length-append (omega arith);
+    }))
 
 -- these are the first i bytes of a text, all of them letters, as the number of a row
 pub record HoldsLetters (number : ℕ) (text : List ℕ) (i : ℕ) : Type 0 where

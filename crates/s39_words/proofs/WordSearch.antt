@@ -13,18 +13,18 @@ use Rattle.std.proofs.lemmas.Bool.{false_from_ne_true, cases_lt, cond-true, cond
 use Rattle.std.proofs.lemmas.Cmp.{nat_list_cmp_total, nat_cmp_total, tied_itself}
 use Rattle.std.proofs.lemmas.Bool.Decides.{nat_tests}
 use Rattle.std.proofs.lemmas.Nat.{be_bytes_8}
-use Rattle.std.proofs.Math.ListN.{get_or-eq_default}
 use Rattle.std.specs.Int.{w64, from_be_bytes, to_be_bytes}
-use Rattle.std.proofs.lemmas.List.{get_or-map, length-map, length-append, length-replicate}
-use Rattle.std.proofs.lemmas.List.Elements.{All-nil, All-head, All-tail, All-append, All-weaker, All-replicate}
+use Rattle.std.proofs.lemmas.List.{get_or-map, length-map, length-append}
+use Rattle.std.proofs.lemmas.List.Elements.{All-nil, All-head, All-tail}
 use Rattle.std.proofs.lemmas.List.Sorted.{searchable_from_sorted}
 use Rattle.std.proofs.lemmas.List.Sums.{position_or_len_is}
 use Rattle.std.proofs.lemmas.Slice.Eq.{bytes_eq-Decides}
-use Rattle.s39_words.specs.Layout.{IsIndex, word_list_length, longest_word}
+use Rattle.s39_words.specs.Layout.{IsIndex, word_list_length}
 use Rattle.s39_words.specs.WordList.{word_list, index_of, row_of, number_of_row, FitsRow, IsLetter}
 use Rattle.s39_words.specs.FirstWord.{BeginsInWord, BeginsWith}
 use Rattle.s39_words.specs.Reading.{IsFirstUnknown}
 use Rattle.s39_words.specs.Spelling.{words_of}
+use Rattle.s39_words.proofs.Rows.{length-row, row-bytes}
 use Rattle.s39_words.proofs.TextWords.{words_of_first, begins_somehow, some_from_begins}
 use Rattle.s39_words.proofs.WordTable.{length-word_list, lengths, letters, ascending, rows_in_order}
 
@@ -70,19 +70,6 @@ filled_same (x ∷ xs) (y ∷ ys) m n hv hw e =
 row_of_same : (v w : List ℕ) → All IsLetter v → All IsLetter w → row_of v ≡ row_of w → v ≡ w
 row_of_same v w = filled_same v w (8 - length v) (8 - length w)
 
-length-row : (w : List ℕ) → FitsRow w → length (row_of w) ≡ longest_word
-length-row w fits = omega (arith, length-append w (replicate (longest_word - length w) 32), length-replicate {A = ℕ} (longest_word - length w) 32, fits.short)
-
-row-bytes : (w : List ℕ) → FitsRow w → (i : ℕ) → get_or (row_of w) i 0 < 256
-row-bytes w fits i =
-    let letters = All-weaker IsLetter (λ b. b < 256) (λ c l. omega (arith, l)) w fits.letters in
-    let all = All-append (λ b. b < 256) w (replicate (longest_word - length w) 32) letters
-    (All-replicate (λ b. b < 256) (longest_word - length w) 32 (omega arith)) in
-    ⊎_elim
-    (λ inside. all i 0 inside)
-    (λ outside. let none = get_or-eq_default (row_of w) 0 outside in omega (arith, none))
-    (cases_lt i (length (row_of w)))
-
 -- ---- the words of the list
 
 listed_fits : (k : ℕ) → k < length word_list → FitsRow (get_or word_list k [])
@@ -125,7 +112,7 @@ searchable : (x : ℕ) → IsNonDecreasingBy (λ row. ordering_index (nat_cmp (n
 searchable x = searchable_from_sorted nat_cmp_total number_of_row (map row_of word_list) x (λ k d low high. rows_in_order k d high)
 
 -- what a binary search for the number of a word's row finds
-pub index_of_searched : (w : List ℕ) (r : Result ℕ ℕ) → FitsRow w → IsSearchInRange r (length (map row_of word_list))
+index_of_searched : (w : List ℕ) (r : Result ℕ ℕ) → FitsRow w → IsSearchInRange r (length (map row_of word_list))
     → IsBinarySearchResult (λ row. nat_cmp (number_of_row row) (number_of_row (row_of w))) (map row_of word_list) r → index_of w ≡ result_ok r
 index_of_searched w (Ok i) fits within found =
     let inside : i < length word_list = subst (λ n. i < n) length_rows within in

@@ -220,7 +220,7 @@ module _ (extendable : Bool) (vs ws : List ℕ) (same_count : length vs ≡ leng
   front-below us h = All-append IsIndex (front extendable) us (All-cons IsIndex 1 (customization_string extendable) (omega arith)
       (customization extendable).1) h
 
-  pub not_both_valid : length vs ≤ most_words → 1 ≤ length (differing_places 0 vs ws) → length (differing_places 0 vs ws) ≤ most_wrong_words → ⊥
+  not_both_valid : length vs ≤ most_words → 1 ≤ length (differing_places 0 vs ws) → length (differing_places 0 vs ws) ≤ most_wrong_words → ⊥
   not_both_valid short some few =
       let n = terms-after 0 0 (front extendable) vs ws in
       let are = are_terms 0 (front extendable ++ vs) (front extendable ++ ws) (front-below vs p) (front-below ws q) in

@@ -13,7 +13,12 @@ use std::test::Fail;
 
 // Each field at its highest and the value 00 01 02 .. 7f, as a plain Python reading of the standard spells it.
 const LONGEST_VALUE: &str =
-    "zero zero zero zero academic academic eclipse adult away extra legs aluminum clay pancake satisfy argue disaster usual agency behavior evoke editor employer born garlic military losing busy industry tendency senior ceramic luxury demand amuse clothes oral level escape crisis prune space mansion deal scene chubby slap destroy stick increase auction divorce ultimate says explain early acrobat biology metric email blanket graduate solution episode cover railroad best exercise drove aircraft fiber fantasy failure finance much flexible gray petition staff friendly jewelry visitor brave gesture material endless focus grownup parcel muscle object helpful random together surprise identify sheriff diminish campus install sympathy luck funding jury vampire station paid typical kernel task";
+    "zero zero zero zero academic academic eclipse adult away extra legs aluminum clay pancake satisfy argue disaster usual agency behavior evoke \
+     editor employer born garlic military losing busy industry tendency senior ceramic luxury demand amuse clothes oral level escape crisis prune \
+     space mansion deal scene chubby slap destroy stick increase auction divorce ultimate says explain early acrobat biology metric email blanket \
+     graduate solution episode cover railroad best exercise drove aircraft fiber fantasy failure finance much flexible gray petition staff \
+     friendly jewelry visitor brave gesture material endless focus grownup parcel muscle object helpful random together surprise identify sheriff \
+     diminish campus install sympathy luck funding jury vampire station paid typical kernel task";
 
 const GROUP_THRESHOLD_ABOVE_COUNT: &str =
     "music husband acrobat acid artist finance center either graduate swimming object bike medical clothes station aspect spider maiden bulb welcome";

@@ -30,6 +30,7 @@ impl Model for WordWriter {
 }
 
 impl WordWriter {
+    /// No digits.
     pub(crate) fn new() -> WordWriter
         ensures { result ≡ [] }
     {

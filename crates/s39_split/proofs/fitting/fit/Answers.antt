@@ -6,7 +6,7 @@ use Rattle.std.proofs.Math.Nat.{mul-le-mul_right}
 use Rattle.arrayvec.specs.ArrayVec.{ArrayVec}
 use Rattle.std.specs.Borrow.{Bor}
 use Rattle.s39_kdf.specs.Bytes.{AreBytes}
-use Rattle.s39_split.specs.Sharing.{most_shares, digest_place, secret_place, digest_length}
+use Rattle.s39_split.specs.Sharing.{most_shares, digest_place, secret_place, digest_length, digest_share}
 use Rattle.s39_split.specs.Shares.{indexed_bytes, AreDistinct}
 use Rattle.s39_split.proofs.SplitLaws.{AreBytes-digest_share, splits_take_the_bytes_needed}
 use Rattle.s39_split.proofs.FittedPoints.{AreKnown, AreFitted, AreFitted-none, AreFitted-more, length-fitted, fitting_points, fitting_points-all}
@@ -30,6 +30,13 @@ known_are t secret key known several few long number distinct indices lengths =
       lengths = lengths;
     }
 
+-- what the code interpolates
+points_are : (secret key : List ℕ) (known slice points : List (ℕ × List ℕ)) (digest : List ℕ) → slice ≡ points
+    → points ≡ known ++ (digest_place, digest) ∷ (secret_place, secret) ∷ [] → digest ≡ digest_share key secret
+    → slice ≡ fitting_points secret key known
+points_are secret key known slice points digest lent made share =
+    lent ∙ made ∙ ap (λ d. known ++ (digest_place, d) ∷ (secret_place, secret) ∷ []) share
+
 pub interpolate-share-requires-clause-distinct : goal.interpolate-share-requires-clause-distinct
 interpolate-share-requires-clause-distinct c =
     let secret = c.args.secret.now.items in
@@ -37,9 +44,7 @@ interpolate-share-requires-clause-distinct c =
     let known = indexed_bytes c.args.known.now in
     let are = known_are c.args.t c.args.secret.now.items c.args.r.now c.args.known.now c.requires.several c.requires.few
     c.requires.key c.requires.number c.requires.distinct c.requires.indices c.requires.one_length in
-    let points : indexed_bytes c.as_slice-points.result.now ≡ fitting_points secret key known =
-    c.as_slice-points.ensures ∙ c.points_of-points.ensures
-    ∙ ap (λ d. indexed_bytes c.args.known.now ++ (digest_place, d) ∷ (secret_place, c.args.secret.now.items) ∷ []) c.digest_share-digest_share.ensures.value in
+    let points = points_are secret key known _ _ _ c.as_slice-points.ensures c.points_of-points.ensures c.digest_share-digest_share.ensures.value in
     rw points (points_distinct c.args.t secret key known are)
 
 pub interpolate-share-requires-clause-one_length : goal.interpolate-share-requires-clause-one_length
@@ -49,9 +54,7 @@ interpolate-share-requires-clause-one_length c =
     let known = indexed_bytes c.args.known.now in
     let are = known_are c.args.t c.args.secret.now.items c.args.r.now c.args.known.now c.requires.several c.requires.few
     c.requires.key c.requires.number c.requires.distinct c.requires.indices c.requires.one_length in
-    let points : indexed_bytes c.as_slice-points.result.now ≡ fitting_points secret key known =
-    c.as_slice-points.ensures ∙ c.points_of-points.ensures
-    ∙ ap (λ d. indexed_bytes c.args.known.now ++ (digest_place, d) ∷ (secret_place, c.args.secret.now.items) ∷ []) c.digest_share-digest_share.ensures.value in
+    let points = points_are secret key known _ _ _ c.as_slice-points.ensures c.points_of-points.ensures c.digest_share-digest_share.ensures.value in
     (length secret, rw points (points_lengths c.args.t secret key known are))
 
 pub unwrap-requires-in-loop-place : goal.unwrap-requires-in-loop-place
@@ -61,9 +64,7 @@ unwrap-requires-in-loop-place c =
     let known = indexed_bytes c.args.known.now in
     let are = known_are c.args.t c.args.secret.now.items c.args.r.now c.args.known.now c.requires.several c.requires.few
     c.requires.key c.requires.number c.requires.distinct c.requires.indices c.requires.one_length in
-    let points : indexed_bytes c.as_slice-points.result.now ≡ fitting_points secret key known =
-    c.as_slice-points.ensures ∙ c.points_of-points.ensures
-    ∙ ap (λ d. indexed_bytes c.args.known.now ++ (digest_place, d) ∷ (secret_place, c.args.secret.now.items) ∷ []) c.digest_share-digest_share.ensures.value in
+    let points = points_are secret key known _ _ _ c.as_slice-points.ensures c.points_of-points.ensures c.digest_share-digest_share.ensures.value in
     let n = length secret in
     let some : 0 < length (indexed_bytes c.as_slice-points.result.now) =
     omega (arith, ap length points, length-points c.args.t secret key known are, are.several) in
@@ -110,8 +111,7 @@ module _ (c : goal.After-loop-place) where
       c.requires.key c.requires.number c.requires.distinct c.requires.indices c.requires.one_length
 
   points : indexed_bytes c.as_slice-points.result.now ≡ fitting_points secret key known
-  points = c.as_slice-points.ensures ∙ c.points_of-points.ensures
-      ∙ ap (λ d. known ++ (digest_place, d) ∷ (secret_place, secret) ∷ []) c.digest_share-digest_share.ensures.value
+  points = points_are secret key known _ _ _ c.as_slice-points.ensures c.points_of-points.ensures c.digest_share-digest_share.ensures.value
 
   bytes : All (λ s. AreBytes s.1) (fitting_points secret key known)
   bytes = elim (cases_lt 0 c.loop-place.place) [
