@@ -15,6 +15,14 @@ const FIVE: &[u8] =
 
 const FIVE_BYTES: usize = 715;
 
+/// Two members of a group that are no parts of one secret; another program made them.
+const UNEVEN: &[u8] =
+    b"academic academic academic acid disease prepare husky home result arcade lunar cover shame email oven tension nylon carpet prospect hand\nacademic academic academic agency dragon mineral broken simple lips custody flame cylinder ending prune party scout beaver enlarge glasses bundle";
+
+/// The same of two groups, with one member each.
+const UNEVEN_GROUPS: &[u8] =
+    b"academic academic acrobat easy disease prepare husky home result arcade lunar cover shame email oven tension nylon lawsuit smear antenna\nacademic academic beard easy dragon mineral broken simple lips custody flame cylinder ending prune party scout beaver presence thank adapt";
+
 /// A header that no mnemonic has.
 const NO_SHARE: ShamirShare = ShamirShare {
     id: 65_535,
@@ -66,6 +74,31 @@ fn parses(rt: HostRuntime) {
         member_threshold: 1,
     };
     assert_eq!(rt; share, fields);
+}
+
+#[test]
+fn creates_vectors(rt: HostRuntime) {
+    let two_needed =
+        b"shadow pistol academic acid actress prayer class unknown daughter sweater depict flip twice unkind craft early superior advocate guest smoking\nshadow pistol academic agency acid license obtain preach firefly permit flavor library learn tension flea unusual nylon terminal exercise become\nshadow pistol academic always adequate wildlife fancy gross oasis cylinder mustang wrist rescue view short owner flip making coding armed\n";
+    let one =
+        b"duckling enlarge academic academic agency result length solution fridge kidney coal piece deal husband erode duke ajar critical decision keyboard\n";
+    let cases: [(&[u8], [u8; 16], u32, &[u8], &[u8]); 2] = [
+        (b"1of1", SECRET, 0, b"\x1f\x09", one),
+        (
+            b"2of3",
+            *b"\xb4\x3c\xeb\x7e\x57\xa0\xea\x87\x66\x22\x16\x24\xd0\x1b\x08\x64",
+            2,
+            b"\x64\x35\x91\x64\xe7\xa0\x06\xaa\xdd\x75\x17\x9d\x6d\x5c",
+            two_needed,
+        ),
+    ];
+    for (plan, secret, exponent, random, mnemonics) in cases {
+        let mut text = [7; 500];
+        let answer = shamir_create(plan, &secret, b"TREZOR", exponent, 0, random, &mut text);
+        assert_eq!(rt; answer, written(mnemonics.len()));
+        assert!(rt; text.starts_with(mnemonics));
+        assert_eq!(rt; text[mnemonics.len()], 7);
+    }
 }
 
 #[test]
@@ -181,7 +214,14 @@ fn recovers(rt: HostRuntime) {
 
 #[test]
 fn refuses_lines(rt: HostRuntime) {
-    let cases: [(&[u8], &[u8], ShamirAnswer); 5] = [
+    let cases: [(&[u8], &[u8], ShamirAnswer); 8] = [
+        (UNEVEN, b"", refusal(51, 0, 0, 0)),
+        (UNEVEN_GROUPS, b"", refusal(51, 0, 16, 0)),
+        (
+            b"# a note\nduckling enlarge academic academic agency result length solution fridge kidney coal piece deal husband erode duke ajar critical decision kidney",
+            b"",
+            refusal(13, 2, 0, 0),
+        ),
         (b"", b"", refusal(29, 0, 0, 0)),
         (b"", b"a\x07", refusal(41, 0, 2, 0)),
         (b"\n#\nacademic x", b"", refusal(11, 3, 2, 0)),
@@ -266,6 +306,25 @@ fn written(bytes: usize) -> ShamirAnswer {
     ShamirAnswer {
         written: bytes as u64,
         ..refusal(0, 0, 0, 0)
+    }
+}
+
+#[test]
+fn lists_mismatches(rt: HostRuntime) {
+    let cases: [(&[u8], &[u8]); 2] = [
+        (UNEVEN, b"0.0+0.1 digest mismatch in group 0\nend\n"),
+        (UNEVEN_GROUPS, b"0.0+1.0 digest mismatch of groups\nend\n"),
+    ];
+    for (lines, listed) in cases {
+        let mut text = [7; 40];
+        let answer = shamir_drill(lines, b"", b"", 9, &mut text);
+        let one = ShamirAnswer {
+            mismatches: 1,
+            ..written(listed.len())
+        };
+        assert_eq!(rt; answer, one);
+        assert!(rt; text.starts_with(listed));
+        assert_eq!(rt; text[listed.len()], 7);
     }
 }
 

@@ -1,0 +1,458 @@
+/*
+ * Calls each export of libshamir with worked examples, and compares what it answers and writes with values from outside:
+ * published vectors, and what another program made. tools/library compiles and runs it.
+ *
+ * It prints what differs, and ends with status 1 then.
+ */
+#include <stdio.h>
+#include <string.h>
+
+#include "shamir.h"
+
+#define ROOM_BYTES 1024
+#define UNTOUCHED 0xA5
+#define LINES_MAX 5
+#define RANDOM_MAX 32
+
+#define KEY "TREZOR"
+#define SECRET "bb54aac4b89dc868ba37d9cc21b2cece"
+#define TWO_SECRET "b43ceb7e57a0ea8766221624d01b0864"
+#define FIVE_PLAN "2/2of3,1of1,1of1"
+#define FIVE_RANDOM "000102030405060708090a0b0c0d0e0f10111213141516171819"
+
+/* The first vector, and it with a bad checksum. */
+#define ONE_BUT_LAST \
+    "duckling enlarge academic academic agency result length solution fridge kidney coal piece deal husband erode duke ajar critical decision "
+#define ONE ONE_BUT_LAST "keyboard"
+#define ONE_WRONG ONE_BUT_LAST "kidney"
+
+/* The vector of two mnemonics that are both needed, members 0 and 2; member 1 is another program's. */
+#define TWO_0 \
+    "shadow pistol academic acid actress prayer class unknown daughter sweater depict flip twice unkind craft early superior advocate guest smoking"
+#define TWO_1 \
+    "shadow pistol academic agency acid license obtain preach firefly permit flavor library learn tension flea unusual nylon terminal exercise become"
+#define TWO_2 \
+    "shadow pistol academic always adequate wildlife fancy gross oasis cylinder mustang wrist rescue view short owner flip making coding armed"
+
+/* The backup of the first vector's secret that another program makes by the plan and the random bytes above. */
+#define FIVE_0 \
+    "academic aluminum acrobat leaf buyer drink heat negative damage union purchase photo inmate training amazing yield bucket wrote mule cluster"
+#define FIVE_1 \
+    "academic aluminum acrobat lily august piece column laser headset unusual blimp nuclear sweater criminal credit eyebrow trouble silent axis skin"
+#define FIVE_2 \
+    "academic aluminum acrobat lungs dive behavior mobile ting perfect ultimate weapon join paper involve clinic acrobat jerky preach gross usual"
+#define FIVE_3 \
+    "academic aluminum beard leader chest elite grant group club deploy increase divorce puny cylinder romp frequent crush ruler erode bucket"
+#define FIVE_4 \
+    "academic aluminum ceramic leader cylinder decorate mobile devote echo finger program firm starting dwarf grumpy harvest enforce raisin sprinkle phantom"
+#define FIVE FIVE_0, FIVE_1, FIVE_2, FIVE_3, FIVE_4
+
+/* Two members of a group, and a member of each of two groups, that are no parts of one secret; another program made them. */
+#define UNEVEN_0 \
+    "academic academic academic acid disease prepare husky home result arcade lunar cover shame email oven tension nylon carpet prospect hand"
+#define UNEVEN_1 \
+    "academic academic academic agency dragon mineral broken simple lips custody flame cylinder ending prune party scout beaver enlarge glasses bundle"
+#define UNEVEN_GROUP_0 \
+    "academic academic acrobat easy disease prepare husky home result arcade lunar cover shame email oven tension nylon lawsuit smear antenna"
+#define UNEVEN_GROUP_1 \
+    "academic academic beard easy dragon mineral broken simple lips custody flame cylinder ending prune party scout beaver presence thank adapt"
+
+/* A slice that is handed in. */
+typedef struct slice {
+    const uint8_t *bytes;
+    size_t length;
+} slice;
+
+/* What an answer has to be, but for the bytes written; and its text. */
+typedef struct wanted {
+    uint32_t code;
+    uint64_t line;
+    uint64_t first;
+    uint64_t second;
+    const char *told;
+} wanted;
+
+typedef struct parse_example {
+    const char *line;
+    wanted answer;
+    const char *value;
+    shamir_share share;
+} parse_example;
+
+typedef struct number_example {
+    const char *plan;
+    size_t secret_bytes;
+    wanted answer;
+} number_example;
+
+typedef struct create_example {
+    const char *plan;
+    const char *secret;
+    const char *passphrase;
+    uint32_t exponent;
+    const char *random;
+    wanted answer;
+    const char *mnemonics[LINES_MAX];
+} create_example;
+
+typedef struct recover_example {
+    const char *lines[LINES_MAX];
+    const char *passphrase;
+    wanted answer;
+    const char *secret;
+} recover_example;
+
+/* The room is how many bytes the slice has. */
+typedef struct drill_example {
+    const char *lines[LINES_MAX];
+    const char *passphrase;
+    const char *after;
+    uint32_t limit;
+    size_t room;
+    wanted answer;
+    uint32_t mismatches;
+    const char *text;
+} drill_example;
+
+#define DONE {0, 0, 0, 0, "done"}
+#define NO_SHARE {65535, 255, 255, 255, 255, 255, 255, 255}
+
+/* NULL is handed in as NULL with no bytes. */
+static const parse_example parse_examples[] = {
+    {ONE, DONE, "11bc609d21747c49ba78c0701293e417", {7945, 0, 0, 0, 1, 1, 0, 1}},
+    {TWO_0, DONE, "06ab48fef4bedc8ce58baeef0a73f76e", {25653, 0, 2, 0, 1, 1, 0, 2}},
+    {TWO_2, DONE, "08fb14b66e692e25dfe2edf53289ed62", {25653, 0, 2, 0, 1, 1, 2, 2}},
+    {ONE_WRONG, {13, 0, 0, 0, "bad checksum"}, "", NO_SHARE},
+    {ONE "\n", {11, 0, 20, 0, "unknown word 20"}, "", NO_SHARE},
+    {"", {12, 0, 0, 0, "0 words make no share"}, "", NO_SHARE},
+    {NULL, {12, 0, 0, 0, "0 words make no share"}, "", NO_SHARE}
+};
+
+static const number_example number_examples[] = {
+    {"1of1", 16, {0, 0, 2, 0, "done"}},
+    {"2of3", 16, {0, 0, 14, 0, "done"}},
+    {FIVE_PLAN, 16, {0, 0, 26, 0, "done"}},
+    {FIVE_PLAN, 32, {0, 0, 58, 0, "done"}},
+    {FIVE_PLAN, 15, {42, 0, 15, 0, "secret of 15 bytes"}},
+    {"2/2of2,1of2", 15, {34, 0, 1, 0, "one of many in plan group 1"}},
+    {NULL, 15, {31, 0, 0, 0, "bad plan"}}
+};
+
+static const create_example create_examples[] = {
+    {"1of1", SECRET, KEY, 0, "1f09", DONE, {ONE}},
+    {"2of3", TWO_SECRET, KEY, 2, "64359164e7a006aadd75179d6d5c", DONE, {TWO_0, TWO_1, TWO_2}},
+    {FIVE_PLAN, SECRET, KEY, 0, FIVE_RANDOM, DONE, {FIVE}},
+    {"1of1", "3972a9318cf16a33ee9b0564c5a0bd0b", NULL, 0, "1f09", DONE, {ONE}},
+    {NULL, NULL, "a\x07", 16, NULL, {2, 0, 0, 0, "number out of range"}, {NULL}},
+    {NULL, NULL, "a\x07", 0, NULL, {31, 0, 0, 0, "bad plan"}, {NULL}},
+    {FIVE_PLAN, NULL, "a\x07", 0, NULL, {41, 0, 2, 0, "passphrase byte 2 not printable"}, {NULL}},
+    {FIVE_PLAN, NULL, KEY, 0, NULL, {42, 0, 0, 0, "secret of 0 bytes"}, {NULL}},
+    {FIVE_PLAN, SECRET, KEY, 0, NULL, {43, 0, 26, 0, "random bytes: 26 needed"}, {NULL}}
+};
+
+static const recover_example recover_examples[] = {
+    {{ONE}, KEY, DONE, SECRET},
+    {{TWO_2, TWO_0}, KEY, DONE, TWO_SECRET},
+    {{FIVE}, KEY, DONE, SECRET},
+    {{FIVE_3, "", "# a note", FIVE_4}, KEY, DONE, SECRET},
+    {{ONE}, NULL, DONE, "3972a9318cf16a33ee9b0564c5a0bd0b"},
+    {{ONE_WRONG}, KEY, {13, 1, 0, 0, "bad checksum"}, ""},
+    {{FIVE_3, ONE_WRONG}, KEY, {13, 2, 0, 0, "bad checksum"}, ""},
+    {{TWO_0, ONE}, KEY, {21, 2, 0, 0, "other identifier"}, ""},
+    {{TWO_0}, KEY, {30, 0, 0, 1, "incomplete: 0 of 1 groups"}, ""},
+    {{UNEVEN_0, UNEVEN_1}, NULL, {51, 0, 0, 0, "digest mismatch in group 0"}, ""},
+    {{UNEVEN_GROUP_0, UNEVEN_GROUP_1}, NULL, {51, 0, SHAMIR_OF_GROUPS, 0, "digest mismatch of groups"}, ""},
+    {{NULL}, KEY, {29, 0, 0, 0, "no shares"}, ""},
+    {{NULL}, "a\x07", {41, 0, 2, 0, "passphrase byte 2 not printable"}, ""}
+};
+
+#define LISTED(names) names " " SECRET "\n"
+#define FIRST_PART LISTED("0.0+0.1+1.0") LISTED("0.0+0.1+2.0") LISTED("0.0+0.2+1.0") LISTED("0.0+0.2+2.0") "more after 0.0+0.2+2.0\n"
+#define LAST_PART LISTED("0.1+0.2+1.0") LISTED("0.1+0.2+2.0") LISTED("1.0+2.0") "end\n"
+
+/* Of the five a line has 45 bytes, and the last line 23, but for "end". */
+static const drill_example drill_examples[] = {
+    {{ONE}, KEY, NULL, 9, 41, DONE, 0, LISTED("0.0") "end\n"},
+    {{TWO_0, TWO_2}, KEY, "", 9, 45, DONE, 0, "0.0+0.2 " TWO_SECRET "\nend\n"},
+    {{FIVE}, KEY, NULL, 4, 203, DONE, 0, FIRST_PART},
+    {{FIVE}, KEY, NULL, 9, 247, DONE, 0, FIRST_PART},
+    {{FIVE}, KEY, "0.0+0.2+2.0", 9, 135, DONE, 0, LAST_PART},
+    {{FIVE}, KEY, "0.1+0.2+2.0", 9, 45, DONE, 0, LISTED("1.0+2.0") "end\n"},
+    {{FIVE}, KEY, "1.0+2.0", 1, 4, DONE, 0, "end\n"},
+    {{UNEVEN_0, UNEVEN_1}, NULL, NULL, 1, 39, DONE, 1, "0.0+0.1 digest mismatch in group 0\nend\n"},
+    {{UNEVEN_GROUP_0, UNEVEN_GROUP_1}, "", "", 1, ROOM_BYTES, DONE, 1, "0.0+1.0 digest mismatch of groups\nend\n"},
+    {{FIVE}, KEY, NULL, 9, 67, {1, 0, 68, 0, "slice too short: 68 bytes needed"}, 0, ""},
+    {{FIVE}, KEY, "0.0+0.2+2.0", 9, 0, {1, 0, 68, 0, "slice too short: 68 bytes needed"}, 0, ""},
+    {{FIVE}, KEY, "1.0+2.0", 9, 3, {1, 0, 4, 0, "slice too short: 4 bytes needed"}, 0, ""},
+    {{UNEVEN_0, UNEVEN_1}, NULL, NULL, 9, 38, {1, 0, 39, 0, "slice too short: 39 bytes needed"}, 0, ""},
+    {{ONE}, KEY, NULL, 9, 40, {1, 0, 41, 0, "slice too short: 41 bytes needed"}, 0, ""},
+    {{ONE_WRONG}, KEY, NULL, 9, ROOM_BYTES, {13, 1, 0, 0, "bad checksum"}, 0, ""},
+    {{NULL}, "a\x07", "0.1+", 0, ROOM_BYTES, {2, 0, 0, 0, "number out of range"}, 0, ""},
+    {{NULL}, "a\x07", "0.1+", 1, ROOM_BYTES, {61, 0, 0, 0, "bad cursor"}, 0, ""},
+    {{NULL}, "a\x07", "0.1", 1, ROOM_BYTES, {41, 0, 2, 0, "passphrase byte 2 not printable"}, 0, ""},
+    {{NULL}, NULL, "0.1", 1, ROOM_BYTES, {29, 0, 0, 0, "no shares"}, 0, ""},
+    {{TWO_2}, NULL, "0.1", 1, ROOM_BYTES, {30, 0, 0, 1, "incomplete: 0 of 1 groups"}, 0, ""},
+    {{FIVE}, NULL, "0.1", 1, ROOM_BYTES, {62, 0, 0, 0, "cursor is no quorum"}, 0, ""}
+};
+
+/* What is being tried, for messages, and how often something differed. */
+static const char *export_name;
+static size_t example_number;
+static int differences;
+
+/* The memory of which the slices that are written are the front. */
+static uint8_t room[ROOM_BYTES];
+
+static void differ(const char *what)
+{
+    printf("%s, example %lu: %s\n", export_name, (unsigned long)example_number, what);
+    differences++;
+}
+
+static void print_answer(const char *whose, shamir_answer answer)
+{
+    printf("  %s: code %lu line %lu details %lu %lu written %lu mismatches %lu\n", whose, (unsigned long)answer.code, (unsigned long)answer.line,
+        (unsigned long)answer.first, (unsigned long)answer.second, (unsigned long)answer.written, (unsigned long)answer.mismatches);
+}
+
+static slice slice_of(const char *text)
+{
+    slice found = {NULL, 0};
+
+    if (text != NULL) {
+        found.bytes = (const uint8_t *)text;
+        found.length = strlen(text);
+    }
+    return found;
+}
+
+/* The bytes of hexadecimal digits, which are kept at a place. */
+static slice bytes_of(const char *digits, uint8_t *kept)
+{
+    slice found = {NULL, 0};
+    unsigned value;
+
+    if (digits != NULL) {
+        for (; sscanf(digits + 2 * found.length, "%2x", &value) == 1; found.length++) {
+            kept[found.length] = (uint8_t)value;
+        }
+        found.bytes = kept;
+    }
+    return found;
+}
+
+/* Lines, each with a line feed behind it, which are kept at a place. */
+static slice joined(const char *const *lines, char *kept)
+{
+    size_t i;
+
+    kept[0] = '\0';
+    for (i = 0; i < LINES_MAX && lines[i] != NULL; i++) {
+        strcat(strcat(kept, lines[i]), "\n");
+    }
+    return slice_of(i == 0 ? NULL : kept);
+}
+
+/* The room with nothing in it, or NULL where a call is to get none of it. */
+static uint8_t *fresh(size_t bytes)
+{
+    memset(room, UNTOUCHED, sizeof room);
+    return bytes == 0 ? NULL : room;
+}
+
+static shamir_answer answer_of(const wanted *wanted, uint64_t written, uint32_t mismatches)
+{
+    shamir_answer answer;
+
+    answer.code = wanted->code;
+    answer.mismatches = mismatches;
+    answer.line = wanted->line;
+    answer.first = wanted->first;
+    answer.second = wanted->second;
+    answer.written = written;
+    return answer;
+}
+
+static shamir_answer too_short(uint64_t needed)
+{
+    wanted short_of = {SHAMIR_TOO_SHORT, 0, 0, 0, NULL};
+
+    short_of.first = needed;
+    return answer_of(&short_of, 0, 0);
+}
+
+static void compare_answers(shamir_answer found, shamir_answer right)
+{
+    if (found.code != right.code || found.line != right.line || found.first != right.first || found.second != right.second
+        || found.written != right.written || found.mismatches != right.mismatches) {
+        differ("another answer");
+        print_answer("wanted", right);
+        print_answer("found", found);
+    }
+}
+
+static void compare_shares(shamir_share found, shamir_share right)
+{
+    if (found.id != right.id || found.extendable != right.extendable || found.exponent != right.exponent || found.group_index != right.group_index
+        || found.group_threshold != right.group_threshold || found.group_count != right.group_count || found.member_index != right.member_index
+        || found.member_threshold != right.member_threshold) {
+        differ("another header");
+    }
+}
+
+/* These bytes stand at the front of the room, and behind them it is as it was. */
+static void compare_room(slice bytes)
+{
+    size_t i;
+
+    if (bytes.length > 0 && memcmp(room, bytes.bytes, bytes.length) != 0) {
+        differ("other bytes are written");
+    }
+    for (i = bytes.length; i < sizeof room; i++) {
+        if (room[i] != UNTOUCHED) {
+            differ("a byte is written behind them");
+            return;
+        }
+    }
+}
+
+/* An answer is the right one, with these bytes in the room. */
+static void compare(shamir_answer found, shamir_answer right, slice bytes)
+{
+    compare_answers(found, right);
+    compare_room(bytes);
+}
+
+/* The text of an answer is the right one, and a slice one byte too short for it, or NULL, is refused. */
+static void check_text(shamir_answer answer, const char *told)
+{
+    const char *of = export_name;
+    slice text = slice_of(told);
+    slice none = {NULL, 0};
+    wanted done = DONE;
+
+    export_name = "shamir_text";
+    compare(shamir_text(&answer, fresh(text.length), text.length), answer_of(&done, text.length, 0), text);
+    compare(shamir_text(&answer, fresh(text.length), text.length - 1), too_short(text.length), none);
+    compare(shamir_text(&answer, fresh(0), 0), too_short(text.length), none);
+    export_name = of;
+}
+
+static void check_parse(const parse_example *example)
+{
+    static const shamir_share none = NO_SHARE;
+    uint8_t kept[SHAMIR_SECRET_BYTES_MAX];
+    slice line = slice_of(example->line);
+    slice value = bytes_of(example->value, kept);
+    slice nothing = {NULL, 0};
+    shamir_share share = none;
+    size_t bytes = value.length == 0 ? ROOM_BYTES : value.length;
+    shamir_answer found = shamir_parse(line.bytes, line.length, &share, fresh(bytes), bytes);
+
+    compare(found, answer_of(&example->answer, value.length, 0), value);
+    check_text(found, example->answer.told);
+    compare_shares(share, example->share);
+    if (value.length > 0) {
+        share = none;
+        compare(shamir_parse(line.bytes, line.length, &share, fresh(bytes), bytes - 1), too_short(bytes), nothing);
+        compare(shamir_parse(line.bytes, line.length, &share, fresh(0), 0), too_short(bytes), nothing);
+        compare_shares(share, none);
+    }
+}
+
+static void check_number(const number_example *example)
+{
+    slice plan = slice_of(example->plan);
+    shamir_answer found = shamir_random_needed(plan.bytes, plan.length, example->secret_bytes);
+
+    compare_answers(found, answer_of(&example->answer, 0, 0));
+    check_text(found, example->answer.told);
+}
+
+static void check_create(const create_example *example)
+{
+    uint8_t secret_kept[SHAMIR_SECRET_BYTES_MAX];
+    uint8_t random_kept[RANDOM_MAX];
+    char kept[ROOM_BYTES];
+    slice plan = slice_of(example->plan);
+    slice secret = bytes_of(example->secret, secret_kept);
+    slice key = slice_of(example->passphrase);
+    slice random = bytes_of(example->random, random_kept);
+    slice text = joined(example->mnemonics, kept);
+    slice nothing = {NULL, 0};
+    size_t bytes[3] = {0, 0, 0};
+    size_t i;
+    shamir_answer found;
+
+    /* The right room, one byte less, and none; only the first where the call is refused. */
+    bytes[0] = text.length == 0 ? ROOM_BYTES : text.length;
+    bytes[1] = text.length - 1;
+    for (i = 0; i < (text.length == 0 ? 1 : 3); i++) {
+        found = shamir_create(plan.bytes, plan.length, secret.bytes, secret.length, key.bytes, key.length, example->exponent, 0, random.bytes,
+            random.length, fresh(bytes[i]), bytes[i]);
+        if (i == 0) {
+            compare(found, answer_of(&example->answer, text.length, 0), text);
+            check_text(found, example->answer.told);
+        } else {
+            compare(found, too_short(text.length), nothing);
+        }
+    }
+}
+
+static void check_recover(const recover_example *example)
+{
+    uint8_t secret_kept[SHAMIR_SECRET_BYTES_MAX];
+    char kept[ROOM_BYTES];
+    slice lines = joined(example->lines, kept);
+    slice key = slice_of(example->passphrase);
+    slice secret = bytes_of(example->secret, secret_kept);
+    slice nothing = {NULL, 0};
+    size_t bytes = secret.length == 0 ? ROOM_BYTES : secret.length;
+    shamir_answer found = shamir_recover(lines.bytes, lines.length, key.bytes, key.length, fresh(bytes), bytes);
+
+    compare(found, answer_of(&example->answer, secret.length, 0), secret);
+    check_text(found, example->answer.told);
+    if (secret.length > 0) {
+        compare(shamir_recover(lines.bytes, lines.length, key.bytes, key.length, fresh(bytes), bytes - 1), too_short(bytes), nothing);
+        compare(shamir_recover(lines.bytes, lines.length, key.bytes, key.length, fresh(0), 0), too_short(bytes), nothing);
+    }
+}
+
+static void check_drill(const drill_example *example)
+{
+    char kept[ROOM_BYTES];
+    slice lines = joined(example->lines, kept);
+    slice key = slice_of(example->passphrase);
+    slice after = slice_of(example->after);
+    slice text = slice_of(example->text);
+    shamir_answer found = shamir_drill(
+        lines.bytes, lines.length, key.bytes, key.length, after.bytes, after.length, example->limit, fresh(example->room), example->room);
+
+    compare(found, answer_of(&example->answer, text.length, example->mismatches), text);
+    check_text(found, example->answer.told);
+}
+
+/* Numbers that no export answers have a text too. */
+static void check_unknown(void)
+{
+    wanted unknown = {3, 0, 0, 0, NULL};
+
+    check_text(answer_of(&unknown, 0, 0), "unknown answer");
+}
+
+#define COUNT(table) (sizeof(table) / sizeof((table)[0]))
+#define CHECK_EACH(name, table, check) \
+    for (export_name = name, example_number = 0; example_number < COUNT(table); example_number++) { \
+        check(&(table)[example_number]); \
+    }
+
+int main(void)
+{
+    CHECK_EACH("shamir_parse", parse_examples, check_parse)
+    CHECK_EACH("shamir_random_needed", number_examples, check_number)
+    CHECK_EACH("shamir_create", create_examples, check_create)
+    CHECK_EACH("shamir_recover", recover_examples, check_recover)
+    CHECK_EACH("shamir_drill", drill_examples, check_drill)
+    check_unknown();
+    return differences != 0;
+}
