@@ -26,6 +26,9 @@
 #define ONE ONE_BUT_LAST "keyboard"
 #define ONE_WRONG ONE_BUT_LAST "kidney"
 
+/* An extendable vector. */
+#define EXTENDABLE "testify swimming academic academic column loyalty smear include exotic bedroom exotic wrist lobe cover grief golden smart junior estimate learn"
+
 /* The vector of two mnemonics that are both needed, members 0 and 2; member 1 is another program's. */
 #define TWO_0 \
     "shadow pistol academic acid actress prayer class unknown daughter sweater depict flip twice unkind craft early superior advocate guest smoking"
@@ -122,6 +125,7 @@ static const parse_example parse_examples[] = {
     {ONE, DONE, "11bc609d21747c49ba78c0701293e417", {7945, 0, 0, 0, 1, 1, 0, 1}},
     {TWO_0, DONE, "06ab48fef4bedc8ce58baeef0a73f76e", {25653, 0, 2, 0, 1, 1, 0, 2}},
     {TWO_2, DONE, "08fb14b66e692e25dfe2edf53289ed62", {25653, 0, 2, 0, 1, 1, 2, 2}},
+    {EXTENDABLE, DONE, "9e8773c7313b11d3bfe219291976433b", {29019, 1, 3, 0, 1, 1, 0, 1}},
     {ONE_WRONG, {13, 0, 0, 0, "bad checksum"}, "", NO_SHARE},
     {ONE "\n", {11, 0, 20, 0, "unknown word 20"}, "", NO_SHARE},
     {"", {12, 0, 0, 0, "0 words make no share"}, "", NO_SHARE},
@@ -195,7 +199,7 @@ static const drill_example drill_examples[] = {
     {{FIVE}, NULL, "0.1", 1, ROOM_BYTES, {62, 0, 0, 0, "cursor is no quorum"}, 0, ""}
 };
 
-/* What is being tried, for messages, and how often something differed. */
+/* What is being tried, an example of a table from 0, for messages; and how often something differed. */
 static const char *export_name;
 static size_t example_number;
 static int differences;
