@@ -10,7 +10,7 @@ ghost use Rattle.s39_set.specs.declared.set_lack.SetLack.{SetLack as Lack};
 use crate::limits::{MAX_GROUPS, MAX_MEMBERS};
 use crate::quorum::Quorum;
 use crate::set_lack::SetLack;
-use crate::share_set::ShareSet;
+use crate::share_set::{ShareSet, are_a_share_set};
 
 /// The quorum of a set whose list of names is least: lists are compared name by name, and names by group and then
 /// by member index.
@@ -23,6 +23,7 @@ pub fn first(set: &ShareSet) -> Result<Quorum, SetLack>
     ensures lack { IfErr result (IsLack set.now) }
     ensures only { (lack : Lack) → IsLack set.now lack → result ≡ Err lack }
 {
+    are_a_share_set(set);
     let required = set.group_threshold().ok_or(SetLack::NoShares)?;
     let complete = complete_groups(set);
     if complete < required {
@@ -61,6 +62,7 @@ fn members_at_hand(set: &ShareSet, group: u8) -> u8
     requires { group < most_groups }
     ensures { result ≡ length (names_in_group group (map name_of set.now)) }
 {
+    are_a_share_set(set);
     let mut members = 0;
     for member in 0..MAX_MEMBERS {
         if set.is_at_hand(group, member) {
@@ -93,6 +95,7 @@ fn push_first_members(set: &ShareSet, group: u8, quorum: &mut Quorum)
     ensures { quorum.new ≡ quorum.old
         ++ first_members (member_threshold_of set.now) (map name_of set.now) group }
 {
+    are_a_share_set(set);
     let threshold = set.member_threshold(group).unwrap_or(0);
     let mut members = 0;
     for member in 0..MAX_MEMBERS {

@@ -8,7 +8,7 @@ ghost use Rattle.s39_set.specs.Quorums.{member_threshold_of, IsQuorum, HasJustTh
 
 use crate::limits::{GROUPS, MAX_GROUPS, MAX_NAMES};
 use crate::looks::{Looks, has};
-use crate::share_set::ShareSet;
+use crate::share_set::{ShareSet, are_a_share_set};
 use arrayvec::ArrayVec;
 use std::marker::Model;
 
@@ -95,6 +95,7 @@ pub fn is_quorum(set: &ShareSet, quorum: &Quorum, looks: &mut Looks) -> bool
     ensures each_name { IsTrue result → looks.old + length quorum.now ≤ looks.new }
     ensures at_most { looks.new ≤ looks.old + most_test_looks }
 {
+    are_a_share_set(set);
     are_at_hand(set, quorum.pairs(), looks) && has_just_the_members(set, quorum.pairs(), looks)
 }
 
@@ -122,10 +123,10 @@ fn has_just_the_members(set: &ShareSet, names: &[(u8, u8)], looks: &mut Looks) -
     requires short { length names.now ≤ most_names }
     requires looks { looks.old + length names.now + most_groups ≤ u64.MAX }
     ensures just { IsTrue result ↔ HasJustTheMembers set.now names.now }
-    ensures is_set { IsShareSet set.now }
     ensures at_least { looks.old ≤ looks.new }
     ensures at_most { looks.new ≤ looks.old + length names.now + most_groups }
 {
+    are_a_share_set(set);
     let required = set.group_threshold();
     let counts = members_of_groups(names, looks);
     let mut groups = 0;

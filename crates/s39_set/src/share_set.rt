@@ -118,8 +118,7 @@ impl ShareSet {
 
     /// Whether the set has the share of this group and member index, `false` for an index over 15.
     pub(crate) fn is_at_hand(&self, group: u8, member: u8) -> bool
-        ensures at_hand { result ≡ is_some (find (has_name group member) self.now) }
-        ensures is_set { IsShareSet self.now }
+        ensures { result ≡ is_some (find (has_name group member) self.now) }
     {
         if group < MAX_GROUPS && member < MAX_MEMBERS {
             self.at_hand.has(group, member)
@@ -138,8 +137,7 @@ impl ShareSet {
 
     /// The group threshold of the shares, where there is one.
     pub(crate) fn group_threshold(&self) -> Option<u8>
-        ensures threshold { result ≡ group_threshold_of self.now }
-        ensures is_set { IsShareSet self.now }
+        ensures { result ≡ group_threshold_of self.now }
     {
         Some(self.common?.group_threshold)
     }

@@ -7,16 +7,16 @@ pub returns-then-complete-required-clause-lack : goal.returns-then-complete-requ
 returns-then-complete-required-clause-lack c =
     let set = c.args.set.now in
     let required = c.in_ok-required.required in
-    let threshold : group_threshold_of set ≡ Some required = sym c.group_threshold.ensures.threshold ∙ c.in_ok-required.ensures.ok_part in
-    rw c.complete_groups-complete.ensures (incomplete_from_fewer set c.group_threshold.ensures.is_set required threshold (omega arith))
+    let threshold : group_threshold_of set ≡ Some required = sym c.group_threshold.ensures ∙ c.in_ok-required.ensures.ok_part in
+    rw c.complete_groups-complete.ensures (incomplete_from_fewer set c.are_a_share_set.ensures required threshold (omega arith))
 
 least : (c : goal.After-first_members) → IsFirstQuorumAfter c.args.set.now None c.first_members.result
 least c =
     let set = c.args.set.now in
     let required = c.in_ok-required.required in
-    let threshold : group_threshold_of set ≡ Some required = sym c.group_threshold.ensures.threshold ∙ c.in_ok-required.ensures.ok_part in
+    let threshold : group_threshold_of set ≡ Some required = sym c.group_threshold.ensures ∙ c.in_ok-required.ensures.ok_part in
     subst (IsFirstQuorumAfter set None) (sym c.first_members.ensures)
-    (first_members-least_quorum set c.group_threshold.ensures.is_set required threshold (omega arith))
+    (first_members-least_quorum set c.are_a_share_set.ensures required threshold (omega arith))
 
 pub returns-clause-first : goal.returns-clause-first
 returns-clause-first c = least c

@@ -14,14 +14,8 @@ loop-member-preserved c =
     let test = is_at_hand c.args.set.now c.args.group in
     let member = c.loop-member.member in
     elim c.if-is_at_hand.branch [
-      | then-is_at_hand w ↦ record {
-        members_are = omega (arith, length-filter-range_more_yes test member (sym c.is_at_hand.ensures.at_hand ∙ w.if-is_at_hand.true));
-        is_set = λ _. c.is_at_hand.ensures.is_set;
-      }
-      | else-is_at_hand w ↦ record {
-        members_are = omega (arith, length-filter-range_more_no test member (sym c.is_at_hand.ensures.at_hand ∙ w.if-is_at_hand.false));
-        is_set = λ _. c.is_at_hand.ensures.is_set;
-      }
+      | then-is_at_hand w ↦ omega (arith, length-filter-range_more_yes test member (sym c.is_at_hand.ensures ∙ w.if-is_at_hand.true))
+      | else-is_at_hand w ↦ omega (arith, length-filter-range_more_no test member (sym c.is_at_hand.ensures ∙ w.if-is_at_hand.false))
     ]
 
 pub returns : goal.returns
@@ -29,8 +23,8 @@ returns c =
     let set = c.args.set.now in
     let group = c.args.group in
     let all : c.loop-member.member ≡ most_members = omega arith in
-    let names = names_in_group-members set (c.loop-member.invariant.is_set (omega arith)) group in
-    c.loop-member.invariant.members_are
+    let names = names_in_group-members set c.are_a_share_set.ensures group in
+    c.loop-member.invariant
     ∙ ap (λ n. length (members_below set group n)) all
     ∙ sym (length-map (members_below set group most_members) (λ member. (group, member)))
     ∙ ap length (sym names)

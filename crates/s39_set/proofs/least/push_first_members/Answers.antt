@@ -30,7 +30,7 @@ loop-member-preserved c =
     elim c.if-is_at_hand.branch [
       | then-is_at_hand+then-members-threshold w ↦ (
           let more : first_below set group threshold (member + 1) ≡ chosen ++ (group, member) ∷ [] =
-          first_below_more set group threshold member (sym c.is_at_hand.ensures.at_hand ∙ w.if-is_at_hand.true) (omega arith) in
+          first_below_more set group threshold member (sym c.is_at_hand.ensures ∙ w.if-is_at_hand.true) (omega arith) in
           record {
             members_are = omega (arith, ap length more, length_push chosen (group, member));
             quorum_is = w.quorum-is
@@ -38,19 +38,17 @@ loop-member-preserved c =
                 ∙ ap (λ names. names ++ (group, member) ∷ []) c.loop-member.invariant.quorum_is
                 ∙ append_assoc c.args.quorum.now chosen ((group, member) ∷ [])
                 ∙ ap (λ names. c.args.quorum.now ++ names) (sym more);
-            is_set = λ _. c.is_at_hand.ensures.is_set;
           })
       | else-is_at_hand w ↦ (
           let same : first_below set group threshold (member + 1) ≡ chosen =
           elim w.else-is_at_hand.branch [
             | else-is_at_hand-via-then-is_at_hand+else-members-threshold w' ↦ first_below_full set group threshold member (omega arith)
             | else-is_at_hand-via-else-is_at_hand w' ↦ first_below_without set group threshold member
-                (sym c.is_at_hand.ensures.at_hand ∙ w'.if-is_at_hand.false)
+                (sym c.is_at_hand.ensures ∙ w'.if-is_at_hand.false)
           ] in
           record {
             members_are = omega (arith, ap length same);
             quorum_is = w.quorum-is ∙ c.loop-member.invariant.quorum_is ∙ ap (λ names. c.args.quorum.now ++ names) (sym same);
-            is_set = λ _. c.is_at_hand.ensures.is_set;
           })
     ]
 
@@ -62,6 +60,6 @@ returns c =
     let all : c.loop-member.member ≡ most_members = omega arith in
     c.loop-member.invariant.quorum_is
     ∙ ap (λ n. c.args.quorum.now ++ first_below set group threshold n) all
-    ∙ ap (λ names. c.args.quorum.now ++ names) (first_below-all set group threshold (c.loop-member.invariant.is_set (omega arith)))
+    ∙ ap (λ names. c.args.quorum.now ++ names) (first_below-all set group threshold c.are_a_share_set.ensures)
     ∙ ap (λ n. c.args.quorum.now ++ take n (names_in_group group (map name_of set)))
     (c.unwrap_or-threshold.ensures ∙ ap (λ o. unwrap_or o 0) c.member_threshold.ensures)

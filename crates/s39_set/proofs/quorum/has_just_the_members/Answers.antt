@@ -58,10 +58,10 @@ returns-clause-just c =
     let exact : AreExactBelow (member_threshold_of set) names most_groups = λ g below some. c.loop-group.invariant.exact g (omega arith) some in (
       λ h.
           let threshold : group_threshold_of set ≡ Some c.loop-group.groups =
-          sym c.group_threshold-required.ensures.threshold ∙ same_from_option_eq c.group_threshold-required.result c.loop-group.groups (sym c.eq.ensures ∙ h) in
-          just_from_exact set names c.group_threshold-required.ensures.is_set c.requires.groups exact (threshold ∙ ap Some groups),
+          sym c.group_threshold-required.ensures ∙ same_from_option_eq c.group_threshold-required.result c.loop-group.groups (sym c.eq.ensures ∙ h) in
+          just_from_exact set names c.are_a_share_set.ensures c.requires.groups exact (threshold ∙ ap Some groups),
       λ has.
           let threshold : c.group_threshold-required.result ≡ Some c.loop-group.groups =
-          c.group_threshold-required.ensures.threshold ∙ groups_from_just set names c.group_threshold-required.ensures.is_set has ∙ ap Some (sym groups) in
+          c.group_threshold-required.ensures ∙ groups_from_just set names c.are_a_share_set.ensures has ∙ ap Some (sym groups) in
           c.eq.ensures ∙ option_eq-same c.group_threshold-required.result c.loop-group.groups threshold,
     )

@@ -10,7 +10,7 @@ pub returns-then-are_at_hand-clause-quorum : goal.returns-then-are_at_hand-claus
 returns-then-are_at_hand-clause-quorum c =
     let set = c.args.set.now in
     let names = c.args.quorum.now in (
-      λ h. quorum_from_just set c.has_just_the_members.ensures.is_set names (record {
+      λ h. quorum_from_just set c.are_a_share_set.ensures names (record {
         at_hand = record {
           ascending = c.pairs.ensures.names.ascending;
           at_hand = All-same (Contains (map name_of set)) names c.pairs.result.now (sym c.pairs.ensures.same)
@@ -19,7 +19,7 @@ returns-then-are_at_hand-clause-quorum c =
         just = subst (HasJustTheMembers set) c.pairs-then-are_at_hand.ensures.same (c.has_just_the_members.ensures.just.0 h);
       }),
       λ quorum.
-          let has : HasJustTheGroups set names = just_from_quorum set c.has_just_the_members.ensures.is_set names quorum in
+          let has : HasJustTheGroups set names = just_from_quorum set c.are_a_share_set.ensures names quorum in
           c.has_just_the_members.ensures.just.1 (subst (HasJustTheMembers set) (sym c.pairs-then-are_at_hand.ensures.same) has.just),
     )
 
