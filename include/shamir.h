@@ -38,7 +38,7 @@ extern "C" {
 /* The most mnemonics of a backup. */
 #define SHAMIR_MNEMONICS_MAX 256
 
-/* The most bytes of a line that is read, be it a comment, its line feed not counted. */
+/* The most bytes of a line of shamir_recover and shamir_drill, be it a comment, its line feed not counted. */
 #define SHAMIR_LINE_BYTES_MAX 1024
 
 /* The most bytes of a list of names, as of a quorum: enough to keep the text to go on after. */
@@ -128,9 +128,9 @@ shamir_answer shamir_random_needed(const uint8_t *plan, size_t plan_bytes, size_
 /*
  * Creates a backup of a secret: its mnemonics go to the front of mnemonics, by group and member, each with a line feed
  * behind it. The passphrase may be empty. The iteration exponent is 0 to 15: the call takes 10,000 * 2^exponent
- * iterations. The extendable flag is set where extendable isn't 0. random has just as many bytes as
- * shamir_random_needed says; they come from a source that nobody can guess, and are used once. Refused: 2 for an exponent
- * above 15, then 31 to 34, 41, 42, 43, and then 1.
+ * iterations, and 1 comes after that work. The extendable flag is set where extendable isn't 0. random has just as many
+ * bytes as shamir_random_needed says; they come from a source that nobody can guess, and are used once. Refused: 2 for an
+ * exponent above 15, then 31 to 34, 41, 42, 43, and then 1, with the bytes of all mnemonics.
  */
 shamir_answer shamir_create(
     const uint8_t *plan, size_t plan_bytes, const uint8_t *secret, size_t secret_bytes, const uint8_t *passphrase, size_t passphrase_bytes,
@@ -168,8 +168,8 @@ shamir_answer shamir_drill(
 
 /*
  * The text of an answer's code and details, as the command shamir prints it behind the number: it goes to the front of
- * text, with no zero at its end. Of the codes that the command doesn't have it is "done" for 0, "slice too short: N bytes
- * needed" for 1, "number out of range" for 2, and "unknown answer" for all others. answer may not be NULL. Refused: 1.
+ * text, with no zero at its end. For 0 it is "done", for 1 "slice too short: N bytes needed", for 2 "number out of range",
+ * and for what no call answers "unknown answer". answer may not be NULL. Refused: 1.
  */
 shamir_answer shamir_text(const shamir_answer *answer, uint8_t *text, size_t text_bytes);
 

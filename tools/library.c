@@ -27,7 +27,8 @@
 #define ONE_WRONG ONE_BUT_LAST "kidney"
 
 /* An extendable vector. */
-#define EXTENDABLE "testify swimming academic academic column loyalty smear include exotic bedroom exotic wrist lobe cover grief golden smart junior estimate learn"
+#define EXTENDABLE \
+    "testify swimming academic academic column loyalty smear include exotic bedroom exotic wrist lobe cover grief golden smart junior estimate learn"
 
 /* The vector of two mnemonics that are both needed, members 0 and 2; member 1 is another program's. */
 #define TWO_0 \
