@@ -134,7 +134,7 @@ fn drill<R: Read, W: Write>(
     let set = set_of(input)?;
     let mut looks = Looks::new();
     let Some(start) = start_of(&set, after, &mut looks)? else {
-        write_text(output, b"end\n")?;
+        write_text(output, last_line(None).as_slice())?;
         return Ok(Done { mismatches: 0 });
     };
     Ok(write_drill(&set, start, passphrase, limit, &mut looks, output)?)
@@ -146,11 +146,11 @@ pub(crate) fn start_of(
     after: Option<&Quorum>,
     looks: &mut Looks,
 ) -> Result<Option<Quorum>, Undrilled>
-    requires none { looks.old ≡ 0 }
+    requires looks { looks.old ≤ u64.MAX - most_step_looks }
     ensures is_set { IsShareSet set.now }
     ensures start { IfOk result (StartsAt set.now (option_copied after.entry)) }
     ensures refused { IfErr result (IsUndrilled set.now (option_copied after.entry)) }
-    ensures looks { looks.new ≤ most_step_looks }
+    ensures looks { looks.new ≤ looks.old + most_step_looks }
 {
     let least = first(set)?;
     match after {
@@ -192,7 +192,8 @@ fn write_drill<W: Write>(
         left -= 1;
         let next = following(set, &quorum, looks);
         if left == 0 || next.is_none() {
-            write_text(output, last_line(&quorum, next.is_some()).as_slice())?;
+            let last = last_line(next.is_some().then_some(&quorum));
+            write_text(output, last.as_slice())?;
             return Ok(Done { mismatches });
         }
         quorum = next.unwrap();
@@ -274,17 +275,17 @@ fn push_mismatch(line: &mut Line, mismatch: Mismatch)
 }
 
 /// The last line of a drill: after which quorum more remain, or that none do.
-pub(crate) fn last_line(quorum: &Quorum, more: bool) -> Line
-    ensures more { more ≡ true → result.items ≡ last_line (Some quorum.now) }
-    ensures end { more ≡ false → result.items ≡ last_line None }
+pub(crate) fn last_line(more: Option<&Quorum>) -> Line
+    ensures { result.items ≡ last_line (option_copied more.entry) }
 {
     let mut line = Line::new();
-    if more {
-        push_text(&mut line, b"more after ");
-        push_names(&mut line, quorum.pairs());
-        line.push(b'\n');
-    } else {
-        push_text(&mut line, b"end\n");
+    match more {
+        Some(quorum) => {
+            push_text(&mut line, b"more after ");
+            push_names(&mut line, quorum.pairs());
+            line.push(b'\n');
+        }
+        None => push_text(&mut line, b"end\n"),
     }
     line
 }

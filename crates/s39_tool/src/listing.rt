@@ -98,15 +98,11 @@ fn put_end(text: &mut [u8]) -> Result<Listing, TooShort>
     ensures short { IfErr result (λ short. (short.needed ≡ length (last_line None))
         × (length text.old < length (last_line None)) × (text.new ≡ text.old)) }
 {
-    let end = b"end\n";
+    let end = last_line(None);
     if text.len() < end.len() {
         return Err(TooShort { needed: end.len() });
     }
-    put(text, 0, end);
-    Ok(Listing {
-        written: end.len(),
-        mismatches: 0,
-    })
+    Ok(ended(text, 0, &end, 0))
 }
 
 /// Puts the drill of a set that starts at this quorum to the front of a slice.
@@ -136,11 +132,11 @@ fn fill(
     let mut left = limit - 1;
     while left > 0 {
         let Some(quorum) = next else {
-            return Ok(ended(text, written, &last, mismatches));
+            break;
         };
         let tried = try_quorum(set, &quorum, &mut memo, looks);
         let Ok(end) = put_line(text, written, &tried) else {
-            return Ok(ended(text, written, &last, mismatches));
+            break;
         };
         written = end;
         mismatches += tried.mismatches;
@@ -180,7 +176,7 @@ fn try_quorum(set: &ShareSet, quorum: &Quorum, memo: &mut Memo<'_>, looks: &mut 
     let next = following(set, quorum, looks);
     Tried {
         line: quorum_line(quorum, &outcome),
-        last: last_line(quorum, next.is_some()),
+        last: last_line(next.is_some().then_some(quorum)),
         next,
         mismatches: mismatch_in(&outcome),
     }

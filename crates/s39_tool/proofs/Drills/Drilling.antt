@@ -2,6 +2,9 @@
 use Rattle.std.proofs.Common.{◌≡◌, ℕ, zero, suc, ◌+◌, ◌≤◌, List, [], ◌∷◌, ◌++◌, map, Bool, true, false, is_some, ◌⊎◌}
 use Rattle.std.proofs.Common.{inl, inr, refl, sym, ap, ◌∙◌, subst, append_assoc, append-nil, arith, Option, Some}
 use Rattle.std.proofs.Common.{None, Result, Ok, Err}
+use Rattle.std.specs.Borrow.{Bor}
+use Rattle.std.specs.Bool.{then_some}
+use Rattle.std.specs.Option.{option_copied}
 use Rattle.std.proofs.lemmas.List.Elements.{All-nil, All-cons}
 use Rattle.s39_words.specs.declared.ShareFields.{ShareFields}
 use Rattle.s39_set.specs.ShareSet.{IsShareSet}
@@ -129,12 +132,11 @@ drill_over laws set passphrase is names (Some next) left first (inl reached) =
     subst (λ (n : ℕ). IsDrill set passphrase (Some names) n [] (Some names) 0) (sym reached) (drill_stops laws set passphrase is names next first)
 drill_over laws set passphrase is names (Some next) left first (inr none) = absurd (let bad : true ≡ false = none in cc)
 
--- and this is the last line
-pub last_line_is : (names : Names) (next : Option Names) (more : Bool) (line : List ℕ) → more ≡ is_some next → (more ≡ true
-    → line ≡ last_line (Some names)) → (more ≡ false → line ≡ last_line None)
-    → line ≡ last_line (more_after names next)
-last_line_is names None more line is some none = none is
-last_line_is names (Some next) more line is some none = some is
+-- it names the quorum, where one comes after it
+pub more_is : (quorum : Bor Names) (next : Option Names) (more : Bool) → more ≡ is_some next
+    → option_copied (then_some more quorum) ≡ more_after quorum.now next
+more_is quorum None more is = rw is refl
+more_is quorum (Some next) more is = rw is refl
 
 zero-left : (n : ℕ) → n ≡ 0 + n
 zero-left n = omega arith
@@ -151,7 +153,7 @@ pub record IsDrilling {W : Type 0} (contents : W → Option (List ℕ)) (old new
       × ((rest : List ℕ) (more : Option Names) (m : ℕ) → IsDrill set passphrase reached left rest more m
       → IsDrill set passphrase after limit (text ++ rest) more (mismatches + m))
 
-module _ {W : Type 0} (contents : W → Option (List ℕ)) (old : Counted W) (set : List ShareFields) (passphrase : List ℕ) (start : Names) (limit : ℕ) where
+module _ {W : Type 0} {contents : W → Option (List ℕ)} {old : Counted W} {set : List ShareFields} {passphrase : List ℕ} {start : Names} {limit : ℕ} where
   pub drilling_starts : IsQuorum set start → IsDrilling contents old old set passphrase start limit start limit 0
   drilling_starts is = record {
     text = [];
@@ -160,9 +162,9 @@ module _ {W : Type 0} (contents : W → Option (List ℕ)) (old : Counted W) (se
     goes_on = λ after first. (after, first, λ rest more m d. subst (λ n. IsDrill set passphrase after limit rest more n) (zero-left m) d);
   }
 
-  module _ (laws : DrillLaws) (new after_line : Counted W) (quorum : Names) (left mismatches : ℕ) (outcome : Result (List ℕ) Mismatch)
+  module _ {new : Counted W} {quorum : Names} {left mismatches : ℕ} (laws : DrillLaws) (outcome : Result (List ℕ) Mismatch)
       (d : IsDrilling contents old new set passphrase start limit quorum (suc left) mismatches) (is : IsOutcome set quorum passphrase outcome) where
-    abbrev pub line : List ℕ
+    abbrev line : List ℕ
     line = quorum_line (quorum, outcome)
 
     -- the drill after the quorum is the rest of the drill
@@ -177,10 +179,11 @@ module _ {W : Type 0} (contents : W → Option (List ℕ)) (old : Counted W) (se
         (subst (λ t. IsDrill set passphrase after limit t more (mismatches + (mismatch_in outcome + m))) (sym (append_assoc d.text line rest)) whole)
 
     -- the write of its line failed
-    pub drilling_fails : IsShareSet set → WritesPart contents new line after_line → (after : Option Names) → IsFirstQuorumAfter set after start
+    pub drilling_fails : {after_line : Counted W} → IsShareSet set → WritesPart contents new line after_line
+        → (after : Option Names) → IsFirstQuorumAfter set after start
         → (lines : List ℕ) × (more : Option Names) × (n : ℕ) × IsDrill set passphrase after limit lines more n × WritesPart contents old
         (lines ++ last_line more) after_line
-    drilling_fails is_set part after first =
+    drilling_fails {after_line} is_set part after first =
         let rest = some_drill laws set passphrase is_set quorum left in
         let whole = joins after first rest.text rest.more rest.mismatches rest.drill in
         let same : d.text ++ (line ++ (rest.text ++ last_line rest.more)) ≡ ((d.text ++ line) ++ rest.text) ++ last_line rest.more =
@@ -193,7 +196,7 @@ module _ {W : Type 0} (contents : W → Option (List ℕ)) (old : Counted W) (se
               (rest.text ++ last_line rest.more) d.written part),
         )
 
-    module _ (written : WritesWhole contents new line after_line) where
+    module _ {after_line : Counted W} (written : WritesWhole contents new line after_line) where
       both : WritesWhole contents old (d.text ++ line) after_line
       both = both_written contents old new after_line d.text line d.written written
 

@@ -41,46 +41,46 @@ put_at text line old new after at is place put =
     ∙ ap (λ t. take (length text) t ++ line ++ drop (length text + length line) t) is
     ∙ put_next text line old
 
-module _ (laws : DrillLaws) (set : List ShareFields) (passphrase : List ℕ) where
+module _ {set : List ShareFields} {passphrase : List ℕ} (laws : DrillLaws) where
   -- a quorum that is tried is a drill of one quorum, before any other
-  tried_then : (after : Option Names) (names : Names) (line last : List ℕ) (next : Option Names) (m : ℕ)
+  tried_then : {after : Option Names} {names : Names} {line last : List ℕ} {next : Option Names} {m : ℕ}
       → IsFirstQuorumAfter set after names → IsTried set passphrase names line last next m
       → (limit : ℕ) (rest : List ℕ) (more : Option Names) (n : ℕ) → IsDrill set passphrase (Some names) limit rest more n
       → IsDrill set passphrase after (1 + limit) (line ++ rest) more (m + n)
-  tried_then after names line last next m first t limit rest more n d =
+  tried_then {after} {names} {line} {last} {next} {m} first t limit rest more n d =
       let one : suc limit ≡ 1 + limit = omega arith in
       subst (λ k. IsDrill set passphrase after k (line ++ rest) more (m + n)) one
       (rw (t.line_is, t.mismatches_are) (drill_step laws set passphrase after limit names t.outcome rest more n first t.is_outcome d))
 
   module _ (is : IsShareSet set) where
     -- alone
-    tried_alone : (after : Option Names) (names : Names) (line last : List ℕ) (next : Option Names) (m : ℕ)
+    tried_alone : {after : Option Names} {names : Names} {line last : List ℕ} {next : Option Names} {m : ℕ}
         → IsFirstQuorumAfter set after names → IsTried set passphrase names line last next m
         → IsDrill set passphrase after 1 line (more_after names next) m
-    tried_alone after names line last next m first t =
+    tried_alone {after} {names} {line} {last} {next} {m} first t =
         let over = drill_over laws set passphrase is names next 0 t.is_next (inl refl) in
-        let d = tried_then after names line last next m first t 0 [] (more_after names next) 0 over in
+        let d = tried_then first t 0 [] (more_after names next) 0 over in
         let count : m + 0 ≡ m = omega arith in
         subst (λ n. IsDrill set passphrase after 1 line (more_after names next) n) count
         (subst (λ l. IsDrill set passphrase after 1 l (more_after names next) (m + 0)) (append-nil line) d)
 
     -- the first line doesn't fit
-    pub first_too_long : (after : Option Names) (names : Names) (line last : List ℕ) (next : Option Names) (m room needed : ℕ)
+    pub first_too_long : {after : Option Names} {names : Names} {line last : List ℕ} {next : Option Names} {m : ℕ} (room needed : ℕ)
         → IsFirstQuorumAfter set after names → IsTried set passphrase names line last next m
         → needed ≡ length line + length last → room < needed
         → (lines : List ℕ) × (more : Option Names) × (mismatches : ℕ) × IsDrill set passphrase after 1 lines more mismatches
         × (needed ≡ length (lines ++ last_line more)) × (room < length (lines ++ last_line more))
-    first_too_long after names line last next m room needed first t is_needed short =
+    first_too_long {after} {names} {line} {last} {next} {m} room needed first t is_needed short =
         let same : needed ≡ length (line ++ last_line (more_after names next)) =
         is_needed ∙ ap (λ l. length line + length l) t.last_is ∙ sym (length-append line (last_line (more_after names next))) in
-        (line, more_after names next, m, tried_alone after names line last next m first t, same, subst (λ n. room < n) same short)
+        (line, more_after names next, m, tried_alone first t, same, subst (λ n. room < n) same short)
 
-  module _ (start : Names) (old : List ℕ) where
+  module _ {start : Names} {old : List ℕ} where
     -- the first line stands in the slice
-    pub filling_starts : (new line last : List ℕ) (written : ℕ) (next : Option Names) (m : ℕ) → IsTried set passphrase start line last next m
+    pub filling_starts : {new line last : List ℕ} {written : ℕ} {next : Option Names} {m : ℕ} → IsTried set passphrase start line last next m
         → new ≡ take 0 old ++ line ++ drop written old → written ≡ length line → written + length last ≤ length old
         → IsFilling set passphrase start 1 old new last written next m
-    filling_starts new line last written next m t put at fits = record {
+    filling_starts {new} {line} {last} {written} {next} {m} t put at fits = record {
       lines = line;
       reached = start;
       bytes = put ∙ ap (λ n. line ++ drop n old) at;
@@ -88,17 +88,17 @@ module _ (laws : DrillLaws) (set : List ShareFields) (passphrase : List ℕ) whe
       fits = fits;
       is_next = t.is_next;
       last_is = t.last_is;
-      goes_on = λ after first limit rest more n d. tried_then after start line last next m first t limit rest more n d;
+      goes_on = λ after first limit rest more n d. tried_then first t limit rest more n d;
     }
 
-    module _ (listed : ℕ) (new last : List ℕ) (written : ℕ) (m : ℕ) where
+    module _ {listed : ℕ} {new last : List ℕ} {written m : ℕ} where
       -- one more line stands there
-      pub filling_goes_on : (quorum : Names) → IsFilling set passphrase start listed old new last written (Some quorum) m
-          → (after line end : List ℕ) (next : Option Names) (at n : ℕ) → IsTried set passphrase quorum line end next n
+      pub filling_goes_on : {quorum : Names} → IsFilling set passphrase start listed old new last written (Some quorum) m
+          → {after line end : List ℕ} {next : Option Names} {at n : ℕ} → IsTried set passphrase quorum line end next n
           → at ≡ written + length line
           → after ≡ take written new ++ line ++ drop at new → at + length end ≤ length old
           → IsFilling set passphrase start (listed + 1) old after end at next (m + n)
-      filling_goes_on quorum f after line end next at n t is_at put fits = record {
+      filling_goes_on {quorum} f {after} {line} {end} {next} {at} {n} t is_at put fits = record {
         lines = f.lines ++ line;
         reached = quorum;
         bytes = put_at f.lines line old new after written f.bytes f.written_is
@@ -108,7 +108,7 @@ module _ (laws : DrillLaws) (set : List ShareFields) (passphrase : List ℕ) whe
         is_next = t.is_next;
         last_is = t.last_is;
         goes_on = λ given first limit rest more k d.
-            let later = tried_then (Some f.reached) quorum line end next n f.is_next t limit rest more k d in
+            let later = tried_then f.is_next t limit rest more k d in
             let whole = f.goes_on given first (1 + limit) (line ++ rest) more (n + k) later in
             let places : listed + (1 + limit) ≡ (listed + 1) + limit = omega arith in
             let count : m + (n + k) ≡ (m + n) + k = omega arith in
@@ -117,12 +117,12 @@ module _ (laws : DrillLaws) (set : List ShareFields) (passphrase : List ℕ) whe
             (subst (λ l. IsDrill set passphrase given (listed + (1 + limit)) l more (m + (n + k))) (sym (append_assoc f.lines line rest)) whole));
       }
 
-      module _ (is : IsShareSet set) (after : List ℕ) (listing : Listing)
+      module _ (is : IsShareSet set) {after : List ℕ} {listing : Listing}
           (put : after ≡ take written new ++ last ++ drop (written + length last) new) (written_is : listing.written ≡ written + length last)
           (count : listing.mismatches ≡ m) where
-        in_front : (next : Option Names) (f : IsFilling set passphrase start listed old new last written next m)
+        in_front : {next : Option Names} (f : IsFilling set passphrase start listed old new last written next m)
             → IsInFront (f.lines ++ last_line (more_after f.reached next)) old after
-        in_front next f =
+        in_front {next} f =
             let size : length (f.lines ++ last_line (more_after f.reached next)) ≡ written + length last =
             length-append f.lines (last_line (more_after f.reached next)) ∙ sym (ap (λ l. length f.lines + length l) f.last_is)
             ∙ ap (λ k. k + length last) (sym f.written_is) in record {
@@ -131,45 +131,45 @@ module _ (laws : DrillLaws) (set : List ShareFields) (passphrase : List ℕ) whe
                   (put_at f.lines last old new after written f.bytes f.written_is put);
             }
 
-        text_size : (next : Option Names) (f : IsFilling set passphrase start listed old new last written next m)
+        text_size : {next : Option Names} (f : IsFilling set passphrase start listed old new last written next m)
             → listing.written ≡ length (f.lines ++ last_line (more_after f.reached next))
-        text_size next f =
+        text_size {next} f =
             written_is ∙ ap (λ k. k + length last) f.written_is ∙ ap (λ l. length f.lines + length l) f.last_is
             ∙ sym (length-append f.lines (last_line (more_after f.reached next)))
 
-        stopped : (next : Option Names) (f : IsFilling set passphrase start listed old new last written next m) (left : ℕ)
+        stopped : {next : Option Names} (f : IsFilling set passphrase start listed old new last written next m) (left : ℕ)
             → (left ≡ 0) ⊎ (is_some next ≡ false)
             → (given : Option Names) → IsFirstQuorumAfter set given start
             → IsDrill set passphrase given (listed + left) f.lines (more_after f.reached next) listing.mismatches
-        stopped next f left over given first =
+        stopped {next} f left over given first =
             let d = f.goes_on given first left [] (more_after f.reached next) 0 (drill_over laws set passphrase is f.reached next left f.is_next over) in
             let same : m + 0 ≡ listing.mismatches = omega (arith, count) in
             subst (λ n. IsDrill set passphrase given (listed + left) f.lines (more_after f.reached next) n) same
             (subst (λ l. IsDrill set passphrase given (listed + left) l (more_after f.reached next) (m + 0)) (append-nil f.lines) d)
 
         -- the limit is reached, or no quorum is left
-        pub filled : (next : Option Names) → IsFilling set passphrase start listed old new last written next m → (limit left : ℕ) → 1 ≤ listed
+        pub filled : {next : Option Names} → IsFilling set passphrase start listed old new last written next m → (limit left : ℕ) → 1 ≤ listed
             → listed + left ≡ limit → (left ≡ 0) ⊎ (is_some next ≡ false)
             → (given : Option Names) → IsFirstQuorumAfter set given start → FillsSlice set passphrase given limit old after listing
-        filled next f limit left some sum over given first = record {
+        filled {next} f limit left some sum over given first = record {
           listed = limit;
           lines = f.lines;
           more = more_after f.reached next;
           some = omega (arith, some, sum);
           few = omega arith;
           drill = subst (λ n. IsDrill set passphrase given n f.lines (more_after f.reached next) listing.mismatches) sum
-              (stopped next f left over given first);
-          in_front = in_front next f;
-          written = text_size next f;
+              (stopped f left over given first);
+          in_front = in_front f;
+          written = text_size f;
           more_is_too_long = λ below. absurd (omega (arith, below));
         }
 
         -- the next line doesn't fit
-        pub filled_early : (quorum : Names) → IsFilling set passphrase start listed old new last written (Some quorum) m
-            → (line end : List ℕ) (then : Option Names) (n limit : ℕ) → IsTried set passphrase quorum line end then n
+        pub filled_early : {quorum : Names} → IsFilling set passphrase start listed old new last written (Some quorum) m
+            → {line end : List ℕ} {then : Option Names} {n : ℕ} (limit : ℕ) → IsTried set passphrase quorum line end then n
             → length old < (written + length line) + length end → 1 ≤ listed → listed ≤ limit
             → (given : Option Names) → IsFirstQuorumAfter set given start → FillsSlice set passphrase given limit old after listing
-        filled_early quorum f line end then n limit t short some few given first = record {
+        filled_early {quorum} f {line} {end} {then} {n} limit t short some few given first = record {
           listed = listed;
           lines = f.lines;
           more = Some f.reached;
@@ -178,11 +178,11 @@ module _ (laws : DrillLaws) (set : List ShareFields) (passphrase : List ℕ) whe
           drill =
               let none : listed + 0 ≡ listed = omega arith in
               subst (λ k. IsDrill set passphrase given k f.lines (Some f.reached) listing.mismatches) none
-              (stopped (Some quorum) f 0 (inl refl) given first);
-          in_front = in_front (Some quorum) f;
-          written = text_size (Some quorum) f;
+              (stopped f 0 (inl refl) given first);
+          in_front = in_front f;
+          written = text_size f;
           more_is_too_long = λ below.
-              let alone = tried_alone is (Some f.reached) quorum line end then n f.is_next t in
+              let alone = tried_alone is f.is_next t in
               let whole = f.goes_on given first 1 line (more_after quorum then) n alone in
               let size : length ((f.lines ++ line) ++ last_line (more_after quorum then)) ≡ (written + length line) + length end =
               length-append (f.lines ++ line) (last_line (more_after quorum then))
