@@ -13,8 +13,6 @@ use Rattle.s39_set.specs.Listing.{IsListing}
 use Rattle.s39_backup.specs.declared.combination.Mismatch.{Mismatch}
 use Rattle.s39_backup.specs.Outcome.{IsOutcome}
 use Rattle.s39_backup.specs.Created.{AreOfBackup}
-use Rattle.s39_tool.specs.declared.fault.LineRefusal.{LineRefusal}
-use Rattle.s39_tool.specs.declared.fault.Stop.{Stop}
 use Rattle.s39_tool.specs.declared.fault.Fault.{Fault}
 use Rattle.s39_tool.specs.declared.drill.Done.{Done}
 use Rattle.s39_tool.specs.Input.{Input}
@@ -23,6 +21,7 @@ use Rattle.s39_tool.specs.OfBackup.{HoldsMnemonicsOf}
 use Rattle.s39_tool.specs.Drill.{Listed, quorum_line, last_line, mismatches_in, IsDrill, IsUndrilled, IsDrillOutput}
 use Rattle.s39_tool.specs.Drill.{ListsSecret, ListsSecretOrCause, DrillsCreated}
 use Rattle.s39_tool.proofs.Drills.Drilling.{Names}
+use Rattle.s39_tool.proofs.Sets.OneSet.{InputsAreReadOnce, AcceptedAreShareSets, same_set, not_accepted_and_refused}
 
 -- listed names are quorums
 pub listed_quorums : (set : List ShareFields) (after : Option Names) (limit : ℕ) (listed : List Names) → IsListing set after limit listed
@@ -45,20 +44,12 @@ no_mismatches secret [] = refl
 no_mismatches secret (names ∷ listed) = no_mismatches secret listed
 
 module _ (none_unprintable : PrintablePassphrasesHaveNone)
-    (accepted_is_share_set : (input : Input) (set : List ShareFields) → IsReadAs input (Ok set) → IsShareSet set)
-    (one_set : (input : Input) (answer another : Result (List ShareFields) (Stop LineRefusal)) → IsReadAs input answer → IsReadAs input another
-    → answer ≡ another)
+    (accepted_is_share_set : AcceptedAreShareSets) (one_set : InputsAreReadOnce)
     (one_outcome : (set : List ShareFields) (names : Names) (passphrase : List ℕ) (outcome other : Result (List ℕ) Mismatch) → IsShareSet set
     → IsQuorum set names
     → IsOutcome set names passphrase outcome → IsOutcome set names passphrase other → outcome ≡ other)
     (every_quorum_recovers : (set : List ShareFields) (names : Names) (passphrase secret : List ℕ) → IsShareSet set → IsQuorum set names
     → AreOfBackup set passphrase secret → IsOutcome set names passphrase (Ok secret)) where
-  same_set : (input : Input) (set other : List ShareFields) → IsReadAs input (Ok set) → IsReadAs input (Ok other) → other ≡ set
-  same_set input set other p q = let both = one_set input (Ok set) (Ok other) p q in cc
-
-  not_accepted_and_refused : (input : Input) (set : List ShareFields) (stop : Stop LineRefusal) → IsReadAs input (Ok set) → IsReadAs input (Err stop) → ⊥
-  not_accepted_and_refused input set stop p q = let both = one_set input (Ok set) (Err stop) p q in cc
-
   module _ (set : List ShareFields) (passphrase secret : List ℕ) (is : IsShareSet set) (backup : AreOfBackup set passphrase secret) where
     lines_have_secret : (lines : List Listed) → All (IsQuorum set) (map (λ line. line.0) lines) → All (λ line. IsOutcome set line.0 passphrase line.1) lines
         → lines ≡ with_secret secret (map (λ line. line.0) lines)
@@ -93,7 +84,7 @@ module _ (none_unprintable : PrintablePassphrasesHaveNone)
       (printable : All IsPrintable passphrase) (read : IsReadAs input (Ok set)) (backup : AreOfBackup set passphrase secret) where
     complete : (answer : Result Done Fault) → IsDrillOutput passphrase after limit input text answer → ListsSecretOrCause set secret after limit text answer
     complete (Ok done) p =
-        let same = same_set input set p.set read p.read in
+        let same = same_set one_set input set p.set read p.read in
         let drill = subst (λ s. IsDrill s passphrase after limit p.lines p.more done.mismatches) same p.drill in
         let (lists, none) = lists_secret set passphrase secret
         (accepted_is_share_set input set read) backup after limit text p.lines p.more done.mismatches drill p.text_is in (
@@ -103,9 +94,9 @@ module _ (none_unprintable : PrintablePassphrasesHaveNone)
           none,
         )
     complete (Err fault) (nothing, inl q) = absurd (none_unprintable passphrase q.bad.position printable q.first)
-    complete (Err fault) (nothing, inr (inl (stop, printable', q, is))) = absurd (not_accepted_and_refused input set stop read q)
+    complete (Err fault) (nothing, inr (inl (stop, printable', q, is))) = absurd (not_accepted_and_refused one_set input set stop read q)
     complete (Err fault) (nothing, inr (inr q)) =
-        (nothing, (q.cause, subst (λ s. IsUndrilled s after q.cause) (same_set input set q.set read q.read) q.refused, q.fault_is))
+        (nothing, (q.cause, subst (λ s. IsUndrilled s after q.cause) (same_set one_set input set q.set read q.read) q.refused, q.fault_is))
 
   -- what `drill` gives of mnemonics of a created backup
   pub drills_created : ((passphrase secret : List ℕ) (input : Input) → HoldsMnemonicsOf passphrase secret input

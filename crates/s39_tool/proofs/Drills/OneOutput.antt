@@ -25,6 +25,7 @@ use Rattle.s39_tool.specs.Drill.{last_line, IsDrill, IsUndrilled, fault_of_undri
 use Rattle.s39_tool.proofs.Runs.OneRecover.{refusal_of_passphrase_once}
 use Rattle.s39_tool.proofs.Drills.Drilling.{Names}
 use Rattle.s39_tool.proofs.Drills.OneDrill.{one_drill}
+use Rattle.s39_tool.proofs.Sets.OneSet.{InputsAreReadOnce, AcceptedAreShareSets, same_set, not_accepted_and_refused}
 
 -- why a drill of an input lists nothing
 abbrev Refuses : List ℕ → Option Names → Input → Fault → Type 0
@@ -45,25 +46,17 @@ drilled_or_not set after (Lack lack) no_lack cursor refused = no_lack lack refus
 drilled_or_not set after NotAQuorum no_lack cursor (none, (names, is, other)) = other (subst (λ a. IfSome a (IsQuorum set)) is cursor)
 
 module _ (one_unprintable : PassphrasesHaveOneFirstUnprintable) (none_unprintable : PrintablePassphrasesHaveNone)
-    (one_lack : SetsHaveOneLack) (accepted_is_share_set : (input : Input) (set : List ShareFields) → IsReadAs input (Ok set) → IsShareSet set)
-    (one_set : (input : Input) (answer another : Result (List ShareFields) (Stop LineRefusal)) → IsReadAs input answer → IsReadAs input another
-    → answer ≡ another)
+    (one_lack : SetsHaveOneLack) (accepted_is_share_set : AcceptedAreShareSets) (one_set : InputsAreReadOnce)
     (one_listing : (set : List ShareFields) (given : Option Names) (limit : ℕ) (listed others : List Names) → IsListing set given limit listed
     → IsListing set given limit others → listed ≡ others)
     (one_outcome : (set : List ShareFields) (names : Names) (passphrase : List ℕ) (outcome other : Result (List ℕ) Mismatch) → IsShareSet set
     → IsQuorum set names
     → IsOutcome set names passphrase outcome → IsOutcome set names passphrase other → outcome ≡ other)
     (passphrase : List ℕ) (after : Option Names) (limit : ℕ) (input : Input) where
-  same_set : (set other : List ShareFields) → IsReadAs input (Ok set) → IsReadAs input (Ok other) → other ≡ set
-  same_set set other p q = let both = one_set input (Ok set) (Ok other) p q in cc
-
-  not_accepted_and_refused : (set : List ShareFields) (stop : Stop LineRefusal) → IsReadAs input (Ok set) → IsReadAs input (Err stop) → ⊥
-  not_accepted_and_refused set stop p q = let both = one_set input (Ok set) (Err stop) p q in cc
-
   drills_once : (text other : List ℕ) (m n : ℕ) → DrillsSet passphrase after limit input text m → DrillsSet passphrase after limit input other n
       → (text ≡ other) × (m ≡ n)
   drills_once text other m n p q =
-      let set = same_set p.set q.set p.read q.read in
+      let set = same_set one_set input p.set q.set p.read q.read in
       let (lines, more, mismatches) = one_drill one_listing one_outcome p.set passphrase
       (accepted_is_share_set input p.set p.read) after limit p.lines q.lines p.more q.more m n p.drill
       (subst (λ s. IsDrill s passphrase after limit q.lines q.more n) set q.drill) in
@@ -71,14 +64,14 @@ module _ (one_unprintable : PassphrasesHaveOneFirstUnprintable) (none_unprintabl
 
   not_both : (text : List ℕ) (m : ℕ) (fault : Fault) → DrillsSet passphrase after limit input text m → Refuses passphrase after input fault → ⊥
   not_both text m fault p (inl q) = none_unprintable passphrase q.bad.position p.printable q.first
-  not_both text m fault p (inr (inl (stop, printable, q, is))) = not_accepted_and_refused p.set stop p.read q
+  not_both text m fault p (inr (inl (stop, printable, q, is))) = not_accepted_and_refused one_set input p.set stop p.read q
   not_both text m fault p (inr (inr q)) =
-      let set = same_set p.set q.set p.read q.read in
+      let set = same_set one_set input p.set q.set p.read q.read in
       drilled_or_not p.set after q.cause p.no_lack p.cursor (subst (λ s. IsUndrilled s after q.cause) set q.refused)
 
   set_refused_once : (f g : Fault) → RefusesDrill passphrase after input f → RefusesDrill passphrase after input g → f ≡ g
   set_refused_once f g p q =
-      let set = same_set p.set q.set p.read q.read in
+      let set = same_set one_set input p.set q.set p.read q.read in
       let cause = undrilled_once one_lack p.set after p.cause q.cause p.refused (subst (λ s. IsUndrilled s after q.cause) set q.refused) in
       p.fault_is ∙ ap fault_of_undrilled cause ∙ sym q.fault_is
 
@@ -89,9 +82,9 @@ module _ (one_unprintable : PassphrasesHaveOneFirstUnprintable) (none_unprintabl
   fault_once f g (inr (inl (stop, printable, p, is))) (inl q) = absurd (none_unprintable passphrase q.bad.position printable q.first)
   fault_once f g (inr (inl (stop, printable, p, is))) (inr (inl (other, printable', q, is'))) =
       let both = one_set input (Err stop) (Err other) p q in let same : stop ≡ other = cc in is ∙ ap fault_of_stop same ∙ sym is'
-  fault_once f g (inr (inl (stop, printable, p, is))) (inr (inr q)) = absurd (not_accepted_and_refused q.set stop q.read p)
+  fault_once f g (inr (inl (stop, printable, p, is))) (inr (inr q)) = absurd (not_accepted_and_refused one_set input q.set stop q.read p)
   fault_once f g (inr (inr p)) (inl q) = absurd (none_unprintable passphrase q.bad.position p.printable q.first)
-  fault_once f g (inr (inr p)) (inr (inl (stop, printable, q, is))) = absurd (not_accepted_and_refused p.set stop p.read q)
+  fault_once f g (inr (inr p)) (inr (inl (stop, printable, q, is))) = absurd (not_accepted_and_refused one_set input p.set stop p.read q)
   fault_once f g (inr (inr p)) (inr (inr q)) = set_refused_once f g p q
 
   -- an input has one text and one answer

@@ -19,6 +19,7 @@ use Rattle.s39_tool.specs.Input.{Input}
 use Rattle.s39_tool.specs.Fault.{fault_of, fault_of_stop}
 use Rattle.s39_tool.specs.Accepted.{IsReadAs}
 use Rattle.s39_tool.specs.Drill.{DrillLaws, last_line, fault_of_undrilled, IsDrillOutput}
+use Rattle.s39_tool.proofs.Sets.OneSet.{AcceptedAreShareSets}
 use Rattle.s39_tool.proofs.Drills.Memos.{same_or_other, among_or_not}
 use Rattle.s39_tool.proofs.Drills.Drilling.{Names, some_drill_of}
 use Rattle.s39_tool.proofs.Drills.Output.{refused_input, refused_set, drilled}
@@ -37,7 +38,7 @@ abbrev HasOutput : List ℕ → Option Names → ℕ → Input → Type 0
 HasOutput passphrase after limit input = (text : List ℕ) × (answer : Result Done Fault) × IsDrillOutput passphrase after limit input text answer
 
 module _ (laws : DrillLaws) (printable_or_not : PassphrasesArePrintableOrNot)
-    (no_lack : SetsWithQuorumsHaveNone) (accepted_is_share_set : (input : Input) (set : List ShareFields) → IsReadAs input (Ok set) → IsShareSet set)
+    (no_lack : SetsWithQuorumsHaveNone) (accepted_is_share_set : AcceptedAreShareSets)
     (every_input_is_read : (input : Input) → (answer : Result (List ShareFields) (Stop LineRefusal)) × IsReadAs input answer × IfOk answer IsShareSet)
     (quorum_or_lack : (set : List ShareFields) → IsShareSet set
     → ((names : Names) × IsFirstQuorumAfter set None names) ⊎ ((lack : SetLack) × IsLack set lack))

@@ -23,6 +23,7 @@ use Rattle.s39_backup.specs.Outcome.{IsOutcome}
 use Rattle.s39_backup.specs.Created.{AreOfBackup}
 use Rattle.s39_tool.specs.OfBackup.{HoldsMnemonicsOf, IsSecretOrLack, RecoversCreated}
 use Rattle.s39_tool.specs.Recover.{secret_line, fault_of_unrecovered, HasOutcome, IsUnrecovered, RefusesPassphrase, RefusesSet, RecoversSecret, IsRecoverOutput}
+use Rattle.s39_tool.proofs.Sets.OneSet.{InputsAreReadOnce, AcceptedAreShareSets, same_set, not_accepted_and_refused}
 
 -- ---- a passphrase is refused once
 
@@ -46,9 +47,7 @@ module _ (one_unprintable : PassphrasesHaveOneFirstUnprintable) (none_unprintabl
     (one_lack : SetsHaveOneLack) (no_lack : SetsWithQuorumsHaveNone)
     (one_first_quorum : (set : List ShareFields) (given : Option (List (ℕ × ℕ))) (names others : List (ℕ × ℕ))
     → IsFirstQuorumAfter set given names → IsFirstQuorumAfter set given others → names ≡ others)
-    (accepted_is_share_set : (input : Input) (set : List ShareFields) → IsReadAs input (Ok set) → IsShareSet set)
-    (one_set : (input : Input) (answer another : Result (List ShareFields) (Stop LineRefusal)) → IsReadAs input answer → IsReadAs input another
-    → answer ≡ another)
+    (accepted_is_share_set : AcceptedAreShareSets) (one_set : InputsAreReadOnce)
     (one_outcome : (set : List ShareFields) (names : List (ℕ × ℕ)) (passphrase : List ℕ) (outcome other : Result (List ℕ) Mismatch) → IsShareSet set
     → IsQuorum set names
     → IsOutcome set names passphrase outcome → IsOutcome set names passphrase other → outcome ≡ other) where
@@ -77,16 +76,10 @@ module _ (one_unprintable : PassphrasesHaveOneFirstUnprintable) (none_unprintabl
 
   -- ---- an input has one output
 
-  same_set : (input : Input) (set other : List ShareFields) → IsReadAs input (Ok set) → IsReadAs input (Ok other) → other ≡ set
-  same_set input set other p q = let both = one_set input (Ok set) (Ok other) p q in cc
-
-  not_accepted_and_refused : (input : Input) (set : List ShareFields) (stop : Stop LineRefusal) → IsReadAs input (Ok set) → IsReadAs input (Err stop) → ⊥
-  not_accepted_and_refused input set stop p q = let both = one_set input (Ok set) (Err stop) p q in cc
-
   secret_once : (passphrase : List ℕ) (input : Input) (text other : List ℕ) → RecoversSecret passphrase input text → RecoversSecret passphrase input other
       → text ≡ other
   secret_once passphrase input text other p q =
-      let set = same_set input p.set q.set p.read q.read in
+      let set = same_set one_set input p.set q.set p.read q.read in
       let outcome = outcome_once p.set passphrase (Ok p.secret) (Ok q.secret) (accepted_is_share_set input p.set p.read) p.outcome
       (subst (λ s. HasOutcome s passphrase (Ok q.secret)) set q.outcome) in
       let secret : p.secret ≡ q.secret = cc in
@@ -94,16 +87,16 @@ module _ (one_unprintable : PassphrasesHaveOneFirstUnprintable) (none_unprintabl
 
   set_refused_once : (passphrase : List ℕ) (input : Input) (f g : Fault) → RefusesSet passphrase input f → RefusesSet passphrase input g → f ≡ g
   set_refused_once passphrase input f g p q =
-      let set = same_set input p.set q.set p.read q.read in
+      let set = same_set one_set input p.set q.set p.read q.read in
       let cause = unrecovered_once p.set passphrase p.cause q.cause (accepted_is_share_set input p.set p.read) p.refused
       (subst (λ s. IsUnrecovered s passphrase q.cause) set q.refused) in
       p.fault_is ∙ ap fault_of_unrecovered cause ∙ sym q.fault_is
 
   not_both : (passphrase : List ℕ) (input : Input) (text : List ℕ) (fault : Fault) → RecoversSecret passphrase input text → Refuses passphrase input fault → ⊥
   not_both passphrase input text fault p (inl q) = none_unprintable passphrase q.bad.position p.printable q.first
-  not_both passphrase input text fault p (inr (inl (stop, printable, q, is))) = not_accepted_and_refused input p.set stop p.read q
+  not_both passphrase input text fault p (inr (inl (stop, printable, q, is))) = not_accepted_and_refused one_set input p.set stop p.read q
   not_both passphrase input text fault p (inr (inr q)) =
-      let set = same_set input p.set q.set p.read q.read in
+      let set = same_set one_set input p.set q.set p.read q.read in
       recovered_not_refused p.set passphrase p.secret q.cause (accepted_is_share_set input p.set p.read) p.outcome
       (subst (λ s. IsUnrecovered s passphrase q.cause) set q.refused)
 
@@ -114,9 +107,9 @@ module _ (one_unprintable : PassphrasesHaveOneFirstUnprintable) (none_unprintabl
   fault_once passphrase input f g (inr (inl (stop, printable, p, is))) (inl q) = absurd (none_unprintable passphrase q.bad.position printable q.first)
   fault_once passphrase input f g (inr (inl (stop, printable, p, is))) (inr (inl (other, printable', q, is'))) =
       let both = one_set input (Err stop) (Err other) p q in let same : stop ≡ other = cc in is ∙ ap fault_of_stop same ∙ sym is'
-  fault_once passphrase input f g (inr (inl (stop, printable, p, is))) (inr (inr q)) = absurd (not_accepted_and_refused input q.set stop q.read p)
+  fault_once passphrase input f g (inr (inl (stop, printable, p, is))) (inr (inr q)) = absurd (not_accepted_and_refused one_set input q.set stop q.read p)
   fault_once passphrase input f g (inr (inr p)) (inl q) = absurd (none_unprintable passphrase q.bad.position p.printable q.first)
-  fault_once passphrase input f g (inr (inr p)) (inr (inl (stop, printable, q, is))) = absurd (not_accepted_and_refused input p.set stop p.read q)
+  fault_once passphrase input f g (inr (inr p)) (inr (inl (stop, printable, q, is))) = absurd (not_accepted_and_refused one_set input p.set stop p.read q)
   fault_once passphrase input f g (inr (inr p)) (inr (inr q)) = set_refused_once passphrase input f g p q
 
   -- an input has one text and one answer
@@ -149,16 +142,16 @@ module _ (one_unprintable : PassphrasesHaveOneFirstUnprintable) (none_unprintabl
         → All IsPrintable passphrase → IsReadAs input (Ok set) → AreOfBackup set passphrase secret
         → IsRecoverOutput passphrase input text answer → IsSecretOrLack set secret text answer
     created_output passphrase secret input set text (Ok _) printable read backup p =
-        let has = subst (λ s. HasOutcome s passphrase (Ok p.secret)) (same_set input set p.set read p.read) p.outcome in
+        let has = subst (λ s. HasOutcome s passphrase (Ok p.secret)) (same_set one_set input set p.set read p.read) p.outcome in
         let same = created_outcome set passphrase secret (Ok p.secret) (accepted_is_share_set input set read) backup has in
         let secrets : p.secret ≡ secret = cc in
         ((has.names, has.least.quorum), p.text_is ∙ ap secret_line secrets)
     created_output passphrase secret input set text (Err fault) printable read backup (none, inl q) =
         absurd (none_unprintable passphrase q.bad.position printable q.first)
     created_output passphrase secret input set text (Err fault) printable read backup (none, inr (inl (stop, printable', q, is))) =
-        absurd (not_accepted_and_refused input set stop read q)
+        absurd (not_accepted_and_refused one_set input set stop read q)
     created_output passphrase secret input set text (Err fault) printable read backup (none, inr (inr q)) =
-        let refused = subst (λ s. IsUnrecovered s passphrase q.cause) (same_set input set q.set read q.read) q.refused in
+        let refused = subst (λ s. IsUnrecovered s passphrase q.cause) (same_set one_set input set q.set read q.read) q.refused in
         let (lack, lacks, is) = created_lack set passphrase secret q.cause (accepted_is_share_set input set read) backup refused in
         (none, (lack, lacks, q.fault_is ∙ is))
 

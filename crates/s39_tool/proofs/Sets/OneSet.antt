@@ -8,7 +8,7 @@ use Rattle.std.proofs.lemmas.Option.{slice_get-get_or}
 use Rattle.s39_words.specs.declared.ShareFields.{ShareFields}
 use Rattle.s39_words.specs.declared.WordError.{WordError}
 use Rattle.s39_words.specs.Reading.{Reads}
-use Rattle.s39_set.specs.ShareSet.{refusal_of}
+use Rattle.s39_set.specs.ShareSet.{IsShareSet, refusal_of}
 use Rattle.s39_set.specs.SetFacts.{SetsAreTheirShares}
 use Rattle.s39_tool.specs.declared.fault.LineRefusal.{LineRefusal}
 use Rattle.s39_tool.specs.declared.fault.Stop.{Stop}
@@ -31,6 +31,22 @@ set_once sets shares set other p q =
     sets set other p.ascending q.ascending
     (λ k d below. All-contains (Contains set) shares (get_or other k d) p.all (q.only k d below))
     (λ k d below. All-contains (Contains other) shares (get_or set k d) q.all (p.only k d below))
+
+-- an input is read as one thing
+abbrev pub InputsAreReadOnce : Type 0
+InputsAreReadOnce = (input : Input) (answer another : Result (List ShareFields) (Stop LineRefusal)) → IsReadAs input answer → IsReadAs input another
+    → answer ≡ another
+
+-- what an input is accepted as is a share set
+abbrev pub AcceptedAreShareSets : Type 0
+AcceptedAreShareSets = (input : Input) (set : List ShareFields) → IsReadAs input (Ok set) → IsShareSet set
+
+module _ (one_set : InputsAreReadOnce) (input : Input) (set : List ShareFields) where
+  pub same_set : (other : List ShareFields) → IsReadAs input (Ok set) → IsReadAs input (Ok other) → other ≡ set
+  same_set other p q = let both = one_set input (Ok set) (Ok other) p q in cc
+
+  pub not_accepted_and_refused : (stop : Stop LineRefusal) → IsReadAs input (Ok set) → IsReadAs input (Err stop) → ⊥
+  not_accepted_and_refused stop p q = let both = one_set input (Ok set) (Err stop) p q in cc
 
 -- no text is read as two things
 module _ (sets : SetsAreTheirShares) (one_reading : (text : List ℕ) (r s : Result ShareFields WordError) → Reads text r → Reads text s → r ≡ s) where
@@ -72,7 +88,7 @@ module _ (sets : SetsAreTheirShares) (one_reading : (text : List ℕ) (r s : Res
   together_once = record { taken = shares_once; refused = refused_among_once; not_both = none_refused }
 
   -- an input is read as one set, or refused for one cause
-  pub read_once : (input : Input) (r s : Result (List ShareFields) (Stop LineRefusal)) → IsReadAs input r → IsReadAs input s → r ≡ s
+  pub read_once : InputsAreReadOnce
   read_once input (Ok set) (Ok other) (shares, p, set_is) (others, q, other_is) =
       let same = leads_once HoldTogether IsRefusedAmong together_once input shares others (Ok tt) (Ok tt) p q in
       ap Ok (set_once sets others set other (subst (λ l. IsSetOf l set) same.0 set_is) other_is)

@@ -17,6 +17,7 @@ use Rattle.s39_tool.specs.Accepted.{IsRefusedAmong, IsReadAs}
 use Rattle.s39_tool.proofs.Taking.Held.{line_reads}
 use Rattle.s39_tool.proofs.Taking.Leads.{leads_from}
 use Rattle.s39_tool.proofs.Sets.Collected.{IsCollectedOf, collected_none_of, collected_held, refused_among}
+use Rattle.s39_tool.proofs.Sets.OneSet.{InputsAreReadOnce, AcceptedAreShareSets}
 
 -- a line leads to a further set, or is refused
 abbrev TakesOrRefuses : List (List ℕ) → List ℕ → List ShareFields → Type 0
@@ -95,9 +96,7 @@ module _ (same_shares : SameSharesRefuseTheSame) (one_more : OneMoreIsAdded) whe
         read_from input set answer leads
 
 -- what an input is accepted as is a share set
-pub accepted_is_share_set : ((input : Input) → IsReadAsSet input)
-    → ((input : Input) (answer another : Result (List ShareFields) (Stop LineRefusal)) → IsReadAs input answer → IsReadAs input another → answer ≡ another)
-    → (input : Input) (set : List ShareFields) → IsReadAs input (Ok set) → IsShareSet set
+pub accepted_is_share_set : ((input : Input) → IsReadAsSet input) → InputsAreReadOnce → AcceptedAreShareSets
 accepted_is_share_set every_input_is_read one_set input set read =
     let (answer, also, is_set) = every_input_is_read input in
     let same = one_set input answer (Ok set) also read in
