@@ -1,5 +1,5 @@
 -- The output of `create`.
-use Rattle.std.specs.Prelude.{◌≡◌, ◌⊎◌, ℕ, ◌<◌, ◌≤◌, List, [], ◌∷◌, ◌++◌, All, Option, take, length, true, false, Result, Ok, Err}
+use Rattle.std.specs.Prelude.{◌≡◌, ◌⊎◌, ℕ, ◌<◌, ◌≤◌, List, [], All, Option, take, length, true, false, Result, Ok, Err}
 use Rattle.std.specs.List.{AllZip, flat_map}
 use Rattle.arrayvec.specs.ArrayVec.{ArrayVec}
 use Rattle.s39_kdf.specs.Limits.{IsPrintable, IsSecretLength}
@@ -15,7 +15,7 @@ use Rattle.s39_tool.specs.declared.fault.Refusal.TheVariants.{Device, Passphrase
 use Rattle.s39_tool.specs.declared.fault.Fault.{Fault}
 use Rattle.s39_tool.specs.Device.{Counted}
 use Rattle.s39_tool.specs.Fault.{fault_of}
-use Rattle.s39_tool.specs.Input.{Input}
+use Rattle.s39_tool.specs.Input.{Input, ended_line}
 use Rattle.s39_tool.specs.Output.{WritesWhole, WritesPart}
 
 -- what a backup is created from, but for the random bytes
@@ -33,10 +33,6 @@ needed_by asked = random_needed asked.group_threshold asked.groups (length asked
 -- the creation with these random bytes gives this
 abbrev pub Creates : Asked → List ℕ → Result (List ShareFields) CreateError → Type 0
 Creates asked random result = IsCreation asked.secret asked.passphrase asked.group_threshold asked.groups asked.options random result
-
--- a line, and its line feed
-abbrev pub ended_line : List ℕ → List ℕ
-ended_line line = line ++ 10 ∷ []
 
 -- the text has the printed form of each of these shares, one a line
 pub record ArePrintedLines (shares : List ShareFields) (text : List ℕ) : Type 0 where

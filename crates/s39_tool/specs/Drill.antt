@@ -24,7 +24,7 @@ use Rattle.s39_tool.specs.declared.drill.Undrilled.{Undrilled}
 use Rattle.s39_tool.specs.declared.drill.Undrilled.TheVariants.{Lack, NotAQuorum}
 use Rattle.s39_tool.specs.Device.{Counted}
 use Rattle.s39_tool.specs.Output.{WritesWhole, WritesPart}
-use Rattle.s39_tool.specs.Input.{Input}
+use Rattle.s39_tool.specs.Input.{Input, ended_line}
 use Rattle.s39_tool.specs.Fault.{fault_of, fault_of_stop}
 use Rattle.s39_tool.specs.Accepted.{IsReadAs}
 use Rattle.s39_tool.specs.Recover.{RefusesPassphrase}
@@ -42,12 +42,12 @@ outcome_text (Err OfGroups) = codes "digest mismatch of groups"
 
 -- the line of a quorum: the quorum, a space, its outcome, and a line feed
 abbrev pub quorum_line : Listed → List ℕ
-quorum_line listed = quorum_text listed.0 ++ 32 ∷ outcome_text listed.1 ++ 10 ∷ []
+quorum_line listed = ended_line (quorum_text listed.0 ++ 32 ∷ outcome_text listed.1)
 
 -- the last line: that no more quorums remain, or after which one more do
 abbrev pub last_line : Option (List (ℕ × ℕ)) → List ℕ
-last_line None = codes "end" ++ 10 ∷ []
-last_line (Some names) = codes "more after " ++ quorum_text names ++ 10 ∷ []
+last_line None = ended_line (codes "end")
+last_line (Some names) = ended_line (codes "more after " ++ quorum_text names)
 
 -- how many of these outcomes are mismatches
 abbrev pub mismatches_in : List Listed → ℕ

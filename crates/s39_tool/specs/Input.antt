@@ -1,5 +1,5 @@
 -- The lines of an input.
-use Rattle.std.specs.Prelude.{ℕ, List, [], ◌∷◌, Bool, true, not, ◌==◌, nat_lt, if◌then◌else◌, length, find}
+use Rattle.std.specs.Prelude.{ℕ, List, [], ◌∷◌, ◌++◌, Bool, true, not, ◌==◌, nat_lt, if◌then◌else◌, length, find}
 use Rattle.std.specs.List.{slice_split}
 use Rattle.std.specs.Option.{option_map_or}
 use Rattle.s39_words.specs.Spelling.{is_separator}
@@ -19,6 +19,10 @@ whole bytes = record { bytes = bytes; ended = true }
 
 abbrev pub is_line_feed : ℕ → Bool
 is_line_feed b = b == 10
+
+-- a line, and its line feed
+abbrev pub ended_line : List ℕ → List ℕ
+ended_line line = line ++ 10 ∷ []
 
 -- the bytes up to each line feed, and those after the last one, which may be none
 abbrev pub parts_of : List ℕ → List (List ℕ)

@@ -1,5 +1,5 @@
 -- The output of `recover`.
-use Rattle.std.specs.Prelude.{◌≡◌, ◌⊎◌, ℕ, List, [], ◌∷◌, ◌++◌, All, Result, Ok, Err}
+use Rattle.std.specs.Prelude.{◌≡◌, ◌⊎◌, ℕ, List, [], All, Result, Ok, Err}
 use Rattle.hex.specs.Hex.{encode_lower}
 use Rattle.s39_kdf.specs.declared.limits.BadPassphrase.{BadPassphrase}
 use Rattle.s39_kdf.specs.Limits.{IsPrintable, IsFirstUnprintable}
@@ -13,14 +13,14 @@ use Rattle.s39_tool.specs.declared.fault.Fault.{Fault}
 use Rattle.s39_tool.specs.declared.recover.Unrecovered.{Unrecovered}
 use Rattle.s39_tool.specs.declared.recover.Unrecovered.TheVariants.{Lack, DigestMismatch}
 use Rattle.s39_backup.specs.declared.combination.Mismatch.{Mismatch}
-use Rattle.s39_tool.specs.Input.{Input}
+use Rattle.s39_tool.specs.Input.{Input, ended_line}
 use Rattle.s39_tool.specs.Fault.{fault_of, fault_of_stop}
 use Rattle.s39_tool.specs.Accepted.{IsReadAs}
 use Rattle.s39_backup.specs.Outcome.{IsOutcome}
 
 -- the line that shows a secret: lower-case hexadecimal, and a line feed
 abbrev pub secret_line : List ℕ → List ℕ
-secret_line secret = encode_lower secret ++ 10 ∷ []
+secret_line secret = ended_line (encode_lower secret)
 
 -- the least quorum of the set has this outcome
 pub record HasOutcome (set : List ShareFields) (passphrase : List ℕ) (outcome : Result (List ℕ) Mismatch) : Type 0 where

@@ -1,5 +1,5 @@
 -- The output of `show`.
-use Rattle.std.specs.Prelude.{◌≡◌, ℕ, List, [], ◌∷◌, ◌++◌, codes, Option, Some, None, Result, Ok, Err}
+use Rattle.std.specs.Prelude.{◌≡◌, ℕ, List, [], ◌++◌, codes, Option, Some, None, Result, Ok, Err}
 use Rattle.std.specs.Fmt.{decimal}
 use Rattle.std.specs.List.{AllZip, flat_map}
 use Rattle.hex.specs.Hex.{encode_lower}
@@ -15,7 +15,7 @@ use Rattle.s39_tool.specs.declared.show.ShowRefusal.{ShowRefusal}
 use Rattle.s39_tool.specs.declared.show.ShowRefusal.TheVariants.{Line, WriteFailed}
 use Rattle.s39_tool.specs.Device.{Counted}
 use Rattle.s39_tool.specs.Output.{WritesWhole, WritesPart}
-use Rattle.s39_tool.specs.Input.{Input}
+use Rattle.s39_tool.specs.Input.{Input, ended_line}
 use Rattle.s39_tool.specs.Fault.{fault_of, fault_of_stop, answer_of}
 use Rattle.s39_tool.specs.Lines.{Holds, IsRefusedBy, LeadTo}
 
@@ -33,7 +33,7 @@ header_text f =
 
 -- the line that shows a share: its fields, the value in hexadecimal, and a line feed
 abbrev pub show_line : ShareFields → List ℕ
-show_line f = header_text f ++ codes " value " ++ encode_lower f.value.items ++ 10 ∷ []
+show_line f = ended_line (header_text f ++ codes " value " ++ encode_lower f.value.items)
 
 -- what is written for what a line holds
 abbrev pub line_text : Option ShareFields → List ℕ

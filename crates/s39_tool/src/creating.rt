@@ -1,17 +1,19 @@
 //! The command `create`: the mnemonics of a backup that is created from a secret and the random bytes of an input.
-ghost use Rattle.std.specs.Prelude.{◌≡◌, ◌≢◌, ◌+◌, ◌<◌, ◌≤◌, ◌++◌, ◌∷◌, [], All, ℕ, List, Ok, Err, IfOk, IfErr, length};
+ghost use Rattle.std.specs.Prelude.{◌≡◌, ◌≢◌, ◌+◌, ◌<◌, ◌≤◌, All, ℕ, List, Ok, Err, IfErr};
 ghost use Rattle.s39_words.specs.Printing.{IsPrinted};
 ghost use Rattle.s39_words.specs.Share.{IsShare};
 ghost use Rattle.s39_tool.specs.declared.creating.TheConstants.{ROOM};
-ghost use Rattle.s39_tool.specs.Create.{IsCreateOutput, HasRead, WritesPrinted, ended_line};
+ghost use Rattle.s39_tool.specs.Create.{IsCreateOutput, HasRead, WritesPrinted};
 ghost use Rattle.s39_tool.specs.Device.{failure_of};
 ghost use Rattle.s39_tool.specs.Fault.{fault_of};
+ghost use Rattle.s39_tool.specs.Input.{ended_line};
 ghost use Rattle.s39_kdf.specs.declared.limits.BadPassphrase.{BadPassphrase};
 ghost use Rattle.s39_kdf.specs.declared.limits.BadSecretLength.{BadSecretLength};
 ghost use Rattle.s39_tool.specs.Runs.{OfInput, Runs};
 
 use crate::device::Counting;
 use crate::fault::{DeviceFailure, Fault, Refusal};
+use crate::lines::PIECE;
 use crate::output::{Line, WriteFailed, push_text, write_text};
 use arrayvec::ArrayVec;
 use s39_backup::{Created, Options, Plan, create};
@@ -22,9 +24,6 @@ use std::io::{Read, Write};
 
 /// The most random bytes that a backup takes.
 pub(crate) const MAX_RANDOM_BYTES: usize = 32_574;
-
-/// How many bytes a read asks for at most.
-const PIECE: usize = 4096;
 
 /// How many bytes of an input are kept: one more than a backup takes at most.
 const ROOM: usize = MAX_RANDOM_BYTES + 1;

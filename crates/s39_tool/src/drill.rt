@@ -1,15 +1,14 @@
 //! The command `drill`: the quorums of an input's shares in order, each with its outcome.
-ghost use Rattle.std.specs.Prelude.{◌≡◌, ◌≢◌, ℕ, List, Option, ◌+◌, ◌-◌, ◌*◌, ◌<◌, ◌≤◌, ◌++◌, ◌∷◌, [], All, Some, None, Ok, Err, IfSome, IfOk, IfErr, OnErr, length, true, false};
+ghost use Rattle.std.specs.Prelude.{◌≡◌, ◌≢◌, ℕ, List, Option, ◌+◌, ◌-◌, ◌*◌, ◌<◌, ◌≤◌, ◌++◌, All, Some, None, Ok, Err, IfOk, IfErr, length};
 ghost use Rattle.std.specs.Option.{option_copied};
 ghost use Rattle.s39_kdf.specs.Limits.{IsPrintable, longest_secret};
 ghost use Rattle.s39_kdf.specs.declared.limits.BadPassphrase.{BadPassphrase};
-ghost use Rattle.s39_set.specs.Names.{most_groups, most_members, most_names, AreNames};
 ghost use Rattle.s39_set.specs.Looks.{most_step_looks};
 ghost use Rattle.s39_set.specs.Quorums.{IsQuorum, IsFirstQuorumAfter};
 ghost use Rattle.s39_set.specs.ShareSet.{IsShareSet};
-ghost use Rattle.s39_set.specs.Written.{name_text, quorum_text};
 ghost use Rattle.s39_backup.specs.Outcome.{AreParams, IsOutcome};
-ghost use Rattle.s39_tool.specs.Drill.{IsNext, IsUndrilled, StartsAt, IsDrillOutput, DrillsCreated, WritesDrill, shown, mismatch_in, outcome_text, quorum_line, last_line};
+ghost use Rattle.s39_tool.specs.Drill.{IsNext, IsUndrilled, StartsAt, IsDrillOutput, DrillsCreated, WritesDrill};
+ghost use Rattle.s39_tool.specs.Drill.{shown, mismatch_in, outcome_text, quorum_line, last_line};
 ghost use Rattle.s39_tool.specs.declared.output.TheConstants.{LINE_BYTES};
 ghost use Rattle.s39_tool.specs.Fault.{fault_of};
 ghost use Rattle.s39_tool.specs.Runs.{Runs};

@@ -14,6 +14,7 @@ mod memory;
 mod output;
 mod recover;
 mod show;
+mod slices;
 
 pub use creating::run_create;
 pub use device::Counting;
@@ -27,3 +28,4 @@ pub use s39_backup::{
     recover_by, refit,
 };
 pub use show::run_show;
+pub use slices::put;

@@ -1,6 +1,5 @@
 //! The lines of an input, and what they hold.
 ghost use Rattle.std.specs.Prelude.{◌≡◌, ◌≢◌, ℕ, ◌+◌, ◌<◌, ◌≤◌, List, [], ◌∷◌, ◌++◌, All, length, find, not, Bool, true, Ok, Err, IfOk, IfErr, OnOk, min};
-ghost use Rattle.std.specs.Io.KnownBytes.{Consumes};
 ghost use Rattle.s39_words.specs.Spelling.{is_separator};
 ghost use Rattle.s39_tool.specs.Fault.{stop_failures};
 ghost use Rattle.s39_tool.specs.Input.{longest_line, is_skipped, whole};
@@ -12,14 +11,14 @@ use crate::device::Counting;
 use crate::fault::{LineRefusal, RefusedLine, Stop};
 use arrayvec::ArrayVec;
 use memchr::memchr;
-use s39_words::{Share, parse};
+use s39_words::{Share, is_separator, parse};
 use std::io::Read;
 
 /// The most bytes of a line, its line feed not counted.
 pub(crate) const MAX_LINE_BYTES: usize = 1024;
 
-/// How many bytes a read asks for.
-const PIECE: usize = 4096;
+/// How many bytes a read asks for at most.
+pub(crate) const PIECE: usize = 4096;
 
 /// What a run does with the lines of its input, in their order.
 pub(crate) trait TakeLine {
@@ -53,12 +52,6 @@ pub(crate) trait TakeLine {
         → takes taker line (Err length_refusal) taker };
 }
 
-fn is_separator(byte: u8) -> bool
-    ensures { result ≡ is_separator byte }
-{
-    byte == b' ' || byte == b'\t' || byte == b'\r'
-}
-
 /// The first byte of the line that is no separator.
 fn first_other_byte(line: &[u8]) -> Option<u8>
     ensures { result ≡ find (λ b. not (is_separator b)) line.now }
@@ -66,6 +59,7 @@ fn first_other_byte(line: &[u8]) -> Option<u8>
     line.iter().copied().find(|byte| !is_separator(*byte))
 }
 
+/// Whether a line is blank, or a comment.
 fn is_skipped(line: &[u8]) -> bool
     ensures { result ≡ is_skipped line.now }
 {
@@ -167,6 +161,7 @@ impl Unfinished {
         Ok(())
     }
 
+    /// Takes the lines that end in a piece of the input, and keeps what comes after the last of them.
     fn take_piece<T: TakeLine>(
         &mut self,
         piece: &[u8],

@@ -1,5 +1,5 @@
 //! The drill of lines in memory, into a slice.
-ghost use Rattle.std.specs.Prelude.{◌≡◌, ◌≢◌, ℕ, List, Option, ◌+◌, ◌*◌, ◌-◌, ◌<◌, ◌≤◌, ◌++◌, [], All, Some, None, Ok, Err, IfOk, IfErr, IsOk, length, take, drop};
+ghost use Rattle.std.specs.Prelude.{◌≡◌, ℕ, List, Option, ◌+◌, ◌-◌, ◌<◌, ◌≤◌, ◌++◌, [], All, Some, None, Ok, Err, IfOk, IfErr, IsOk, length, take, drop};
 ghost use Rattle.std.specs.Option.{option_copied};
 ghost use Rattle.s39_kdf.specs.Limits.{IsPrintable};
 ghost use Rattle.s39_set.specs.Looks.{most_step_looks};
@@ -9,7 +9,7 @@ ghost use Rattle.s39_backup.specs.Outcome.{AreParams};
 ghost use Rattle.s39_tool.specs.Accepted.{IsReadAs};
 ghost use Rattle.s39_tool.specs.Input.{whole};
 ghost use Rattle.s39_tool.specs.Drill.{IsDrillOutput, StartsAt, last_line};
-ghost use Rattle.s39_tool.specs.Fitting.{IsInFront, Lists, IsTried, Fills, IsFilling};
+ghost use Rattle.s39_tool.specs.Fitting.{IsInFront, Lists, IsTried, Fills};
 
 use crate::collect::set_in;
 use crate::drill::{following, last_line, mismatch_in, outcome_of, quorum_line, start_of};
@@ -17,6 +17,7 @@ use crate::fault::Fault;
 use crate::laws::drill_laws;
 use crate::memory::{TooShort, Unwritten};
 use crate::output::Line;
+use crate::slices::put;
 use s39_backup::{Memo, params_of};
 use s39_kdf::check_passphrase;
 use s39_set::laws::listings_join;
@@ -74,7 +75,7 @@ fn start_in(
     lines: &[u8],
     looks: &mut Looks,
 ) -> Result<(ShareSet, Option<Quorum>), Fault>
-    requires none { looks.old ≡ 0 }
+    requires looks { looks.old ≤ u64.MAX - most_step_looks }
     ensures printable { IsOk result → All IsPrintable passphrase.now }
     ensures read { IfOk result (λ found. IsReadAs (whole lines.now) (Ok found.0)) }
     ensures is_set { IfOk result (λ found. IsShareSet found.0) }
@@ -83,7 +84,7 @@ fn start_in(
     ensures refused { IfErr result (λ fault. (limit : ℕ)
         → IsDrillOutput passphrase.now (option_copied after.entry) limit (whole lines.now)
         [] (Err fault)) }
-    ensures looks { looks.new ≤ most_step_looks }
+    ensures looks { looks.new ≤ looks.old + most_step_looks }
 {
     check_passphrase(passphrase)?;
     let set = set_in(lines)?;
@@ -214,12 +215,4 @@ fn ended(text: &mut [u8], written: usize, last: &Line, mismatches: u32) -> Listi
         written: written + last.len(),
         mismatches,
     }
-}
-
-/// Puts bytes to a place of a slice, and leaves what is before and behind them.
-pub(crate) fn put(text: &mut [u8], at: usize, bytes: &[u8])
-    requires { at + length bytes.now ≤ length text.old }
-    ensures { text.new ≡ take at text.old ++ bytes.now ++ drop (at + length bytes.now) text.old }
-{
-    text[at..at + bytes.len()].copy_from_slice(bytes);
 }

@@ -24,15 +24,15 @@ pub(crate) const LINE_BYTES: usize = NAME_BYTES * MAX_NAMES + 2 * MAX_SECRET_BYT
 /// A line of an output, as it is made.
 pub(crate) type Line = ArrayVec<u8, LINE_BYTES>;
 
+/// A text, for which there is room.
 pub(crate) fn push_text(line: &mut Line, text: &[u8])
     requires { length line.old.items + length text.now ≤ LINE_BYTES }
     ensures { line.new.items ≡ line.old.items ++ text.now }
 {
-    let Ok(()) = line.try_extend_from_slice(text) else {
-        unreachable!();
-    };
+    line.try_extend_from_slice(text).unwrap();
 }
 
+/// A number in decimal.
 fn push_number(line: &mut Line, number: u16)
     requires { length line.old.items + length (decimal number) ≤ LINE_BYTES }
     ensures { line.new.items ≡ line.old.items ++ decimal number }
@@ -43,6 +43,7 @@ fn push_number(line: &mut Line, number: u16)
     line.push(b'0' + (number % 10) as u8);
 }
 
+/// A text that names a number, and the number in decimal.
 pub(crate) fn push_field(line: &mut Line, name: &[u8], number: u16)
     requires { length line.old.items + length name.now + 5 ≤ LINE_BYTES }
     ensures text { line.new.items ≡ line.old.items ++ name.now ++ decimal number }
@@ -84,6 +85,7 @@ pub(crate) fn push_names(line: &mut Line, names: &[(u8, u8)])
     }
 }
 
+/// Bytes in lower-case hexadecimal.
 pub(crate) fn push_hex(line: &mut Line, bytes: &[u8])
     requires short { length bytes.now ≤ longest_secret }
     requires room { length line.old.items + 2 * length bytes.now ≤ LINE_BYTES }
@@ -91,9 +93,7 @@ pub(crate) fn push_hex(line: &mut Line, bytes: &[u8])
 {
     let mut digits = [0; 2 * MAX_SECRET_BYTES];
     let digits = &mut digits[..2 * bytes.len()];
-    let Ok(()) = hex::encode_to_slice(bytes, digits) else {
-        unreachable!();
-    };
+    hex::encode_to_slice(bytes, digits).unwrap();
     push_text(line, digits);
 }
 

@@ -1,5 +1,5 @@
 //! The command `show`: the fields of each mnemonic of an input, a line for each.
-ghost use Rattle.std.specs.Prelude.{◌≡◌, ◌+◌, ◌*◌, ◌<◌, ◌≤◌, [], ◌++◌, length};
+ghost use Rattle.std.specs.Prelude.{◌≡◌, ◌<◌, ◌≤◌, [], length};
 ghost use Rattle.s39_tool.specs.declared.show.TheConstants.{HEADER_BYTES};
 ghost use Rattle.s39_tool.specs.Runs.{Runs};
 ghost use Rattle.s39_tool.specs.Show.{IsShowOutput, header_text, show_line, fault_of_show};

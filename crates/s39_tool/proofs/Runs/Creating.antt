@@ -14,9 +14,9 @@ use Rattle.s39_words.specs.Printing.{IsPrinted}
 use Rattle.s39_backup.specs.declared.create_error.CreateError.{CreateError}
 use Rattle.s39_backup.specs.declared.create_error.CreateError.TheVariants.{Passphrase, SecretLength, BadRandomLength}
 use Rattle.s39_tool.specs.Device.{Counted}
-use Rattle.s39_tool.specs.Input.{Input}
+use Rattle.s39_tool.specs.Input.{Input, ended_line}
 use Rattle.s39_tool.specs.Fault.{read_failures_in, write_failures_in}
-use Rattle.s39_tool.specs.Create.{Asked, needed_by, Creates, ended_line, ArePrintedLines, fault_of_creation, Applies, IsCreateOutput}
+use Rattle.s39_tool.specs.Create.{Asked, needed_by, Creates, ArePrintedLines, fault_of_creation, Applies, IsCreateOutput}
 
 -- between two reads: these bytes came of the first reader's
 pub record IsTaking {D : Type 0} (remaining : D → Option (List ℕ)) (first reader : Counted D) (came : List ℕ) (limit : ℕ) : Type 0 where

@@ -13,8 +13,8 @@ use Rattle.s39_tool.specs.declared.fault.DeviceFailure.TheVariants.{Read}
 use Rattle.s39_tool.specs.declared.fault.Refusal.TheVariants.{Device}
 use Rattle.s39_tool.specs.declared.fault.Fault.{Fault}
 use Rattle.s39_tool.specs.Fault.{fault_of}
-use Rattle.s39_tool.specs.Input.{Input}
-use Rattle.s39_tool.specs.Create.{Asked, Creates, needed_by, ended_line, ArePrintedLines, fault_of_creation, Applies, FailsBefore, IsCreateOutput}
+use Rattle.s39_tool.specs.Input.{Input, ended_line}
+use Rattle.s39_tool.specs.Create.{Asked, Creates, needed_by, ArePrintedLines, fault_of_creation, Applies, FailsBefore, IsCreateOutput}
 use Rattle.s39_tool.proofs.Runs.Creating.{printed_all}
 
 -- ---- one output

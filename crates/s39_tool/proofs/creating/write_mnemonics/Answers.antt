@@ -1,6 +1,6 @@
 use Rattle.std.proofs.Common.{◌≡◌, ◌++◌, ◌∙◌, subst}
 use Rattle.std.proofs.lemmas.Result.{err_from_is_err_and}
-use Rattle.s39_tool.specs.Create.{ended_line}
+use Rattle.s39_tool.specs.Input.{ended_line}
 use Rattle.s39_tool.specs.Output.{WritesWhole, WritesPart}
 use Rattle.s39_tool.proofs.Runs.Writing.{both_written, part_after}
 use Rattle.s39_tool.proofs.Runs.Creating.{printed_next, printed_rest}

@@ -1,6 +1,6 @@
 use Rattle.std.proofs.Common.{◌≡◌, ◌++◌, ◌∙◌, length, ap, arith}
 use Rattle.std.proofs.lemmas.List.{length-append}
-use Rattle.s39_tool.specs.Create.{ended_line}
+use Rattle.s39_tool.specs.Input.{ended_line}
 use Rattle.s39_tool.proofs.Runs.Creating.{printed_next}
 use Rattle.s39_tool.proofs.memory.length_of.Goals as goal
 

@@ -1,6 +1,6 @@
 use Rattle.std.proofs.Common.{◌≡◌, ◌+◌, ◌++◌, ◌∙◌, length, take, drop, ap, subst, arith}
 use Rattle.std.proofs.lemmas.List.{length-append}
-use Rattle.s39_tool.specs.Create.{ended_line}
+use Rattle.s39_tool.specs.Input.{ended_line}
 use Rattle.s39_tool.proofs.Runs.Creating.{printed_next, printed_rest}
 use Rattle.s39_tool.proofs.Drills.Filling.{put_next}
 use Rattle.s39_tool.proofs.Runs.OneCreate.{text_once}
@@ -29,8 +29,8 @@ loop-share-preserved c =
       text ++ ended_line line,
       printed_next c.args.shares.now c.loop-share.share-index c.share-item.result text line c.loop-share-test.true c.share-item.is printed of_share,
       rw (length-append text (ended_line line)) (omega (arith, at, more)),
-      subst (λ n. c.put.new.text ≡ take n c.loop-share.out ++ ended_line line ++ drop (n + length (ended_line line)) c.loop-share.out) at
-          (subst (λ b. c.put.new.text ≡ take c.loop-share.written c.loop-share.out ++ b ++ drop (c.loop-share.written + length b) c.loop-share.out) bytes
+      subst (λ n. c.put.new.slice ≡ take n c.loop-share.out ++ ended_line line ++ drop (n + length (ended_line line)) c.loop-share.out) at
+          (subst (λ b. c.put.new.slice ≡ take c.loop-share.written c.loop-share.out ++ b ++ drop (c.loop-share.written + length b) c.loop-share.out) bytes
           c.put.ensures)
           ∙ ap (λ o. take (length text) o ++ ended_line line ++ drop (length text + length (ended_line line)) o) out
           ∙ put_next text (ended_line line) c.args.out.now,
