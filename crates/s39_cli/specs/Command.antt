@@ -17,12 +17,16 @@ use Rattle.s39_cli.specs.declared.command.NoJob.TheVariants.{Help, Refused, Memo
 abbrev pub show_app : App
 show_app = new_app (codes "show")
 
--- the option `--passphrase TEXT`, which has no default
-abbrev pub passphrase_rule : Rule
-passphrase_rule = record (new_rule (codes "passphrase")) {
-  long = Some (codes "passphrase");
+-- an option of this name with a value, which has no default
+abbrev pub option_rule : Text → Rule
+option_rule name = record (new_rule name) {
+  long = Some name;
   value_names = 1;
 }
+
+-- the option `--passphrase TEXT`
+abbrev pub passphrase_rule : Rule
+passphrase_rule = option_rule (codes "passphrase")
 
 -- the plan, which has to be given
 abbrev pub plan_rule : Rule
@@ -33,17 +37,13 @@ plan_rule = record (new_rule (codes "plan")) {
 
 -- the option `--master-secret HEX`, which has to be given
 abbrev pub secret_rule : Rule
-secret_rule = record (new_rule (codes "master-secret")) {
-  long = Some (codes "master-secret");
-  value_names = 1;
+secret_rule = record (option_rule (codes "master-secret")) {
   required = true;
 }
 
 -- the option `--exponent E`, a number from 0 to 15, by default 0
 abbrev pub exponent_rule : Rule
-exponent_rule = record (new_rule (codes "exponent")) {
-  long = Some (codes "exponent");
-  value_names = 1;
+exponent_rule = record (option_rule (codes "exponent")) {
   defaults = codes "0" ∷ [];
   parser = Some (Signed (pos 0) (pos 15));
 }
@@ -64,18 +64,13 @@ create_app = with_rule (with_rule (with_rule (with_rule (with_rule (new_app (cod
 abbrev pub recover_app : App
 recover_app = with_rule (new_app (codes "recover")) passphrase_rule
 
--- the option `--after Q`, which has no default
+-- the option `--after Q`
 abbrev pub after_rule : Rule
-after_rule = record (new_rule (codes "after")) {
-  long = Some (codes "after");
-  value_names = 1;
-}
+after_rule = option_rule (codes "after")
 
 -- the option `--limit N`, a number from 1 to 4294967295, by default 1000
 abbrev pub limit_rule : Rule
-limit_rule = record (new_rule (codes "limit")) {
-  long = Some (codes "limit");
-  value_names = 1;
+limit_rule = record (option_rule (codes "limit")) {
   defaults = codes "1000" ∷ [];
   parser = Some (Signed (pos 1) (pos 4294967295));
 }

@@ -3,11 +3,14 @@ ghost use Rattle.std.specs.Prelude.{◌≡◌, [], codes, false, Some, true, map
 ghost use Rattle.clap.specs.Words.{app_of, found_of, kind_of, rows_of, rule_of, takes, with_rule, with_subcommand};
 ghost use Rattle.clap.specs.declared.builder.Command.TheViews.{out-Command};
 ghost use Rattle.s39_clap.specs.Found.{EntersOne};
-ghost use Rattle.s39_cli.specs.Command.{commands, plan_rule, secret_rule, passphrase_rule, exponent_rule, extendable_rule, show_app, create_app, recover_app, after_rule, limit_rule, drill_app, shamir_top, shamir_app, text_or_empty, Gives, GivesJob, IsInRange, AnswersKind, AnswersWords};
+ghost use Rattle.s39_cli.specs.Command.{option_rule, plan_rule, secret_rule, passphrase_rule, exponent_rule, extendable_rule};
+ghost use Rattle.s39_cli.specs.Command.{after_rule, limit_rule, show_app, create_app, recover_app, drill_app, shamir_top, shamir_app, commands, text_or_empty};
+ghost use Rattle.s39_cli.specs.Command.{Gives, GivesJob, IsInRange, AnswersKind, AnswersWords};
 
 use clap::builder::ValueParser;
 use clap::error::ErrorKind;
 use clap::{Arg, ArgAction, ArgMatches, Command, Error};
+use s39_kdf::MAX_EXPONENT;
 use std::alloc::{AllocError, Global};
 
 /// A command of the program, with its values.
@@ -68,9 +71,6 @@ impl From<AllocError> for NoJob {
 /// The version that `--version` answers.
 const VERSION: &str = "1.0.0";
 
-/// The greatest iteration exponent.
-const MAX_EXPONENT: i64 = 15;
-
 fn plan<'a>(alloc: Global) -> Arg<'a>
     ensures rule { rule_of result ≡ plan_rule }
     ensures local { result.global ≡ false }
@@ -81,36 +81,37 @@ fn plan<'a>(alloc: Global) -> Arg<'a>
         .help("The plan of the groups: TofN, or GT/T1ofN1,T2ofN2,..")
 }
 
+/// An option with a value, which help calls as `value` says, and without a default.
+fn option<'a>(alloc: Global, name: &'a str, value: &'a str) -> Arg<'a>
+    ensures rule { rule_of result ≡ option_rule name.now }
+    ensures local { result.global ≡ false }
+{
+    Arg::new(alloc, name).long(name).value_name(value)
+}
+
 fn master_secret<'a>(alloc: Global) -> Arg<'a>
     ensures rule { rule_of result ≡ secret_rule }
     ensures local { result.global ≡ false }
 {
-    Arg::new(alloc, "master-secret")
-        .long("master-secret")
-        .value_name("HEX")
-        .required(true)
-        .help("The secret in hexadecimal, 16 to 128 bytes and an even number of them")
+    option(alloc, "master-secret", "HEX").required(true).help(
+        "The secret in hexadecimal, 16 to 128 bytes and an even number of them",
+    )
 }
 
 fn passphrase<'a>(alloc: Global) -> Arg<'a>
     ensures rule { rule_of result ≡ passphrase_rule }
     ensures local { result.global ≡ false }
 {
-    Arg::new(alloc, "passphrase")
-        .long("passphrase")
-        .value_name("TEXT")
-        .help("The passphrase of the backup, by default empty")
+    option(alloc, "passphrase", "TEXT").help("The passphrase of the backup, by default empty")
 }
 
 fn exponent<'a>(alloc: Global) -> Arg<'a>
     ensures rule { rule_of result ≡ exponent_rule }
     ensures local { result.global ≡ false }
 {
-    Arg::new(alloc, "exponent")
-        .long("exponent")
-        .value_name("E")
+    option(alloc, "exponent", "E")
         .default_value("0")
-        .value_parser(ValueParser::signed(0, MAX_EXPONENT))
+        .value_parser(ValueParser::signed(0, i64::from(MAX_EXPONENT)))
         .help("The iteration exponent, 0 to 15: a recovery takes 10,000 * 2^E iterations")
 }
 
@@ -159,19 +160,14 @@ fn after<'a>(alloc: Global) -> Arg<'a>
     ensures rule { rule_of result ≡ after_rule }
     ensures local { result.global ≡ false }
 {
-    Arg::new(alloc, "after")
-        .long("after")
-        .value_name("Q")
-        .help("Goes on after this quorum, by default from the first")
+    option(alloc, "after", "Q").help("Goes on after this quorum, by default from the first")
 }
 
 fn limit<'a>(alloc: Global) -> Arg<'a>
     ensures rule { rule_of result ≡ limit_rule }
     ensures local { result.global ≡ false }
 {
-    Arg::new(alloc, "limit")
-        .long("limit")
-        .value_name("N")
+    option(alloc, "limit", "N")
         .default_value("1000")
         .value_parser(ValueParser::signed(1, i64::from(u32::MAX)))
         .help("How many quorums are tried at most")

@@ -8,5 +8,4 @@ mod status;
 mod work;
 
 pub use command::{Job, NoJob, read_words};
-pub use s39_text::{FaultText, RefusalText};
-pub use status::{no_memory, no_words, program, program_at_terminal};
+pub use status::{no_words, program, program_at_terminal};

@@ -3,7 +3,7 @@ ghost use Rattle.s39_cli.specs.Command.{IsInRange};
 
 use crate::command::{Job, NoJob, read_words};
 use crate::patient::Patient;
-use crate::work::{Unready, Work};
+use crate::work::{Destination, Unready, Work};
 use s39_text::FaultText;
 use s39_tool::{Counting, DeviceFailure, Fault, Refusal};
 use std::alloc::Global;
@@ -39,7 +39,7 @@ pub fn program<R: Read + Drop, W: Write + Drop, E: Write + Drop>(
     output: W,
     errors: E,
 ) -> u8 {
-    obey(alloc, words, input, output, errors, false)
+    obey(alloc, words, input, output, errors, Destination::Elsewhere)
 }
 
 /// As [`program`], where a person watches the output: each line of `show` goes out as soon as it is known, and not only
@@ -51,20 +51,21 @@ pub fn program_at_terminal<R: Read + Drop, W: Write + Drop, E: Write + Drop>(
     output: W,
     errors: E,
 ) -> u8 {
-    obey(alloc, words, input, output, errors, true)
+    obey(alloc, words, input, output, errors, Destination::Terminal)
 }
 
+/// Does what the words ask for, and gives the exit status.
 fn obey<R: Read + Drop, W: Write + Drop, E: Write + Drop>(
     alloc: Global,
     words: &[&str],
     input: R,
     output: W,
     errors: E,
-    at_terminal: bool,
+    destination: Destination,
 ) -> u8 {
     let mut errors = errors;
     match read_words(alloc, words) {
-        Ok(job) => run(alloc, job, input, output, &mut errors, at_terminal),
+        Ok(job) => run(alloc, job, input, output, &mut errors, destination),
         Err(NoJob::Help(text)) => show_help(text.as_str(), output, &mut errors),
         Err(NoJob::Refused(text)) => {
             let _ = errors.write_all(text.as_bytes());
@@ -74,13 +75,14 @@ fn obey<R: Read + Drop, W: Write + Drop, E: Write + Drop>(
     }
 }
 
+/// Runs the command of a job, says its fault, and gives the exit status.
 fn run<R: Read + Drop, W: Write + Drop, E: Write>(
     alloc: Global,
     job: Job,
     input: R,
     output: W,
     errors: &mut E,
-    at_terminal: bool,
+    destination: Destination,
 ) -> u8
     requires { IsInRange job }
 {
@@ -88,7 +90,7 @@ fn run<R: Read + Drop, W: Write + Drop, E: Write>(
         Ok(work) => work,
         Err(unready) => return refuse(unready, errors),
     };
-    let written = if work.goes_by_lines(at_terminal) {
+    let written = if work.goes_by_lines(destination) {
         by_lines(alloc, &work, input, output)
     } else {
         by_buffer(alloc, &work, input, output)
@@ -190,6 +192,7 @@ fn show_help<W: Write + Drop, E: Write>(text: &str, output: W, errors: &mut E) -
     DONE
 }
 
+/// Says the fault of a run, and gives the exit status.
 fn report<E: Write>(fault: Fault, errors: &mut E) -> u8 {
     let _ = writeln!(errors, "{}", FaultText::from(fault));
     if matches!(fault.refusal, Refusal::Device(_)) {
@@ -209,8 +212,8 @@ pub fn no_words<E: Write>(error: &io::Error, errors: &mut E) -> u8 {
     NO_JOB
 }
 
-/// Says that there is no memory, without taking any, and gives the exit status 4.
-pub fn no_memory<E: Write>(errors: &mut E) -> u8 {
+/// Says that there is no memory, without taking any, and gives the exit status.
+fn no_memory<E: Write>(errors: &mut E) -> u8 {
     let _ = errors.write_all(b"shamir: out of memory\n");
     NO_MEMORY
 }

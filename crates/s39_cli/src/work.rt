@@ -11,6 +11,15 @@ use s39_tool::{
 use std::alloc::Global;
 use std::io::{Read, Write};
 
+/// Where the output of a command goes.
+#[derive(Clone, Copy, Debug, PartialEq, Eq)]
+pub(crate) enum Destination {
+    /// To a terminal, at which a person watches it.
+    Terminal,
+    /// To a file, or to another program.
+    Elsewhere,
+}
+
 /// What a backup is created from, beside its random bytes.
 #[derive(Debug, Drop)]
 pub(crate) struct Creation<'a> {
@@ -89,15 +98,19 @@ impl<'a> Work<'a> {
                 passphrase,
                 exponent,
                 extendable,
-            } => Work::Create(Creation {
-                secret: hex::decode(alloc, secret.as_bytes())?,
-                plan: Plan::parse(plan)?,
-                passphrase: passphrase.as_bytes(),
-                options: Options {
-                    exponent,
-                    extendable,
-                },
-            }),
+            } => {
+                let secret = hex::decode(alloc, secret.as_bytes())?;
+                let plan = Plan::parse(plan)?;
+                Work::Create(Creation {
+                    plan,
+                    secret,
+                    passphrase: passphrase.as_bytes(),
+                    options: Options {
+                        exponent,
+                        extendable,
+                    },
+                })
+            }
             Job::Recover { passphrase } => Work::Recover {
                 passphrase: passphrase.as_bytes(),
             },
@@ -117,9 +130,9 @@ impl<'a> Work<'a> {
     }
 
     /// Whether each line of the output goes out as soon as it is known.
-    pub(crate) fn goes_by_lines(&self, at_terminal: bool) -> bool {
+    pub(crate) fn goes_by_lines(&self, destination: Destination) -> bool {
         match self {
-            Work::Show => at_terminal,
+            Work::Show => destination == Destination::Terminal,
             Work::Drill(_) => true,
             Work::Create(_) | Work::Recover { .. } => false,
         }
