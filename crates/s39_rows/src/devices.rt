@@ -1,55 +1,103 @@
-//! Runs over devices that fail.
+//! Readers and writers that give or take little, fail, or are interrupted.
 
-use crate::vectors::{ONE_OF_ONE, ONE_OF_ONE_BAD_CHECKSUM, ONE_OF_ONE_BAD_PADDING, SHOW, SHOWN};
-use s39_cli::program;
-use s39_tool::{Counting, DeviceFailure, Fault, LineRefusal, Refusal, run_recover, run_show};
-use s39_words::WordError;
 use std::alloc::Global;
 use std::io;
 use std::io::{ErrorKind, Read, Write};
-use std::test::Fail;
 
-/// A reader that fails after its bytes, which it gives one at a time.
+/// A reader that gives at most so many bytes a call, and fails once it has been called so often.
 #[derive(Drop)]
-pub struct Cut<'a> {
-    pub bytes: &'a [u8],
+pub struct Source<'a> {
+    bytes: &'a [u8],
+    piece: usize,
+    good_calls: usize,
+    pub calls: usize,
 }
 
-impl Read for Cut<'_> {
+impl<'a> Source<'a> {
+    pub fn new(bytes: &'a [u8], piece: usize, good_calls: usize) -> Source<'a> {
+        Source {
+            bytes,
+            piece,
+            good_calls,
+            calls: 0,
+        }
+    }
+
+    /// A reader that gives its bytes one at a time.
+    pub fn slow(bytes: &'a [u8]) -> Source<'a> {
+        Source::new(bytes, 1, usize::MAX)
+    }
+
+    /// A reader that gives its bytes one at a time, and fails after them.
+    pub fn cut(bytes: &'a [u8]) -> Source<'a> {
+        Source::new(bytes, 1, bytes.len())
+    }
+}
+
+impl Read for Source<'_> {
     fn read(&mut self, buf: &mut [u8]) -> io::Result<usize> {
-        match self.bytes {
-            [] => Err(io::Error::from(ErrorKind::Other)),
-            [first, rest @ ..] => {
-                if buf.is_empty() {
-                    return Ok(0);
-                }
-                buf[0] = *first;
-                self.bytes = rest;
-                Ok(1)
-            }
+        self.calls = self.calls.saturating_add(1);
+        if self.calls > self.good_calls {
+            return Err(io::Error::from(ErrorKind::Other));
+        }
+        let count = self.piece.min(self.bytes.len()).min(buf.len());
+        let (now, rest) = self.bytes.split_at(count);
+        buf[..count].copy_from_slice(now);
+        self.bytes = rest;
+        Ok(count)
+    }
+}
+
+/// A reader of which the system interrupts the first call, and that has no bytes.
+#[derive(Drop)]
+pub struct InterruptedAtFirst {
+    pub calls: usize,
+}
+
+impl Read for InterruptedAtFirst {
+    fn read(&mut self, _buf: &mut [u8]) -> io::Result<usize> {
+        self.calls = self.calls.saturating_add(1);
+        if self.calls == 1 {
+            return Err(io::Error::from(ErrorKind::Interrupted));
+        }
+        Ok(0)
+    }
+}
+
+/// A writer that takes at most so many bytes a call, and fails once there is no room.
+#[derive(Drop)]
+pub struct Filling {
+    pub bytes: Vec<u8>,
+    piece: usize,
+    room: usize,
+    pub failed_calls: usize,
+}
+
+impl Filling {
+    pub fn new(alloc: Global, piece: usize, room: usize) -> Filling {
+        Filling {
+            bytes: Vec::new(alloc),
+            piece,
+            room,
+            failed_calls: 0,
         }
     }
 }
 
-/// A reader that gives its bytes one at a time.
-#[derive(Drop)]
-pub struct Slow<'a> {
-    pub bytes: &'a [u8],
-}
-
-impl Read for Slow<'_> {
-    fn read(&mut self, buf: &mut [u8]) -> io::Result<usize> {
-        match self.bytes {
-            [] => Ok(0),
-            [first, rest @ ..] => {
-                if buf.is_empty() {
-                    return Ok(0);
-                }
-                buf[0] = *first;
-                self.bytes = rest;
-                Ok(1)
-            }
+impl Write for Filling {
+    fn write(&mut self, buf: &[u8]) -> io::Result<usize> {
+        let count = self.piece.min(self.room).min(buf.len());
+        if count == 0 {
+            self.failed_calls = self.failed_calls.saturating_add(1);
+            return Err(io::Error::from(ErrorKind::Other));
         }
+        self.bytes.extend_from_slice(&buf[..count])?;
+        self.room -= count;
+        Ok(count)
+    }
+
+    fn flush(&mut self) -> io::Result<()> {
+        Ok(())
     }
 }
 
@@ -82,47 +130,6 @@ impl Write for Flushing {
         if self.fails {
             return Err(io::Error::from(ErrorKind::Other));
         }
-        Ok(())
-    }
-}
-
-/// A writer that takes a byte at each call, and fails when it has as many as there is room for.
-#[derive(Drop)]
-pub struct Narrow {
-    pub bytes: Vec<u8>,
-    room: usize,
-    pub calls_after_failure: usize,
-    has_failed: bool,
-}
-
-impl Narrow {
-    pub fn new(alloc: Global, room: usize) -> Narrow {
-        Narrow {
-            bytes: Vec::new(alloc),
-            room,
-            calls_after_failure: 0,
-            has_failed: false,
-        }
-    }
-}
-
-impl Write for Narrow {
-    fn write(&mut self, buf: &[u8]) -> io::Result<usize> {
-        if self.has_failed {
-            self.calls_after_failure = self.calls_after_failure.saturating_add(1);
-        }
-        let Some(first) = buf.first() else {
-            return Ok(0);
-        };
-        if self.bytes.len() >= self.room {
-            self.has_failed = true;
-            return Err(io::Error::from(ErrorKind::Other));
-        }
-        self.bytes.push(*first)?;
-        Ok(1)
-    }
-
-    fn flush(&mut self) -> io::Result<()> {
         Ok(())
     }
 }
@@ -170,140 +177,4 @@ impl Write for Full {
     fn flush(&mut self) -> io::Result<()> {
         Ok(())
     }
-}
-
-const READ_FAILED: Fault = Fault {
-    line: None,
-    refusal: Refusal::Device(DeviceFailure::Read),
-};
-
-const WRITE_FAILED: Fault = Fault {
-    line: None,
-    refusal: Refusal::Device(DeviceFailure::Write),
-};
-
-#[test]
-fn stops_at_a_failed_read(rt: HostRuntime) -> Result<(), Fail> {
-    let alloc = rt.alloc();
-    let line = format!(in alloc; "{ONE_OF_ONE}\n")?;
-    let started = format!(in alloc; "{ONE_OF_ONE}\n{ONE_OF_ONE_BAD_CHECKSUM}")?;
-    for bytes in [line.as_str(), started.as_str()] {
-        let mut input = Counting::new(Cut {
-            bytes: bytes.as_bytes(),
-        });
-        let mut output = Counting::new(Vec::new(alloc));
-        assert_eq!(rt; run_show(&mut input, &mut output), Err(READ_FAILED));
-        assert_eq!(rt; (input.failures(), output.failures()), (1, 0));
-        assert_eq!(rt; output.into_inner().as_slice(), SHOWN.as_bytes());
-    }
-    let mut written = Vec::new(alloc);
-    let mut told = Vec::new(alloc);
-    let input = Cut {
-        bytes: line.as_bytes(),
-    };
-    assert_eq!(rt; program(alloc, &SHOW, input, &mut written, &mut told), 3);
-    assert_eq!(rt; written.as_slice(), SHOWN.as_bytes());
-    assert_eq!(rt; told.as_slice(), b"shamir: 72 read failed\n".as_slice());
-    Ok(())
-}
-
-#[test]
-fn refuses_what_came_before_a_failed_read(rt: HostRuntime) -> Result<(), Fail> {
-    let alloc = rt.alloc();
-    let mut comment = String::from_str(alloc, "#")?;
-    for _ in 0..1023 {
-        comment.push('a')?;
-    }
-    let mut input = Counting::new(Cut {
-        bytes: comment.as_bytes(),
-    });
-    let mut output = Counting::new(Vec::new(alloc));
-    assert_eq!(rt; run_show(&mut input, &mut output), Err(READ_FAILED));
-    comment.push('a')?;
-    let mut input = Counting::new(Cut {
-        bytes: comment.as_bytes(),
-    });
-    let too_long = Fault {
-        line: Some(1),
-        refusal: Refusal::Line(LineRefusal::TooLong),
-    };
-    assert_eq!(rt; run_show(&mut input, &mut output), Err(too_long));
-    assert_eq!(rt; (input.failures(), output.failures()), (0, 0));
-    assert!(rt; output.into_inner().is_empty());
-    Ok(())
-}
-
-#[test]
-fn stops_at_a_failed_write(rt: HostRuntime) {
-    let alloc = rt.alloc();
-    for room in [0, 1, SHOWN.len() - 1] {
-        let mut input = Counting::new(ONE_OF_ONE.as_bytes());
-        let mut output = Counting::new(Narrow::new(alloc, room));
-        assert_eq!(rt; run_show(&mut input, &mut output), Err(WRITE_FAILED));
-        assert_eq!(rt; (input.failures(), output.failures()), (0, 1));
-        let device = output.into_inner();
-        assert_eq!(rt; device.calls_after_failure, 0);
-        assert!(rt; device.bytes.len() == room && SHOWN.as_bytes().starts_with(&device.bytes));
-    }
-    let mut input = Counting::new(ONE_OF_ONE.as_bytes());
-    let mut output = Counting::new(Narrow::new(alloc, SHOWN.len()));
-    assert_eq!(rt; run_show(&mut input, &mut output), Ok(()));
-    let mut told = Vec::new(alloc);
-    let mut narrow = Narrow::new(alloc, 0);
-    assert_eq!(rt;
-        program(alloc, &SHOW, ONE_OF_ONE.as_bytes(), &mut narrow, &mut told),
-        3
-    );
-    assert_eq!(rt; narrow.calls_after_failure, 0);
-    assert_eq!(rt; told.as_slice(), b"shamir: 73 write failed\n".as_slice());
-}
-
-#[test]
-fn recovers_nothing_over_failed_devices(rt: HostRuntime) -> Result<(), Fail> {
-    let alloc = rt.alloc();
-    let secret = b"bb54aac4b89dc868ba37d9cc21b2cece\n".as_slice();
-    let line = format!(in alloc; "{ONE_OF_ONE}\n")?;
-    let mut input = Counting::new(Cut {
-        bytes: line.as_bytes(),
-    });
-    let mut output = Counting::new(Vec::new(alloc));
-    assert_eq!(rt;
-        run_recover(b"TREZOR", &mut input, &mut output),
-        Err(READ_FAILED)
-    );
-    assert_eq!(rt; (input.failures(), output.failures()), (1, 0));
-    assert!(rt; output.into_inner().is_empty());
-    for room in [0, 1, 32] {
-        let mut input = Counting::new(ONE_OF_ONE.as_bytes());
-        let mut output = Counting::new(Narrow::new(alloc, room));
-        assert_eq!(rt;
-            run_recover(b"TREZOR", &mut input, &mut output),
-            Err(WRITE_FAILED)
-        );
-        assert_eq!(rt; (input.failures(), output.failures()), (0, 1));
-        let device = output.into_inner();
-        assert_eq!(rt; device.calls_after_failure, 0);
-        assert!(rt; device.bytes.len() == room && secret.starts_with(&device.bytes));
-    }
-    Ok(())
-}
-
-#[test]
-fn counts_a_write_of_nothing_as_a_failure(rt: HostRuntime) -> Result<(), Fail> {
-    let mut output = Counting::new(Full);
-    assert!(rt; output.write(b"a").is_err());
-    assert_eq!(rt; output.failures(), 1);
-    assert_eq!(rt; output.write(b"")?, 0);
-    assert_eq!(rt; output.failures(), 1);
-    let mut input = Counting::new(b"ab".as_slice());
-    let mut buf = [0; 4];
-    assert_eq!(rt; input.read(&mut buf)?, 2);
-    assert_eq!(rt; input.failures(), 0);
-    let mut input = Counting::new(ONE_OF_ONE_BAD_PADDING.as_bytes());
-    let bad_padding = Fault {
-        line: Some(1),
-        refusal: Refusal::Line(LineRefusal::Word(WordError::BadPadding)),
-    };
-    assert_eq!(rt; run_show(&mut input, &mut output), Err(bad_padding));
-    Ok(())
 }

@@ -1,7 +1,7 @@
 //! The worked examples of `drill`, from the command line to the lines and the status.
 
 use crate::create::{FIVE, MOST, RANDOM, SECRET, create, lines};
-use crate::devices::{Interrupted, Narrow};
+use crate::devices::{Filling, Interrupted};
 use crate::recover::forged;
 use crate::vectors::{
     ONE_OF_ONE, ONE_OF_ONE_SECRET, SHOW, SHOWN, TWO_NEEDED_MEMBER_0, TWO_NEEDED_MEMBER_2,
@@ -241,11 +241,11 @@ fn writes_nothing_after_a_failed_write(rt: HostRuntime) -> Result<(), Fail> {
     let five = lines(alloc, &FIVE)?;
     for room in [0, 1, 44, 45, 46] {
         let mut told = Vec::new(alloc);
-        let mut narrow = Narrow::new(alloc, room);
+        let mut narrow = Filling::new(alloc, 1, room);
         let status = program(alloc, &DRILL, five.as_bytes(), &mut narrow, &mut told);
         assert_eq!(rt;
-            (status, narrow.bytes.len(), narrow.calls_after_failure),
-            (3, room, 0)
+            (status, narrow.bytes.len(), narrow.failed_calls),
+            (3, room, 1)
         );
         assert_eq!(rt; told.as_slice(), b"shamir: 73 write failed\n".as_slice());
     }

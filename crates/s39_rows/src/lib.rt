@@ -1,4 +1,5 @@
-//! The rows that cross crates: worked examples, devices, the command line and its texts. It has tests alone.
+//! Rows of tests that cross crates, each a case and what comes of it: vectors, worked examples, devices that fail, the
+//! command line, and the texts of faults. It has tests alone.
 #![tactic(auto)]
 
 #[cfg(test)]
@@ -8,9 +9,9 @@ mod create;
 #[cfg(test)]
 mod devices;
 #[cfg(test)]
-mod devices_that_fail;
-#[cfg(test)]
 mod drill;
+#[cfg(test)]
+mod failures;
 #[cfg(test)]
 mod recover;
 #[cfg(test)]

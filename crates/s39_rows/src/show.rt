@@ -1,6 +1,6 @@
 //! The worked examples of `show`.
 
-use crate::devices::Slow;
+use crate::devices::Source;
 use crate::vectors::{
     EXTENDABLE_ONE_OF_ONE, EXTENDABLE_ONE_OF_ONE_SHOWN, EXTENDABLE_TWO_WORDS_EXCHANGED,
     LONGEST_ONE_OF_ONE, LONGEST_ONE_OF_ONE_SHOWN, ONE_OF_ONE, ONE_OF_ONE_256_BITS,
@@ -178,9 +178,7 @@ fn shows_many_lines_read_by_single_bytes(rt: HostRuntime) -> Result<(), Fail> {
     }
     let mut written = Vec::new(alloc);
     let mut told = Vec::new(alloc);
-    let slow = Slow {
-        bytes: input.as_bytes(),
-    };
+    let slow = Source::slow(input.as_bytes());
     assert_eq!(rt; program(alloc, &SHOW, slow, &mut written, &mut told), 0);
     assert_eq!(rt; written.as_slice(), shown.as_bytes());
     assert!(rt; told.is_empty());

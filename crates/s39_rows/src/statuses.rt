@@ -2,7 +2,7 @@
 
 use crate::devices::{Flushing, Full};
 use crate::vectors::{ONE_OF_ONE, ONE_OF_ONE_BAD_CHECKSUM, SHOW, SHOWN, expect_run};
-use s39_cli::{no_memory, no_words, program};
+use s39_cli::{no_words, program};
 use std::io;
 use std::io::ErrorKind;
 
@@ -165,9 +165,6 @@ fn keeps_its_status_where_the_errors_fail(rt: HostRuntime) {
 #[test]
 fn says_why_there_are_no_words(rt: HostRuntime) {
     let alloc = rt.alloc();
-    let mut told = Vec::new(alloc);
-    assert_eq!(rt; no_memory(&mut told), 4);
-    assert_eq!(rt; told.as_slice(), b"shamir: out of memory\n".as_slice());
     let cases: [(ErrorKind, u8, &[u8]); 2] = [
         (ErrorKind::OutOfMemory, 4, b"shamir: out of memory\n"),
         (

@@ -1,8 +1,8 @@
 //! The texts of faults.
 
-use s39_cli::FaultText;
 use s39_kdf::BadPassphrase;
 use s39_set::{SetError, SetLack};
+use s39_text::FaultText;
 use s39_tool::{Fault, LineRefusal, Mismatch, PlanError, Refusal};
 use std::alloc::Global;
 use std::process::Abort;

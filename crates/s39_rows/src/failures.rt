@@ -1,11 +1,14 @@
-//! Each command over devices that fail at one of their calls, give or take single bytes, or take none.
+//! Runs over devices that fail at one of their calls, give or take single bytes, or take none.
 
 ghost use Rattle.std.specs.Prelude.{◌<◌};
 
 use crate::create::{FIVE, RANDOM, SECRET, lines};
-use crate::devices::{Cut, Full, Interrupted, Slow};
+use crate::devices::{Filling, Full, Interrupted, InterruptedAtFirst, Source};
 use crate::drill::SEVEN;
-use crate::vectors::{ONE_OF_ONE, ONE_OF_ONE_SECRET, SHOWN};
+use crate::vectors::{
+    ONE_OF_ONE, ONE_OF_ONE_BAD_CHECKSUM, ONE_OF_ONE_BAD_PADDING, ONE_OF_ONE_SECRET, SHOW, SHOWN,
+};
+use s39_cli::program;
 use s39_kdf::check_secret;
 use s39_tool::{
     Counting, DeviceFailure, Done, Fault, LineRefusal, Options, Plan, Refusal, run_create,
@@ -13,70 +16,9 @@ use s39_tool::{
 };
 use s39_words::WordError;
 use std::alloc::{AllocError, Global};
-use std::io;
-use std::io::{ErrorKind, Read, Write};
+use std::io::{Read, Write};
 use std::process::Abort;
 use std::test::Fail;
-
-/// A reader that gives at most so many bytes a call, and fails once it has been called so often.
-#[derive(Drop)]
-struct Failing<'a> {
-    bytes: &'a [u8],
-    piece: usize,
-    good_calls: usize,
-    calls: usize,
-}
-
-impl Read for Failing<'_> {
-    fn read(&mut self, buf: &mut [u8]) -> io::Result<usize> {
-        self.calls = self.calls.saturating_add(1);
-        if self.calls > self.good_calls {
-            return Err(io::Error::from(ErrorKind::Other));
-        }
-        let count = self.piece.min(self.bytes.len()).min(buf.len());
-        let (now, rest) = self.bytes.split_at(count);
-        buf[..count].copy_from_slice(now);
-        self.bytes = rest;
-        Ok(count)
-    }
-}
-
-/// A writer that takes at most so many bytes a call, and fails once there is no room.
-#[derive(Drop)]
-struct Filling {
-    bytes: Vec<u8>,
-    piece: usize,
-    room: usize,
-    failed_calls: usize,
-}
-
-impl Filling {
-    fn new(alloc: Global, piece: usize, room: usize) -> Filling {
-        Filling {
-            bytes: Vec::new(alloc),
-            piece,
-            room,
-            failed_calls: 0,
-        }
-    }
-}
-
-impl Write for Filling {
-    fn write(&mut self, buf: &[u8]) -> io::Result<usize> {
-        let count = self.piece.min(self.room).min(buf.len());
-        if count == 0 {
-            self.failed_calls = self.failed_calls.saturating_add(1);
-            return Err(io::Error::from(ErrorKind::Other));
-        }
-        self.bytes.extend_from_slice(&buf[..count])?;
-        self.room -= count;
-        Ok(count)
-    }
-
-    fn flush(&mut self) -> io::Result<()> {
-        Ok(())
-    }
-}
 
 const READ_FAILED: Fault = Fault {
     line: None,
@@ -203,6 +145,40 @@ fn at_line_1(refusal: LineRefusal) -> Result<u32, Fault> {
 }
 
 #[test]
+fn shows_the_lines_before_a_failed_read(rt: HostRuntime) -> Result<(), Fail> {
+    let alloc = rt.alloc();
+    let line = format!(in alloc; "{ONE_OF_ONE}\n")?;
+    let started = format!(in alloc; "{ONE_OF_ONE}\n{ONE_OF_ONE_BAD_CHECKSUM}")?;
+    for text in [line.as_str(), started.as_str()] {
+        let device = Source::cut(text.as_bytes());
+        let outcome = outcome_of(Command::Show, device, Vec::new(alloc));
+        assert_eq!(rt; outcome.answer, Err(READ_FAILED));
+        assert_eq!(rt; outcome.failures, (1, 0));
+        assert_eq!(rt; outcome.output.as_slice(), SHOWN.as_bytes());
+    }
+    Ok(())
+}
+
+#[test]
+fn says_which_device_failed(rt: HostRuntime) -> Result<(), Fail> {
+    let alloc = rt.alloc();
+    let line = format!(in alloc; "{ONE_OF_ONE}\n")?;
+    let mut written = Vec::new(alloc);
+    let mut told = Vec::new(alloc);
+    let input = Source::cut(line.as_bytes());
+    assert_eq!(rt; program(alloc, &SHOW, input, &mut written, &mut told), 3);
+    assert_eq!(rt; written.as_slice(), SHOWN.as_bytes());
+    assert_eq!(rt; told.as_slice(), b"shamir: 72 read failed\n".as_slice());
+    let mut told = Vec::new(alloc);
+    let mut narrow = Filling::new(alloc, 1, 0);
+    let input = ONE_OF_ONE.as_bytes();
+    assert_eq!(rt; program(alloc, &SHOW, input, &mut narrow, &mut told), 3);
+    assert_eq!(rt; narrow.failed_calls, 1);
+    assert_eq!(rt; told.as_slice(), b"shamir: 73 write failed\n".as_slice());
+    Ok(())
+}
+
+#[test]
 fn shows_beginnings_of_a_mnemonic(rt: HostRuntime) -> Result<(), Fail> {
     let alloc = rt.alloc();
     let text = ONE_OF_ONE.as_bytes();
@@ -225,7 +201,7 @@ fn shows_beginnings_of_a_mnemonic(rt: HostRuntime) -> Result<(), Fail> {
         let ended = outcome_of(Command::Show, begun, Vec::new(alloc));
         assert_eq!(rt; ended.answer, wanted, "ended after {end} bytes");
         assert_eq!(rt; ended.output.as_slice(), shown.as_bytes());
-        let failed = outcome_of(Command::Show, Cut { bytes: begun }, Vec::new(alloc));
+        let failed = outcome_of(Command::Show, Source::cut(begun), Vec::new(alloc));
         assert_eq!(rt; failed.answer, Err(READ_FAILED), "failed after {end} bytes");
         assert_eq!(rt; failed.failures, (1, 0));
         assert!(rt; failed.output.is_empty());
@@ -264,15 +240,16 @@ fn shows_lines_of_any_bytes(rt: HostRuntime) -> Result<(), Fail> {
     let mut comment = repeated(alloc, b'#', 1024)?;
     let letters = repeated(alloc, b'a', 1024)?;
     for bytes in [comment.as_slice(), letters.as_slice()] {
-        let outcome = outcome_of(Command::Show, Cut { bytes }, Vec::new(alloc));
+        let outcome = outcome_of(Command::Show, Source::cut(bytes), Vec::new(alloc));
         assert_eq!(rt; outcome.answer, Err(READ_FAILED));
         assert!(rt; outcome.output.is_empty());
     }
     comment.push(b'x')?;
     let bytes = comment.as_slice();
-    let outcome = outcome_of(Command::Show, Cut { bytes }, Vec::new(alloc));
+    let outcome = outcome_of(Command::Show, Source::cut(bytes), Vec::new(alloc));
     assert_eq!(rt; outcome.answer, at_line_1(LineRefusal::TooLong));
     assert_eq!(rt; outcome.failures, (0, 0));
+    assert!(rt; outcome.output.is_empty());
     Ok(())
 }
 
@@ -311,15 +288,18 @@ fn expect_beginning(rt: &impl Abort, alloc: Global, example: &Example, piece: us
 #[test]
 fn writes_beginnings(rt: HostRuntime) -> Result<(), Fail> {
     let alloc = rt.alloc();
-    let cases: [(Command, usize, &[usize]); 2] = [
+    let cases: [(Command, usize, &[usize]); 3] = [
         (Command::Show, 147, &[0, 1, 146, 147]),
         (Command::Create, 715, &[0, 141, 714, 715]),
+        (Command::Recover, 33, &[0, 1, 32, 33]),
     ];
     for (command, length, rooms) in cases {
         let example = example_of(alloc, command)?;
         assert_eq!(rt; example.output.len(), length);
         for room in rooms {
-            expect_beginning(&rt, alloc, &example, 100, *room);
+            for piece in [1, 100] {
+                expect_beginning(&rt, alloc, &example, piece, *room);
+            }
         }
     }
     Ok(())
@@ -345,22 +325,6 @@ fn answers_a_write_of_nothing(rt: HostRuntime) -> Result<(), Fail> {
         assert_eq!(rt; outcome.failures, (0, 1));
     }
     Ok(())
-}
-
-/// A reader of which the system interrupts the first call, and that has no bytes.
-#[derive(Drop)]
-struct InterruptedAtFirst {
-    calls: usize,
-}
-
-impl Read for InterruptedAtFirst {
-    fn read(&mut self, _buf: &mut [u8]) -> io::Result<usize> {
-        self.calls = self.calls.saturating_add(1);
-        if self.calls == 1 {
-            return Err(io::Error::from(ErrorKind::Interrupted));
-        }
-        Ok(0)
-    }
 }
 
 #[test]
@@ -392,12 +356,7 @@ fn answers_each_failed_read(rt: HostRuntime) -> Result<(), Fail> {
             // The last of these calls is the one that gives no byte.
             let calls = input.len().div_ceil(piece) + 1;
             for good_calls in 0..calls {
-                let device = Failing {
-                    bytes: input,
-                    piece,
-                    good_calls,
-                    calls: 0,
-                };
+                let device = Source::new(input, piece, good_calls);
                 let outcome = outcome_of(command, device, Vec::new(alloc));
                 assert_eq!(rt;
                     outcome.answer,
@@ -419,13 +378,31 @@ fn takes_and_gives_single_bytes(rt: HostRuntime) -> Result<(), Fail> {
     let alloc = rt.alloc();
     for command in COMMANDS {
         let example = example_of(alloc, command)?;
-        let device = Slow {
-            bytes: example.input.as_slice(),
-        };
+        let device = Source::slow(example.input.as_slice());
         let outcome = outcome_of(command, device, Filling::new(alloc, 1, 4096));
         assert_eq!(rt; outcome.answer, Ok(0), "{command:?}");
         assert_eq!(rt; outcome.failures, (0, 0));
         assert_eq!(rt; outcome.output.bytes.as_slice(), example.output.as_bytes());
     }
+    Ok(())
+}
+
+#[test]
+fn counts_a_write_of_nothing_as_a_failure(rt: HostRuntime) -> Result<(), Fail> {
+    let mut output = Counting::new(Full);
+    assert!(rt; output.write(b"a").is_err());
+    assert_eq!(rt; output.failures(), 1);
+    assert_eq!(rt; output.write(b"")?, 0);
+    assert_eq!(rt; output.failures(), 1);
+    let mut input = Counting::new(b"ab".as_slice());
+    let mut buf = [0; 4];
+    assert_eq!(rt; input.read(&mut buf)?, 2);
+    assert_eq!(rt; input.failures(), 0);
+    let mut input = Counting::new(ONE_OF_ONE_BAD_PADDING.as_bytes());
+    let bad_padding = Fault {
+        line: Some(1),
+        refusal: Refusal::Line(LineRefusal::Word(WordError::BadPadding)),
+    };
+    assert_eq!(rt; run_show(&mut input, &mut output), Err(bad_padding));
     Ok(())
 }
