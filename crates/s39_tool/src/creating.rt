@@ -23,10 +23,10 @@ use s39_words::{Share, print};
 use std::io::{Read, Write};
 
 /// The most random bytes that a backup takes.
-pub(crate) const MAX_RANDOM_BYTES: usize = 32_574;
+pub(crate) const MAX_BACKUP_RANDOM_BYTES: usize = 32_574;
 
 /// How many bytes of an input are kept: one more than a backup takes at most.
-const ROOM: usize = MAX_RANDOM_BYTES + 1;
+const ROOM: usize = MAX_BACKUP_RANDOM_BYTES + 1;
 
 type Random = ArrayVec<u8, ROOM>;
 

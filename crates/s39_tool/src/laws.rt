@@ -5,7 +5,7 @@ ghost use Rattle.s39_set.specs.ShareSet.{IsShareSet};
 ghost use Rattle.s39_tool.specs.declared.fault.Fault.{Fault};
 ghost use Rattle.s39_tool.specs.declared.fault.LineRefusal.{LineRefusal};
 ghost use Rattle.s39_tool.specs.declared.fault.Stop.{Stop};
-ghost use Rattle.s39_tool.specs.declared.creating.TheConstants.{MAX_RANDOM_BYTES};
+ghost use Rattle.s39_tool.specs.declared.creating.TheConstants.{MAX_BACKUP_RANDOM_BYTES};
 ghost use Rattle.s39_tool.specs.declared.lines.TheConstants.{MAX_LINE_BYTES};
 ghost use Rattle.s39_tool.specs.Input.{Input, longest_line};
 ghost use Rattle.s39_tool.specs.Accepted.{IsReadAs};
@@ -35,7 +35,7 @@ use s39_words::laws::{
 /// The code's limits are those of the definitions.
 pub fn numbers()
     ensures line { MAX_LINE_BYTES ≡ longest_line }
-    ensures random { MAX_RANDOM_BYTES ≡ most_random }
+    ensures random { MAX_BACKUP_RANDOM_BYTES ≡ most_random }
 {}
 
 /// An input has a show output.
