@@ -1,6 +1,7 @@
 //! What a call answers.
 ghost use Rattle.std.specs.Prelude.{◌≡◌, ℕ};
-ghost use Rattle.s39_c.specs.Answers.{done, number, too_short, out_of_range, refusal, plan_refused, cursor_refused, word_refused, refused, plan_details, word_details, set_details, lack_details, mismatch_details, line_details, details_of};
+ghost use Rattle.s39_c.specs.Answers.{done, number, too_short, out_of_range, refusal, plan_refused, cursor_refused, word_refused, refused};
+ghost use Rattle.s39_c.specs.Answers.{plan_details, word_details, set_details, lack_details, mismatch_details, line_details, details_of};
 
 use s39_backup::{Mismatch, PlanError};
 use s39_set::{BadCursor, SetError, SetLack};
