@@ -27,8 +27,12 @@ module _ (created_backups_drill : (passphrase : List ℕ) (after : Option (List 
       output = created fits.listed fits.text (Ok (record { mismatches = listing.mismatches })) fits.output;
       in_front = fits.in_front;
       written = fits.written;
+      less_fits = λ n some less.
+          let (shorter, mismatches, output, short) = fits.less_fits n some less in
+          (shorter, mismatches, created n shorter (Ok (record { mismatches = mismatches })) output, short);
       more_is_too_long = λ below.
-          let (longer, mismatches, output, long) = fits.more_is_too_long below in (longer, mismatches, created (fits.listed + 1) longer (Ok (record { mismatches = mismatches })) output, long);
+          let (longer, mismatches, output, long) = fits.more_is_too_long below in
+          (longer, mismatches, created (fits.listed + 1) longer (Ok (record { mismatches = mismatches })) output, long);
     },
     is,
   )

@@ -9,8 +9,8 @@ use Rattle.s39_tool.specs.Fitting.{ListsWhatFits, IsTooShort}
 use Rattle.s39_c.specs.declared.answer.ShamirAnswer.{ShamirAnswer}
 use Rattle.s39_c.specs.Answers.{too_short, listed, out_of_range, cursor_refused, refused}
 
--- What a drill with these outputs writes with the limit, or with a lower one where one quorum more doesn't fit; or how many
--- bytes the first quorum needs; or the refusal that it answers. After the last two the slice is as it was.
+-- What a drill with these outputs writes with the limit, or with the first lower one after which one quorum more doesn't
+-- fit; or how many bytes one quorum needs; or the refusal that it answers. After the last two the slice is as it was.
 abbrev pub GivesListing : (ℕ → List ℕ → Result Done Fault → Type 0) → ℕ → List ℕ → List ℕ → ShamirAnswer → Type 0
 GivesListing IsOutput limit old new answer =
     ((listing : Listing) × ListsWhatFits IsOutput limit old new listing × (answer ≡ listed listing.written listing.mismatches))

@@ -11,12 +11,13 @@ use s39_tool::drill_lines;
 use s39_tool::laws::created_backups_drill;
 
 /// Tries the quorums of the lines' shares that come after the one that `after` writes, or all, where that text is empty:
-/// what the command `drill` writes of them goes to the front of `text`, with the limit, or with a lower one, where with one
-/// quorum more it doesn't fit. `written` is the number of bytes, and `mismatches` how many of the listed quorums are refused
-/// for a digest. The last line is `end`, or `more after` and a text to go on after.
+/// what the command `drill` writes of them goes to the front of `text`, with the limit, or with a lower one: it stops before
+/// the first quorum whose line doesn't fit with the last line behind it. `written` is the number of bytes, and `mismatches`
+/// how many of the listed quorums are refused for a digest. The last line is `end`, or `more after` and a text to go on after.
 ///
 /// The first that applies is refused, and then the slice is unchanged: a limit of 0 (2), a text that is no list of names
-/// (61), what the command refuses of passphrase, lines and names, and that `text` is too short for a quorum (1).
+/// (61), what the command refuses of passphrase, lines and names, and that `text` is too short for one quorum, or for
+/// `end` where none is left (1).
 #[unsafe(no_mangle)]
 pub extern "C" fn shamir_drill(
     lines: &[u8],
@@ -44,7 +45,7 @@ pub extern "C" fn shamir_drill(
     }
 }
 
-/// Writes what is listed after a quorum, or of all, to the front of a slice, as much as fits.
+/// Writes what is listed after a quorum, or of all, to the front of a slice, up to the first line that doesn't fit.
 fn give_listing(
     passphrase: &[u8],
     after: Option<&Quorum>,

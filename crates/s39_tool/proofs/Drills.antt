@@ -6,5 +6,6 @@ pub mod Filling
 pub mod Output
 pub mod Complete
 pub mod OneDrill
+pub mod OneListing
 pub mod OneOutput
 pub mod SomeOutput

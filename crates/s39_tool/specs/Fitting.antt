@@ -17,8 +17,8 @@ pub record IsInFront (text old new : List ℕ) : Type 0 where
   pub fits : length text ≤ length old
   pub bytes : new ≡ text ++ drop (length text) old
 
--- What a drill writes with the limit, or with a lower one where one quorum more doesn't fit into the slice, stands at its
--- front: a drill that has these outputs with each limit.
+-- What a drill writes stands at the front of a slice: with the limit, or with the first lower one after which what it
+-- writes of one quorum more doesn't fit there. The drill has these outputs with each limit.
 pub record ListsWhatFits (IsOutput : ℕ → List ℕ → Result Done Fault → Type 0) (limit : ℕ) (old new : List ℕ) (listing : Listing) : Type 0 where
   pub listed : ℕ
   pub text : List ℕ
@@ -27,6 +27,8 @@ pub record ListsWhatFits (IsOutput : ℕ → List ℕ → Result Done Fault → 
   pub output : IsOutput listed text (Ok (record { mismatches = listing.mismatches }))
   pub in_front : IsInFront text old new
   pub written : listing.written ≡ length text
+  pub less_fits : (n : ℕ) → 1 ≤ n → n < listed → (shorter : List ℕ) × (mismatches : ℕ)
+      × IsOutput n shorter (Ok (record { mismatches = mismatches })) × (length shorter ≤ length old)
   pub more_is_too_long : listed < limit → (longer : List ℕ) × (mismatches : ℕ)
       × IsOutput (listed + 1) longer (Ok (record { mismatches = mismatches })) × (length old < length longer)
 
@@ -67,7 +69,13 @@ pub record IsTried (set : List ShareFields) (passphrase : List ℕ) (names : Lis
   pub is_next : IsNext set (Some names) next
   pub last_is : last ≡ last_line (more_after names next)
 
--- A drill of a set in a slice: with the limit, or with a lower one where one quorum more doesn't fit.
+-- a drill of a set with this limit fits into so many bytes
+abbrev pub DrillFits : List ShareFields → List ℕ → Option (List (ℕ × ℕ)) → ℕ → ℕ → Type 0
+DrillFits set passphrase after n room =
+    (lines : List ℕ) × (more : Option (List (ℕ × ℕ))) × (mismatches : ℕ) × IsDrill set passphrase after n lines more mismatches
+    × (length (lines ++ last_line more) ≤ room)
+
+-- A drill of a set in a slice: with the limit, or with the first lower one after which one quorum more doesn't fit.
 pub record FillsSlice (set : List ShareFields) (passphrase : List ℕ) (after : Option (List (ℕ × ℕ))) (limit : ℕ) (old new : List ℕ)
     (listing : Listing) : Type 0 where
   pub listed : ℕ
@@ -78,6 +86,7 @@ pub record FillsSlice (set : List ShareFields) (passphrase : List ℕ) (after : 
   pub drill : IsDrill set passphrase after listed lines more listing.mismatches
   pub in_front : IsInFront (lines ++ last_line more) old new
   pub written : listing.written ≡ length (lines ++ last_line more)
+  pub less_fits : (n : ℕ) → 1 ≤ n → n < listed → DrillFits set passphrase after n (length old)
   pub more_is_too_long : listed < limit → (longer : List ℕ) × (rest : Option (List (ℕ × ℕ))) × (mismatches : ℕ)
       × IsDrill set passphrase after (listed + 1) longer rest mismatches × (length old < length (longer ++ last_line rest))
 
@@ -99,6 +108,8 @@ pub record IsFilling (set : List ShareFields) (passphrase : List ℕ) (start : L
   pub fits : written + length last ≤ length old
   pub is_next : IsNext set (Some reached) next
   pub last_is : last ≡ last_line (more_after reached next)
+  pub less_fits : (after : Option (List (ℕ × ℕ))) → IsFirstQuorumAfter set after start
+      → (n : ℕ) → 1 ≤ n → n < listed → DrillFits set passphrase after n (length old)
   pub goes_on : (after : Option (List (ℕ × ℕ))) → IsFirstQuorumAfter set after start
       → (limit : ℕ) (rest : List ℕ) (more : Option (List (ℕ × ℕ))) (m : ℕ) → IsDrill set passphrase (Some reached) limit rest more m
       → IsDrill set passphrase after (listed + limit) (lines ++ rest) more (mismatches + m)

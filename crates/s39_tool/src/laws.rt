@@ -16,6 +16,9 @@ ghost use Rattle.s39_tool.specs.Show.{IsShowOutput};
 ghost use Rattle.s39_tool.specs.Recover.{IsRecoverOutput};
 ghost use Rattle.s39_tool.specs.declared.drill.Done.{Done};
 ghost use Rattle.s39_tool.specs.Drill.{DrillLaws, IsDrill, IsDrillOutput, DrillsCreated};
+ghost use Rattle.s39_tool.specs.declared.listing.Listing.{Listing};
+ghost use Rattle.s39_tool.specs.declared.memory.Unwritten.{Unwritten};
+ghost use Rattle.s39_tool.specs.Fitting.{Lists};
 ghost use Rattle.s39_tool.specs.OfBackup.{HoldsMnemonicsOf, RecoversCreated};
 ghost use Rattle.s39_backup.specs.Created.{AreOfBackup, most_random};
 
@@ -198,6 +201,17 @@ pub fn one_drill_output()
     one_set();
     one_listing();
     one_outcome();
+}
+
+/// What is listed of an input in a slice is one thing: one slice, and one answer.
+pub fn one_listing_in_a_slice()
+    ensures { (passphrase : List ℕ) (after : Option (List (ℕ × ℕ))) (limit : ℕ) (input : Input)
+        (old new other : List ℕ) (answer another : Result Listing Unwritten)
+        → Lists (λ n. IsDrillOutput passphrase after n input) limit old new answer
+        → Lists (λ n. IsDrillOutput passphrase after n input) limit old other another
+        → (new ≡ other) × (answer ≡ another) }
+{
+    one_drill_output();
 }
 
 /// An input has an output of `drill`, where the limit is at least 1.

@@ -1,7 +1,8 @@
 -- A drill in a slice, a line at a time.
-use Rattle.std.proofs.Common.{◌≡◌, ℕ, suc, ◌+◌, ◌<◌, ◌≤◌, List, [], ◌++◌, length, take, drop, is_some, false, ◌⊎◌}
-use Rattle.std.proofs.Common.{inl, refl, sym, ap, ◌∙◌, subst, append_assoc, append-nil, arith}
+use Rattle.std.proofs.Common.{◌≡◌, ℕ, suc, ◌+◌, ◌-◌, ◌<◌, ◌≤◌, List, [], ◌++◌, length, take, drop, is_some, false, ◌⊎◌}
+use Rattle.std.proofs.Common.{inl, inr, refl, sym, ap, ◌∙◌, subst, append_assoc, append-nil, arith}
 use Rattle.std.proofs.Common.{Option, Some, None, All, Result, Ok, Err, IfOk, IfErr}
+use Rattle.std.proofs.lemmas.Bool.{cases_lt}
 use Rattle.std.proofs.lemmas.List.{length-append}
 use Rattle.std.proofs.lemmas.Slice.{drop-append-drop}
 use Rattle.std.proofs.Math.Seq.{take-append_seam}
@@ -17,7 +18,7 @@ use Rattle.s39_tool.specs.declared.memory.Unwritten.TheVariants.{TooShort as Sli
 use Rattle.s39_tool.specs.Input.{Input}
 use Rattle.s39_tool.specs.Accepted.{IsReadAs}
 use Rattle.s39_tool.specs.Drill.{DrillLaws, last_line, IsDrill, IsDrillOutput, IsNext, StartsAt}
-use Rattle.s39_tool.specs.Fitting.{IsInFront, Lists, more_after, IsTried, FillsSlice, Fills, IsFilling}
+use Rattle.s39_tool.specs.Fitting.{IsInFront, Lists, more_after, IsTried, DrillFits, FillsSlice, Fills, IsFilling}
 use Rattle.s39_tool.proofs.Drills.Drilling.{Names, drill_ends, drill_step, drill_over}
 use Rattle.s39_tool.proofs.Drills.Output.{drilled}
 
@@ -88,10 +89,35 @@ module _ {set : List ShareFields} {passphrase : List ℕ} (laws : DrillLaws) whe
       fits = fits;
       is_next = t.is_next;
       last_is = t.last_is;
+      less_fits = λ after first n some less. absurd (omega (arith, some, less));
       goes_on = λ after first limit rest more n d. tried_then first t limit rest more n d;
     }
 
-    module _ {listed : ℕ} {new last : List ℕ} {written m : ℕ} where
+    module _ (is : IsShareSet set) {listed : ℕ} {new last : List ℕ} {written m : ℕ} where
+      -- what stands there is the drill up to here, and fits with its last line
+      so_far : {next : Option Names} (f : IsFilling set passphrase start listed old new last written next m) (left : ℕ)
+          → (left ≡ 0) ⊎ (is_some next ≡ false) → (given : Option Names) → IsFirstQuorumAfter set given start
+          → IsDrill set passphrase given (listed + left) f.lines (more_after f.reached next) m
+      so_far {next} f left over given first =
+          let d = f.goes_on given first left [] (more_after f.reached next) 0 (drill_over laws set passphrase is f.reached next left f.is_next over) in
+          let same : m + 0 ≡ m = omega arith in
+          subst (λ n. IsDrill set passphrase given (listed + left) f.lines (more_after f.reached next) n) same
+          (subst (λ l. IsDrill set passphrase given (listed + left) l (more_after f.reached next) (m + 0)) (append-nil f.lines) d)
+
+      size_so_far : {next : Option Names} (f : IsFilling set passphrase start listed old new last written next m)
+          → length (f.lines ++ last_line (more_after f.reached next)) ≡ written + length last
+      size_so_far {next} f =
+          length-append f.lines (last_line (more_after f.reached next)) ∙ sym (ap (λ l. length f.lines + length l) f.last_is)
+          ∙ ap (λ k. k + length last) (sym f.written_is)
+
+      fits_so_far : {next : Option Names} (f : IsFilling set passphrase start listed old new last written next m) (left : ℕ)
+          → (left ≡ 0) ⊎ (is_some next ≡ false) → (given : Option Names) → IsFirstQuorumAfter set given start
+          → DrillFits set passphrase given (listed + left) (length old)
+      fits_so_far {next} f left over given first =
+          let size = size_so_far f in
+          let room = f.fits in
+          (f.lines, more_after f.reached next, m, so_far f left over given first, omega (arith, size, room))
+
       -- one more line stands there
       pub filling_goes_on : {quorum : Names} → IsFilling set passphrase start listed old new last written (Some quorum) m
           → {after line end : List ℕ} {next : Option Names} {at n : ℕ} → IsTried set passphrase quorum line end next n
@@ -107,6 +133,13 @@ module _ {set : List ShareFields} {passphrase : List ℕ} (laws : DrillLaws) whe
         fits = fits;
         is_next = t.is_next;
         last_is = t.last_is;
+        less_fits = λ given first k some less.
+            elim (cases_lt k listed) [
+              | inl below ↦ f.less_fits given first k some below
+              | inr above ↦
+                  let here : listed + 0 ≡ k = omega (arith, less, above) in
+                  subst (λ i. DrillFits set passphrase given i (length old)) here (fits_so_far f 0 (inl refl) given first)
+            ];
         goes_on = λ given first limit rest more k d.
             let later = tried_then f.is_next t limit rest more k d in
             let whole = f.goes_on given first (1 + limit) (line ++ rest) more (n + k) later in
@@ -117,35 +150,26 @@ module _ {set : List ShareFields} {passphrase : List ℕ} (laws : DrillLaws) whe
             (subst (λ l. IsDrill set passphrase given (listed + (1 + limit)) l more (m + (n + k))) (sym (append_assoc f.lines line rest)) whole));
       }
 
-      module _ (is : IsShareSet set) {after : List ℕ} {listing : Listing}
+      module _ {after : List ℕ} {listing : Listing}
           (put : after ≡ take written new ++ last ++ drop (written + length last) new) (written_is : listing.written ≡ written + length last)
           (count : listing.mismatches ≡ m) where
         in_front : {next : Option Names} (f : IsFilling set passphrase start listed old new last written next m)
             → IsInFront (f.lines ++ last_line (more_after f.reached next)) old after
-        in_front {next} f =
-            let size : length (f.lines ++ last_line (more_after f.reached next)) ≡ written + length last =
-            length-append f.lines (last_line (more_after f.reached next)) ∙ sym (ap (λ l. length f.lines + length l) f.last_is)
-            ∙ ap (λ k. k + length last) (sym f.written_is) in record {
+        in_front f =
+            let size = size_so_far f in
+            record {
               fits = let room = f.fits in omega (arith, size, room);
               bytes = subst (λ l. after ≡ (f.lines ++ l) ++ drop (length (f.lines ++ l)) old) f.last_is
                   (put_at f.lines last old new after written f.bytes f.written_is put);
             }
-
-        text_size : {next : Option Names} (f : IsFilling set passphrase start listed old new last written next m)
-            → listing.written ≡ length (f.lines ++ last_line (more_after f.reached next))
-        text_size {next} f =
-            written_is ∙ ap (λ k. k + length last) f.written_is ∙ ap (λ l. length f.lines + length l) f.last_is
-            ∙ sym (length-append f.lines (last_line (more_after f.reached next)))
 
         stopped : {next : Option Names} (f : IsFilling set passphrase start listed old new last written next m) (left : ℕ)
             → (left ≡ 0) ⊎ (is_some next ≡ false)
             → (given : Option Names) → IsFirstQuorumAfter set given start
             → IsDrill set passphrase given (listed + left) f.lines (more_after f.reached next) listing.mismatches
         stopped {next} f left over given first =
-            let d = f.goes_on given first left [] (more_after f.reached next) 0 (drill_over laws set passphrase is f.reached next left f.is_next over) in
-            let same : m + 0 ≡ listing.mismatches = omega (arith, count) in
-            subst (λ n. IsDrill set passphrase given (listed + left) f.lines (more_after f.reached next) n) same
-            (subst (λ l. IsDrill set passphrase given (listed + left) l (more_after f.reached next) (m + 0)) (append-nil f.lines) d)
+            subst (λ n. IsDrill set passphrase given (listed + left) f.lines (more_after f.reached next) n) (sym count)
+            (so_far f left over given first)
 
         -- the limit is reached, or no quorum is left
         pub filled : {next : Option Names} → IsFilling set passphrase start listed old new last written next m → (limit left : ℕ) → 1 ≤ listed
@@ -160,7 +184,18 @@ module _ {set : List ShareFields} {passphrase : List ℕ} (laws : DrillLaws) whe
           drill = subst (λ n. IsDrill set passphrase given n f.lines (more_after f.reached next) listing.mismatches) sum
               (stopped f left over given first);
           in_front = in_front f;
-          written = text_size f;
+          written = written_is ∙ sym (size_so_far f);
+          less_fits = λ n n_some less.
+              elim (cases_lt n listed) [
+                | inl below ↦ f.less_fits given first n n_some below
+                | inr above ↦
+                    let none : is_some next ≡ false = elim over [
+                      | inl zero ↦ absurd (omega (arith, zero, less, above, sum))
+                      | inr none ↦ none
+                    ] in
+                    let here : listed + (n - listed) ≡ n = omega (arith, above) in
+                    subst (λ i. DrillFits set passphrase given i (length old)) here (fits_so_far f (n - listed) (inr none) given first)
+              ];
           more_is_too_long = λ below. absurd (omega (arith, below));
         }
 
@@ -180,7 +215,8 @@ module _ {set : List ShareFields} {passphrase : List ℕ} (laws : DrillLaws) whe
               subst (λ k. IsDrill set passphrase given k f.lines (Some f.reached) listing.mismatches) none
               (stopped f 0 (inl refl) given first);
           in_front = in_front f;
-          written = text_size f;
+          written = written_is ∙ sym (size_so_far f);
+          less_fits = f.less_fits given first;
           more_is_too_long = λ below.
               let alone = tried_alone is f.is_next t in
               let whole = f.goes_on given first 1 line (more_after quorum then) n alone in
@@ -214,6 +250,7 @@ module _ (none : (set : List ShareFields) (given : Option Names) (limit : ℕ) �
     output = output f.listed f.lines f.more listing.mismatches f.drill;
     in_front = f.in_front;
     written = f.written;
+    less_fits = λ n some less. let (lines, more, m, d, fits) = f.less_fits n some less in (lines ++ last_line more, m, output n lines more m d, fits);
     more_is_too_long = λ below.
         let (longer, rest, m, d, long) = f.more_is_too_long below in (longer ++ last_line rest, m, output (f.listed + 1) longer rest m d, long);
   }
@@ -240,6 +277,7 @@ module _ (none : (set : List ShareFields) (given : Option Names) (limit : ℕ) �
         (output limit [] None 0 (drill_ends set passphrase after limit (none set after limit over) over));
     in_front = ok.0;
     written = ok.1;
+    less_fits = λ n _ _. (last_line None, 0, output n [] None 0 (drill_ends set passphrase after n (none set after n over) over), ok.0.fits);
     more_is_too_long = λ below. absurd (omega (arith, below));
   }
   end_lists is some (Err short) ok err =

@@ -48,7 +48,7 @@ loop-left-preserved c =
     let counted = inv.counted in
     record {
       filling =
-          rw next at (filling_goes_on c.drill_laws.ensures (rw c.in-Some.is at inv.filling) (rw inv.passphrase at c.try_quorum-tried.ensures.tried) end put
+          rw next at (filling_goes_on c.drill_laws.ensures c.requires.is_set (rw c.in-Some.is at inv.filling) (rw inv.passphrase at c.try_quorum-tried.ensures.tried) end put
           (omega (arith, room, same)));
       some = omega (arith, some, left);
       counted = omega (arith, counted, few, left);

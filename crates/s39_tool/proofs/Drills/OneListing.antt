@@ -1,0 +1,111 @@
+-- An input has one listing in a slice.
+use Rattle.std.proofs.Common.{◌≡◌, ℕ, ◌+◌, ◌<◌, ◌≤◌, List, [], ◌++◌, length, drop, sym, ap, ap₂, ◌∙◌, subst, inl, inr, arith}
+use Rattle.std.proofs.Common.{Option, Result, Ok, Err}
+use Rattle.std.proofs.lemmas.Bool.{cases_lt}
+use Rattle.s39_tool.specs.declared.drill.Done.{Done}
+use Rattle.s39_tool.specs.declared.fault.Fault.{Fault}
+use Rattle.s39_tool.specs.declared.listing.Listing.{Listing}
+use Rattle.s39_tool.specs.declared.memory.TooShort.{TooShort}
+use Rattle.s39_tool.specs.declared.memory.Unwritten.{Unwritten}
+use Rattle.s39_tool.specs.declared.memory.Unwritten.TheVariants.{Refused, TooShort as SliceTooShort}
+use Rattle.s39_tool.specs.Input.{Input}
+use Rattle.s39_tool.specs.Drill.{IsDrillOutput}
+use Rattle.s39_tool.specs.Fitting.{ListsWhatFits, IsTooShort, Lists}
+
+abbrev mismatches_of : Result Done Fault → ℕ
+mismatches_of (Ok done) = done.mismatches
+mismatches_of (Err _) = 0
+
+module _ (one_drill_output : (passphrase : List ℕ) (after : Option (List (ℕ × ℕ))) (limit : ℕ) (input : Input) (text other : List ℕ)
+    (answer another : Result Done Fault) → IsDrillOutput passphrase after limit input text answer
+    → IsDrillOutput passphrase after limit input other another → (text ≡ other) × (answer ≡ another))
+    (passphrase : List ℕ) (after : Option (List (ℕ × ℕ))) (limit : ℕ) (input : Input) (old : List ℕ) where
+  abbrev Writes : ℕ → List ℕ → ℕ → Type 0
+  Writes n text mismatches = IsDrillOutput passphrase after n input text (Ok (record { mismatches = mismatches }))
+
+  -- what is written with a limit fits into the slice, or doesn't
+  abbrev Fits : ℕ → Type 0
+  Fits n = (text : List ℕ) × (mismatches : ℕ) × Writes n text mismatches × (length text ≤ length old)
+
+  abbrev IsTooLong : ℕ → Type 0
+  IsTooLong n = (text : List ℕ) × (mismatches : ℕ) × Writes n text mismatches × (length old < length text)
+
+  not_both : (n : ℕ) → Fits n → IsTooLong n → ⊥
+  not_both n (text, m, writes, fits) (other, k, writes', long) =
+      let same = one_drill_output passphrase after n input text other (Ok (record { mismatches = m })) (Ok (record { mismatches = k })) writes writes' in
+      let size : length text ≡ length other = ap length same.0 in
+      absurd (omega (arith, fits, long, size))
+
+  not_refused : (n : ℕ) (text : List ℕ) (mismatches : ℕ) (fault : Fault) → Writes n text mismatches
+      → IsDrillOutput passphrase after limit input [] (Err fault) → ⊥
+  not_refused n text mismatches fault writes refused =
+      let same = one_drill_output passphrase after n input text [] (Ok (record { mismatches = mismatches })) (Err fault) writes refused in
+      let differ = same.1 in
+      absurd (cc)
+
+  abbrev Listed : List ℕ → Listing → Type 0
+  Listed new listing = ListsWhatFits (λ n. IsDrillOutput passphrase after n input) limit old new listing
+
+  -- so many quorums fit
+  fits : {new : List ℕ} {listing : Listing} (l : Listed new listing) (n : ℕ) → 1 ≤ n → n ≤ l.listed → Fits n
+  fits {new} {listing} l n some few =
+      elim (cases_lt n l.listed) [
+        | inl below ↦ l.less_fits n some below
+        | inr above ↦
+            let here : l.listed ≡ n = omega (arith, few, above) in
+            subst Fits here (l.text, listing.mismatches, l.output, l.in_front.fits)
+      ]
+
+  -- no listing has more than another
+  not_more : {new other : List ℕ} {listing another : Listing} (l : Listed new listing) (k : Listed other another) → l.listed < k.listed → ⊥
+  not_more l k less =
+      let few = k.few in
+      let (longer, m, writes, long) = l.more_is_too_long (omega (arith, less, few)) in
+      not_both (l.listed + 1) (fits k (l.listed + 1) (omega arith) (omega (arith, less))) (longer, m, writes, long)
+
+  same_listed : {new other : List ℕ} {listing another : Listing} (l : Listed new listing) (k : Listed other another) → l.listed ≡ k.listed
+  same_listed l k =
+      elim (cases_lt l.listed k.listed) [
+        | inl less ↦ absurd (not_more l k less)
+        | inr above ↦ elim (cases_lt k.listed l.listed) [
+          | inl less ↦ absurd (not_more k l less)
+          | inr below ↦ omega (arith, above, below)
+        ]
+      ]
+
+  same_text : {new other : List ℕ} {listing another : Listing} (l : Listed new listing) (k : Listed other another)
+      → (l.text ≡ k.text) × (listing.mismatches ≡ another.mismatches)
+  same_text {new} {other} {listing} {another} l k =
+      let output : Writes l.listed k.text another.mismatches = subst (λ n. Writes n k.text another.mismatches) (sym (same_listed l k)) k.output in
+      let same = one_drill_output passphrase after l.listed input l.text k.text (Ok (record { mismatches = listing.mismatches }))
+      (Ok (record { mismatches = another.mismatches })) l.output output in
+      (same.0, ap mismatches_of same.1)
+
+  pub listing_once : (new other : List ℕ) (answer another : Result Listing Unwritten)
+      → Lists (λ n. IsDrillOutput passphrase after n input) limit old new answer
+      → Lists (λ n. IsDrillOutput passphrase after n input) limit old other another → (new ≡ other) × (answer ≡ another)
+  listing_once new other (Ok listing) (Ok another) l k =
+      let (text, mismatches) = same_text l k in
+      let bytes : new ≡ other = l.in_front.bytes ∙ ap (λ t. t ++ drop (length t) old) text ∙ sym k.in_front.bytes in
+      let written : listing.written ≡ another.written = l.written ∙ ap length text ∙ sym k.written in
+      (bytes, ap₂ (λ w m. Ok (record { written = w; mismatches = m })) written mismatches)
+  listing_once new other (Ok listing) (Err (SliceTooShort short)) l ((text, m, writes, needed, long), same) =
+      absurd (not_both 1 (fits l 1 (omega arith) l.some) (text, m, writes, long))
+  listing_once new other (Ok listing) (Err (Refused fault)) l (refused, same) =
+      absurd (not_refused l.listed l.text listing.mismatches fault l.output refused)
+  listing_once new other (Err (SliceTooShort short)) (Ok listing) ((text, m, writes, needed, long), same) l =
+      absurd (not_both 1 (fits l 1 (omega arith) l.some) (text, m, writes, long))
+  listing_once new other (Err (SliceTooShort short)) (Err (SliceTooShort short')) ((text, m, writes, needed, long), same) ((text', m', writes', needed', long'), same') =
+      let one = one_drill_output passphrase after 1 input text text' (Ok (record { mismatches = m })) (Ok (record { mismatches = m' })) writes writes' in
+      let bytes : short.needed ≡ short'.needed = needed ∙ ap length one.0 ∙ sym needed' in
+      (same ∙ sym same', ap (λ n. Err (SliceTooShort (record { needed = n }))) bytes)
+  listing_once new other (Err (SliceTooShort short)) (Err (Refused fault)) ((text, m, writes, needed, long), same) (refused, same') =
+      absurd (not_refused 1 text m fault writes refused)
+  listing_once new other (Err (Refused fault)) (Ok listing) (refused, same) l =
+      absurd (not_refused l.listed l.text listing.mismatches fault l.output refused)
+  listing_once new other (Err (Refused fault)) (Err (SliceTooShort short)) (refused, same) ((text, m, writes, needed, long), same') =
+      absurd (not_refused 1 text m fault writes refused)
+  listing_once new other (Err (Refused fault)) (Err (Refused fault')) (refused, same) (refused', same') =
+      let one = one_drill_output passphrase after limit input [] [] (Err fault) (Err fault') refused refused' in
+      let faults : fault ≡ fault' = cc in
+      (same ∙ sym same', ap (λ f. Err (Refused f)) faults)
