@@ -3,3 +3,4 @@ pub mod Parsing
 pub mod Creating
 pub mod Recovering
 pub mod Drilling
+pub mod Telling

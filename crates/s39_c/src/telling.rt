@@ -1,6 +1,5 @@
 //! The texts of answers.
-ghost use Rattle.std.specs.Prelude.{ℕ, List};
-ghost use Rattle.s39_c.specs.Answers.{Gives};
+ghost use Rattle.s39_c.specs.Telling.{GivesText};
 
 use crate::answer::{OF_GROUPS, OUT_OF_RANGE, ShamirAnswer, TOO_SHORT};
 use crate::memory::give;
@@ -30,7 +29,7 @@ enum AnswerText {
 /// prints behind them. `written` is the number of its bytes, at most 64; where the slice is shorter, it is unchanged (1).
 #[unsafe(no_mangle)]
 pub extern "C" fn shamir_text(answer: &ShamirAnswer, text: &mut [u8]) -> ShamirAnswer
-    ensures { (bytes : List ℕ) × Gives bytes text.old text.new result }
+    ensures { GivesText text.old text.new result }
 {
     let said: InlineText<TEXT_BYTES> = InlineText::of(answer_text(answer));
     give(said.as_str().as_bytes(), text)
