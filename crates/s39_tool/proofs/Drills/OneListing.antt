@@ -5,12 +5,11 @@ use Rattle.std.proofs.lemmas.Bool.{cases_lt}
 use Rattle.s39_tool.specs.declared.drill.Done.{Done}
 use Rattle.s39_tool.specs.declared.fault.Fault.{Fault}
 use Rattle.s39_tool.specs.declared.listing.Listing.{Listing}
-use Rattle.s39_tool.specs.declared.memory.TooShort.{TooShort}
 use Rattle.s39_tool.specs.declared.memory.Unwritten.{Unwritten}
 use Rattle.s39_tool.specs.declared.memory.Unwritten.TheVariants.{Refused, TooShort as SliceTooShort}
 use Rattle.s39_tool.specs.Input.{Input}
 use Rattle.s39_tool.specs.Drill.{IsDrillOutput}
-use Rattle.s39_tool.specs.Fitting.{ListsWhatFits, IsTooShort, Lists}
+use Rattle.s39_tool.specs.Fitting.{ListsWhatFits, Lists}
 
 abbrev mismatches_of : Result Done Fault → ℕ
 mismatches_of (Ok done) = done.mismatches
@@ -95,9 +94,10 @@ module _ (one_drill_output : (passphrase : List ℕ) (after : Option (List (ℕ 
       absurd (not_refused l.listed l.text listing.mismatches fault l.output refused)
   listing_once new other (Err (SliceTooShort short)) (Ok listing) ((text, m, writes, needed, long), same) l =
       absurd (not_both 1 (fits l 1 (omega arith) l.some) (text, m, writes, long))
-  listing_once new other (Err (SliceTooShort short)) (Err (SliceTooShort short')) ((text, m, writes, needed, long), same) ((text', m', writes', needed', long'), same') =
+  listing_once new other (Err (SliceTooShort short)) (Err (SliceTooShort more)) ((text, m, writes, needed, long), same) (p, same') =
+      let (text', m', writes', needed', long') = p in
       let one = one_drill_output passphrase after 1 input text text' (Ok (record { mismatches = m })) (Ok (record { mismatches = m' })) writes writes' in
-      let bytes : short.needed ≡ short'.needed = needed ∙ ap length one.0 ∙ sym needed' in
+      let bytes : short.needed ≡ more.needed = needed ∙ ap length one.0 ∙ sym needed' in
       (same ∙ sym same', ap (λ n. Err (SliceTooShort (record { needed = n }))) bytes)
   listing_once new other (Err (SliceTooShort short)) (Err (Refused fault)) ((text, m, writes, needed, long), same) (refused, same') =
       absurd (not_refused 1 text m fault writes refused)

@@ -48,8 +48,8 @@ loop-left-preserved c =
     let counted = inv.counted in
     record {
       filling =
-          rw next at (filling_goes_on c.drill_laws.ensures c.requires.is_set (rw c.in-Some.is at inv.filling) (rw inv.passphrase at c.try_quorum-tried.ensures.tried) end put
-          (omega (arith, room, same)));
+          rw next at (filling_goes_on c.drill_laws.ensures c.requires.is_set (rw c.in-Some.is at inv.filling)
+          (rw inv.passphrase at c.try_quorum-tried.ensures.tried) end put (omega (arith, room, same)));
       some = omega (arith, some, left);
       counted = omega (arith, counted, few, left);
       looks = omega (arith, looks, before, left);
@@ -70,7 +70,8 @@ returns c after first =
           c.args.limit c.loop-left.left (omega (arith, some)) (omega (arith, some)) (inr (ap is_some w.in_default.is)) after first
       | then-loop-left-test+in-Some+in_default-put_line w ↦ (let (needed, less, kept) = w.in_default-put_line.ensures.short in
           let same = c.loop-left.auto.text in
-          filled_early c.drill_laws.ensures c.requires.is_set (rw (w.text-is ∙ kept) at c.ended.ensures.text) c.ended.ensures.written c.ended.ensures.mismatches
+          filled_early c.drill_laws.ensures c.requires.is_set (rw (w.text-is ∙ kept) at c.ended.ensures.text) c.ended.ensures.written
+          c.ended.ensures.mismatches
           (rw w.in-Some.is at inv.filling) c.args.limit (rw inv.passphrase at w.try_quorum-tried.ensures.tried) (omega (arith, needed, less, same))
           (omega (arith, some)) (omega (arith, some)) after first)
     ]
