@@ -3,7 +3,7 @@
 #   make lib         proves and builds the library: libshamir.a, and libshamir.so for the Python binding
 #   make check       the fast checks: commands and tables of the documents, the manual page, completions, terminals, the
 #                    library (make test runs them too)
-#   make check-library   the library alone: its header, the C example, the Python binding, made cases
+#   make check-library   the library alone: its header, examples from C, the installed files, the Python binding, made cases
 #   make faults      lets each growth, read and write of the program fail in turn
 #   make compare     compares made cases with a plain reading of the standard in Python
 #   make bench       measures

@@ -127,6 +127,7 @@ static const parse_example parse_examples[] = {
     {TWO_0, DONE, "06ab48fef4bedc8ce58baeef0a73f76e", {25653, 0, 2, 0, 1, 1, 0, 2}},
     {TWO_2, DONE, "08fb14b66e692e25dfe2edf53289ed62", {25653, 0, 2, 0, 1, 1, 2, 2}},
     {EXTENDABLE, DONE, "9e8773c7313b11d3bfe219291976433b", {29019, 1, 3, 0, 1, 1, 0, 1}},
+    {FIVE_4, DONE, "b831a4c3610155ebe5675e3ed9e6a11d", {1, 0, 0, 2, 2, 3, 0, 1}},
     {ONE_WRONG, {13, 0, 0, 0, "bad checksum"}, "", NO_SHARE},
     {ONE "\n", {11, 0, 20, 0, "unknown word 20"}, "", NO_SHARE},
     {"", {12, 0, 0, 0, "0 words make no share"}, "", NO_SHARE},

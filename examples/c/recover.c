@@ -33,6 +33,8 @@ static int read_lines(const char *name, size_t *bytes)
         perror(name);
         return 0;
     }
+    /* no buffer, which would keep a copy */
+    setvbuf(file, NULL, _IONBF, 0);
     *bytes = fread(lines, 1, sizeof lines, file);
     whole = !ferror(file) && feof(file);
     if (!whole) {

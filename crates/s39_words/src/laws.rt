@@ -2,8 +2,9 @@
 ghost use Rattle.std.specs.Prelude.{◌≡◌, ◌≢◌, ℕ, ◌^◌, ◌<◌, ◌≤◌, Bool, List, [], ◌++◌, All, AllPairs, Contains, Result, length};
 ghost use Rattle.std.specs.Prelude.{slice_index, take};
 ghost use Rattle.s39_kdf.specs.Limits.{id_bits, exponent_bits};
-ghost use Rattle.s39_words.specs.Layout.{IsIndex, word_list_length, shortest_word, longest_word, telling_letters, word_bits, header_length, count_bits, byte_pair_bits};
-ghost use Rattle.s39_words.specs.Layout.{flag_place, exponent_place, group_index_place, group_threshold_place, group_count_place, member_index_place, member_threshold_place};
+ghost use Rattle.s39_words.specs.Layout.{IsIndex, word_list_length, shortest_word, longest_word, telling_letters, word_bits};
+ghost use Rattle.s39_words.specs.Layout.{header_length, count_bits, byte_pair_bits, flag_place, exponent_place, group_index_place};
+ghost use Rattle.s39_words.specs.Layout.{group_threshold_place, group_count_place, member_index_place, member_threshold_place};
 ghost use Rattle.s39_words.specs.Layout.{most_groups, most_members, most_padding, checksum_length, fewest_words, most_words, longest_text};
 ghost use Rattle.s39_words.specs.declared.share.ShareFields.{ShareFields};
 ghost use Rattle.s39_words.specs.declared.word_error.WordError.{WordError as Cause};
