@@ -1,5 +1,5 @@
 -- How many looks a call may add: questions whether a set has a share, and turns of loops.
-use Rattle.std.specs.Prelude.{ℕ, ◌+◌, ◌*◌}
+use Rattle.std.specs.Prelude.{ℕ, ◌+◌, ◌-◌, ◌*◌, List, length, sum_by}
 use Rattle.s39_set.specs.Names.{most_groups, most_members, most_names}
 
 -- the test whether names are a quorum
@@ -13,6 +13,15 @@ most_step_looks = 16384
 -- for each name a turn and a look: a step adds at least these
 abbrev pub most_name_looks : ℕ
 most_name_looks = 2 * most_names
+
+-- a step from a quorum of n names takes at least so many: for each name of the quorum three in the test and two where its
+-- members are counted and noted, for each name that there is two, and for each group one in the test and one behind it
+abbrev pub least_step_looks : ℕ → ℕ
+least_step_looks n = 5 * n + most_name_looks + 2 * most_groups
+
+-- where no quorum comes after these names, the place of each is tried besides: a turn, and one for each member above it
+abbrev pub least_last_looks : List (ℕ × ℕ) → ℕ
+least_last_looks names = least_step_looks (length names) + sum_by (λ name. most_members - name.1) names
 
 -- Parts of a step; no public contract cites these.
 

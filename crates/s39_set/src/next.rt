@@ -1,12 +1,15 @@
 //! The quorum that comes next.
-ghost use Rattle.std.specs.Prelude.{◌≡◌, ◌+◌, ◌-◌, ◌<◌, ◌≤◌, ◌++◌, Some, None, true, false, length, map, take, All, Contains, IsTrue};
+ghost use Rattle.std.specs.Prelude.{◌≡◌, ◌+◌, ◌-◌, ◌*◌, ◌<◌, ◌≤◌, ◌++◌, Some, None, true, false, length, map, take, All, Contains, IsTrue};
 ghost use Rattle.std.specs.Prelude.{OnOk, OnErr, IfOk, IfSome, Ok};
 ghost use Rattle.std.specs.declared.cmp.Ordering.TheVariants.{Less};
 ghost use Rattle.s39_set.specs.Names.{most_groups, most_members, most_names, name_cmp, AreNames};
-ghost use Rattle.s39_set.specs.Looks.{most_step_looks, most_name_looks, most_group_looks, most_choice_looks, most_position_looks, most_tail_looks};
+ghost use Rattle.s39_set.specs.Looks.{most_step_looks, least_step_looks, least_last_looks, most_name_looks, most_group_looks, most_choice_looks};
+ghost use Rattle.s39_set.specs.Looks.{most_position_looks, most_tail_looks};
+ghost use Rattle.s39_set.specs.declared.next.Tail.TheVariants.{Group};
 ghost use Rattle.s39_set.specs.ShareSet.{IsShareSet, name_of};
 ghost use Rattle.s39_set.specs.Quorums.{IsQuorum, IsFirstQuorumAfter, HasNoQuorumAfter};
-ghost use Rattle.s39_set.specs.Steps.{name_at, earlier_of_group, AreMasksOf, members_from, groups_taken, AreCompleteGroups, Knows};
+ghost use Rattle.s39_set.specs.Steps.{name_at, earlier_of_group, AreMasksOf, members_from, groups_from, groups_taken, groups_with_shares};
+ghost use Rattle.s39_set.specs.Steps.{AreCompleteGroups, Knows};
 ghost use Rattle.s39_set.specs.Steps.{HasSpareMember, AllAreChosen, HasSpareGroup, AllAreUsed, groups_used, IsTailFor, tail_names};
 
 use crate::limits::{GROUPS, MAX_GROUPS, MAX_MEMBERS, MAX_NAMES};
@@ -31,8 +34,10 @@ impl NotAQuorum {
 /// The first quorum of a set that comes after a given one, `None` where that is the last.
 ///
 /// The error is answered exactly where the given list isn't a quorum of the set. The call adds at most
-/// `MAX_STEP_LOOKS` to the looks, whose count the caller keeps at most `u64::MAX - MAX_STEP_LOOKS`; where it answers no
-/// error, at least one for each name of the quorum, and two for each name that there is.
+/// `MAX_STEP_LOOKS` to the looks, whose count the caller keeps at most `u64::MAX - MAX_STEP_LOOKS`. Where it answers no
+/// error, it adds at least five for each name of the quorum, two for each name that there is and two for each group, and
+/// besides one for each name of its answer, or where that is `None`, one for each name of the quorum and for each member
+/// above it.
 pub fn next_after(
     set: &ShareSet,
     quorum: &Quorum,
@@ -45,7 +50,10 @@ pub fn next_after(
         IfSome next (IsFirstQuorumAfter set.now (Some quorum.now))) }
     ensures last { result ≡ Ok None → HasNoQuorumAfter set.now (Some quorum.now) }
     ensures at_least { looks.old ≤ looks.new }
-    ensures each_name { OnOk result (looks.old + length quorum.now + most_name_looks ≤ looks.new) }
+    ensures each { OnOk result (looks.old + least_step_looks (length quorum.now) ≤ looks.new) }
+    ensures each_place { result ≡ Ok None → looks.old + least_last_looks quorum.now ≤ looks.new }
+    ensures each_next { IfOk result (λ next. IfSome next (λ names.
+        looks.old + least_step_looks (length quorum.now) + length names ≤ looks.new)) }
     ensures at_most { looks.new ≤ looks.old + most_step_looks }
 {
     if !is_quorum(set, quorum, looks) {
@@ -98,6 +106,7 @@ fn has_spare_member(
     ensures spare { IsTrue result → HasSpareMember at_hand.now chosen.now (group, member) }
     ensures all { result ≡ false → AllAreChosen at_hand.now chosen.now (group, member) }
     ensures at_least { looks.old ≤ looks.new }
+    ensures each { result ≡ false → looks.new + member + 1 ≡ looks.old + most_members }
     ensures at_most { looks.new ≤ looks.old + most_members }
 {
     for other in member + 1..MAX_MEMBERS {
@@ -121,6 +130,7 @@ fn has_spare_group(
     ensures spare { IsTrue result → HasSpareGroup complete.now members.now group }
     ensures all { result ≡ false → AllAreUsed complete.now members.now group }
     ensures at_least { looks.old ≤ looks.new }
+    ensures each { result ≡ false → looks.new + group + 1 ≡ looks.old + most_groups }
     ensures at_most { looks.new ≤ looks.old + most_groups }
 {
     for other in group + 1..MAX_GROUPS {
@@ -138,8 +148,7 @@ fn groups_above(members: &[u16; GROUPS], group: u8, looks: &mut Looks) -> u8
     requires looks { looks.old + most_groups ≤ u64.MAX }
     ensures groups { result ≡ groups_used members.now group }
     ensures few { result ≤ most_groups }
-    ensures at_least { looks.old ≤ looks.new }
-    ensures at_most { looks.new ≤ looks.old + most_groups }
+    ensures looks { looks.new + group + 1 ≡ looks.old + most_groups }
 {
     let mut groups = 0;
     for other in group + 1..MAX_GROUPS {
@@ -158,8 +167,7 @@ fn count_members(masks: &Masks, group: u8, from: u8, looks: &mut Looks) -> u8
     requires looks { looks.old + most_members ≤ u64.MAX }
     ensures members { result ≡ length (members_from masks.now group from) }
     ensures few { result ≤ most_members }
-    ensures at_least { looks.old ≤ looks.new }
-    ensures at_most { looks.new ≤ looks.old + most_members }
+    ensures looks { looks.new + from ≡ looks.old + most_members }
 {
     let mut members = 0;
     for member in from..MAX_MEMBERS {
@@ -178,7 +186,8 @@ impl Choice {
         requires is_set { IsShareSet set.now }
         requires looks { looks.old + most_choice_looks ≤ u64.MAX }
         ensures knows { Knows set.now names.now result }
-        ensures at_least { looks.old + most_name_looks ≤ looks.new }
+        ensures looks { looks.new ≡ looks.old + most_name_looks + 2 * length names.now
+            + most_groups + most_members * groups_with_shares set.now }
         ensures at_most { looks.new ≤ looks.old + most_choice_looks }
     {
         let at_hand = shares_at_hand(set, looks);
@@ -198,6 +207,11 @@ impl Choice {
         ensures tail { IsTailFor self.now (take position names.now) (name_at names.now position)
             result }
         ensures at_least { looks.old ≤ looks.new }
+        ensures each_member { result ≡ None
+            → looks.old + most_members ≤ looks.new + (name_at names.now position).1 + 1 }
+        ensures each_group { result ≡ None → earlier_of_group names.now position ≡ 0
+            → looks.new + (name_at names.now position).0 + (name_at names.now position).1 + 2
+            ≡ looks.old + most_groups + most_members }
         ensures at_most { looks.new ≤ looks.old + most_position_looks }
     {
         let (group, member) = names[position];
@@ -228,7 +242,12 @@ impl Choice {
         ensures names { result
             ≡ take position names.now
             ++ tail_names set.now self.now (name_at names.now position) tail }
-        ensures at_least { looks.old ≤ looks.new }
+        ensures each_name { looks.old + length result ≤ looks.new }
+        ensures each_group { looks.old + position + 2 * most_groups
+            ≤ looks.new + 2 * ((name_at names.now position).0 + 1) }
+        ensures each_member { tail ≡ Group
+            → looks.old + position + 2 * most_groups + 2 * most_members
+            ≤ looks.new + 2 * ((name_at names.now position).0 + 1) + 2 * ((name_at names.now position).1 + 1) }
         ensures at_most { looks.new ≤ looks.old + most_tail_looks }
     {
         let (group, member) = names[position];
@@ -261,7 +280,9 @@ impl Choice {
         requires earlier { All (λ name. name.0 < from) quorum.old }
         requires looks { looks.old + most_group_looks ≤ u64.MAX }
         ensures names { quorum.new ≡ quorum.old ++ groups_taken set.now self.now from wanted }
-        ensures at_least { looks.old ≤ looks.new }
+        ensures looks { looks.new + from ≡ looks.old + most_groups
+            + most_members * length (take wanted (groups_from self.now.complete from)) }
+        ensures each_name { looks.old + length quorum.new ≤ looks.new + length quorum.old }
         ensures at_most { looks.new ≤ looks.old + most_group_looks }
     {
         let mut groups = 0;
@@ -314,7 +335,7 @@ fn groups_complete(set: &ShareSet, at_hand: &Masks, looks: &mut Looks) -> [bool;
     requires is_set { IsShareSet set.now }
     requires looks { looks.old + most_group_looks ≤ u64.MAX }
     ensures complete { AreCompleteGroups result set.now }
-    ensures at_least { looks.old ≤ looks.new }
+    ensures looks { looks.new ≡ looks.old + most_groups + most_members * groups_with_shares set.now }
     ensures at_most { looks.new ≤ looks.old + most_group_looks }
 {
     let mut complete = [false; GROUPS];
@@ -366,8 +387,8 @@ fn push_members(
     requires earlier { All (λ name. name_cmp name (group, from) ≡ Less) quorum.old }
     requires looks { looks.old + most_members ≤ u64.MAX }
     ensures names { quorum.new ≡ quorum.old ++ take wanted (members_from masks.now group from) }
-    ensures at_least { looks.old ≤ looks.new }
-    ensures at_most { looks.new ≤ looks.old + most_members }
+    ensures looks { looks.new + from ≡ looks.old + most_members }
+    ensures each_name { looks.old + length quorum.new ≤ looks.new + length quorum.old }
 {
     let mut members = 0;
     for member in from..MAX_MEMBERS {

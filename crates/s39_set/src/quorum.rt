@@ -86,13 +86,13 @@ fn is_earlier(name: (u8, u8), group: u8, member: u8) -> bool
 /// proper subset of them does.
 ///
 /// It adds at most `MAX_TEST_LOOKS` to the looks, whose count the caller keeps at most `u64::MAX - MAX_TEST_LOOKS`;
-/// where it answers `true`, at least one for each name.
+/// where it answers `true`, three for each name and one for each group that there may be.
 pub fn is_quorum(set: &ShareSet, quorum: &Quorum, looks: &mut Looks) -> bool
     requires { looks.old ≤ u64.MAX - most_test_looks }
     ensures quorum { IsTrue result ↔ IsQuorum set.now quorum.now }
     ensures is_set { IsTrue result → IsShareSet set.now }
     ensures at_least { looks.old ≤ looks.new }
-    ensures each_name { IsTrue result → looks.old + length quorum.now ≤ looks.new }
+    ensures each { IsTrue result → looks.new ≡ looks.old + 3 * length quorum.now + most_groups }
     ensures at_most { looks.new ≤ looks.old + most_test_looks }
 {
     are_a_share_set(set);
@@ -104,7 +104,7 @@ fn are_at_hand(set: &ShareSet, names: &[(u8, u8)], looks: &mut Looks) -> bool
     requires { looks.old + 2 * length names.now ≤ u64.MAX }
     ensures at_hand { IsTrue result ↔ All (Contains (map name_of set.now)) names.now }
     ensures at_least { looks.old ≤ looks.new }
-    ensures each_name { IsTrue result → looks.old + 2 * length names.now ≤ looks.new }
+    ensures each { IsTrue result → looks.new ≡ looks.old + 2 * length names.now }
     ensures at_most { looks.new ≤ looks.old + 2 * length names.now }
 {
     for (group, member) in names {
@@ -123,7 +123,8 @@ fn has_just_the_members(set: &ShareSet, names: &[(u8, u8)], looks: &mut Looks) -
     requires short { length names.now ≤ most_names }
     requires looks { looks.old + length names.now + most_groups ≤ u64.MAX }
     ensures just { IsTrue result ↔ HasJustTheMembers set.now names.now }
-    ensures at_least { looks.old ≤ looks.new }
+    ensures at_least { looks.old + length names.now ≤ looks.new }
+    ensures each { IsTrue result → looks.new ≡ looks.old + length names.now + most_groups }
     ensures at_most { looks.new ≤ looks.old + length names.now + most_groups }
 {
     are_a_share_set(set);

@@ -13,9 +13,9 @@ loop-member-preserved c =
       | then-has w ↦ (
           let passes : p member ≡ true = sym c.has.ensures ∙ w.if-has.true in
           let more = length-filter-range_from_yes p c.args.from member from passes in
-          record { members_are = omega arith; few = omega arith; at_least = omega arith; at_most = omega arith })
+          record { members_are = omega arith; few = omega arith; looks_are = omega arith })
       | else-has w ↦ (
           let fails : p member ≡ false = sym c.has.ensures ∙ w.if-has.false in
           let same = length-filter-range_from_no p c.args.from member from fails in
-          record { members_are = omega arith; few = omega arith; at_least = omega arith; at_most = omega arith })
+          record { members_are = omega arith; few = omega arith; looks_are = omega arith })
     ]

@@ -7,6 +7,5 @@ abbrev pub invariant-loop-member : goal.invariant-loop-member
 invariant-loop-member l = record {
   members_are : l.members ≡ length (filter (is_in l.masks l.group) (range_with_len l.from (l.member - l.from)));
   few : l.members ≤ l.member;
-  at_least : l.fn.looks ≤ l.looks;
-  at_most : l.looks ≤ l.fn.looks + l.member;
+  looks_are : l.looks + l.from ≡ l.fn.looks + l.member;
 }

@@ -14,9 +14,9 @@ loop-other-preserved c =
       | then-members-from-gt0 w ↦ (
           let passes : p other ≡ true = lt-ltb 0 (get_or c.args.members.now other 0) (omega arith) in
           let more = length-filter-range_from_yes p (c.args.group + 1) other from passes in
-          record { groups_are = omega arith; few = omega arith; at_least = omega arith; at_most = omega arith })
+          record { groups_are = omega arith; few = omega arith; looks_are = omega arith })
       | else-members-from-gt0 w ↦ (
           let fails : p other ≡ false = le-ltb 0 (get_or c.args.members.now other 0) (omega arith) in
           let same = length-filter-range_from_no p (c.args.group + 1) other from fails in
-          record { groups_are = omega arith; few = omega arith; at_least = omega arith; at_most = omega arith })
+          record { groups_are = omega arith; few = omega arith; looks_are = omega arith })
     ]

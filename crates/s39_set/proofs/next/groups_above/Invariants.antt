@@ -6,6 +6,5 @@ abbrev pub invariant-loop-other : goal.invariant-loop-other
 invariant-loop-other l = record {
   groups_are : l.groups ≡ length (filter (λ g. nat_lt 0 (get_or l.members g 0)) (range_with_len (l.group + 1) (l.other - (l.group + 1))));
   few : l.groups ≤ l.other;
-  at_least : l.fn.looks ≤ l.looks;
-  at_most : l.looks ≤ l.fn.looks + l.other;
+  looks_are : l.looks + (l.group + 1) ≡ l.fn.looks + l.other;
 }

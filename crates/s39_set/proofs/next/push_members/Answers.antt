@@ -1,4 +1,5 @@
-use Rattle.std.proofs.Common.{◌≡◌, ◌+◌, ◌≤◌, ◌++◌, [], ◌∷◌, ℕ, List, length, map, filter, ◌-◌, true, All, Less, sym, ap, subst, ◌∙◌, arith, append_assoc}
+use Rattle.std.proofs.Common.{◌≡◌, ◌+◌, ◌≤◌, ◌++◌, [], ◌∷◌, ℕ, List, length, map, filter, ◌-◌, true, All, Less, sym, ap, subst, ◌∙◌, arith}
+use Rattle.std.proofs.Common.{append_assoc}
 use Rattle.std.proofs.lemmas.List.{map_push, length_push, take-map}
 use Rattle.s39_set.specs.Names.{name_cmp, most_members}
 use Rattle.s39_set.specs.Masks.{is_in}
@@ -37,8 +38,8 @@ loop-member-preserved c =
                 ∙ sym (ap names more);
             members_are =
                 w.members-is ∙ ap (λ n. n + 1) c.loop-member.invariant.members_are ∙ sym (length_push (first_from p many a j) j) ∙ sym (ap length more);
-            at_least = omega arith;
-            at_most = omega arith;
+            looks_are = omega arith;
+            each_name = (let more = ap length (w.quorum-is ∙ w.push.ensures) ∙ length_push c.loop-member.quorum (c.args.group, j) in omega arith);
           })
       | else-members-wanted w ↦ (
           let same : first_from p many a (j + 1) ≡ first_from p many a j =
@@ -49,8 +50,8 @@ loop-member-preserved c =
           record {
             names_are = w.quorum-is ∙ c.loop-member.invariant.names_are ∙ sym (ap names same);
             members_are = w.members-is ∙ c.loop-member.invariant.members_are ∙ sym (ap length same);
-            at_least = omega arith;
-            at_most = omega arith;
+            looks_are = omega arith;
+            each_name = (let more = ap length w.quorum-is in omega arith);
           })
     ]
 

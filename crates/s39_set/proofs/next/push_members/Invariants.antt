@@ -8,6 +8,6 @@ invariant-loop-member l = record {
   names_are : l.quorum ≡ l.fn.quorum ++ map (λ member. (l.group, member))
       (take l.wanted (filter (is_in l.masks l.group) (range_with_len l.from (l.member - l.from))));
   members_are : l.members ≡ length (take l.wanted (filter (is_in l.masks l.group) (range_with_len l.from (l.member - l.from))));
-  at_least : l.fn.looks ≤ l.looks;
-  at_most : l.looks ≤ l.fn.looks + l.member;
+  looks_are : l.looks + l.from ≡ l.fn.looks + l.member;
+  each_name : l.fn.looks + length l.quorum ≤ l.looks + length l.fn.quorum;
 }

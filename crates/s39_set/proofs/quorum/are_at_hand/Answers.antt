@@ -23,5 +23,5 @@ returns-clause-at_hand c = (
   λ _. refl,
 )
 
-pub returns-clause-each_name : goal.returns-clause-each_name
-returns-clause-each_name c = λ _. omega arith
+pub returns-clause-each : goal.returns-clause-each
+returns-clause-each c = λ _. omega arith

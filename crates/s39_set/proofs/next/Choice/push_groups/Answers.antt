@@ -47,8 +47,9 @@ loop-group-preserved c =
                 (All-weaker (λ n. n.0 < j) (λ n. n.0 < j + 1) (λ n less. omega arith) c.loop-group.quorum c.loop-group.invariant.earlier)
                 (All-weaker (λ n. n.0 ≡ j) (λ n. n.0 < j + 1) (λ n here. omega arith) (taken j)
                 (members-group c.args.self.now.at_hand j (unwrap_or (member_threshold_of c.args.set.now j) 0))));
-            at_least = (let same = w.looks-is in omega (arith, w.push_members.ensures.at_least));
-            at_most = (let same = w.looks-is in omega (arith, w.push_members.ensures.at_most));
+            looks_are = (let same = w.looks-is in omega (arith, w.push_members.ensures.looks));
+            each_name = (let same = w.looks-is in let more = ap length w.quorum-is in omega (arith, w.push_members.ensures.each_name));
+            at_most = (let same = w.looks-is in omega (arith, w.push_members.ensures.looks));
           })
       | else-groups-wanted w ↦ (
           let same : first_from p many a (j + 1) ≡ first_from p many a j =
@@ -62,7 +63,8 @@ loop-group-preserved c =
             groups_are = w.groups-is ∙ c.loop-group.invariant.groups_are ∙ sym (ap length same);
             earlier = subst (All (λ n. n.0 < j + 1)) (sym w.quorum-is)
                 (All-weaker (λ n. n.0 < j) (λ n. n.0 < j + 1) (λ n less. omega arith) c.loop-group.quorum c.loop-group.invariant.earlier);
-            at_least = (let s = w.looks-is in omega arith);
+            looks_are = (let s = w.looks-is in omega arith);
+            each_name = (let s = w.looks-is in let same = ap length w.quorum-is in omega arith);
             at_most = (let s = w.looks-is in omega arith);
           })
     ]
