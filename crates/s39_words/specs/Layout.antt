@@ -1,5 +1,5 @@
 -- How long a mnemonic and its parts are (SLIP-0039, "Format of the share mnemonic", "Checksum", "Wordlist").
-use Rattle.std.specs.Prelude.{ℕ, ◌+◌, ◌<◌}
+use Rattle.std.specs.Prelude.{ℕ, ◌+◌, ◌-◌, ◌*◌, ◌<◌}
 use Rattle.s39_kdf.specs.Limits.{id_bits, exponent_bits}
 
 -- the words of the word list, the letters of its shortest and its longest word, and the bits that a word stands for
@@ -48,7 +48,7 @@ member_threshold_place = member_index_place + count_bits
 
 -- the bits of the fields before the value
 abbrev pub header_length : ℕ
-header_length = 40
+header_length = member_threshold_place + count_bits
 
 -- the bits of two bytes; a value has an even number of bytes
 abbrev pub byte_pair_bits : ℕ
@@ -69,7 +69,7 @@ most_padding = 8
 abbrev pub checksum_length : ℕ
 checksum_length = 3
 
--- the fewest and the most words of a mnemonic, and the most bytes of its printed form
+-- the fewest and the most words of a mnemonic, and the most bytes of its printed form, a space between each two words
 abbrev pub fewest_words : ℕ
 fewest_words = 20
 
@@ -77,7 +77,7 @@ abbrev pub most_words : ℕ
 most_words = 110
 
 abbrev pub longest_text : ℕ
-longest_text = 989
+longest_text = most_words * longest_word + (most_words - 1)
 
 -- an index in the word list
 abbrev pub IsIndex : ℕ → Type 0
