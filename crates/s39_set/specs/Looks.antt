@@ -1,5 +1,9 @@
 -- How many looks a call may add: questions whether a set has a share, and turns of loops.
-use Rattle.std.specs.Prelude.{ℕ, ◌+◌, ◌-◌, ◌*◌, List, length, sum_by}
+use Rattle.std.specs.Prelude.{ℕ, ◌+◌, ◌-◌, ◌*◌, List, length, filter, sum_by}
+use Rattle.std.specs.List.{range_with_len}
+use Rattle.std.specs.Option.{is_some}
+use Rattle.s39_words.specs.declared.share.ShareFields.{ShareFields}
+use Rattle.s39_set.specs.Quorums.{member_threshold_of}
 use Rattle.s39_set.specs.Names.{most_groups, most_members, most_names}
 
 -- the test whether names are a quorum
@@ -14,14 +18,23 @@ most_step_looks = 16384
 abbrev pub most_name_looks : ℕ
 most_name_looks = 2 * most_names
 
--- a step from a quorum of n names takes at least so many: for each name of the quorum three in the test and two where its
--- members are counted and noted, for each name that there is two, and for each group one in the test and one behind it
-abbrev pub least_step_looks : ℕ → ℕ
-least_step_looks n = 5 * n + most_name_looks + 2 * most_groups
+-- how many groups have a share
+abbrev pub groups_with_shares : List ShareFields → ℕ
+groups_with_shares set = length (filter (λ group. is_some (member_threshold_of set group)) (range_with_len 0 most_groups))
 
--- where no quorum comes after these names, the place of each is tried besides: a turn, and one for each member above it
-abbrev pub least_last_looks : List (ℕ × ℕ) → ℕ
-least_last_looks names = least_step_looks (length names) + sum_by (λ name. most_members - name.1) names
+-- A step from a quorum of these names adds at least so many before it looks for a greater one: for each of these names three
+-- in the test and two where they are noted and counted, for each name that there is two, for each group one in the test
+-- and one behind it, and for each group with a share one for each member.
+abbrev pub least_step_looks : List ShareFields → List (ℕ × ℕ) → ℕ
+least_step_looks set names = 5 * length names + most_name_looks + 2 * most_groups + most_members * groups_with_shares set
+
+-- where no quorum comes after them, the place of each is tried: a turn, and one for each member above it
+abbrev pub least_last_looks : List ShareFields → List (ℕ × ℕ) → ℕ
+least_last_looks set names = least_step_looks set names + sum_by (λ name. most_members - name.1) names
+
+-- where one does, a place is tried at least, and each name of that quorum takes a turn
+abbrev pub least_next_looks : List ShareFields → List (ℕ × ℕ) → List (ℕ × ℕ) → ℕ
+least_next_looks set names next = least_step_looks set names + 1 + length next
 
 -- Parts of a step; no public contract cites these.
 

@@ -2,7 +2,6 @@
 use Rattle.std.specs.Prelude.{◌≡◌, ℕ, ◌+◌, ◌-◌, ◌<◌, Bool, true, false, List, length, map, take, filter, Contains}
 use Rattle.std.specs.Prelude.{IsTrue, ◌↔◌, ◌++◌, Option, Some, None, nat_lt, unwrap_or, slice_index_or}
 use Rattle.std.specs.List.{range_with_len, flat_map}
-use Rattle.std.specs.Option.{is_some}
 use Rattle.s39_words.specs.declared.share.ShareFields.{ShareFields}
 use Rattle.s39_set.specs.declared.masks.Masks.{Masks}
 use Rattle.s39_set.specs.declared.next.Choice.{Choice}
@@ -46,10 +45,6 @@ groups_taken set choice a wanted = flat_map (members_taken set choice.at_hand) (
 abbrev pub AreCompleteGroups : List Bool → List ShareFields → Type 0
 AreCompleteGroups complete set = (g : ℕ) → g < most_groups
     → slice_index_or complete g false ≡ is_complete (member_threshold_of set) (map name_of set) g
-
--- how many groups have a share
-abbrev pub groups_with_shares : List ShareFields → ℕ
-groups_with_shares set = length (filter (λ g. is_some (member_threshold_of set g)) (range_with_len 0 most_groups))
 
 -- the table says how many of the names each group has
 abbrev pub AreCounts : List ℕ → List (ℕ × ℕ) → Type 0

@@ -3,12 +3,12 @@ ghost use Rattle.std.specs.Prelude.{◌≡◌, ◌+◌, ◌-◌, ◌*◌, ◌<�
 ghost use Rattle.std.specs.Prelude.{OnOk, OnErr, IfOk, IfSome, Ok};
 ghost use Rattle.std.specs.declared.cmp.Ordering.TheVariants.{Less};
 ghost use Rattle.s39_set.specs.Names.{most_groups, most_members, most_names, name_cmp, AreNames};
-ghost use Rattle.s39_set.specs.Looks.{most_step_looks, least_step_looks, least_last_looks, most_name_looks, most_group_looks, most_choice_looks};
-ghost use Rattle.s39_set.specs.Looks.{most_position_looks, most_tail_looks};
+ghost use Rattle.s39_set.specs.Looks.{most_step_looks, least_step_looks, least_last_looks, least_next_looks, most_name_looks, most_group_looks};
+ghost use Rattle.s39_set.specs.Looks.{most_choice_looks, most_position_looks, most_tail_looks, groups_with_shares};
 ghost use Rattle.s39_set.specs.declared.next.Tail.TheVariants.{Group};
 ghost use Rattle.s39_set.specs.ShareSet.{IsShareSet, name_of};
 ghost use Rattle.s39_set.specs.Quorums.{IsQuorum, IsFirstQuorumAfter, HasNoQuorumAfter};
-ghost use Rattle.s39_set.specs.Steps.{name_at, earlier_of_group, AreMasksOf, members_from, groups_from, groups_taken, groups_with_shares};
+ghost use Rattle.s39_set.specs.Steps.{name_at, earlier_of_group, AreMasksOf, members_from, groups_from, groups_taken};
 ghost use Rattle.s39_set.specs.Steps.{AreCompleteGroups, Knows};
 ghost use Rattle.s39_set.specs.Steps.{HasSpareMember, AllAreChosen, HasSpareGroup, AllAreUsed, groups_used, IsTailFor, tail_names};
 
@@ -35,9 +35,9 @@ impl NotAQuorum {
 ///
 /// The error is answered exactly where the given list isn't a quorum of the set. The call adds at most
 /// `MAX_STEP_LOOKS` to the looks, whose count the caller keeps at most `u64::MAX - MAX_STEP_LOOKS`. Where it answers no
-/// error, it adds at least five for each name of the quorum, two for each name that there is and two for each group, and
-/// besides one for each name of its answer, or where that is `None`, one for each name of the quorum and for each member
-/// above it.
+/// error, it adds at least five for each name of the quorum, two for each name that there is, two for each group and 16
+/// for each that has a share; and besides one, and one for each name of its answer, or where that is `None`, one for each
+/// name of the quorum and one for each member above it.
 pub fn next_after(
     set: &ShareSet,
     quorum: &Quorum,
@@ -50,10 +50,10 @@ pub fn next_after(
         IfSome next (IsFirstQuorumAfter set.now (Some quorum.now))) }
     ensures last { result ≡ Ok None → HasNoQuorumAfter set.now (Some quorum.now) }
     ensures at_least { looks.old ≤ looks.new }
-    ensures each { OnOk result (looks.old + least_step_looks (length quorum.now) ≤ looks.new) }
-    ensures each_place { result ≡ Ok None → looks.old + least_last_looks quorum.now ≤ looks.new }
+    ensures each { OnOk result (looks.old + least_step_looks set.now quorum.now ≤ looks.new) }
+    ensures each_place { result ≡ Ok None → looks.old + least_last_looks set.now quorum.now ≤ looks.new }
     ensures each_next { IfOk result (λ next. IfSome next (λ names.
-        looks.old + least_step_looks (length quorum.now) + length names ≤ looks.new)) }
+        looks.old + least_next_looks set.now quorum.now names ≤ looks.new)) }
     ensures at_most { looks.new ≤ looks.old + most_step_looks }
 {
     if !is_quorum(set, quorum, looks) {

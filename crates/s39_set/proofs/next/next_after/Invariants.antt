@@ -8,6 +8,6 @@ abbrev pub invariant-loop-position : goal.invariant-loop-position
 invariant-loop-position l = record {
   none : (Z : List (ℕ × ℕ)) → IsQuorum l.set (take l.position l.names ++ Z) → names_cmp l.names (take l.position l.names ++ Z) ≢ Less;
   upto : l.position ≤ length l.names;
-  at_least : l.fn.looks + least_step_looks (length l.names) + sum_by (λ name. most_members - name.1) (drop l.position l.names) ≤ l.looks;
+  at_least : l.fn.looks + least_step_looks l.set l.names + sum_by (λ name. most_members - name.1) (drop l.position l.names) ≤ l.looks;
   at_most : l.looks + (1 + most_position_looks) * l.position ≤ l.fn.looks + most_test_looks + most_choice_looks + (1 + most_position_looks) * most_names;
 }
