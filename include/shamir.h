@@ -128,9 +128,10 @@ shamir_answer shamir_random_needed(const uint8_t *plan, size_t plan_bytes, size_
 /*
  * Creates a backup of a secret: its mnemonics go to the front of mnemonics, by group and member, each with a line feed
  * behind it. The passphrase may be empty. The iteration exponent is 0 to 15: the call takes 10,000 * 2^exponent
- * iterations, and 1 comes after that work. The extendable flag is set where extendable isn't 0. random has just as many
- * bytes as shamir_random_needed says; they come from a source that nobody can guess, and are used once. Refused: 2 for an
- * exponent above 15, then 31 to 34, 41, 42, 43, and then 1, with the bytes of all mnemonics.
+ * iterations, twice as many for a secret of more than 64 bytes, and 1 comes after that work. The extendable flag is set
+ * where extendable isn't 0. random has just as many bytes as shamir_random_needed says; they come from a source that
+ * nobody can guess, and are used once. Refused: 2 for an exponent above 15, then 31 to 34, 41, 42, 43, and then 1, with the
+ * bytes of all mnemonics.
  */
 shamir_answer shamir_create(
     const uint8_t *plan, size_t plan_bytes, const uint8_t *secret, size_t secret_bytes, const uint8_t *passphrase, size_t passphrase_bytes,
@@ -142,8 +143,9 @@ shamir_answer shamir_create(
  * passphrase isn't noticed: it gives another secret. Refused: 41, then the first refused line (11 to 28, 71), then 29, 30,
  * 51, and then 1.
  *
- * The call takes 10,000 * 2^exponent iterations, with the exponent that the mnemonics say: at 15 these are some minutes.
- * shamir_parse tells the exponent before. Where the slice is too short, 1 comes after that work.
+ * The call takes 10,000 * 2^exponent iterations, with the exponent that the mnemonics say, and twice as many for a secret
+ * of more than 64 bytes: at 15 these are some minutes. shamir_parse tells the exponent before. Where the slice is too short,
+ * 1 comes after that work.
  */
 shamir_answer shamir_recover(
     const uint8_t *lines, size_t lines_bytes, const uint8_t *passphrase, size_t passphrase_bytes, uint8_t *secret, size_t secret_bytes);
@@ -159,8 +161,8 @@ shamir_answer shamir_recover(
  * not even one quorum fits: first is what its line and the last line need. That is 4 where no quorum comes after the named
  * one, for "end" and a line feed. SHAMIR_LISTING_BYTES_ENOUGH is always enough, and more room takes fewer calls.
  *
- * The call takes 10,000 * 2^exponent iterations, with the exponent that the mnemonics say, for each value that quorums
- * combine to: mostly all combine to one, but each call begins anew, and 1 comes after that work too.
+ * The call takes as many iterations as shamir_recover for each value that quorums combine to: mostly all combine to one, but
+ * each call begins anew, and 1 comes after that work too.
  */
 shamir_answer shamir_drill(
     const uint8_t *lines, size_t lines_bytes, const uint8_t *passphrase, size_t passphrase_bytes, const uint8_t *after, size_t after_bytes,

@@ -31,7 +31,7 @@ use s39_split::laws::{
 };
 
 /// The program's constants are the numbers by which the definitions go, and the plan of sixteen groups of sixteen members,
-/// all of them needed, takes the most random bytes.
+/// all of them needed, takes `most_random` random bytes; that no plan takes more, `Plan::random_needed` says.
 pub fn numbers()
     ensures identifier { ID_BYTES ≡ identifier_length }
     ensures kept { MAX_KEPT ≡ most_kept }

@@ -44,6 +44,7 @@ impl RecoverError {
 pub fn recover_by(set: &ShareSet, quorum: &Quorum, passphrase: &[u8]) -> Result<Bytes, RecoverError>
     ensures is_set { IsShareSet set.now }
     ensures quorum { (result ≢ Err RecoverError.NotAQuorum) ↔ IsQuorum set.now quorum.now }
+    ensures not_a_quorum { ¬ IsQuorum set.now quorum.now → result ≡ Err RecoverError.NotAQuorum }
     ensures secret { IfOk result (λ secret.
         IsOutcome set.now quorum.now passphrase.now (Ok secret.items)) }
     ensures mismatch { (mismatch : Mismatch) → result ≡ Err (RecoverError.DigestMismatch mismatch)

@@ -27,7 +27,8 @@ pub struct ShamirAnswer {
     pub mismatches: u32,
     /// The line that is refused, counted from 1, or 0.
     pub line: u64,
-    /// The first detail of the refusal, or 0: a position, a number, or a group.
+    /// The first detail of the refusal: a position, a number, or a group, of a digest's mismatch 16 for the group shares;
+    /// or the number that is asked for; or 0.
     pub first: u64,
     /// Its second detail, or 0.
     pub second: u64,

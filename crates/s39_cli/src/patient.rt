@@ -3,7 +3,7 @@
 use std::io;
 use std::io::{ErrorKind, Write};
 
-/// A writer whose interrupted writes are tried again.
+/// A writer whose interrupted writes are tried again. It holds the bytes that the writer below it holds.
 #[derive(Drop)]
 pub(crate) struct Patient<W> {
     output: W,
@@ -16,6 +16,8 @@ impl<W: Write> Patient<W> {
 }
 
 impl<W: Write> Write for Patient<W> {
+    ghost contents = { λ patient. W.contents patient.output };
+
     fn write(&mut self, buf: &[u8]) -> io::Result<usize> {
         for _ in 0..u64::MAX {
             match self.output.write(buf) {

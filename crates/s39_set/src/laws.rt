@@ -13,7 +13,7 @@ ghost use Rattle.s39_set.specs.declared.set_lack.SetLack.{SetLack as Lack};
 
 use crate::limits::{GROUPS, MAX_GROUPS, MAX_MEMBERS, MAX_NAMES, MAX_STEP_LOOKS, MAX_TEST_LOOKS};
 
-/// The program's limits are the standard's.
+/// The program's limits are those of the definitions.
 pub fn numbers()
     ensures groups { MAX_GROUPS ≡ most_groups }
     ensures slots { GROUPS ≡ most_groups }
@@ -37,7 +37,7 @@ pub fn quorum_or_lack()
         ⊎ ((lack : Lack) × IsLack set lack) }
 {}
 
-/// The names of a quorum have a written form, and a text is the written form of one list of names.
+/// The names of a quorum have a written form, and a text is the written form of at most one list.
 pub fn written_forms()
     ensures quorums { (set : List ShareFields) (names : List (ℕ × ℕ))
         → IsShareSet set → IsQuorum set names → IsWrittenForm (quorum_text names) names }

@@ -35,8 +35,8 @@ pub struct Listing {
 /// Tries the quorums of the lines' shares that come after a given one (all, where there is none), and puts to the front of
 /// `text` what `run_drill` writes of them with the limit, or with a lower one: it stops before the first quorum whose line
 /// doesn't fit with the last line behind it. The last line is `end`, or `more after ` and the quorum after which another call
-/// goes on. Where not even the first line fits, the answer is how many bytes it needs with the last one. A line with no byte
-/// but separators, or whose first other byte is `#`, is skipped.
+/// goes on. Where not even the first line fits, or `end` where no quorum is left, the answer is how many bytes are needed.
+/// A line with no byte but separators, or whose first other byte is `#`, is skipped.
 ///
 /// The first that applies is refused:
 ///
