@@ -1,4 +1,5 @@
 //! A writer that is asked again where the system interrupted it.
+ghost use Rattle.std.specs.Prelude.{◌≡◌};
 
 use std::io;
 use std::io::{ErrorKind, Write};
@@ -10,7 +11,9 @@ pub(crate) struct Patient<W> {
 }
 
 impl<W: Write> Patient<W> {
-    pub(crate) fn new(output: W) -> Patient<W> {
+    pub(crate) fn new(output: W) -> Patient<W>
+        ensures { result.output ≡ output }
+    {
         Patient { output }
     }
 }
