@@ -20,10 +20,13 @@ use Rattle.s39_field.specs.Theory.Values.{add_of_sums, same_from_sum, mul-zero_l
 use Rattle.s39_words.specs.Layout.{IsIndex, most_words}
 use Rattle.s39_words.specs.Checksum.{generator, customization_string, one_added_to_last, checked_polynomial, IsValidChecksum}
 use Rattle.s39_words.specs.Reading.{IsWordCount, flag_of, Reads}
+use Rattle.s39_words.specs.declared.share.ShareFields.{ShareFields}
 use Rattle.s39_words.specs.declared.word_error.WordError.TheVariants.{BadChecksum}
-use Rattle.s39_words.specs.Mistyping.{most_wrong_words, differing_places, IsMnemonic, IsMistyped}
-use Rattle.s39_words.specs.Spelling.{words_of}
+use Rattle.s39_words.specs.Mistyping.{most_wrong_words, count_of_differences, IsMnemonic, IsMistyped}
+use Rattle.s39_words.specs.Share.{data_words}
+use Rattle.s39_words.specs.Spelling.{words_of, HaveIndices, Spells}
 use Rattle.s39_words.proofs.Indices.{indices_below, at_most_words}
+use Rattle.s39_words.proofs.DataWords.{is_word_count, flag-is}
 use Rattle.s39_words.proofs.Remainders.{customization}
 
 axioms : IsField word_field
@@ -92,24 +95,24 @@ value_of_terms k n (v ∷ vs) (w ∷ ws) e =
       | false ↦ λ t. ap₂ bit_xor (ap (word_field.mul (bit_xor v w)) (power-exchanges word_field axioms half k n)) rest
     ]) refl
 
--- as many as there are places
-length-terms : (n m : ℕ) (vs ws : List ℕ) → length (terms n vs ws) ≡ length (differing_places m vs ws)
-length-terms n m [] ws = refl
-length-terms n m (v ∷ vs) [] = refl
-length-terms n m (v ∷ vs) (w ∷ ws) =
+-- as many as there are differences
+length-terms : (n : ℕ) (vs ws : List ℕ) → length (terms n vs ws) ≡ count_of_differences vs ws
+length-terms n [] ws = refl
+length-terms n (v ∷ vs) [] = refl
+length-terms n (v ∷ vs) (w ∷ ws) =
     elim (v == w) as (λ b. length (if b then terms (suc n) vs ws else (power word_field half n, bit_xor v w) ∷ terms (suc n) vs ws)
-    ≡ length (if b then differing_places (suc m) vs ws else m ∷ differing_places (suc m) vs ws)) [
-      | true ↦ length-terms (suc n) (suc m) vs ws
-      | false ↦ ap suc (length-terms (suc n) (suc m) vs ws)
+    ≡ (if b then count_of_differences vs ws else suc (count_of_differences vs ws))) [
+      | true ↦ length-terms (suc n) vs ws
+      | false ↦ ap suc (length-terms (suc n) vs ws)
     ]
 
 -- none before the lists differ
-terms-after : (n m : ℕ) (us vs ws : List ℕ) → length (terms n (us ++ vs) (us ++ ws)) ≡ length (differing_places m vs ws)
-terms-after n m [] vs ws = length-terms n m vs ws
-terms-after n m (u ∷ us) vs ws =
+terms-after : (n : ℕ) (us vs ws : List ℕ) → length (terms n (us ++ vs) (us ++ ws)) ≡ count_of_differences vs ws
+terms-after n [] vs ws = length-terms n vs ws
+terms-after n (u ∷ us) vs ws =
     let same : (u == u) ≡ true = eq-eqb u u refl in
     ap (λ b. length (if b then terms (suc n) (us ++ vs) (us ++ ws) else (power word_field half n, bit_xor u u) ∷ terms (suc n) (us ++ vs) (us ++ ws))) same
-    ∙ terms-after (suc n) m us vs ws
+    ∙ terms-after (suc n) us vs ws
 
 -- the power of a half that is not zero, and the sum of two words
 record IsTerm (t : ℕ × ℕ) : Type 0 where
@@ -220,9 +223,9 @@ module _ (extendable : Bool) (vs ws : List ℕ) (same_count : length vs ≡ leng
   front-below us h = All-append IsIndex (front extendable) us (All-cons IsIndex 1 (customization_string extendable) (omega arith)
       (customization extendable).1) h
 
-  not_both_valid : length vs ≤ most_words → 1 ≤ length (differing_places 0 vs ws) → length (differing_places 0 vs ws) ≤ most_wrong_words → ⊥
+  not_both_valid : length vs ≤ most_words → 1 ≤ count_of_differences vs ws → count_of_differences vs ws ≤ most_wrong_words → ⊥
   not_both_valid short some few =
-      let n = terms-after 0 0 (front extendable) vs ws in
+      let n = terms-after 0 (front extendable) vs ws in
       let are = are_terms 0 (front extendable ++ vs) (front extendable ++ ws) (front-below vs p) (front-below ws q) in
       some_nonzero 0 (front extendable ++ vs) (front extendable ++ ws) (omega (arith, n))
       (power_sums_determine_values word_field axioms all_terms
@@ -243,4 +246,17 @@ bad_checksum text mnemonic is m =
           not_both_valid (flag_of mnemonic) m.words mnemonic m.same_count (indices_below (words_of text) m.words m.known) is.in_list
           (subst (λ f. IsValidChecksum f m.words) m.same_flag valid) is.checksum
           (at_most_words (length m.words) count) m.wrong m.few,
+    )
+
+-- The words of a text that spells a share are a mnemonic.
+pub spelled_words : (text : List ℕ) (share : ShareFields) → Spells text share → (indices : List ℕ) × HaveIndices (words_of text) indices × IsMnemonic indices
+spelled_words text share s =
+    let words = data_words share ++ s.checksum in (
+      words,
+      s.words,
+      record {
+        count = is_word_count share s.is_share s.checksum s.checksum_words;
+        in_list = indices_below (words_of text) words s.words;
+        checksum = subst (λ f. IsValidChecksum f words) (sym (flag-is share s.is_share s.checksum s.checksum_words)) s.valid;
+      },
     )

@@ -7,9 +7,20 @@ use Rattle.s39_field.specs.Polynomial.{IsMultiple}
 abbrev pub customization_string : Bool → List ℕ
 customization_string extendable = if extendable then codes "shamir_extendable" else codes "shamir"
 
--- g(x) = (x - a)(x - a^2)(x - a^3) = x^3 + 14 x^2 + 56 x + 64 with a = 2, the highest power first
+-- the coefficients of x^2 and of x, and the constant one, of
+-- g(x) = (x - a)(x - a^2)(x - a^3) = x^3 + 14 x^2 + 56 x + 64 with a = 2
+abbrev pub generator_square : ℕ
+generator_square = 14
+
+abbrev pub generator_linear : ℕ
+generator_linear = 56
+
+abbrev pub generator_constant : ℕ
+generator_constant = 64
+
+-- g(x), the highest power first
 abbrev pub generator : List ℕ
-generator = 1 ∷ 14 ∷ 56 ∷ 64 ∷ []
+generator = 1 ∷ generator_square ∷ generator_linear ∷ generator_constant ∷ []
 
 -- the list with 1 added to its last coefficient
 abbrev pub one_added_to_last : List ℕ → List ℕ

@@ -2,6 +2,7 @@
 -- these a law cites `generator_times` and `packed`; no other public contract cites one.
 use Rattle.std.specs.Prelude.{ℕ, ◌+◌, ◌*◌, ◌/◌, ◌%◌, ◌^◌}
 use Rattle.s39_field.specs.FieldProduct.{word_field}
+use Rattle.s39_words.specs.Checksum.{generator_square, generator_linear, generator_constant}
 use Rattle.s39_words.specs.Layout.{word_list_length, word_bits}
 
 -- what division leaves: the coefficients of x^2 and of x, and the constant one
@@ -17,17 +18,17 @@ one_remainder = record { square = 0; linear = 0; constant = 1 }
 -- the lower coefficients of the generator, each times an element
 abbrev pub generator_times : ℕ → Remainder
 generator_times element = record {
-  square = word_field.mul element 14;
-  linear = word_field.mul element 56;
-  constant = word_field.mul element 64;
+  square = word_field.mul element generator_square;
+  linear = word_field.mul element generator_linear;
+  constant = word_field.mul element generator_constant;
 }
 
--- the remainder of r x + c, as x^3 leaves 14 x^2 + 56 x + 64
+-- the remainder of r x + c, as x^3 leaves the generator's lower coefficients
 abbrev pub next_remainder : Remainder → ℕ → Remainder
 next_remainder r c = record {
-  square = word_field.add r.linear (word_field.mul r.square 14);
-  linear = word_field.add r.constant (word_field.mul r.square 56);
-  constant = word_field.add c (word_field.mul r.square 64);
+  square = word_field.add r.linear (word_field.mul r.square generator_square);
+  linear = word_field.add r.constant (word_field.mul r.square generator_linear);
+  constant = word_field.add c (word_field.mul r.square generator_constant);
 }
 
 -- a remainder as one number: ten binary digits for each coefficient, that of x^2 highest

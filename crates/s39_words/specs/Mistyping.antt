@@ -9,11 +9,11 @@ use Rattle.s39_words.specs.Spelling.{words_of, HaveIndices}
 abbrev pub most_wrong_words : ℕ
 most_wrong_words = 3
 
--- the places, the first of them counted as this one, at which two lists differ
-abbrev pub differing_places : ℕ → List ℕ → List ℕ → List ℕ
-differing_places place [] ws = []
-differing_places place (v ∷ vs) [] = []
-differing_places place (v ∷ vs) (w ∷ ws) = if v == w then differing_places (suc place) vs ws else place ∷ differing_places (suc place) vs ws
+-- the number of places at which two lists of one length differ
+abbrev pub count_of_differences : List ℕ → List ℕ → ℕ
+count_of_differences [] ws = 0
+count_of_differences (v ∷ vs) [] = 0
+count_of_differences (v ∷ vs) (w ∷ ws) = if v == w then count_of_differences vs ws else suc (count_of_differences vs ws)
 
 -- the words of a mnemonic, by their indices: as many as it may have, with a valid checksum
 pub record IsMnemonic (indices : List ℕ) : Type 0 where
@@ -28,5 +28,5 @@ pub record IsMistyped (text mnemonic : List ℕ) : Type 0 where
   pub known : HaveIndices (words_of text) words
   pub same_count : length words ≡ length mnemonic
   pub same_flag : flag_of words ≡ flag_of mnemonic
-  pub wrong : 1 ≤ length (differing_places 0 words mnemonic)
-  pub few : length (differing_places 0 words mnemonic) ≤ most_wrong_words
+  pub wrong : 1 ≤ count_of_differences words mnemonic
+  pub few : count_of_differences words mnemonic ≤ most_wrong_words

@@ -1,6 +1,8 @@
 //! Facts about the definitions, each the contract of a function that does nothing, but for `read_back`.
-ghost use Rattle.std.specs.Prelude.{◌≡◌, ◌≢◌, ℕ, ◌^◌, ◌<◌, ◌≤◌, Bool, List, [], ◌++◌, All, AllPairs, Contains, Result, length};
+ghost use Rattle.std.specs.Prelude.{◌≡◌, ◌≢◌, ℕ, ◌^◌, ◌<◌, ◌≤◌, Bool, List, [], ◌∷◌, ◌++◌, All, AllPairs, Contains, Result, length};
 ghost use Rattle.std.specs.Prelude.{slice_index, take};
+ghost use Rattle.s39_field.specs.FieldProduct.{word_field};
+ghost use Rattle.s39_field.specs.Polynomial.{power, product_of};
 ghost use Rattle.s39_kdf.specs.Limits.{id_bits, exponent_bits};
 ghost use Rattle.s39_words.specs.Layout.{IsIndex, word_list_length, shortest_word, longest_word, telling_letters, word_bits};
 ghost use Rattle.s39_words.specs.Layout.{header_length, count_bits, byte_pair_bits, flag_place, exponent_place, group_index_place};
@@ -8,13 +10,13 @@ ghost use Rattle.s39_words.specs.Layout.{group_threshold_place, group_count_plac
 ghost use Rattle.s39_words.specs.Layout.{most_groups, most_members, most_padding, checksum_length, fewest_words, most_words, longest_text};
 ghost use Rattle.s39_words.specs.declared.share.ShareFields.{ShareFields};
 ghost use Rattle.s39_words.specs.declared.word_error.WordError.{WordError as Cause};
-ghost use Rattle.s39_words.specs.Checksum.{IsValidChecksum};
+ghost use Rattle.s39_words.specs.Checksum.{generator, IsValidChecksum};
 ghost use Rattle.s39_words.specs.Division.{packed, generator_times};
 ghost use Rattle.s39_words.specs.Mistyping.{IsMnemonic, IsMistyped};
 ghost use Rattle.s39_words.specs.Printing.{IsPrinted};
 ghost use Rattle.s39_words.specs.Reading.{IsWordCount, Reads};
 ghost use Rattle.s39_words.specs.Share.{IsShare};
-ghost use Rattle.s39_words.specs.Spelling.{Spells};
+ghost use Rattle.s39_words.specs.Spelling.{words_of, HaveIndices, Spells};
 ghost use Rattle.s39_words.specs.WordList.{word_list, IsLetter, ComesBefore};
 
 use crate::checksum::GENERATOR_TIMES;
@@ -81,6 +83,13 @@ pub fn no_word_begins_another()
         → Contains word_list word → Contains word_list (word ++ rest) → rest ≡ [] }
 {}
 
+/// The generator is (x - a)(x - a^2)(x - a^3) with a = 2: in this field minus is plus.
+pub fn generator_is_a_product()
+    ensures { product_of word_field (product_of word_field (1 ∷ power word_field 2 1 ∷ [])
+        (1 ∷ power word_field 2 2 ∷ [])) (1 ∷ power word_field 2 3 ∷ [])
+        ≡ generator }
+{}
+
 /// The ten constants of the checksum's register are the lower coefficients of the generator, each times 2^i.
 pub fn register_constants()
     ensures { (i : ℕ) → i < word_bits
@@ -103,7 +112,7 @@ pub fn one_reading()
         → Reads text r → Reads text s → r ≡ s }
 {}
 
-/// All words have a checksum.
+/// Any words of the word list, by their indices, have a checksum.
 pub fn every_checksum_exists()
     ensures { (extendable : Bool) (words : List ℕ) → All IsIndex words
         → (checksum : List ℕ) × (length checksum ≡ checksum_length) × All IsIndex checksum
@@ -137,6 +146,12 @@ pub fn read_back(share: &Share) -> Result<Share, WordError>
 {
     parse(&print(share))
 }
+
+/// The words of a text that spells a share are a mnemonic.
+pub fn spelled_words_are_a_mnemonic()
+    ensures { (text : List ℕ) (share : ShareFields) → Spells text share
+        → (indices : List ℕ) × HaveIndices (words_of text) indices × IsMnemonic indices }
+{}
 
 /// A text whose words are those of a mnemonic but for one, two or three is read as one with a bad checksum.
 pub fn three_wrong_words()

@@ -6,7 +6,7 @@ use crate::size::{EXPONENT_BITS, ID_BITS, MAX_GROUPS, MAX_MEMBERS};
 use s39_kdf::{Bytes, check_secret_length};
 use std::marker::Model;
 
-/// The fields of a share, before their ranges are known to hold.
+/// The fields of a share. The ranges below are those of a share: `Share::new` asks whether they hold.
 #[derive(Debug, Drop)]
 pub struct ShareFields {
     /// The identifier of the backup, below 2^15.
