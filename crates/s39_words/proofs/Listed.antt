@@ -11,7 +11,8 @@ use Rattle.std.proofs.lemmas.List.Sums.{position_or_len_is, passes_at_first}
 use Rattle.std.proofs.lemmas.List.Elements.{All-nil, All-cons, All-head, All-tail}
 use Rattle.std.proofs.lemmas.Slice.Eq.{bytes_eq-Decides}
 use Rattle.s39_words.specs.Layout.{IsIndex, word_list_length, shortest_word, longest_word}
-use Rattle.s39_words.specs.WordList.{word_list, index_of, IsLetter, FitsRow, row_of}
+use Rattle.s39_words.specs.WordList.{word_list, index_of, IsLetter}
+use Rattle.s39_words.specs.Rows.{FitsRow, row_of}
 use Rattle.s39_words.specs.Spelling.{HaveIndices}
 use Rattle.s39_words.specs.Printing.{listed_word}
 use Rattle.s39_words.proofs.WordTable.{length-word_list, lengths, letters}

@@ -14,7 +14,8 @@ use Rattle.std.proofs.lemmas.List.Elements.{All-nil, All-cons, All-append, All-r
 use Rattle.s39_words.specs.Layout.{longest_word}
 use Rattle.s39_words.specs.FirstWord.{BeginsWith}
 use Rattle.s39_words.specs.Spelling.{is_separator}
-use Rattle.s39_words.specs.WordList.{row_of, number_of_row, FitsRow, IsLetter}
+use Rattle.s39_words.specs.WordList.{IsLetter}
+use Rattle.s39_words.specs.Rows.{row_of, number_of_row, FitsRow}
 use Rattle.s39_words.proofs.TextWords.{letter_in_word, within_first}
 
 letter_from_alphabetic : (b : ℕ) → is_ascii_alphabetic b ≡ true → IsLetter (to_ascii_lowercase b)

@@ -20,7 +20,8 @@ use Rattle.std.proofs.lemmas.List.Sorted.{searchable_from_sorted}
 use Rattle.std.proofs.lemmas.List.Sums.{position_or_len_is}
 use Rattle.std.proofs.lemmas.Slice.Eq.{bytes_eq-Decides}
 use Rattle.s39_words.specs.Layout.{IsIndex, word_list_length}
-use Rattle.s39_words.specs.WordList.{word_list, index_of, row_of, number_of_row, FitsRow, IsLetter}
+use Rattle.s39_words.specs.WordList.{word_list, index_of, IsLetter}
+use Rattle.s39_words.specs.Rows.{row_of, number_of_row, FitsRow}
 use Rattle.s39_words.specs.FirstWord.{BeginsInWord, BeginsWith}
 use Rattle.s39_words.specs.Reading.{IsFirstUnknown}
 use Rattle.s39_words.specs.Spelling.{words_of}

@@ -12,7 +12,8 @@ use Rattle.std.proofs.lemmas.Cmp.{nat_list_cmp_total}
 use Rattle.std.proofs.lemmas.List.Elements.{All-nil, All-cons, All-weaker}
 use Rattle.std.proofs.lemmas.List.Kept.{AllPairs-cons}
 use Rattle.s39_words.specs.Layout.{word_list_length, shortest_word, longest_word, telling_letters}
-use Rattle.s39_words.specs.WordList.{word_list, row_of, number_of_row, IsLetter, ComesBefore}
+use Rattle.s39_words.specs.WordList.{word_list, IsLetter, ComesBefore}
+use Rattle.s39_words.specs.Rows.{row_of, number_of_row}
 use Rattle.s39_words.specs.declared.word_list.TheConstants.{ROWS}
 
 -- ---- by computation

@@ -1,11 +1,9 @@
 -- The word list of SLIP-0039 ("Wordlist").
-use Rattle.std.specs.Prelude.{◌≡◌, ℕ, ◌-◌, ◌≤◌, List, [], ◌∷◌, ◌++◌, All, Option, codes, length, replicate, flat_map, position, bytes_eq, ◌==◌}
-use Rattle.std.specs.Int.{w64, from_be_bytes}
+use Rattle.std.specs.Prelude.{◌≡◌, ℕ, ◌≤◌, List, [], ◌∷◌, Option, codes, flat_map, position, bytes_eq, ◌==◌}
 use Rattle.std.specs.List.{slice_split}
 use Rattle.std.specs.Ordering.{nat_cmp}
 use Rattle.std.specs.declared.cmp.Ordering.TheVariants.{Less}
 use Rattle.std.specs.Cmp.Lexicographic.{slice_cmp}
-use Rattle.s39_words.specs.Layout.{longest_word}
 use Prim.Native.String.{String}
 
 -- the words of a line, which single spaces separate
@@ -19,19 +17,6 @@ IsLetter c = (97 ≤ c) × (c ≤ 122)
 -- a word stands before another in a dictionary
 abbrev pub ComesBefore : List ℕ → List ℕ → Type 0
 ComesBefore v w = slice_cmp nat_cmp v w ≡ Less
-
--- a word that eight bytes can hold
-pub record FitsRow (word : List ℕ) : Type 0 where
-  pub letters : All IsLetter word
-  pub short : length word ≤ longest_word
-
--- eight bytes that hold a word: its letters, then spaces
-abbrev pub row_of : List ℕ → List ℕ
-row_of word = word ++ replicate (longest_word - length word) 32
-
--- a row as one number, its first byte the highest
-unfoldable pub number_of_row : List ℕ → ℕ
-number_of_row row = from_be_bytes w64 row
 
 -- the 1,024 words, each as its letters
 unfoldable pub word_list : List (List ℕ)

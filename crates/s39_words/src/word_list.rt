@@ -1,7 +1,8 @@
 //! The word list of SLIP-0039.
 ghost use Rattle.std.specs.Prelude.{◌≡◌, ℕ, List, map, IfSome};
 ghost use Rattle.s39_words.specs.Layout.{IsIndex};
-ghost use Rattle.s39_words.specs.WordList.{word_list, index_of, FitsRow, row_of, number_of_row};
+ghost use Rattle.s39_words.specs.WordList.{word_list, index_of};
+ghost use Rattle.s39_words.specs.Rows.{FitsRow, row_of, number_of_row};
 
 use crate::size::MAX_LETTERS;
 
@@ -148,7 +149,7 @@ pub(crate) fn rows() -> &'static [Row]
 }
 
 /// A row as one number, so that two are compared in one step: the rows are in the order of these numbers.
-#[tactic(auto, unfolding(crate::specs::WordList::number_of_row))]
+#[tactic(auto, unfolding(crate::specs::Rows::number_of_row))]
 fn number_of(row: &Row) -> u64
     ensures { result ≡ number_of_row row.now }
 {

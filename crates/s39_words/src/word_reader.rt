@@ -7,7 +7,8 @@ ghost use Rattle.s39_words.specs.Layout.{IsIndex, longest_word};
 ghost use Rattle.s39_words.specs.FirstWord.{BeginsInWord, BeginsWith};
 ghost use Rattle.s39_words.specs.Reading.{IsFirstUnknown};
 ghost use Rattle.s39_words.specs.Spelling.{is_separator, words_of};
-ghost use Rattle.s39_words.specs.WordList.{index_of, IsLetter, FitsRow, row_of, number_of_row};
+ghost use Rattle.s39_words.specs.WordList.{index_of, IsLetter};
+ghost use Rattle.s39_words.specs.Rows.{FitsRow, row_of, number_of_row};
 
 use crate::size::MAX_LETTERS;
 use crate::word_list::index_of_number;

@@ -2,7 +2,7 @@ use Rattle.std.proofs.Common.{◌≡◌, [], eqb, length, get_or, ap, ◌∙◌,
 use Rattle.std.proofs.lemmas.Iterator.{YieldsList-from_slice}
 use Rattle.std.proofs.lemmas.Iterator.Search.{position_from_yields_List}
 use Rattle.std.specs.Prelude.{unwrap_or}
-use Rattle.s39_words.specs.WordList.{row_of}
+use Rattle.s39_words.specs.Rows.{row_of}
 use Rattle.s39_words.specs.Printing.{listed_word}
 use Rattle.s39_words.proofs.Listed.{length_rows, row_at, row_front, FitsRow-listed_word}
 use Rattle.s39_words.proofs.printing.word_at.Goals as goal

@@ -1,7 +1,7 @@
 use Rattle.std.proofs.Common.{refl, sym, ap, ◌∙◌, arith, rules}
 use Rattle.std.specs.Result.{result_ok}
 use Rattle.std.proofs.lemmas.List.Sorted.{answers_always}
-use Rattle.s39_words.specs.WordList.{row_of, number_of_row}
+use Rattle.s39_words.specs.Rows.{row_of, number_of_row}
 use Rattle.s39_words.specs.Layout.{IsIndex}
 use Rattle.s39_words.proofs.WordSearch.{index_of_search, found_in_list}
 use Rattle.s39_words.proofs.word_list.index_of_number.Goals as goal
