@@ -1,19 +1,19 @@
 -- How long a mnemonic and its parts are (SLIP-0039, "Format of the share mnemonic", "Checksum", "Wordlist").
-use Rattle.std.specs.Prelude.{ℕ, ◌+◌, ◌-◌, ◌*◌, ◌<◌}
+use Rattle.std.specs.Prelude.{ℕ, ◌+◌, ◌-◌, ◌*◌, ◌^◌, ◌<◌}
 use Rattle.s39_kdf.specs.Limits.{id_bits, exponent_bits}
 
--- the words of the word list, the letters of its shortest and its longest word, and the bits that a word stands for
+-- the bits that a word stands for, the words of the word list, and the letters of its shortest and its longest word
+abbrev pub word_bits : ℕ
+word_bits = 10
+
 abbrev pub word_list_length : ℕ
-word_list_length = 1024
+word_list_length = 2 ^ word_bits
 
 abbrev pub shortest_word : ℕ
 shortest_word = 4
 
 abbrev pub longest_word : ℕ
 longest_word = 8
-
-abbrev pub word_bits : ℕ
-word_bits = 10
 
 -- the first letters of a word that tell it from all others
 abbrev pub telling_letters : ℕ
@@ -56,10 +56,10 @@ byte_pair_bits = 16
 
 -- the most groups, and the most members of a group
 abbrev pub most_groups : ℕ
-most_groups = 16
+most_groups = 2 ^ count_bits
 
 abbrev pub most_members : ℕ
-most_members = 16
+most_members = 2 ^ count_bits
 
 -- the most bits of padding before the value
 abbrev pub most_padding : ℕ
