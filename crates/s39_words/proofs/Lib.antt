@@ -19,3 +19,4 @@ pub mod Joined
 pub mod Printed
 pub mod Existence
 pub mod WrongWords
+pub mod Mnemonics

@@ -20,13 +20,10 @@ use Rattle.s39_field.specs.Theory.Values.{add_of_sums, same_from_sum, mul-zero_l
 use Rattle.s39_words.specs.Layout.{IsIndex, most_words}
 use Rattle.s39_words.specs.Checksum.{generator, customization_string, one_added_to_last, checked_polynomial, IsValidChecksum}
 use Rattle.s39_words.specs.Reading.{IsWordCount, flag_of, Reads}
-use Rattle.s39_words.specs.declared.share.ShareFields.{ShareFields}
 use Rattle.s39_words.specs.declared.word_error.WordError.TheVariants.{BadChecksum}
 use Rattle.s39_words.specs.Mistyping.{most_wrong_words, count_of_differences, IsMnemonic, IsMistyped}
-use Rattle.s39_words.specs.Share.{data_words}
-use Rattle.s39_words.specs.Spelling.{words_of, HaveIndices, Spells}
+use Rattle.s39_words.specs.Spelling.{words_of}
 use Rattle.s39_words.proofs.Indices.{indices_below, at_most_words}
-use Rattle.s39_words.proofs.DataWords.{is_word_count, flag-is}
 use Rattle.s39_words.proofs.Remainders.{customization}
 
 axioms : IsField word_field
@@ -246,17 +243,4 @@ bad_checksum text mnemonic is m =
           not_both_valid (flag_of mnemonic) m.words mnemonic m.same_count (indices_below (words_of text) m.words m.known) is.in_list
           (subst (λ f. IsValidChecksum f m.words) m.same_flag valid) is.checksum
           (at_most_words (length m.words) count) m.wrong m.few,
-    )
-
--- The words of a text that spells a share are a mnemonic.
-pub spelled_words : (text : List ℕ) (share : ShareFields) → Spells text share → (indices : List ℕ) × HaveIndices (words_of text) indices × IsMnemonic indices
-spelled_words text share s =
-    let words = data_words share ++ s.checksum in (
-      words,
-      s.words,
-      record {
-        count = is_word_count share s.is_share s.checksum s.checksum_words;
-        in_list = indices_below (words_of text) words s.words;
-        checksum = subst (λ f. IsValidChecksum f words) (sym (flag-is share s.is_share s.checksum s.checksum_words)) s.valid;
-      },
     )

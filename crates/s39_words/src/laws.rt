@@ -153,6 +153,12 @@ pub fn spelled_words_are_a_mnemonic()
         → (indices : List ℕ) × HaveIndices (words_of text) indices × IsMnemonic indices }
 {}
 
+/// Some text has the words of a mnemonic but for one, two or three.
+pub fn every_mnemonic_can_be_mistyped()
+    ensures { (mnemonic : List ℕ) → IsMnemonic mnemonic
+        → (text : List ℕ) × IsMistyped text mnemonic }
+{}
+
 /// A text whose words are those of a mnemonic but for one, two or three is read as one with a bad checksum.
 pub fn three_wrong_words()
     ensures { (text mnemonic : List ℕ) → IsMnemonic mnemonic → IsMistyped text mnemonic
