@@ -68,12 +68,12 @@ word_field = field_modulo word_modulus
 
 -- how many bytes there are but zero: as many as powers of a generator
 abbrev pub nonzero_bytes : ℕ
-nonzero_bytes = 255
+nonzero_bytes = 2 ^ byte_modulus.degree - 1
 
 -- how many words there are but zero
 abbrev pub nonzero_words : ℕ
-nonzero_words = 1023
+nonzero_words = 2 ^ word_modulus.degree - 1
 
 -- the order of the word field: how many elements it has
 abbrev pub word_field_order : ℕ
-word_field_order = 1024
+word_field_order = 2 ^ word_modulus.degree

@@ -1,13 +1,13 @@
 -- PBKDF2 (RFC 8018, section 5.2) as a function on whole lists of bytes. Its pseudorandom function is
 -- HMAC-SHA256, so a block has hLen = mac_length bytes.
-use Rattle.std.specs.Prelude.{ℕ, zero, suc, ◌+◌, ◌-◌, ◌/◌, List, [], ◌++◌, take, replicate}
+use Rattle.std.specs.Prelude.{ℕ, zero, suc, ◌+◌, ◌-◌, ◌*◌, ◌/◌, List, [], ◌++◌, take, replicate}
 use Rattle.std.specs.Int.{w32, to_be_bytes}
 use Rattle.s39_kdf.specs.Bytes.{xor_of}
 use Rattle.s39_kdf.specs.Hmac.{mac_length, hmac}
 
 -- the most bytes that this program derives, those of two blocks
 abbrev pub longest_derived_key : ℕ
-longest_derived_key = 64
+longest_derived_key = 2 * mac_length
 
 -- U_k of block i, where U_1 is the HMAC of the salt and INT (i), and each further U_k that of the U
 -- before it; so U_0 is the salt followed by INT (i), the block's number as four big-endian bytes

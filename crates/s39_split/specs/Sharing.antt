@@ -4,6 +4,7 @@ use Rattle.std.specs.List.{concat, enumerate_from, slice_get}
 use Rattle.s39_field.specs.Interpolation.{InterpolatesBytes}
 use Rattle.s39_kdf.specs.Bytes.{AreBytes}
 use Rattle.s39_kdf.specs.Hmac.{hmac}
+use Rattle.s39_kdf.specs.Limits.{longest_secret}
 
 -- the most shares of a split, so a share's index is at most 15
 abbrev pub most_shares : ℕ
@@ -21,10 +22,6 @@ secret_place = 255
 abbrev pub digest_length : ℕ
 digest_length = 4
 
--- the most random bytes of a split, those of a secret of 128 bytes at threshold 16
-abbrev pub most_random_bytes : ℕ
-most_random_bytes = 1916
-
 -- the digest of the secret S: the first 4 bytes of HMAC-SHA256 with the key R and the message S
 abbrev pub digest_of : List ℕ → List ℕ → List ℕ
 digest_of key secret = take digest_length (hmac key secret)
@@ -38,6 +35,10 @@ digest_share key secret = digest_of key secret ++ key
 abbrev pub random_needed : ℕ → ℕ → ℕ
 random_needed threshold n =
     if threshold == 1 then 0 else (n - digest_length) + (threshold - 2) * n
+
+-- the most random bytes of a split, those of the longest secret at the greatest threshold
+abbrev pub most_random_bytes : ℕ
+most_random_bytes = random_needed most_shares longest_secret
 
 -- the points of which a split makes its shares: the random shares 0, 1, .., then D, then the secret
 abbrev pub base_points : List (List ℕ) → List ℕ → List ℕ → List (ℕ × List ℕ)
