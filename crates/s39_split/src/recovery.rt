@@ -1,11 +1,11 @@
 //! Combining shares (SLIP-0039, "Recovery of the secret").
-ghost use Rattle.std.specs.Prelude.{◌≡◌, ℕ, ◌<◌, ◌≤◌, Some, None, List, Option, length, All, IfOk, OnErr};
+ghost use Rattle.std.specs.Prelude.{◌≡◌, ℕ, ◌<◌, ◌≤◌, Some, None, List, Option, length, All, IsOkAnd, IfOk, OnErr};
 ghost use Rattle.std.specs.Option.{option_map};
 ghost use Rattle.std.specs.Result.{result_ok};
 ghost use Rattle.arrayvec.specs.ArrayVec.{array_vec_len};
 ghost use Rattle.s39_kdf.specs.Limits.{shortest_secret};
-ghost use Rattle.s39_split.specs.Sharing.{most_shares};
-ghost use Rattle.s39_split.specs.Recovery.{Combines};
+ghost use Rattle.s39_split.specs.Sharing.{most_shares, IsSplit};
+ghost use Rattle.s39_split.specs.Recovery.{Combines, AreSharesOf};
 ghost use Rattle.s39_split.specs.Shares.{indexed_bytes, AreDistinct, HaveOneLength};
 
 use crate::digest::digest_of;
@@ -14,8 +14,8 @@ use crate::places::{DIGEST_BYTES, DIGEST_PLACE, SECRET_PLACE};
 use crate::sharing::copied;
 use s39_kdf::Bytes;
 
-/// The digest that the shares give isn't that of the secret that they give: a share is wrong, or they
-/// aren't all shares of one split.
+/// The digest that the shares give isn't that of the secret that they give: a share is wrong, they aren't
+/// all shares of one split, or `t` isn't that split's threshold.
 #[derive(Clone, Copy, PartialEq, Eq, Debug)]
 pub struct DigestMismatch;
 
@@ -33,7 +33,7 @@ impl DigestMismatch {
 /// indices and one length, from 16 to 128 bytes, and stand in any order.
 ///
 /// Where `t` is 1 the secret is the one share. Otherwise the answer is `DigestMismatch` exactly where the
-/// shares' digest isn't that of their secret.
+/// shares' digest isn't that of their secret. Shares of one split at threshold `t` give its secret.
 pub fn combine(t: u8, shares: &[(u8, &Bytes)]) -> Result<Bytes, DigestMismatch>
     requires positive { 1 ≤ t }
     requires number { length shares.now ≡ t }
@@ -46,6 +46,10 @@ pub fn combine(t: u8, shares: &[(u8, &Bytes)]) -> Result<Bytes, DigestMismatch>
     ensures refused { OnErr result (Combines t (indexed_bytes shares.now) None) }
     ensures only { (outcome : Option (List ℕ)) → Combines t (indexed_bytes shares.now) outcome
         → outcome ≡ option_map (λ secret. secret.items) (result_ok result) }
+    ensures of_a_split { (count : ℕ) (secret random : List ℕ) (all_shares : List (List ℕ))
+        → IsSplit t count secret random all_shares
+        → AreSharesOf all_shares (indexed_bytes shares.now)
+        → IsOkAnd result (λ found. found.items ≡ secret) }
     ensures length { (n : ℕ) → All (λ share. length share.1 ≡ n) (indexed_bytes shares.now)
         → IfOk result (λ secret. array_vec_len secret ≡ n) }
 {

@@ -1,14 +1,17 @@
-use Rattle.std.proofs.Common.{◌≡◌, ◌≢◌, ℕ, true, ◌<◌, ◌≤◌, List, [], length, get_or, take, drop, arith, sym, ap, ◌∙◌}
+use Rattle.std.proofs.Common.{◌≡◌, ◌≢◌, ℕ, true, ◌<◌, ◌≤◌, List, [], Option, Some, None, length, get_or, take, drop, arith, sym, ap, ◌∙◌}
+use Rattle.std.specs.Borrow.{Bor}
 use Rattle.std.proofs.lemmas.List.{length-map, get_or-map}
+use Rattle.arrayvec.specs.ArrayVec.{ArrayVec}
 use Rattle.s39_kdf.specs.Limits.{shortest_secret}
 use Rattle.s39_split.specs.Shares.{indexed_bytes}
-use Rattle.s39_split.specs.Sharing.{digest_length, digest_of}
+use Rattle.s39_split.specs.Sharing.{digest_length, digest_of, IsSplit}
+use Rattle.s39_split.specs.Recovery.{Combines, AreSharesOf}
 use Rattle.s39_split.proofs.Indices.{few_lent}
 use Rattle.s39_split.proofs.Lists.{All-from_same}
 use Rattle.s39_split.proofs.Columns.{all_rows, same_length}
 use Rattle.std.proofs.lemmas.Slice.Eq.{slice_eq-Decides}
 use Rattle.std.proofs.lemmas.Bool.Decides.{Decides-eqb}
-use Rattle.s39_split.proofs.Choices.{accepted_once, refused_once, one_combines_to}
+use Rattle.s39_split.proofs.Choices.{accepted_once, refused_once, one_combines_to, any_shares_combine}
 use Rattle.s39_split.proofs.recovery.combine.Goals as goal
 
 pub interpolate-secret-requires-clause-few : goal.interpolate-secret-requires-clause-few
@@ -79,3 +82,30 @@ returns-else-eq-clause-only c = λ outcome combined.
     c.requires.distinct (λ k d within. omega (arith, c.requires.indices k d within)) (omega arith)
     c.interpolate-secret.ensures.value c.interpolate-digest_share.ensures.value
     other outcome (combined.more_needed c.if-t-eq1.false)
+
+-- lent shares of a split, as many as its threshold, combine to its secret, and to nothing else
+combine_to : (threshold count : ℕ) (secret random : List ℕ) (shares : List (List ℕ)) (chosen : List (ℕ × Bor (ArrayVec ℕ)))
+    → IsSplit threshold count secret random shares → AreSharesOf shares (indexed_bytes chosen) → length chosen ≡ threshold
+    → Combines threshold (indexed_bytes chosen) (Some secret)
+    × ((outcome : Option (List ℕ)) → Combines threshold (indexed_bytes chosen) outcome → outcome ≡ Some secret)
+combine_to threshold count secret random shares chosen split choice number =
+    any_shares_combine threshold count secret random shares (indexed_bytes chosen) split choice
+    (length-map chosen (λ s. (s.0, s.1.now.items)) ∙ number)
+
+pub returns-then-t-eq1-clause-of_a_split : goal.returns-then-t-eq1-clause-of_a_split
+returns-then-t-eq1-clause-of_a_split c = λ count secret random shares split choice.
+    let once = (combine_to c.args.t count secret random shares c.args.shares.now split choice c.requires.number).1 in
+    let same : Some c.copied.result.items ≡ Some secret = once (Some c.copied.result.items) (returns-then-t-eq1-clause-secret c) in
+    cc
+
+pub returns-then-eq-clause-of_a_split : goal.returns-then-eq-clause-of_a_split
+returns-then-eq-clause-of_a_split c = λ count secret random shares split choice.
+    let combined = (combine_to c.args.t count secret random shares c.args.shares.now split choice c.requires.number).0 in
+    let same : Some secret ≡ Some c.interpolate-secret.result.items = returns-then-eq-clause-only c (Some secret) combined in
+    cc
+
+pub returns-else-eq-clause-of_a_split : goal.returns-else-eq-clause-of_a_split
+returns-else-eq-clause-of_a_split c = λ count secret random shares split choice.
+    let combined = (combine_to c.args.t count secret random shares c.args.shares.now split choice c.requires.number).0 in
+    let none : Some secret ≡ None = returns-else-eq-clause-only c (Some secret) combined in
+    absurd (cc)
