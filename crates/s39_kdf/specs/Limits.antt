@@ -1,11 +1,13 @@
 -- Which passphrases and master secrets are accepted (SLIP-0039, "Passphrase" and "Generating the shares"), and how
--- long the fields are on which their encryption depends ("Format of the share mnemonic").
+-- long the fields are on which their encryption depends ("Format of the share mnemonic"). The standard asks for a
+-- secret of at least 128 bits and an even number of bytes; the most bytes are this program's own limit.
 use Rattle.std.specs.Prelude.{◌≡◌, ℕ, ◌-◌, ◌%◌, ◌≤◌, List, length, take, slice_index, All}
 
--- the fewest and the most bytes of a master secret; a share value is as long as the secret
+-- the fewest bytes of a master secret; a share value is as long as the secret
 abbrev pub shortest_secret : ℕ
 shortest_secret = 16
 
+-- the most bytes of a master secret: this program's own limit, not the standard's
 abbrev pub longest_secret : ℕ
 longest_secret = 128
 

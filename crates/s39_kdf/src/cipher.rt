@@ -16,7 +16,8 @@ const MAX_HALF_BYTES: usize = MAX_SECRET_BYTES / 2;
 type Half = ArrayVec<u8, MAX_HALF_BYTES>;
 
 /// Encrypts a secret of an even number of bytes (SLIP-0039, "Encryption of the master secret"). The result is as long
-/// as the secret. It takes `4 * params.round_iterations()` iterations of PBKDF2.
+/// as the secret. It takes `4 * params.round_iterations()` iterations of PBKDF2, and twice as many for a secret of
+/// more than 64 bytes, where the key for each half has two blocks.
 pub fn encrypt(secret: &Bytes, passphrase: &[u8], params: Params) -> Bytes
     requires { array_vec_len secret.now % 2 ≡ 0 }
     ensures value { IsEncryption secret.now.items passphrase.now params result.items }

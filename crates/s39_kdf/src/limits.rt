@@ -45,7 +45,8 @@ impl BadSecretLength {
     }
 }
 
-/// Accepts a passphrase exactly where all its bytes are from 32 to 126, an empty one too.
+/// Accepts a passphrase exactly where all its bytes are from 32 to 126, an empty one too. The refusal holds the
+/// position of the first byte that isn't, counted from 1.
 pub fn check_passphrase(passphrase: &[u8]) -> Result<(), BadPassphrase>
     ensures accepted { IsOk result ↔ All IsPrintable passphrase.now }
     ensures first { IfErr result (λ bad. IsFirstUnprintable passphrase.now bad.position) }
@@ -65,7 +66,8 @@ fn is_printable(byte: u8) -> bool
     matches!(byte, 32..=126)
 }
 
-/// Accepts a length of a master secret exactly where it is even, from 16 to 128 bytes.
+/// Accepts a length of a master secret exactly where it is even, from 16 to 128 bytes. The refusal holds that
+/// length.
 pub fn check_secret_length(bytes: usize) -> Result<(), BadSecretLength>
     ensures accepted { IsOk result ↔ IsSecretLength bytes }
     ensures length { IfErr result (λ bad. bad.bytes ≡ bytes) }
@@ -76,7 +78,8 @@ pub fn check_secret_length(bytes: usize) -> Result<(), BadSecretLength>
     Ok(())
 }
 
-/// Copies a master secret, exactly where its length is even, from 16 to 128 bytes.
+/// Copies a master secret, exactly where its length is even, from 16 to 128 bytes. The refusal holds the number of
+/// its bytes.
 pub fn check_secret(secret: &[u8]) -> Result<Bytes, BadSecretLength>
     ensures accepted { IsOk result ↔ IsSecretLength (length secret.now) }
     ensures unchanged { IfOk result (λ bytes. bytes.items ≡ secret.now) }

@@ -1,5 +1,5 @@
--- Shares that are two fewer than the threshold tell nothing of the secret: whatever it is, some random
--- bytes give just these shares.
+-- Shares that are two fewer than the threshold tell nothing of the secret: whatever it is, with each key of
+-- its digest just one list of random bytes gives these shares.
 use Rattle.std.specs.Prelude.{◌≡◌, ℕ, List, ◌++◌}
 use Rattle.s39_split.specs.Sharing.{most_shares, IsSplit}
 use Rattle.s39_split.specs.Recovery.{AreSharesOf}

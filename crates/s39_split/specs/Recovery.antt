@@ -47,7 +47,7 @@ SharesCombineOnce = (threshold : ℕ) (shares : List (ℕ × List ℕ)) (outcome
     → 0 < length shares → All (λ share. share.0 < 256) shares → AreDistinct shares
     → Combines threshold shares outcome → Combines threshold shares other → outcome ≡ other
 
--- shares with different indices and one length combine to an outcome
+-- one or more shares with different indices and one length, as many as the threshold, combine to an outcome
 abbrev pub SharesCombine : Type 0
 SharesCombine = (threshold : ℕ) (shares : List (ℕ × List ℕ))
     → 1 ≤ threshold

@@ -27,7 +27,8 @@ pub fn shares_of_a_split()
     ensures bytes { SharesAreBytes }
 {}
 
-/// A threshold, a number of shares, a secret and random bytes have one split.
+/// A threshold of at least 1, a number of shares from the threshold to 16, a secret of at least 4 bytes, and
+/// as many random bytes as `random_needed` says have a split, and no other.
 pub fn one_split()
     ensures some { HaveASplit }
     ensures one { HaveOneSplit }
@@ -43,7 +44,7 @@ pub fn any_shares_combine()
     ensures { AnySharesCombine }
 {}
 
-/// Shares with different indices and one length combine to an outcome.
+/// One or more shares with different indices and one length, as many as the threshold, combine to an outcome.
 pub fn shares_combine()
     ensures { SharesCombine }
 {}
