@@ -1,4 +1,6 @@
 pub mod Finds
+pub mod Flags
+pub mod StepLooks
 pub mod Sublists
 pub mod Orders
 pub mod Ascending

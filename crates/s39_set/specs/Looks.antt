@@ -1,57 +1,55 @@
--- How many looks a call may add: questions whether a set has a share, and turns of loops.
-use Rattle.std.specs.Prelude.{ℕ, ◌+◌, ◌-◌, ◌*◌, List, length, filter, sum_by}
-use Rattle.std.specs.List.{range_with_len}
-use Rattle.std.specs.Option.{is_some}
-use Rattle.s39_words.specs.declared.share.ShareFields.{ShareFields}
-use Rattle.s39_set.specs.Quorums.{member_threshold_of}
+-- How many looks a call adds: questions whether a set has a share, and turns of loops. Each loop runs to its end, but for
+-- the search for a greater quorum, which stops at the place at which its answer differs from the given names.
+use Rattle.std.specs.Prelude.{ℕ, ◌+◌, ◌-◌, ◌*◌, ◌==◌, ◌&&◌, List, [], ◌∷◌, length, drop, sum_by, Option, Some, None}
+use Rattle.std.specs.Prelude.{Result, Ok, Err, slice_index_or, if◌then◌else◌}
+use Rattle.s39_set.specs.declared.next.NotAQuorum.{NotAQuorum}
 use Rattle.s39_set.specs.Names.{most_groups, most_members, most_names}
 
--- the test whether names are a quorum
+-- the test whether names are a quorum adds at most so many
 abbrev pub most_test_looks : ℕ
 most_test_looks = 1024
 
--- the step to the next quorum
+-- and the step to the next quorum
 abbrev pub most_step_looks : ℕ
 most_step_looks = 16384
 
--- for each name a turn and a look: a step adds at least these
-abbrev pub most_name_looks : ℕ
-most_name_looks = 2 * most_names
+-- the test: for each name a turn and a question, and a turn where its group's names are counted; for each group a turn
+abbrev pub test_looks : List (ℕ × ℕ) → ℕ
+test_looks names = 3 * length names + most_groups
 
--- how many groups have a share
-abbrev pub groups_with_shares : List ShareFields → ℕ
-groups_with_shares set = length (filter (λ group. is_some (member_threshold_of set group)) (range_with_len 0 most_groups))
+-- What a step finds out before it searches: a turn and a question for each name that there is, a turn for each group and
+-- each member of it, and two for each of these names.
+abbrev pub choice_looks : List (ℕ × ℕ) → ℕ
+choice_looks names = 2 * most_names + most_groups * (1 + most_members) + 2 * length names
 
--- A step from a quorum of these names adds at least so many before it looks for a greater one: for each of these names three
--- in the test and two where they are noted and counted, for each name that there is two, for each group one in the test
--- and one behind it, and for each group with a share one for each member.
-abbrev pub least_step_looks : List ShareFields → List (ℕ × ℕ) → ℕ
-least_step_looks set names = 5 * length names + most_name_looks + 2 * most_groups + most_members * groups_with_shares set
+-- how many members there may be above a name in its group
+abbrev pub later_members : ℕ × ℕ → ℕ
+later_members name = most_members - (name.1 + 1)
 
--- where no quorum comes after them, the place of each is tried: a turn, and one for each member above it
-abbrev pub least_last_looks : List ShareFields → List (ℕ × ℕ) → ℕ
-least_last_looks set names = least_step_looks set names + sum_by (λ name. most_members - name.1) names
+-- how many groups there may be above a name's
+abbrev pub later_groups : ℕ × ℕ → ℕ
+later_groups name = most_groups - (name.0 + 1)
 
--- where one does, a place is tried at least, and each name of that quorum takes a turn
-abbrev pub least_next_looks : List ShareFields → List (ℕ × ℕ) → List (ℕ × ℕ) → ℕ
-least_next_looks set names next = least_step_looks set names + 1 + length next
+-- whether a greater name can stand in the place of one: a turn, and one for each later member and each later group
+abbrev pub place_looks : ℕ × ℕ → ℕ
+place_looks name = 1 + later_members name + later_groups name
 
--- Parts of a step; no public contract cites these.
+-- the names before a place, and the least that can stand there and behind it: a turn for each name before, two for each
+-- later member, and for each later group two and one for each of its members
+abbrev pub completion_looks : ℕ → ℕ × ℕ → ℕ
+completion_looks place name = place + 2 * later_members name + (2 + most_members) * later_groups name
 
--- for each group a turn, and one for each of its members
-abbrev pub most_group_looks : ℕ
-most_group_looks = most_groups * (1 + most_members)
+-- how many names two lists begin with in common
+abbrev pub common_names : List (ℕ × ℕ) → List (ℕ × ℕ) → ℕ
+common_names [] others = 0
+common_names (x ∷ xs) [] = 0
+common_names (x ∷ xs) (y ∷ ys) = if (x.0 == y.0) && (x.1 == y.1) then 1 + common_names xs ys else 0
 
--- what a step knows: the names at hand, the masks of the quorum's names, the complete groups, and the numbers of
--- the quorum's names in the groups
-abbrev pub most_choice_looks : ℕ
-most_choice_looks = most_name_looks + most_names + most_group_looks + most_names
-
--- whether a greater name can stand at a position: the members above its own, and the groups above its own
-abbrev pub most_position_looks : ℕ
-most_position_looks = most_members + most_groups
-
--- the next quorum: the names before a position, the groups above its own, the members above its own twice, and the
--- members of the groups that follow
-abbrev pub most_tail_looks : ℕ
-most_tail_looks = most_names + most_groups + 2 * most_members + most_group_looks
+-- a step from these names, by its answer: the places of the names are tried from the last one back, to the one at which the
+-- answer differs, or to the first
+abbrev pub step_looks : List (ℕ × ℕ) → Result (Option (List (ℕ × ℕ))) NotAQuorum → ℕ
+step_looks names (Err _) = test_looks names
+step_looks names (Ok None) = test_looks names + choice_looks names + sum_by place_looks names
+step_looks names (Ok (Some next)) =
+    let place = common_names names next in
+    test_looks names + choice_looks names + sum_by place_looks (drop place names) + completion_looks place (slice_index_or names place (0, 0))

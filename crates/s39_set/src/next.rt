@@ -3,9 +3,7 @@ ghost use Rattle.std.specs.Prelude.{◌≡◌, ◌+◌, ◌-◌, ◌*◌, ◌<�
 ghost use Rattle.std.specs.Prelude.{OnOk, OnErr, IfOk, IfSome, Ok};
 ghost use Rattle.std.specs.declared.cmp.Ordering.TheVariants.{Less};
 ghost use Rattle.s39_set.specs.Names.{most_groups, most_members, most_names, name_cmp, AreNames};
-ghost use Rattle.s39_set.specs.Looks.{most_step_looks, least_step_looks, least_last_looks, least_next_looks, most_name_looks, most_group_looks};
-ghost use Rattle.s39_set.specs.Looks.{most_choice_looks, most_position_looks, most_tail_looks, groups_with_shares};
-ghost use Rattle.s39_set.specs.declared.next.Tail.TheVariants.{Group};
+ghost use Rattle.s39_set.specs.Looks.{most_step_looks, step_looks, choice_looks, place_looks, completion_looks, later_members};
 ghost use Rattle.s39_set.specs.ShareSet.{IsShareSet, name_of};
 ghost use Rattle.s39_set.specs.Quorums.{IsQuorum, IsFirstQuorumAfter, HasNoQuorumAfter};
 ghost use Rattle.s39_set.specs.Steps.{name_at, earlier_of_group, AreMasksOf, members_from, groups_from, groups_taken};
@@ -33,11 +31,12 @@ impl NotAQuorum {
 
 /// The first quorum of a set that comes after a given one, `None` where that is the last.
 ///
-/// The error is answered exactly where the given list isn't a quorum of the set. The call adds at most
-/// `MAX_STEP_LOOKS` to the looks, whose count the caller keeps at most `u64::MAX - MAX_STEP_LOOKS`. Where it answers no
-/// error, it adds at least five for each name of the quorum, two for each name that there is, two for each group and 16
-/// for each that has a share; and besides one, and one for each name of its answer, or where that is `None`, one for each
-/// name of the quorum and one for each member above it.
+/// The error is answered exactly where the given list isn't a quorum of the set. The caller keeps the count of looks at
+/// most `u64::MAX - MAX_STEP_LOOKS`: the call adds at most `MAX_STEP_LOOKS`. How many it adds follows from the given names
+/// and the answer alone: those of `is_quorum`; then, unless that is the answer, two for each name that there is, 17 for
+/// each group and two for each name of the quorum; for each name of the quorum, from the last one back to the first that
+/// the answer doesn't have in its place, one, and one for each member and each group above it; and for that name one for
+/// each name before it, two for each member above it and 18 for each group above it.
 pub fn next_after(
     set: &ShareSet,
     quorum: &Quorum,
@@ -49,11 +48,7 @@ pub fn next_after(
     ensures next { IfOk result (λ next.
         IfSome next (IsFirstQuorumAfter set.now (Some quorum.now))) }
     ensures last { result ≡ Ok None → HasNoQuorumAfter set.now (Some quorum.now) }
-    ensures at_least { looks.old ≤ looks.new }
-    ensures each { OnOk result (looks.old + least_step_looks set.now quorum.now ≤ looks.new) }
-    ensures each_place { result ≡ Ok None → looks.old + least_last_looks set.now quorum.now ≤ looks.new }
-    ensures each_next { IfOk result (λ next. IfSome next (λ names.
-        looks.old + least_next_looks set.now quorum.now names ≤ looks.new)) }
+    ensures looks { looks.new ≡ looks.old + step_looks quorum.now result }
     ensures at_most { looks.new ≤ looks.old + most_step_looks }
 {
     if !is_quorum(set, quorum, looks) {
@@ -102,20 +97,19 @@ fn has_spare_member(
 ) -> bool
     requires group { group < most_groups }
     requires member { member < most_members }
-    requires looks { looks.old + most_members ≤ u64.MAX }
+    requires looks { looks.old + later_members (group, member) ≤ u64.MAX }
     ensures spare { IsTrue result → HasSpareMember at_hand.now chosen.now (group, member) }
     ensures all { result ≡ false → AllAreChosen at_hand.now chosen.now (group, member) }
-    ensures at_least { looks.old ≤ looks.new }
-    ensures each { result ≡ false → looks.new + member + 1 ≡ looks.old + most_members }
-    ensures at_most { looks.new ≤ looks.old + most_members }
+    ensures looks { looks.new ≡ looks.old + later_members (group, member) }
 {
+    let mut spare = false;
     for other in member + 1..MAX_MEMBERS {
         looks.turn();
         if at_hand.has(group, other) && !chosen.has(group, other) {
-            return true;
+            spare = true;
         }
     }
-    false
+    spare
 }
 
 /// Whether a group above this one is complete and has no chosen name.
@@ -126,34 +120,33 @@ fn has_spare_group(
     looks: &mut Looks,
 ) -> bool
     requires group { group < most_groups }
-    requires looks { looks.old + most_groups ≤ u64.MAX }
+    requires looks { looks.old + (most_groups - (group + 1)) ≤ u64.MAX }
     ensures spare { IsTrue result → HasSpareGroup complete.now members.now group }
     ensures all { result ≡ false → AllAreUsed complete.now members.now group }
-    ensures at_least { looks.old ≤ looks.new }
-    ensures each { result ≡ false → looks.new + group + 1 ≡ looks.old + most_groups }
-    ensures at_most { looks.new ≤ looks.old + most_groups }
+    ensures looks { looks.new ≡ looks.old + (most_groups - (group + 1)) }
 {
+    let mut spare = false;
     for other in group + 1..MAX_GROUPS {
         looks.turn();
         if complete[usize::from(other)] && members[usize::from(other)] == 0 {
-            return true;
+            spare = true;
         }
     }
-    false
+    spare
 }
 
 /// How many groups above this one have chosen names.
 fn groups_above(members: &[u16; GROUPS], group: u8, looks: &mut Looks) -> u8
     requires group { group < most_groups }
-    requires looks { looks.old + most_groups ≤ u64.MAX }
+    requires looks { looks.old + (most_groups - (group + 1)) ≤ u64.MAX }
     ensures groups { result ≡ groups_used members.now group }
     ensures few { result ≤ most_groups }
-    ensures looks { looks.new + group + 1 ≡ looks.old + most_groups }
+    ensures looks { looks.new ≡ looks.old + (most_groups - (group + 1)) }
 {
     let mut groups = 0;
-    for other in group + 1..MAX_GROUPS {
+    for later in group + 1..MAX_GROUPS {
         looks.turn();
-        if members[usize::from(other)] > 0 {
+        if members[usize::from(later)] > 0 {
             groups += 1;
         }
     }
@@ -164,15 +157,15 @@ fn groups_above(members: &[u16; GROUPS], group: u8, looks: &mut Looks) -> u8
 fn count_members(masks: &Masks, group: u8, from: u8, looks: &mut Looks) -> u8
     requires group { group < most_groups }
     requires from { from ≤ most_members }
-    requires looks { looks.old + most_members ≤ u64.MAX }
+    requires looks { looks.old + (most_members - from) ≤ u64.MAX }
     ensures members { result ≡ length (members_from masks.now group from) }
     ensures few { result ≤ most_members }
-    ensures looks { looks.new + from ≡ looks.old + most_members }
+    ensures looks { looks.new ≡ looks.old + (most_members - from) }
 {
     let mut members = 0;
-    for member in from..MAX_MEMBERS {
+    for other in from..MAX_MEMBERS {
         looks.turn();
-        if masks.has(group, member) {
+        if masks.has(group, other) {
             members += 1;
         }
     }
@@ -184,11 +177,9 @@ impl Choice {
         requires names { AreNames names.now }
         requires short { length names.now ≤ most_names }
         requires is_set { IsShareSet set.now }
-        requires looks { looks.old + most_choice_looks ≤ u64.MAX }
+        requires looks { looks.old + choice_looks names.now ≤ u64.MAX }
         ensures knows { Knows set.now names.now result }
-        ensures looks { looks.new ≡ looks.old + most_name_looks + 2 * length names.now
-            + most_groups + most_members * groups_with_shares set.now }
-        ensures at_most { looks.new ≤ looks.old + most_choice_looks }
+        ensures looks { looks.new ≡ looks.old + choice_looks names.now }
     {
         let at_hand = shares_at_hand(set, looks);
         Choice {
@@ -203,23 +194,17 @@ impl Choice {
     fn tail(&self, names: &[(u8, u8)], position: usize, looks: &mut Looks) -> Option<Tail>
         requires names { AreNames names.now }
         requires position { position < length names.now }
-        requires looks { looks.old + most_position_looks ≤ u64.MAX }
+        requires looks { looks.old + place_looks (name_at names.now position) ≤ u64.MAX }
         ensures tail { IsTailFor self.now (take position names.now) (name_at names.now position)
             result }
-        ensures at_least { looks.old ≤ looks.new }
-        ensures each_member { result ≡ None
-            → looks.old + most_members ≤ looks.new + (name_at names.now position).1 + 1 }
-        ensures each_group { result ≡ None → earlier_of_group names.now position ≡ 0
-            → looks.new + (name_at names.now position).0 + (name_at names.now position).1 + 2
-            ≡ looks.old + most_groups + most_members }
-        ensures at_most { looks.new ≤ looks.old + most_position_looks }
+        ensures looks { looks.new + 1 ≡ looks.old + place_looks (name_at names.now position) }
     {
         let (group, member) = names[position];
-        if has_spare_member(&self.at_hand, &self.chosen, group, member, looks) {
+        let spare_member = has_spare_member(&self.at_hand, &self.chosen, group, member, looks);
+        let spare_group = has_spare_group(&self.complete, &self.members, group, looks);
+        if spare_member {
             Some(Tail::Group)
-        } else if is_first_of_group(names, position)
-            && has_spare_group(&self.complete, &self.members, group, looks)
-        {
+        } else if spare_group && is_first_of_group(names, position) {
             Some(Tail::LaterGroups)
         } else {
             None
@@ -238,31 +223,23 @@ impl Choice {
         requires names { AreNames names.now }
         requires short { length names.now ≤ most_names }
         requires position { position < length names.now }
-        requires looks { looks.old + most_tail_looks ≤ u64.MAX }
+        requires looks { looks.old + completion_looks position (name_at names.now position) ≤ u64.MAX }
         ensures names { result
             ≡ take position names.now
             ++ tail_names set.now self.now (name_at names.now position) tail }
-        ensures each_name { looks.old + length result ≤ looks.new }
-        ensures each_group { looks.old + position + 2 * most_groups
-            ≤ looks.new + 2 * ((name_at names.now position).0 + 1) }
-        ensures each_member { tail ≡ Group
-            → looks.old + position + 2 * most_groups + 2 * most_members
-            ≤ looks.new + 2 * ((name_at names.now position).0 + 1) + 2 * ((name_at names.now position).1 + 1) }
-        ensures at_most { looks.new ≤ looks.old + most_tail_looks }
+        ensures looks { looks.new
+            ≡ looks.old + completion_looks position (name_at names.now position) }
     {
         let (group, member) = names[position];
         let mut next = copied(&names[..position], looks);
+        let chosen = count_members(&self.chosen, group, member + 1, looks);
         let groups = groups_above(&self.members, group, looks);
-        match tail {
-            Tail::Group => {
-                let members = count_members(&self.chosen, group, member + 1, looks) + 1;
-                push_members(&self.at_hand, group, member + 1, members, &mut next, looks);
-                self.push_groups(set, group + 1, groups, &mut next, looks);
-            }
-            Tail::LaterGroups => {
-                self.push_groups(set, group + 1, groups + 1, &mut next, looks);
-            }
-        }
+        let (members, groups) = match tail {
+            Tail::Group => (chosen + 1, groups),
+            Tail::LaterGroups => (0, groups + 1),
+        };
+        push_members(&self.at_hand, group, member + 1, members, &mut next, looks);
+        self.push_groups(set, group + 1, groups, &mut next, looks);
         next
     }
 
@@ -278,30 +255,28 @@ impl Choice {
     )
         requires from { from ≤ most_groups }
         requires earlier { All (λ name. name.0 < from) quorum.old }
-        requires looks { looks.old + most_group_looks ≤ u64.MAX }
+        requires looks { looks.old + (1 + most_members) * (most_groups - from) ≤ u64.MAX }
         ensures names { quorum.new ≡ quorum.old ++ groups_taken set.now self.now from wanted }
-        ensures looks { looks.new + from ≡ looks.old + most_groups
-            + most_members * length (take wanted (groups_from self.now.complete from)) }
-        ensures each_name { looks.old + length quorum.new ≤ looks.new + length quorum.old }
-        ensures at_most { looks.new ≤ looks.old + most_group_looks }
+        ensures looks { looks.new ≡ looks.old + (1 + most_members) * (most_groups - from) }
     {
         let mut groups = 0;
         for group in from..MAX_GROUPS {
             looks.turn();
+            let mut members = 0;
             if groups < wanted && self.complete[usize::from(group)] {
-                let members = set.member_threshold(group).unwrap_or(0);
-                push_members(&self.at_hand, group, 0, members, quorum, looks);
+                members = set.member_threshold(group).unwrap_or(0);
                 groups += 1;
             }
+            push_members(&self.at_hand, group, 0, members, quorum, looks);
         }
     }
 }
 
 /// Which shares a set has.
 fn shares_at_hand(set: &ShareSet, looks: &mut Looks) -> Masks
-    requires looks { looks.old + most_name_looks ≤ u64.MAX }
+    requires looks { looks.old + 2 * most_names ≤ u64.MAX }
     ensures names { AreMasksOf result (map name_of set.now) }
-    ensures looks { looks.new ≡ looks.old + most_name_looks }
+    ensures looks { looks.new ≡ looks.old + 2 * most_names }
 {
     let mut at_hand = Masks::new();
     for slot in 0..MAX_NAMES {
@@ -333,16 +308,16 @@ fn masks_of(names: &[(u8, u8)], looks: &mut Looks) -> Masks
 fn groups_complete(set: &ShareSet, at_hand: &Masks, looks: &mut Looks) -> [bool; GROUPS]
     requires at_hand { AreMasksOf at_hand.now (map name_of set.now) }
     requires is_set { IsShareSet set.now }
-    requires looks { looks.old + most_group_looks ≤ u64.MAX }
+    requires looks { looks.old + most_groups * (1 + most_members) ≤ u64.MAX }
     ensures complete { AreCompleteGroups result set.now }
-    ensures looks { looks.new ≡ looks.old + most_groups + most_members * groups_with_shares set.now }
-    ensures at_most { looks.new ≤ looks.old + most_group_looks }
+    ensures looks { looks.new ≡ looks.old + most_groups * (1 + most_members) }
 {
     let mut complete = [false; GROUPS];
     for group in 0..MAX_GROUPS {
         looks.turn();
+        let members = count_members(at_hand, group, 0, looks);
         if let Some(threshold) = set.member_threshold(group) {
-            complete[usize::from(group)] = threshold <= count_members(at_hand, group, 0, looks);
+            complete[usize::from(group)] = threshold <= members;
         }
     }
     complete
@@ -385,10 +360,9 @@ fn push_members(
     requires group { group < most_groups }
     requires from { from ≤ most_members }
     requires earlier { All (λ name. name_cmp name (group, from) ≡ Less) quorum.old }
-    requires looks { looks.old + most_members ≤ u64.MAX }
+    requires looks { looks.old + (most_members - from) ≤ u64.MAX }
     ensures names { quorum.new ≡ quorum.old ++ take wanted (members_from masks.now group from) }
-    ensures looks { looks.new + from ≡ looks.old + most_members }
-    ensures each_name { looks.old + length quorum.new ≤ looks.new + length quorum.old }
+    ensures looks { looks.new ≡ looks.old + (most_members - from) }
 {
     let mut members = 0;
     for member in from..MAX_MEMBERS {

@@ -2,7 +2,7 @@
 ghost use Rattle.std.specs.Prelude.{◌≡◌, ℕ, ◌+◌, ◌-◌, ◌*◌, ◌<◌, ◌≤◌, ◌↔◌, ◌++◌, [], ◌∷◌, length, map, All, Contains, Some, IsTrue, slice_index};
 ghost use Rattle.std.specs.declared.cmp.Ordering.TheVariants.{Less};
 ghost use Rattle.s39_set.specs.Names.{most_groups, most_members, most_names, name_cmp, names_in_group};
-ghost use Rattle.s39_set.specs.Looks.{most_test_looks};
+ghost use Rattle.s39_set.specs.Looks.{most_test_looks, test_looks};
 ghost use Rattle.s39_set.specs.ShareSet.{IsShareSet, name_of};
 ghost use Rattle.s39_set.specs.Quorums.{member_threshold_of, IsQuorum, HasJustTheMembers};
 
@@ -85,35 +85,36 @@ fn is_earlier(name: (u8, u8), group: u8, member: u8) -> bool
 /// Whether a list of names is a quorum of a set: all are names of its shares, they meet the thresholds, and no
 /// proper subset of them does.
 ///
-/// It adds at most `MAX_TEST_LOOKS` to the looks, whose count the caller keeps at most `u64::MAX - MAX_TEST_LOOKS`;
-/// where it answers `true`, three for each name and one for each group that there may be.
+/// It adds three looks for each name and one for each group that there may be, whatever it answers: at most
+/// `MAX_TEST_LOOKS`. The caller keeps their count at most `u64::MAX - MAX_TEST_LOOKS`.
 pub fn is_quorum(set: &ShareSet, quorum: &Quorum, looks: &mut Looks) -> bool
     requires { looks.old ≤ u64.MAX - most_test_looks }
     ensures quorum { IsTrue result ↔ IsQuorum set.now quorum.now }
     ensures is_set { IsTrue result → IsShareSet set.now }
-    ensures at_least { looks.old ≤ looks.new }
-    ensures each { IsTrue result → looks.new ≡ looks.old + 3 * length quorum.now + most_groups }
+    ensures looks { looks.new ≡ looks.old + test_looks quorum.now }
     ensures at_most { looks.new ≤ looks.old + most_test_looks }
 {
     are_a_share_set(set);
-    are_at_hand(set, quorum.pairs(), looks) && has_just_the_members(set, quorum.pairs(), looks)
+    let names = quorum.pairs();
+    let at_hand = are_at_hand(set, names, looks);
+    let just = has_just_the_members(set, names, looks);
+    at_hand && just
 }
 
 /// Whether the set has shares of all these names.
 fn are_at_hand(set: &ShareSet, names: &[(u8, u8)], looks: &mut Looks) -> bool
     requires { looks.old + 2 * length names.now ≤ u64.MAX }
     ensures at_hand { IsTrue result ↔ All (Contains (map name_of set.now)) names.now }
-    ensures at_least { looks.old ≤ looks.new }
-    ensures each { IsTrue result → looks.new ≡ looks.old + 2 * length names.now }
-    ensures at_most { looks.new ≤ looks.old + 2 * length names.now }
+    ensures looks { looks.new ≡ looks.old + 2 * length names.now }
 {
+    let mut all = true;
     for (group, member) in names {
         looks.turn();
         if !has(set, *group, *member, looks) {
-            return false;
+            all = false;
         }
     }
-    true
+    all
 }
 
 /// Whether just as many groups as the group threshold have a name among these, and each of them just as many
@@ -123,25 +124,24 @@ fn has_just_the_members(set: &ShareSet, names: &[(u8, u8)], looks: &mut Looks) -
     requires short { length names.now ≤ most_names }
     requires looks { looks.old + length names.now + most_groups ≤ u64.MAX }
     ensures just { IsTrue result ↔ HasJustTheMembers set.now names.now }
-    ensures at_least { looks.old + length names.now ≤ looks.new }
-    ensures each { IsTrue result → looks.new ≡ looks.old + length names.now + most_groups }
-    ensures at_most { looks.new ≤ looks.old + length names.now + most_groups }
+    ensures looks { looks.new ≡ looks.old + length names.now + most_groups }
 {
     are_a_share_set(set);
     let required = set.group_threshold();
     let counts = members_of_groups(names, looks);
+    let mut just = true;
     let mut groups = 0;
     for group in 0..MAX_GROUPS {
         looks.turn();
         let members = counts[usize::from(group)];
         if members > 0 {
-            if !asks_for(set, group, members) {
-                return false;
-            }
             groups += 1;
+            if !asks_for(set, group, members) {
+                just = false;
+            }
         }
     }
-    required == Some(groups)
+    just && required == Some(groups)
 }
 
 /// Whether the member threshold of a group is this number.

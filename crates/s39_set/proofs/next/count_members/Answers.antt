@@ -4,10 +4,10 @@ use Rattle.s39_set.proofs.RangesFrom.{length-filter-range_from_yes, length-filte
 use Rattle.s39_set.proofs.next.count_members.Goals as goal
 use Rattle.s39_set.proofs.next.count_members.Goals.{then-has, else-has}
 
-pub loop-member-preserved : goal.loop-member-preserved
-loop-member-preserved c =
+pub loop-other-preserved : goal.loop-other-preserved
+loop-other-preserved c =
     let p = is_in c.args.masks.now c.args.group in
-    let member = c.loop-member.member in
+    let member = c.loop-other.other in
     let from : c.args.from ≤ member = omega arith in
     elim c.if-has.branch [
       | then-has w ↦ (

@@ -4,10 +4,10 @@ use Rattle.s39_set.proofs.RangesFrom.{length-filter-range_from_yes, length-filte
 use Rattle.s39_set.proofs.next.groups_above.Goals as goal
 use Rattle.s39_set.proofs.next.groups_above.Goals.{then-members-from-gt0, else-members-from-gt0}
 
-pub loop-other-preserved : goal.loop-other-preserved
-loop-other-preserved c =
+pub loop-later-preserved : goal.loop-later-preserved
+loop-later-preserved c =
     let p = λ (g : ℕ). nat_lt 0 (get_or c.args.members.now g 0) in
-    let other = c.loop-other.other in
+    let other = c.loop-later.later in
     let from : c.args.group + 1 ≤ other = omega arith in
     let at : get_or c.args.members.now c.from.result 0 ≡ get_or c.args.members.now other 0 = ap (λ k. get_or c.args.members.now k 0) c.from.ensures in
     elim c.if-members-from-gt0.branch [

@@ -1,11 +1,9 @@
 use Rattle.std.proofs.Common.{◌≡◌, ℕ, Bool, false, length, get_or, set, map, nat_le, inl, inr, sym, ap, ◌∙◌, arith, length-set}
 use Rattle.std.proofs.lemmas.Bool.{cases_lt}
 use Rattle.std.proofs.lemmas.List.{get_or-set_other}
-use Rattle.std.specs.Option.{is_some}
 use Rattle.s39_set.specs.Groups.{is_complete}
 use Rattle.s39_set.specs.Quorums.{member_threshold_of}
 use Rattle.s39_set.specs.ShareSet.{name_of}
-use Rattle.s39_set.proofs.Ranges.{length-filter-range_more_yes, length-filter-range_more_no}
 use Rattle.s39_set.proofs.CompleteAtHand.{complete_test, set_more, no_threshold}
 use Rattle.s39_set.proofs.next.groups_complete.Goals as goal
 use Rattle.s39_set.proofs.next.groups_complete.Goals.{in-Some, in_default}
@@ -17,14 +15,13 @@ loop-group-preserved c =
     let group = c.loop-group.group in
     let old = c.loop-group.complete in
     let long = c.loop-group.invariant.all_groups in
-    let asked : ℕ → Bool = λ g. is_some (member_threshold_of shares g) in
     elim c.match-member_threshold.branch [
       | in-Some w ↦ (
-          let value : Bool = nat_le w.in-Some.threshold w.count_members.result in
+          let value : Bool = nat_le w.in-Some.threshold c.count_members-members.result in
           let threshold =
           complete_test shares c.requires.is_set c.args.at_hand.now c.requires.at_hand group w.in-Some.threshold c.loop-group-test.true
           (sym w.in-Some.ensures) in
-          let here : value ≡ test group = ap (λ n. nat_le w.in-Some.threshold n) w.count_members.ensures.members ∙ sym threshold in
+          let here : value ≡ test group = ap (λ n. nat_le w.in-Some.threshold n) c.count_members-members.ensures.members ∙ sym threshold in
           let new : c.match-member_threshold.complete ≡ set old group value = w.complete-is ∙ ap (λ k. set old k value) w.from.ensures in
           let lengths : length (set old group value) ≡ length old = length-set old group value in
           record {
@@ -33,10 +30,7 @@ loop-group-preserved c =
             rest = λ g from. ap (λ l. get_or l g false) new ∙ get_or-set_other old group g value false (omega arith)
                 ∙ c.loop-group.invariant.rest g (omega arith);
             all_groups = ap length new ∙ lengths ∙ long;
-            looks_are =
-                (let same = w.looks-is in
-                omega (arith, w.count_members.ensures.looks, length-filter-range_more_yes asked group (ap is_some (sym w.in-Some.ensures))));
-            at_most = (let same = w.looks-is in omega (arith, w.count_members.ensures.looks));
+            looks_are = omega arith;
           })
       | in_default w ↦ (
           let none = no_threshold shares group (sym w.in_default.ensures) in
@@ -52,7 +46,6 @@ loop-group-preserved c =
                 ];
             rest = λ g from. ap (λ l. get_or l g false) new ∙ c.loop-group.invariant.rest g (omega arith);
             all_groups = ap length new ∙ long;
-            looks_are = (let same = w.looks-is in omega (arith, length-filter-range_more_no asked group (ap is_some (sym w.in_default.ensures))));
-            at_most = (let same = w.looks-is in omega arith);
+            looks_are = omega arith;
           })
     ]

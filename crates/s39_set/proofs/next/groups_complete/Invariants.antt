@@ -1,6 +1,4 @@
-use Rattle.std.proofs.Common.{◌≡◌, ◌+◌, ◌*◌, ◌<◌, ◌≤◌, ℕ, map, filter, length, get_or, false}
-use Rattle.std.specs.List.{range_with_len}
-use Rattle.std.specs.Option.{is_some}
+use Rattle.std.proofs.Common.{◌≡◌, ◌+◌, ◌*◌, ◌<◌, ◌≤◌, ℕ, map, length, get_or, false}
 use Rattle.s39_set.specs.Groups.{is_complete}
 use Rattle.s39_set.specs.ShareSet.{name_of}
 use Rattle.s39_set.specs.Quorums.{member_threshold_of}
@@ -12,6 +10,5 @@ invariant-loop-group l = record {
   complete_are : (g : ℕ) → g < l.group → get_or l.complete g false ≡ is_complete (member_threshold_of l.set) (map name_of l.set) g;
   rest : (g : ℕ) → l.group ≤ g → get_or l.complete g false ≡ false;
   all_groups : length l.complete ≡ most_groups;
-  looks_are : l.looks ≡ l.fn.looks + l.group + most_members * length (filter (λ g. is_some (member_threshold_of l.set g)) (range_with_len 0 l.group));
-  at_most : l.looks ≤ l.fn.looks + (1 + most_members) * l.group;
+  looks_are : l.looks ≡ l.fn.looks + l.group * (1 + most_members);
 }

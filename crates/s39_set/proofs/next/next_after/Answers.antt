@@ -1,9 +1,12 @@
-use Rattle.std.proofs.Common.{◌≡◌, ◌≢◌, ◌+◌, ◌-◌, ◌<◌, ◌++◌, [], ◌∷◌, ℕ, List, suc, length, get_or, take, drop, sum_by, Some}
+use Rattle.std.proofs.Common.{◌≡◌, ◌≢◌, ◌+◌, ◌-◌, ◌<◌, ◌++◌, [], ◌∷◌, ℕ, List, suc, length, get_or, take, drop, sum_by, Some, Ok, add-one}
 use Rattle.std.proofs.Common.{Less, refl, sym, ap, subst, ◌∙◌, arith, drop-cons}
 use Rattle.std.proofs.lemmas.List.{take-append-drop, take_more, take_all, drop_all}
 use Rattle.std.proofs.lemmas.List.Sums.{sum_by-cons}
 use Rattle.s39_words.specs.declared.share.ShareFields.{ShareFields}
-use Rattle.s39_set.specs.Names.{names_cmp, most_members}
+use Rattle.s39_set.specs.Names.{names_cmp}
+use Rattle.s39_set.specs.Looks.{place_looks, step_looks}
+use Rattle.s39_set.specs.Steps.{tail_names}
+use Rattle.s39_set.proofs.StepLooks.{step_looks-next, tail_names-later}
 use Rattle.s39_set.specs.Quorums.{IsQuorum, IsFirstQuorumAfter}
 use Rattle.s39_set.proofs.StepOf.{none_behind_all, none_from_tail, first_from_tail}
 use Rattle.s39_set.proofs.next.next_after.Goals as goal
@@ -11,10 +14,6 @@ use Rattle.s39_set.proofs.next.next_after.Goals as goal
 -- no quorum that begins with these names comes after Q
 abbrev NoneWith : List ShareFields → List (ℕ × ℕ) → List (ℕ × ℕ) → Type 0
 NoneWith shares Q P = (Z : List (ℕ × ℕ)) → IsQuorum shares (P ++ Z) → names_cmp Q (P ++ Z) ≢ Less
-
--- a place's turn, and one for each member above a name
-abbrev above : ℕ × ℕ → ℕ
-above name = most_members - name.1
 
 parts_at : (names : List (ℕ × ℕ)) (i : ℕ) → i < length names → names ≡ take i names ++ get_or names i (0, 0) ∷ drop (suc i) names
 parts_at names i below = sym (take-append-drop i names) ∙ ap (λ l. take i names ++ l) (drop-cons names i (0, 0) below)
@@ -31,7 +30,7 @@ loop-position-init c =
     record {
       none = subst (NoneWith shares Q) (sym (take_all (length Q) Q (omega arith))) (none_behind_all shares (c.if-not-is_quorum.ensures.is_set refl) Q quorum);
       upto = omega arith;
-      at_least = (let none = ap (sum_by above) (drop_all (length Q) Q (omega arith)) in omega arith);
+      looks_are = (let none = ap (sum_by place_looks) (drop_all (length Q) Q (omega arith)) in omega arith);
       at_most = omega arith;
     }
 
@@ -64,20 +63,33 @@ loop-position-preserved c =
           (parts_at Q i below)
           c.in_default.ensures.tail (subst (NoneWith shares Q) (front_at Q i c.loop-position.position next below) c.loop-position.invariant.none);
       upto = omega arith;
-      at_least =
-          (let more = ap (sum_by above) (drop-cons Q i (0, 0) below) ∙ sum_by-cons above x (drop (suc i) Q) in
-          let behind : suc i ≡ c.loop-position.position = omega arith in
-          let here = ap (λ k. sum_by above (drop k Q)) behind in
-          omega (arith, c.in_default.ensures.each_member));
+      looks_are =
+          (let more = ap (sum_by place_looks) (drop-cons Q i (0, 0) below) ∙ sum_by-cons place_looks x (drop (suc i) Q) in
+          let here = ap (λ k. sum_by place_looks (drop k Q)) (sym (add-one i) ∙ next) in
+          omega arith);
       at_most = omega arith;
     }
 
-pub returns-clause-each_place : goal.returns-clause-each_place
-returns-clause-each_place c = λ _.
+pub returns-in-Some-clause-looks : goal.returns-in-Some-clause-looks
+returns-in-Some-clause-looks c =
+    let Q = c.pairs-names.result.now in
+    let i = c.loop-position.position - 1 in
+    let below : i < length Q = omega arith in
+    let next : i + 1 ≡ c.loop-position.position = omega arith in
+    let x = get_or Q i (0, 0) in
+    let tail = tail_names c.args.set.now c.of-choice.result x c.in-Some.tail in
+    let sum = step_looks-next Q c.completed.result tail i below c.completed.ensures.names
+    (tail_names-later x c.args.set.now c.of-choice.result c.in-Some.tail) in
+    let given = ap (λ q. step_looks q (Ok (Some c.completed.result))) c.pairs-names.ensures.same in
+    let here = ap (λ k. sum_by place_looks (drop k Q)) (sym (add-one i) ∙ next) in
+    omega arith
+
+pub returns-clause-looks : goal.returns-clause-looks
+returns-clause-looks c =
     let Q = c.pairs-names.result.now in
     let all : c.loop-position.position ≡ 0 = omega arith in
     let same = ap length c.pairs-names.ensures.same in
-    let sums = ap (λ k. sum_by above (drop k Q)) all ∙ ap (sum_by above) c.pairs-names.ensures.same in
+    let sums = ap (λ k. sum_by place_looks (drop k Q)) all ∙ ap (sum_by place_looks) c.pairs-names.ensures.same in
     omega arith
 
 pub returns-clause-last : goal.returns-clause-last

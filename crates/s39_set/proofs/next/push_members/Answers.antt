@@ -39,7 +39,6 @@ loop-member-preserved c =
             members_are =
                 w.members-is ∙ ap (λ n. n + 1) c.loop-member.invariant.members_are ∙ sym (length_push (first_from p many a j) j) ∙ sym (ap length more);
             looks_are = omega arith;
-            each_name = (let more = ap length (w.quorum-is ∙ w.push.ensures) ∙ length_push c.loop-member.quorum (c.args.group, j) in omega arith);
           })
       | else-members-wanted w ↦ (
           let same : first_from p many a (j + 1) ≡ first_from p many a j =
@@ -51,7 +50,6 @@ loop-member-preserved c =
             names_are = w.quorum-is ∙ c.loop-member.invariant.names_are ∙ sym (ap names same);
             members_are = w.members-is ∙ c.loop-member.invariant.members_are ∙ sym (ap length same);
             looks_are = omega arith;
-            each_name = (let more = ap length w.quorum-is in omega arith);
           })
     ]
 

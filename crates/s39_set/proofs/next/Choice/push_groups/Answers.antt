@@ -1,5 +1,5 @@
 use Rattle.std.proofs.Common.{◌≡◌, ◌+◌, ◌<◌, ◌≤◌, ◌++◌, [], ℕ, Bool, true, false, List, length, get_or, take, All}
-use Rattle.std.proofs.Common.{unwrap_or, sym, ap, subst, ◌∙◌, arith, append_assoc}
+use Rattle.std.proofs.Common.{unwrap_or, sym, ap, subst, ◌∙◌, arith, append_assoc, append-nil}
 use Rattle.std.specs.List.{flat_map}
 use Rattle.std.proofs.lemmas.List.{length_push, flat_map_more}
 use Rattle.std.proofs.lemmas.List.Elements.{All-append, All-weaker}
@@ -26,14 +26,16 @@ loop-group-preserved c =
     let from : a ≤ j = omega arith in
     let old = c.args.quorum.now in
     let names = λ (groups : List ℕ). old ++ flat_map taken groups in
+    let pushed : c.push_members.new.quorum ≡ c.loop-group.quorum ++ take c.if-groups-wanted.members (members_from c.args.self.now.at_hand j 0) =
+    c.push_members.ensures.names in
     elim c.if-groups-wanted.branch [
       | then-groups-wanted+then-self-from w ↦ (
           let passes : p j ≡ true = ap (λ k. get_or complete k false) (sym w.from.ensures) ∙ w.if-self-from.true in
           let more = first_from_more p many a j from passes (omega arith) in
-          let asked : w.unwrap_or-members.result ≡ unwrap_or (member_threshold_of c.args.set.now j) 0 =
-          w.unwrap_or-members.ensures ∙ ap (λ o. unwrap_or o 0) w.member_threshold.ensures in
-          let added : c.if-groups-wanted.quorum ≡ c.loop-group.quorum ++ taken j =
-          w.quorum-is ∙ w.push_members.ensures.names ∙ ap (λ n. c.loop-group.quorum ++ take n (members_from c.args.self.now.at_hand j 0)) asked in
+          let asked : c.if-groups-wanted.members ≡ unwrap_or (member_threshold_of c.args.set.now j) 0 =
+          w.members-is ∙ w.unwrap_or-members.ensures ∙ ap (λ o. unwrap_or o 0) w.member_threshold.ensures in
+          let added : c.push_members.new.quorum ≡ c.loop-group.quorum ++ taken j =
+          pushed ∙ ap (λ n. c.loop-group.quorum ++ take n (members_from c.args.self.now.at_hand j 0)) asked in
           record {
             names_are =
                 added
@@ -47,9 +49,7 @@ loop-group-preserved c =
                 (All-weaker (λ n. n.0 < j) (λ n. n.0 < j + 1) (λ n less. omega arith) c.loop-group.quorum c.loop-group.invariant.earlier)
                 (All-weaker (λ n. n.0 ≡ j) (λ n. n.0 < j + 1) (λ n here. omega arith) (taken j)
                 (members-group c.args.self.now.at_hand j (unwrap_or (member_threshold_of c.args.set.now j) 0))));
-            looks_are = (let same = w.looks-is in omega (arith, w.push_members.ensures.looks));
-            each_name = (let same = w.looks-is in let more = ap length w.quorum-is in omega (arith, w.push_members.ensures.each_name));
-            at_most = (let same = w.looks-is in omega (arith, w.push_members.ensures.looks));
+            looks_are = omega arith;
           })
       | else-groups-wanted w ↦ (
           let same : first_from p many a (j + 1) ≡ first_from p many a j =
@@ -58,13 +58,13 @@ loop-group-preserved c =
                 (ap (λ k. get_or complete k false) (sym v.from.ensures) ∙ v.if-self-from.false)
             | else-groups-wanted-via-else-groups-wanted v ↦ first_from_full p many a j from (omega arith)
           ] in
+          let added : c.push_members.new.quorum ≡ c.loop-group.quorum =
+          pushed ∙ ap (λ n. c.loop-group.quorum ++ take n (members_from c.args.self.now.at_hand j 0)) w.members-is ∙ append-nil c.loop-group.quorum in
           record {
-            names_are = w.quorum-is ∙ c.loop-group.invariant.names_are ∙ sym (ap names same);
+            names_are = added ∙ c.loop-group.invariant.names_are ∙ sym (ap names same);
             groups_are = w.groups-is ∙ c.loop-group.invariant.groups_are ∙ sym (ap length same);
-            earlier = subst (All (λ n. n.0 < j + 1)) (sym w.quorum-is)
+            earlier = subst (All (λ n. n.0 < j + 1)) (sym added)
                 (All-weaker (λ n. n.0 < j) (λ n. n.0 < j + 1) (λ n less. omega arith) c.loop-group.quorum c.loop-group.invariant.earlier);
-            looks_are = (let s = w.looks-is in omega arith);
-            each_name = (let s = w.looks-is in let same = ap length w.quorum-is in omega arith);
-            at_most = (let s = w.looks-is in omega arith);
+            looks_are = omega arith;
           })
     ]

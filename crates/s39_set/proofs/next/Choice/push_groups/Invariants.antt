@@ -10,7 +10,5 @@ invariant-loop-group l = record {
       (take l.wanted (filter (λ g. get_or l.self.complete g false) (range_with_len l.from (l.group - l.from))));
   groups_are : l.groups ≡ length (take l.wanted (filter (λ g. get_or l.self.complete g false) (range_with_len l.from (l.group - l.from))));
   earlier : All (λ n. n.0 < l.group) l.quorum;
-  looks_are : l.looks + l.from ≡ l.fn.looks + l.group + most_members * l.groups;
-  each_name : l.fn.looks + length l.quorum ≤ l.looks + length l.fn.quorum;
-  at_most : l.looks ≤ l.fn.looks + (1 + most_members) * l.group;
+  looks_are : l.looks ≡ l.fn.looks + (1 + most_members) * (l.group - l.from);
 }
