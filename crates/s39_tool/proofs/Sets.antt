@@ -3,3 +3,4 @@ pub mod Collected
 pub mod OneSet
 pub mod SomeSet
 pub mod BackupSets
+pub mod WrittenLines

@@ -1,5 +1,5 @@
 //! Facts about the definitions, each the contract of a function that does nothing.
-ghost use Rattle.std.specs.Prelude.{◌≡◌, ℕ, List, Result, Ok, IfOk, ◌+◌, ◌++◌, suc, Option, Some};
+ghost use Rattle.std.specs.Prelude.{◌≡◌, ℕ, List, All, Result, Ok, IfOk, ◌+◌, ◌++◌, length, suc, Option, Some};
 ghost use Rattle.s39_words.specs.declared.ShareFields.{ShareFields};
 ghost use Rattle.s39_set.specs.ShareSet.{IsShareSet};
 ghost use Rattle.s39_tool.specs.declared.fault.Fault.{Fault};
@@ -7,24 +7,25 @@ ghost use Rattle.s39_tool.specs.declared.fault.LineRefusal.{LineRefusal};
 ghost use Rattle.s39_tool.specs.declared.fault.Stop.{Stop};
 ghost use Rattle.s39_tool.specs.declared.creating.TheConstants.{MAX_BACKUP_RANDOM_BYTES};
 ghost use Rattle.s39_tool.specs.declared.lines.TheConstants.{MAX_LINE_BYTES};
-ghost use Rattle.s39_tool.specs.Input.{Input, longest_line};
+ghost use Rattle.s39_tool.specs.Input.{Input, longest_line, whole};
 ghost use Rattle.s39_tool.specs.Accepted.{IsReadAs};
 ghost use Rattle.s39_kdf.specs.Bytes.{AreBytes};
+ghost use Rattle.s39_kdf.specs.Limits.{IsPrintable, IsSecretLength};
 ghost use Rattle.s39_backup.specs.Plan.{IsPlan};
-ghost use Rattle.s39_tool.specs.Create.{Asked, IsCreateOutput};
+ghost use Rattle.s39_tool.specs.Create.{Asked, needed_by, IsCreateOutput};
 ghost use Rattle.s39_tool.specs.Show.{IsShowOutput};
 ghost use Rattle.s39_tool.specs.Recover.{IsRecoverOutput};
 ghost use Rattle.s39_tool.specs.declared.drill.Done.{Done};
-ghost use Rattle.s39_tool.specs.Drill.{DrillLaws, IsDrill, IsDrillOutput, DrillsCreated};
+ghost use Rattle.s39_tool.specs.Drill.{DrillLaws, IsDrill, IsDrillOutput, ListsSecretOrCause, DrillsCreated};
 ghost use Rattle.s39_tool.specs.declared.listing.Listing.{Listing};
 ghost use Rattle.s39_tool.specs.declared.memory.Unwritten.{Unwritten};
 ghost use Rattle.s39_tool.specs.Fitting.{Lists};
-ghost use Rattle.s39_tool.specs.OfBackup.{HoldsMnemonicsOf, RecoversCreated};
+ghost use Rattle.s39_tool.specs.OfBackup.{HoldsMnemonicsOf, IsSelectionOf, IsSecretOrLack, RecoversCreated};
 ghost use Rattle.s39_backup.specs.Created.{AreOfBackup, most_random};
 
 use s39_backup::laws::{
-    created_shares_are_shares, every_quorum_has_an_outcome, every_quorum_recovers, one_creation,
-    one_outcome, shares_of_a_backup_agree,
+    created_shares_are_shares, every_backup_can_be_created, every_quorum_has_an_outcome,
+    every_quorum_recovers, one_creation, one_outcome, shares_of_a_backup_agree,
 };
 use s39_kdf::laws::passphrases_are_printable_or_not;
 use s39_set::laws::{
@@ -33,6 +34,7 @@ use s39_set::laws::{
 };
 use s39_words::laws::{
     every_share_has_a_printed_form, every_text_has_a_reading, one_printed_form, one_reading,
+    printed_forms,
 };
 
 /// The code's limits are those of the definitions.
@@ -126,6 +128,19 @@ pub fn mnemonics_of_a_backup_are_a_set()
     shares_of_a_backup_agree();
 }
 
+/// What `create` writes for random bytes holds the mnemonics of its backup. So does an input that has some of its lines,
+/// in any order and with repeats, and blank lines and comments.
+pub fn written_mnemonics_are_of_the_backup()
+    ensures all_lines { (asked : Asked) (random text : List ℕ)
+        → IsPlan asked.group_threshold asked.groups → IsCreateOutput asked (whole random) text (Ok tt)
+        → HoldsMnemonicsOf asked.passphrase asked.secret (whole text) }
+    ensures some_lines { (asked : Asked) (random text : List ℕ) (input : Input)
+        → IsPlan asked.group_threshold asked.groups → IsCreateOutput asked (whole random) text (Ok tt)
+        → IsSelectionOf text input → HoldsMnemonicsOf asked.passphrase asked.secret input }
+{
+    printed_forms();
+}
+
 /// Of mnemonics of a created backup, an output of `recover` with the passphrase of the creation is the secret where they
 /// have a quorum, and else why they have none.
 pub fn created_backups_recover()
@@ -142,6 +157,21 @@ pub fn created_backups_recover()
     one_outcome();
     every_quorum_recovers();
     mnemonics_of_a_backup_are_a_set();
+}
+
+/// `create`, then `recover`: of an input that has some of the lines that `create` writes for random bytes, in any order and
+/// with repeats, and blank lines and comments, `recover` with the same passphrase gives the secret where they have a quorum,
+/// and else why they have none.
+pub fn written_mnemonics_recover()
+    ensures { (asked : Asked) (random text : List ℕ) (input : Input)
+        (output : List ℕ) (answer : Result (Unit {0}) Fault)
+        → IsPlan asked.group_threshold asked.groups → IsCreateOutput asked (whole random) text (Ok tt)
+        → IsSelectionOf text input → IsRecoverOutput asked.passphrase input output answer
+        → (set : List ShareFields) × IsReadAs input (Ok set)
+        × IsSecretOrLack set asked.secret output answer }
+{
+    written_mnemonics_are_of_the_backup();
+    created_backups_recover();
 }
 
 /// What is known of listings and of outcomes, as drills rest on it.
@@ -242,6 +272,35 @@ pub fn created_backups_drill()
     one_outcome();
     every_quorum_recovers();
     mnemonics_of_a_backup_are_a_set();
+}
+
+/// `create`, then `drill`: of an input that has some of the lines that `create` writes for random bytes, in any order and
+/// with repeats, and blank lines and comments, `drill` with the same passphrase lists just the quorums, each with the
+/// secret, and answers no mismatch, or else why none is listed.
+pub fn written_mnemonics_drill()
+    ensures { (asked : Asked) (random text : List ℕ) (input : Input)
+        (after : Option (List (ℕ × ℕ))) (limit : ℕ) (output : List ℕ) (answer : Result Done Fault)
+        → IsPlan asked.group_threshold asked.groups → IsCreateOutput asked (whole random) text (Ok tt)
+        → IsSelectionOf text input → IsDrillOutput asked.passphrase after limit input output answer
+        → (set : List ShareFields) × IsReadAs input (Ok set)
+        × ListsSecretOrCause set asked.secret after limit output answer }
+{
+    written_mnemonics_are_of_the_backup();
+    created_backups_drill();
+}
+
+/// `create` writes a text for each plan, printable passphrase, secret of an accepted length and options, and as many
+/// random bytes as they take.
+pub fn every_backup_is_written()
+    ensures { (asked : Asked) (random : List ℕ)
+        → IsPlan asked.group_threshold asked.groups → All IsPrintable asked.passphrase
+        → IsSecretLength (length asked.secret) → AreBytes asked.secret → AreBytes random
+        → length random ≡ needed_by asked
+        → (text : List ℕ) × IsCreateOutput asked (whole random) text (Ok tt) }
+{
+    every_backup_can_be_created();
+    created_shares_are_shares();
+    every_share_has_a_printed_form();
 }
 
 /// An input has one output of `create` for what is asked: one text, and one answer. It has one for every plan, all bytes

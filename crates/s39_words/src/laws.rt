@@ -1,6 +1,6 @@
 //! Facts about the definitions, each the contract of a function that does nothing, but for `read_back`.
 ghost use Rattle.std.specs.Prelude.{◌≡◌, ◌≢◌, ℕ, ◌^◌, ◌<◌, ◌≤◌, Bool, List, [], ◌∷◌, ◌++◌, All, AllPairs, Contains, Result, length};
-ghost use Rattle.std.specs.Prelude.{slice_index, take};
+ghost use Rattle.std.specs.Prelude.{◌⊎◌, slice_index, take};
 ghost use Rattle.s39_field.specs.FieldProduct.{word_field};
 ghost use Rattle.s39_field.specs.Polynomial.{power, product_of};
 ghost use Rattle.s39_kdf.specs.Limits.{id_bits, exponent_bits};
@@ -138,6 +138,17 @@ pub fn every_share_has_a_printed_form()
 pub fn one_printed_form()
     ensures { (share : ShareFields) (text other : List ℕ)
         → IsPrinted text share → IsPrinted other share → text ≡ other }
+{}
+
+/// A printed form begins with a letter, has small letters and spaces alone, and at most 989 bytes. So it is one line,
+/// and no comment.
+pub fn printed_forms()
+    ensures first { (share : ShareFields) (text : List ℕ) → IsPrinted text share
+        → (letter : ℕ) × (rest : List ℕ) × (text ≡ letter ∷ rest) × IsLetter letter }
+    ensures letters { (share : ShareFields) (text : List ℕ) → IsPrinted text share
+        → All (λ byte. IsLetter byte ⊎ (byte ≡ 32)) text }
+    ensures short { (share : ShareFields) (text : List ℕ) → IsPrinted text share
+        → length text ≤ longest_text }
 {}
 
 /// What `print` gives is read as the same share.
