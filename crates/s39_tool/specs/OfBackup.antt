@@ -1,5 +1,5 @@
 -- Inputs whose lines hold mnemonics of one created backup, and what `recover` gives of them.
-use Rattle.std.specs.Prelude.{◌≡◌, ◌⊎◌, ℕ, List, [], All, Contains, Option, None, IfSome, true, Result, Ok, Err}
+use Rattle.std.specs.Prelude.{◌≡◌, ℕ, List, [], All, Contains, Option, IfSome, true, Result, Ok, Err}
 use Rattle.s39_words.specs.declared.ShareFields.{ShareFields}
 use Rattle.s39_set.specs.Quorums.{IsQuorum}
 use Rattle.s39_set.specs.Lack.{IsLack}
@@ -10,7 +10,7 @@ use Rattle.s39_backup.specs.Plan.{IsPlan}
 use Rattle.s39_backup.specs.Created.{IsCreation}
 use Rattle.s39_tool.specs.declared.fault.Refusal.TheVariants.{Lack}
 use Rattle.s39_tool.specs.declared.fault.Fault.{Fault}
-use Rattle.s39_tool.specs.Input.{Input, whole, lines_of}
+use Rattle.s39_tool.specs.Input.{Input, lines_of}
 use Rattle.s39_tool.specs.Fault.{fault_of}
 use Rattle.s39_tool.specs.Lines.{Holds}
 use Rattle.s39_tool.specs.Accepted.{IsReadAs}
@@ -33,12 +33,6 @@ pub record HoldsMnemonicsOf (passphrase secret : List ℕ) (input : Input) : Typ
   pub created : IsCreation secret passphrase group_threshold groups options random (Ok shares)
   pub ended : input.ended ≡ true
   pub lines : All (HoldsNothingOrOneOf shares) (lines_of input)
-
--- An input that ended, each of whose lines is blank, a comment, or a line of this text: which of its lines, in any order,
--- and with repeats.
-pub record IsSelectionOf (text : List ℕ) (input : Input) : Type 0 where
-  pub ended : input.ended ≡ true
-  pub lines : All (λ line. Holds line None ⊎ Contains (lines_of (whole text)) line) (lines_of input)
 
 -- the secret is written where the set has a quorum; where it has none, nothing is, and the answer is why
 abbrev pub IsSecretOrLack : List ShareFields → List ℕ → List ℕ → Result (Unit {0}) Fault → Type 0

@@ -1,5 +1,5 @@
 //! Facts about the definitions, each the contract of a function that does nothing.
-ghost use Rattle.std.specs.Prelude.{◌≡◌, ℕ, List, All, Result, Ok, IfOk, ◌+◌, ◌++◌, length, suc, Option, Some};
+ghost use Rattle.std.specs.Prelude.{◌≡◌, ◌⊎◌, ℕ, List, All, Contains, Result, Ok, IfOk, ◌+◌, ◌++◌, length, suc, Option, Some, None};
 ghost use Rattle.s39_words.specs.declared.ShareFields.{ShareFields};
 ghost use Rattle.s39_set.specs.ShareSet.{IsShareSet};
 ghost use Rattle.s39_tool.specs.declared.fault.Fault.{Fault};
@@ -7,7 +7,8 @@ ghost use Rattle.s39_tool.specs.declared.fault.LineRefusal.{LineRefusal};
 ghost use Rattle.s39_tool.specs.declared.fault.Stop.{Stop};
 ghost use Rattle.s39_tool.specs.declared.creating.TheConstants.{MAX_BACKUP_RANDOM_BYTES};
 ghost use Rattle.s39_tool.specs.declared.lines.TheConstants.{MAX_LINE_BYTES};
-ghost use Rattle.s39_tool.specs.Input.{Input, longest_line, whole};
+ghost use Rattle.s39_tool.specs.Input.{Input, longest_line, whole, lines_of};
+ghost use Rattle.s39_tool.specs.Lines.{Holds};
 ghost use Rattle.s39_tool.specs.Accepted.{IsReadAs};
 ghost use Rattle.s39_kdf.specs.Bytes.{AreBytes};
 ghost use Rattle.s39_kdf.specs.Limits.{IsPrintable, IsSecretLength};
@@ -20,7 +21,7 @@ ghost use Rattle.s39_tool.specs.Drill.{DrillLaws, IsDrill, IsDrillOutput, ListsS
 ghost use Rattle.s39_tool.specs.declared.listing.Listing.{Listing};
 ghost use Rattle.s39_tool.specs.declared.memory.Unwritten.{Unwritten};
 ghost use Rattle.s39_tool.specs.Fitting.{Lists};
-ghost use Rattle.s39_tool.specs.OfBackup.{HoldsMnemonicsOf, IsSelectionOf, IsSecretOrLack, RecoversCreated};
+ghost use Rattle.s39_tool.specs.OfBackup.{HoldsMnemonicsOf, IsSecretOrLack, RecoversCreated};
 ghost use Rattle.s39_backup.specs.Created.{AreOfBackup, most_random};
 
 use s39_backup::laws::{
@@ -134,9 +135,10 @@ pub fn written_mnemonics_are_of_the_backup()
     ensures all_lines { (asked : Asked) (random text : List ℕ)
         → IsPlan asked.group_threshold asked.groups → IsCreateOutput asked (whole random) text (Ok tt)
         → HoldsMnemonicsOf asked.passphrase asked.secret (whole text) }
-    ensures some_lines { (asked : Asked) (random text : List ℕ) (input : Input)
+    ensures some_lines { (asked : Asked) (random text bytes : List ℕ)
         → IsPlan asked.group_threshold asked.groups → IsCreateOutput asked (whole random) text (Ok tt)
-        → IsSelectionOf text input → HoldsMnemonicsOf asked.passphrase asked.secret input }
+        → All (λ line. Holds line None ⊎ Contains (lines_of (whole text)) line) (lines_of (whole bytes))
+        → HoldsMnemonicsOf asked.passphrase asked.secret (whole bytes) }
 {
     printed_forms();
 }
@@ -163,11 +165,11 @@ pub fn created_backups_recover()
 /// with repeats, and blank lines and comments, `recover` with the same passphrase gives the secret where they have a quorum,
 /// and else why they have none.
 pub fn written_mnemonics_recover()
-    ensures { (asked : Asked) (random text : List ℕ) (input : Input)
-        (output : List ℕ) (answer : Result (Unit {0}) Fault)
+    ensures { (asked : Asked) (random text bytes output : List ℕ) (answer : Result (Unit {0}) Fault)
         → IsPlan asked.group_threshold asked.groups → IsCreateOutput asked (whole random) text (Ok tt)
-        → IsSelectionOf text input → IsRecoverOutput asked.passphrase input output answer
-        → (set : List ShareFields) × IsReadAs input (Ok set)
+        → All (λ line. Holds line None ⊎ Contains (lines_of (whole text)) line) (lines_of (whole bytes))
+        → IsRecoverOutput asked.passphrase (whole bytes) output answer
+        → (set : List ShareFields) × IsReadAs (whole bytes) (Ok set)
         × IsSecretOrLack set asked.secret output answer }
 {
     written_mnemonics_are_of_the_backup();
@@ -278,11 +280,12 @@ pub fn created_backups_drill()
 /// with repeats, and blank lines and comments, `drill` with the same passphrase lists just the quorums, each with the
 /// secret, and answers no mismatch, or else why none is listed.
 pub fn written_mnemonics_drill()
-    ensures { (asked : Asked) (random text : List ℕ) (input : Input)
-        (after : Option (List (ℕ × ℕ))) (limit : ℕ) (output : List ℕ) (answer : Result Done Fault)
+    ensures { (asked : Asked) (random text bytes : List ℕ) (after : Option (List (ℕ × ℕ)))
+        (limit : ℕ) (output : List ℕ) (answer : Result Done Fault)
         → IsPlan asked.group_threshold asked.groups → IsCreateOutput asked (whole random) text (Ok tt)
-        → IsSelectionOf text input → IsDrillOutput asked.passphrase after limit input output answer
-        → (set : List ShareFields) × IsReadAs input (Ok set)
+        → All (λ line. Holds line None ⊎ Contains (lines_of (whole text)) line) (lines_of (whole bytes))
+        → IsDrillOutput asked.passphrase after limit (whole bytes) output answer
+        → (set : List ShareFields) × IsReadAs (whole bytes) (Ok set)
         × ListsSecretOrCause set asked.secret after limit output answer }
 {
     written_mnemonics_are_of_the_backup();

@@ -10,10 +10,10 @@ use Rattle.s39_words.specs.Layout.{longest_text}
 use Rattle.s39_words.specs.Printing.{IsPrinted}
 use Rattle.s39_words.specs.WordList.{IsLetter}
 use Rattle.s39_backup.specs.Plan.{IsPlan}
-use Rattle.s39_tool.specs.Input.{Input, whole, is_line_feed, ended_line, parts_of, lines_of, is_skipped}
+use Rattle.s39_tool.specs.Input.{whole, is_line_feed, ended_line, parts_of, lines_of, is_skipped}
 use Rattle.s39_tool.specs.Lines.{Holds}
 use Rattle.s39_tool.specs.Create.{Asked, ArePrintedLines, IsCreateOutput}
-use Rattle.s39_tool.specs.OfBackup.{HoldsNothingOrOneOf, HoldsMnemonicsOf, IsSelectionOf}
+use Rattle.s39_tool.specs.OfBackup.{HoldsNothingOrOneOf, HoldsMnemonicsOf}
 
 -- lines without line feeds are the lines of the text that they make, and an empty one is behind them
 parts_of_lines : (lines : List (List ℕ)) → All (All (λ byte. is_line_feed byte ≡ false)) lines → parts_of (flat_map ended_line lines) ≡ lines ++ [] ∷ []
@@ -74,8 +74,9 @@ module _ (first : (share : ShareFields) (text : List ℕ) → IsPrinted text sha
 
   module _ (asked : Asked) (random text : List ℕ) (plan : IsPlan asked.group_threshold asked.groups) (created : IsCreateOutput asked (whole random) text (Ok tt)) where
     -- lines of what is written for a backup hold mnemonics of it
-    pub selection_holds : (input : Input) → IsSelectionOf text input → HoldsMnemonicsOf asked.passphrase asked.secret input
-    selection_holds input selection =
+    pub some_lines_hold : (bytes : List ℕ) → All (λ line. Holds line None ⊎ Contains (lines_of (whole text)) line) (lines_of (whole bytes))
+        → HoldsMnemonicsOf asked.passphrase asked.secret (whole bytes)
+    some_lines_hold bytes each =
         let (shares, ended, creates, printed) = created in record {
           group_threshold = asked.group_threshold;
           groups = asked.groups;
@@ -84,15 +85,12 @@ module _ (first : (share : ShareFields) (text : List ℕ) → IsPrinted text sha
           shares = shares;
           is_plan = plan;
           created = creates;
-          ended = selection.ended;
+          ended = refl;
           lines =
               All-weaker (λ line. Holds line None ⊎ Contains (lines_of (whole text)) line) (HoldsNothingOrOneOf shares)
-              (λ line of_text. selected_holds shares text line (text_holds shares text printed) of_text) (lines_of input) selection.lines;
+                  (λ line one. selected_holds shares text line (text_holds shares text printed) one) (lines_of (whole bytes)) each;
         }
 
-    -- all lines of the text are some of them
-    pub whole_holds : HoldsMnemonicsOf asked.passphrase asked.secret (whole text)
-    whole_holds = selection_holds (whole text) (record {
-      ended = refl;
-      lines = λ k d below. inr (All-contains_itself (lines_of (whole text)) k d below);
-    })
+    -- so do all of them
+    pub all_lines_hold : HoldsMnemonicsOf asked.passphrase asked.secret (whole text)
+    all_lines_hold = some_lines_hold text (λ k d below. inr (All-contains_itself (lines_of (whole text)) k d below))
