@@ -276,6 +276,25 @@ pub fn created_backups_drill()
     mnemonics_of_a_backup_are_a_set();
 }
 
+/// What is given of mnemonics of a created backup is one thing: one text, and one answer.
+pub fn one_output_of_a_backup()
+    ensures recover { (passphrase secret : List ℕ) (input : Input) (text other : List ℕ)
+        (answer another : Result (Unit {0}) Fault) → HoldsMnemonicsOf passphrase secret input
+        → RecoversCreated passphrase input text answer
+        → RecoversCreated passphrase input other another
+        → (text ≡ other) × (answer ≡ another) }
+    ensures drill { (passphrase secret : List ℕ) (after : Option (List (ℕ × ℕ))) (limit : ℕ)
+        (input : Input) (text other : List ℕ) (answer another : Result Done Fault)
+        → HoldsMnemonicsOf passphrase secret input
+        → DrillsCreated passphrase after limit input text answer
+        → DrillsCreated passphrase after limit input other another
+        → (text ≡ other) × (answer ≡ another) }
+{
+    one_set();
+    one_lack();
+    one_listing();
+}
+
 /// `create`, then `drill`: of an input that has some of the lines that `create` writes for random bytes, in any order and
 /// with repeats, and blank lines and comments, `drill` with the same passphrase lists just the quorums, each with the
 /// secret, and answers no mismatch, or else why none is listed.
