@@ -4,3 +4,4 @@ pub mod OneSet
 pub mod SomeSet
 pub mod BackupSets
 pub mod WrittenLines
+pub mod WholeTexts

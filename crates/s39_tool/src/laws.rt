@@ -15,9 +15,9 @@ ghost use Rattle.s39_kdf.specs.Limits.{IsPrintable, IsSecretLength};
 ghost use Rattle.s39_backup.specs.Plan.{IsPlan};
 ghost use Rattle.s39_tool.specs.Create.{Asked, needed_by, IsCreateOutput};
 ghost use Rattle.s39_tool.specs.Show.{IsShowOutput};
-ghost use Rattle.s39_tool.specs.Recover.{IsRecoverOutput};
+ghost use Rattle.s39_tool.specs.Recover.{secret_line, IsRecoverOutput};
 ghost use Rattle.s39_tool.specs.declared.drill.Done.{Done};
-ghost use Rattle.s39_tool.specs.Drill.{DrillLaws, IsDrill, IsDrillOutput, ListsSecretOrCause, DrillsCreated};
+ghost use Rattle.s39_tool.specs.Drill.{DrillLaws, IsDrill, IsDrillOutput, ListsSecret, ListsSecretOrCause, DrillsCreated};
 ghost use Rattle.s39_tool.specs.declared.listing.Listing.{Listing};
 ghost use Rattle.s39_tool.specs.declared.memory.Unwritten.{Unwritten};
 ghost use Rattle.s39_tool.specs.Fitting.{Lists};
@@ -27,6 +27,7 @@ ghost use Rattle.s39_backup.specs.Created.{AreOfBackup, most_random};
 use s39_backup::laws::{
     created_shares_are_shares, every_backup_can_be_created, every_quorum_has_an_outcome,
     every_quorum_recovers, one_creation, one_outcome, shares_of_a_backup_agree,
+    whole_backups_meet_the_thresholds,
 };
 use s39_kdf::laws::passphrases_are_printable_or_not;
 use s39_set::laws::{
@@ -161,17 +162,26 @@ pub fn created_backups_recover()
     mnemonics_of_a_backup_are_a_set();
 }
 
-/// `create`, then `recover`: of an input that has some of the lines that `create` writes for random bytes, in any order and
-/// with repeats, and blank lines and comments, `recover` with the same passphrase gives the secret where they have a quorum,
-/// and else why they have none.
+/// `create`, then `recover` with the same passphrase: of all lines that `create` writes for random bytes, `recover` gives
+/// the secret. Of some of them, in any order and with repeats, blank lines and comments, it gives the secret where they
+/// have a quorum, and else why they have none.
 pub fn written_mnemonics_recover()
-    ensures { (asked : Asked) (random text bytes output : List ℕ) (answer : Result (Unit {0}) Fault)
+    ensures all_lines { (asked : Asked) (random text : List ℕ)
+        → IsPlan asked.group_threshold asked.groups → IsCreateOutput asked (whole random) text (Ok tt)
+        → IsRecoverOutput asked.passphrase (whole text) (secret_line asked.secret) (Ok tt) }
+    ensures some_lines { (asked : Asked) (random text bytes output : List ℕ)
+        (answer : Result (Unit {0}) Fault)
         → IsPlan asked.group_threshold asked.groups → IsCreateOutput asked (whole random) text (Ok tt)
         → All (λ line. Holds line None ⊎ Contains (lines_of (whole text)) line) (lines_of (whole bytes))
         → IsRecoverOutput asked.passphrase (whole bytes) output answer
         → (set : List ShareFields) × IsReadAs (whole bytes) (Ok set)
         × IsSecretOrLack set asked.secret output answer }
 {
+    printed_forms();
+    one_reading();
+    accepted_inputs_are_share_sets();
+    whole_backups_meet_the_thresholds();
+    some_recover_output();
     written_mnemonics_are_of_the_backup();
     created_backups_recover();
 }
@@ -295,18 +305,29 @@ pub fn one_output_of_a_backup()
     one_listing();
 }
 
-/// `create`, then `drill`: of an input that has some of the lines that `create` writes for random bytes, in any order and
-/// with repeats, and blank lines and comments, `drill` with the same passphrase lists just the quorums, each with the
-/// secret, and answers no mismatch, or else why none is listed.
+/// `create`, then `drill` with the same passphrase: of all lines that `create` writes for random bytes, `drill` lists just
+/// the quorums, each with the secret, and answers no mismatch. Of some of them, in any order and with repeats, blank lines
+/// and comments, it does so after each quorum where they have any, and else answers why none is listed.
 pub fn written_mnemonics_drill()
-    ensures { (asked : Asked) (random text bytes : List ℕ) (after : Option (List (ℕ × ℕ)))
-        (limit : ℕ) (output : List ℕ) (answer : Result Done Fault)
+    ensures all_lines { (asked : Asked) (random text : List ℕ) (limit : ℕ) (output : List ℕ)
+        (answer : Result Done Fault)
+        → IsPlan asked.group_threshold asked.groups → IsCreateOutput asked (whole random) text (Ok tt)
+        → IsDrillOutput asked.passphrase None limit (whole text) output answer
+        → (set : List ShareFields) × IsReadAs (whole text) (Ok set)
+        × ListsSecret set asked.secret None limit output
+        × (answer ≡ Ok (record { mismatches = 0 })) }
+    ensures some_lines { (asked : Asked) (random text bytes : List ℕ)
+        (after : Option (List (ℕ × ℕ))) (limit : ℕ) (output : List ℕ) (answer : Result Done Fault)
         → IsPlan asked.group_threshold asked.groups → IsCreateOutput asked (whole random) text (Ok tt)
         → All (λ line. Holds line None ⊎ Contains (lines_of (whole text)) line) (lines_of (whole bytes))
         → IsDrillOutput asked.passphrase after limit (whole bytes) output answer
         → (set : List ShareFields) × IsReadAs (whole bytes) (Ok set)
         × ListsSecretOrCause set asked.secret after limit output answer }
 {
+    printed_forms();
+    one_reading();
+    accepted_inputs_are_share_sets();
+    whole_backups_meet_the_thresholds();
     written_mnemonics_are_of_the_backup();
     created_backups_drill();
 }

@@ -35,7 +35,7 @@ module _ (first : (share : ShareFields) (text : List ℕ) → IsPrinted text sha
     → (letter : ℕ) × (rest : List ℕ) × (text ≡ letter ∷ rest) × IsLetter letter)
     (letters : (share : ShareFields) (text : List ℕ) → IsPrinted text share → All (λ byte. IsLetter byte ⊎ (byte ≡ 32)) text)
     (short : (share : ShareFields) (text : List ℕ) → IsPrinted text share → length text ≤ longest_text) where
-  printed_holds : (share : ShareFields) (line : List ℕ) → IsPrinted line share → Holds line (Some share)
+  pub printed_holds : (share : ShareFields) (line : List ℕ) → IsPrinted line share → Holds line (Some share)
   printed_holds share line printed =
       let (letter, rest, is, small) = first share line printed in
       let fits = short share line printed in
@@ -59,12 +59,15 @@ module _ (first : (share : ShareFields) (text : List ℕ) → IsPrinted text sha
       (Some share, printed_holds share line printed.0, All-head (Contains all) share shares among)
       (lines_hold all lines shares printed.1 (All-tail (Contains all) share shares among))
 
-  -- each line of the printed forms of shares holds one of them, or nothing
+  -- the lines of the printed forms of shares are those, and an empty one behind them
+  pub lines_are : (shares : List ShareFields) (text : List ℕ) (p : ArePrintedLines shares text) → parts_of text ≡ p.lines ++ [] ∷ []
+  lines_are shares text p = ap parts_of p.text_is ∙ parts_of_lines p.lines (without_line_feeds p.lines shares p.printed)
+
+  -- each holds one of them, or nothing
   text_holds : (shares : List ShareFields) (text : List ℕ) → ArePrintedLines shares text → All (HoldsNothingOrOneOf shares) (lines_of (whole text))
   text_holds shares text p =
-      let parts : parts_of text ≡ p.lines ++ [] ∷ [] =
-      ap parts_of p.text_is ∙ parts_of_lines p.lines (without_line_feeds p.lines shares p.printed) in
-      rw parts (All-push (HoldsNothingOrOneOf shares) p.lines [] (lines_hold shares p.lines shares p.printed (All-contains_itself shares))
+      rw (lines_are shares text p)
+      (All-push (HoldsNothingOrOneOf shares) p.lines [] (lines_hold shares p.lines shares p.printed (All-contains_itself shares))
       (None, (omega arith, refl), tt))
 
   selected_holds : (shares : List ShareFields) (text line : List ℕ) → All (HoldsNothingOrOneOf shares) (lines_of (whole text))
