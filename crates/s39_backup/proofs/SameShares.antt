@@ -22,7 +22,7 @@ group_same x y e = cc
 
 module _ (params : Params) (group_threshold group_count : ℕ) where
   -- a group has the share of each of its members
-  contains_member : (group : ℕ) (members : Members) (first : ℕ) (values : List (List ℕ)) (k : ℕ) (v : List ℕ) → slice_get values k ≡ Some v
+  pub contains_member : (group : ℕ) (members : Members) (first : ℕ) (values : List (List ℕ)) (k : ℕ) (v : List ℕ) → slice_get values k ≡ Some v
       → Contains (map (λ s. created_share params group_threshold group_count group members s.0 s.1) (enumerate_from first values))
       (created_share params group_threshold group_count group members (first + k) v)
   contains_member group members first [] k v at = absurd (let none : None ≡ Some v = at in cc)

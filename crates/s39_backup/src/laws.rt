@@ -1,5 +1,5 @@
 //! Facts about the definitions, each the contract of a function that does nothing.
-ghost use Rattle.std.specs.Prelude.{◌≡◌, ℕ, List, length, All, Contains, Result, Ok, None, replicate};
+ghost use Rattle.std.specs.Prelude.{◌≡◌, ℕ, List, length, map, All, Contains, Result, Ok, None, replicate};
 ghost use Rattle.s39_kdf.specs.Bytes.{AreBytes};
 ghost use Rattle.s39_kdf.specs.Limits.{longest_secret, IsSecretLength};
 ghost use Rattle.s39_set.specs.Names.{most_groups, most_members};
@@ -11,8 +11,8 @@ ghost use Rattle.s39_backup.specs.Plan.{IsPlan, IsPlanReading};
 ghost use Rattle.s39_backup.specs.Created.{IsCreatedFrom, IsCreation, AreOfBackup, identifier_length, random_needed, most_random};
 ghost use Rattle.s39_words.specs.declared.ShareFields.{ShareFields};
 ghost use Rattle.s39_words.specs.Share.{IsShare};
-ghost use Rattle.s39_set.specs.ShareSet.{IsShareSet, refusal_of};
-ghost use Rattle.s39_set.specs.Quorums.{IsQuorum};
+ghost use Rattle.s39_set.specs.ShareSet.{IsShareSet, name_of, refusal_of};
+ghost use Rattle.s39_set.specs.Quorums.{IsQuorum, MeetsThresholds};
 ghost use Rattle.s39_backup.specs.declared.combination.Mismatch.{Mismatch};
 ghost use Rattle.s39_backup.specs.Combination.{IsCombination};
 ghost use Rattle.s39_backup.specs.Outcome.{IsOutcome};
@@ -190,3 +190,10 @@ pub fn shares_of_a_backup_agree()
     shares_that_agree_join();
     shares_of_a_split();
 }
+
+/// All shares of a created backup meet its thresholds.
+pub fn whole_backups_meet_the_thresholds()
+    ensures { (set : List ShareFields) (passphrase secret : List ℕ)
+        → IsShareSet set → (backup : AreOfBackup set passphrase secret)
+        → All (Contains set) backup.shares → MeetsThresholds set (map name_of set) }
+{}

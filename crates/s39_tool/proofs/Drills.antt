@@ -9,3 +9,4 @@ pub mod OneDrill
 pub mod OneListing
 pub mod OneOutput
 pub mod SomeOutput
+pub mod OneCreated

@@ -3,3 +3,5 @@ pub mod Collected
 pub mod OneSet
 pub mod SomeSet
 pub mod BackupSets
+pub mod WrittenLines
+pub mod WholeTexts

@@ -20,3 +20,4 @@ pub mod Printed
 pub mod Existence
 pub mod WrongWords
 pub mod Mnemonics
+pub mod PrintedForms

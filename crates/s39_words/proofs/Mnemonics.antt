@@ -1,5 +1,5 @@
 -- The words of a text that spells a share are a mnemonic, and every mnemonic can be mistyped.
-use Rattle.std.proofs.Common.{◌≡◌, ℕ, zero, suc, false, List, [], ◌∷◌, ◌++◌, refl, sym, subst, arith}
+use Rattle.std.proofs.Common.{◌≡◌, ℕ, zero, suc, ◌≤◌, false, List, [], ◌∷◌, ◌++◌, length, refl, sym, ap, subst, arith}
 use Rattle.std.specs.Prelude.{All, map, ◌==◌}
 use Rattle.std.specs.List.{join_with_byte}
 use Rattle.std.proofs.lemmas.Bool.{eq-eqb}
@@ -57,31 +57,56 @@ no_differences : (words : List ℕ) → count_of_differences words words ≡ 0
 no_differences [] = refl
 no_differences (w ∷ ws) = rw (eq-eqb w w refl) (no_differences ws)
 
-one_difference : (a b c : ℕ) (rest : List ℕ) → count_of_differences (a ∷ b ∷ another c ∷ rest) (a ∷ b ∷ c ∷ rest) ≡ 1
-one_difference a b c rest = rw (eq-eqb a a refl, eq-eqb b b refl, another-differs c, no_differences rest) refl
+-- the first words replaced by others, so many of them
+changed : ℕ → List ℕ → List ℕ
+changed zero words = words
+changed (suc n) [] = []
+changed (suc n) (w ∷ ws) = another w ∷ changed n ws
 
--- Every mnemonic can be mistyped: with another third word, as the flag stands in the second.
-pub mistyped : (mnemonic : List ℕ) → IsMnemonic mnemonic → (text : List ℕ) × IsMistyped text mnemonic
-mistyped [] is = let count = is.count in absurd (omega arith)
-mistyped (a ∷ []) is = let count = is.count in absurd (omega arith)
-mistyped (a ∷ b ∷ []) is = let count = is.count in absurd (omega arith)
-mistyped (a ∷ b ∷ c ∷ rest) is =
-    let behind = All-tail IsIndex a (b ∷ c ∷ rest) is.in_list in
-    let later = All-tail IsIndex b (c ∷ rest) behind in
-    let words = a ∷ b ∷ another c ∷ rest in
+length-changed : (n : ℕ) (words : List ℕ) → length (changed n words) ≡ length words
+unfolding changed
+length-changed zero words = refl
+length-changed (suc n) [] = refl
+length-changed (suc n) (w ∷ ws) = ap suc (length-changed n ws)
+
+changed-below : (n : ℕ) (words : List ℕ) → All IsIndex words → All IsIndex (changed n words)
+unfolding changed
+changed-below zero words all = all
+changed-below (suc n) [] all = all
+changed-below (suc n) (w ∷ ws) all = All-cons IsIndex (another w) (changed n ws) (another-below w) (changed-below n ws (All-tail IsIndex w ws all))
+
+differences-changed : (n : ℕ) (words : List ℕ) → n ≤ length words → count_of_differences (changed n words) words ≡ n
+unfolding changed
+differences-changed zero words enough = no_differences words
+differences-changed (suc n) [] enough = absurd (omega arith)
+differences-changed (suc n) (w ∷ ws) enough = rw (another-differs w) (ap suc (differences-changed n ws (omega arith)))
+
+differences-behind : (a b n : ℕ) (words others : List ℕ) → count_of_differences words others ≡ n
+    → count_of_differences (a ∷ b ∷ words) (a ∷ b ∷ others) ≡ n
+differences-behind a b n words others are = rw (eq-eqb a a refl, eq-eqb b b refl) are
+
+-- Every mnemonic can be mistyped: with other words from the third on, as the flag stands in the second.
+pub mistyped : (mnemonic : List ℕ) (wrong : ℕ) → IsMnemonic mnemonic → 1 ≤ wrong → wrong ≤ 3
+    → (text : List ℕ) × (m : IsMistyped text mnemonic) × (count_of_differences m.words mnemonic ≡ wrong)
+mistyped [] wrong is some few = let count = is.count in absurd (omega arith)
+mistyped (a ∷ []) wrong is some few = let count = is.count in absurd (omega arith)
+mistyped (a ∷ b ∷ rest) wrong is some few =
+    let count = is.count in
+    let behind = All-tail IsIndex a (b ∷ rest) is.in_list in
+    let words = a ∷ b ∷ changed wrong rest in
     let all : All IsIndex words =
-    All-cons IsIndex a (b ∷ another c ∷ rest) (All-head IsIndex a (b ∷ c ∷ rest) is.in_list)
-    (All-cons IsIndex b (another c ∷ rest) (All-head IsIndex b (c ∷ rest) behind)
-    (All-cons IsIndex (another c) rest (another-below c) (All-tail IsIndex c rest later))) in
+    All-cons IsIndex a (b ∷ changed wrong rest) (All-head IsIndex a (b ∷ rest) is.in_list)
+    (All-cons IsIndex b (changed wrong rest) (All-head IsIndex b rest behind) (changed-below wrong rest (All-tail IsIndex b rest behind))) in
     let text = text_of words all in
-    let one = one_difference a b c rest in (
+    let differences = differences-behind a b wrong (changed wrong rest) rest (differences-changed wrong rest (omega arith)) in (
       text.0,
       record {
         words = words;
         known = text.1;
-        same_count = refl;
+        same_count = ap (λ n. suc (suc n)) (length-changed wrong rest);
         same_flag = refl;
-        wrong = omega (arith, one);
-        few = omega (arith, one);
+        wrong = omega (arith, differences);
+        few = omega (arith, differences);
       },
+      differences,
     )

@@ -1,6 +1,6 @@
 //! Facts about the definitions, each the contract of a function that does nothing, but for `read_back`.
 ghost use Rattle.std.specs.Prelude.{◌≡◌, ◌≢◌, ℕ, ◌^◌, ◌<◌, ◌≤◌, Bool, List, [], ◌∷◌, ◌++◌, All, AllPairs, Contains, Result, length};
-ghost use Rattle.std.specs.Prelude.{slice_index, take};
+ghost use Rattle.std.specs.Prelude.{◌⊎◌, slice_index, take};
 ghost use Rattle.s39_field.specs.FieldProduct.{word_field};
 ghost use Rattle.s39_field.specs.Polynomial.{power, product_of};
 ghost use Rattle.s39_kdf.specs.Limits.{id_bits, exponent_bits};
@@ -12,9 +12,9 @@ ghost use Rattle.s39_words.specs.declared.share.ShareFields.{ShareFields};
 ghost use Rattle.s39_words.specs.declared.word_error.WordError.{WordError as Cause};
 ghost use Rattle.s39_words.specs.Checksum.{generator, IsValidChecksum};
 ghost use Rattle.s39_words.specs.Division.{packed, generator_times};
-ghost use Rattle.s39_words.specs.Mistyping.{IsMnemonic, IsMistyped};
+ghost use Rattle.s39_words.specs.Mistyping.{count_of_differences, IsMnemonic, IsMistyped};
 ghost use Rattle.s39_words.specs.Printing.{IsPrinted};
-ghost use Rattle.s39_words.specs.Reading.{IsWordCount, Reads};
+ghost use Rattle.s39_words.specs.Reading.{IsWordCount, flag_of, Reads};
 ghost use Rattle.s39_words.specs.Share.{IsShare};
 ghost use Rattle.s39_words.specs.Spelling.{words_of, HaveIndices, Spells};
 ghost use Rattle.s39_words.specs.WordList.{word_list, IsLetter, ComesBefore};
@@ -140,6 +140,17 @@ pub fn one_printed_form()
         → IsPrinted text share → IsPrinted other share → text ≡ other }
 {}
 
+/// A printed form begins with a letter, has small letters and spaces alone, and at most 989 bytes. So it is one line,
+/// and no comment.
+pub fn printed_forms()
+    ensures first { (share : ShareFields) (text : List ℕ) → IsPrinted text share
+        → (letter : ℕ) × (rest : List ℕ) × (text ≡ letter ∷ rest) × IsLetter letter }
+    ensures letters { (share : ShareFields) (text : List ℕ) → IsPrinted text share
+        → All (λ byte. IsLetter byte ⊎ (byte ≡ 32)) text }
+    ensures short { (share : ShareFields) (text : List ℕ) → IsPrinted text share
+        → length text ≤ longest_text }
+{}
+
 /// What `print` gives is read as the same share.
 pub fn read_back(share: &Share) -> Result<Share, WordError>
     ensures { result ≡ Ok share.now }
@@ -153,10 +164,16 @@ pub fn spelled_words_are_a_mnemonic()
         → (indices : List ℕ) × HaveIndices (words_of text) indices × IsMnemonic indices }
 {}
 
-/// Some text has the words of a mnemonic but for one, two or three.
+/// Some text has the words of a mnemonic but for one, some but for two, and some but for three; and each text is mistyped
+/// that has other words of the list in one, two or three places, and the same flag.
 pub fn every_mnemonic_can_be_mistyped()
-    ensures { (mnemonic : List ℕ) → IsMnemonic mnemonic
-        → (text : List ℕ) × IsMistyped text mnemonic }
+    ensures some { (mnemonic : List ℕ) (wrong : ℕ) → IsMnemonic mnemonic → 1 ≤ wrong → wrong ≤ 3
+        → (text : List ℕ) × (mistyped : IsMistyped text mnemonic)
+        × (count_of_differences mistyped.words mnemonic ≡ wrong) }
+    ensures each { (text mnemonic words : List ℕ) → HaveIndices (words_of text) words
+        → length words ≡ length mnemonic → flag_of words ≡ flag_of mnemonic
+        → 1 ≤ count_of_differences words mnemonic → count_of_differences words mnemonic ≤ 3
+        → IsMistyped text mnemonic }
 {}
 
 /// A text whose words are those of a mnemonic but for one, two or three is read as one with a bad checksum.

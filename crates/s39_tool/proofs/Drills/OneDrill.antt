@@ -16,7 +16,7 @@ use Rattle.s39_tool.specs.Drill.{Listed, quorum_line, last_reached, mismatches_i
 use Rattle.s39_tool.proofs.Drills.Drilling.{Names}
 use Rattle.s39_tool.proofs.Drills.Complete.{listed_quorums}
 
-goes_on_once : (set : List ShareFields) (reached more other : Option Names) → GoesOn set reached more → GoesOn set reached other → more ≡ other
+pub goes_on_once : (set : List ShareFields) (reached more other : Option Names) → GoesOn set reached more → GoesOn set reached other → more ≡ other
 goes_on_once set reached None None p q = refl
 goes_on_once set reached None (Some names) p q = absurd (q.1 p)
 goes_on_once set reached (Some names) None p q = absurd (p.1 q)

@@ -34,13 +34,13 @@ Refuses passphrase after input fault =
     ⊎ ((stop : Stop LineRefusal) × All IsPrintable passphrase × IsReadAs input (Err stop) × (fault ≡ fault_of_stop stop))
     ⊎ RefusesDrill passphrase after input fault
 
-undrilled_once : SetsHaveOneLack → (set : List ShareFields) (after : Option Names) (c d : Undrilled) → IsUndrilled set after c → IsUndrilled set after d → c ≡ d
+pub undrilled_once : SetsHaveOneLack → (set : List ShareFields) (after : Option Names) (c d : Undrilled) → IsUndrilled set after c → IsUndrilled set after d → c ≡ d
 undrilled_once one_lack set after (Lack lack) (Lack other) p q = ap Lack (one_lack set lack other p q)
 undrilled_once one_lack set after (Lack lack) NotAQuorum p q = absurd (q.0 lack p)
 undrilled_once one_lack set after NotAQuorum (Lack lack) p q = absurd (p.0 lack q)
 undrilled_once one_lack set after NotAQuorum NotAQuorum p q = refl
 
-drilled_or_not : (set : List ShareFields) (after : Option Names) (cause : Undrilled) → ((lack : SetLack) → ¬ IsLack set lack)
+pub drilled_or_not : (set : List ShareFields) (after : Option Names) (cause : Undrilled) → ((lack : SetLack) → ¬ IsLack set lack)
     → IfSome after (IsQuorum set) → IsUndrilled set after cause → ⊥
 drilled_or_not set after (Lack lack) no_lack cursor refused = no_lack lack refused
 drilled_or_not set after NotAQuorum no_lack cursor (none, (names, is, other)) = other (subst (λ a. IfSome a (IsQuorum set)) is cursor)
