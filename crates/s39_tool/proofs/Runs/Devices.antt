@@ -1,7 +1,8 @@
 -- The input that a reader gives in a call.
-use Rattle.std.proofs.Common.{◌≡◌, ℕ, ◌+◌, ◌-◌, ◌^◌, ◌<◌, ◌≤◌, min, List, [], ◌++◌, length, take, Bool, true, false, ap, refl, ◌∙◌, subst, inl, inr}
+use Rattle.std.proofs.Common.{◌≡◌, ◌≢◌, ℕ, ◌+◌, ◌-◌, ◌^◌, ◌<◌, ◌≤◌, min, List, [], ◌∷◌, ◌++◌, length, take, Bool, true, false, ap, refl, ◌∙◌, subst, inl, inr}
 use Rattle.std.proofs.Common.{append-nil, arith, Option, Some, None, IfSome}
 use Rattle.std.proofs.lemmas.Bool.{cases_lt}
+use Rattle.std.proofs.lemmas.List.{length-append}
 use Rattle.std.specs.Io.KnownBytes.{Consumes, IsAtEnd}
 use Rattle.std.proofs.KnownBytes.{Consumes-nil, Consumes-trans, Consumes-whole}
 use Rattle.s39_tool.specs.Device.{Counted}
@@ -93,13 +94,30 @@ some_input remaining first reader Is of = elim of.so [
   | inr (inr f) ↦ (record { bytes = of.came; ended = false }, f.of_beginning)
 ]
 
+no_bytes : (came : List ℕ) → (0 < length came → ⊥) → came ≡ []
+no_bytes [] none = refl
+no_bytes (b ∷ came) none = absurd (none (omega arith))
+
+-- where nothing is read, it is so of every input
+pub of_unread : {R : Type 0} (remaining : R → Option (List ℕ)) (first reader : Counted R) (Is : Input → Type 0) → OfInput remaining first reader Is
+    → reader.reads ≡ first.reads → reader.failures ≡ first.failures → (input : Input) → Is input
+of_unread remaining first reader Is of reads failures input = elim of.so [
+  | inl d ↦
+      let none : of.came ≡ [] = no_bytes of.came (λ some. (let more = d.asked some in omega arith)) in
+      subst (λ (l : List ℕ). Is (record { bytes = l ++ input.bytes; ended = input.ended })) none (d.whatever_follows input.bytes input.ended)
+  | inr (inl e) ↦ (let more = e.asked in absurd (omega arith))
+  | inr (inr f) ↦ (let more = f.one_failure in absurd (omega arith))
+]
+
+-- What is known of a reader that tells its bytes: where no read failed, it is so of all of them, else of those that came
+-- before; and it is asked once for each of them and once more at most.
+
 -- what holds whatever follows holds of all bytes
 of_all : (a b : Option (List ℕ)) (came : List ℕ) (P : List ℕ → Type 0) → Consumes a b came → ((rest : List ℕ) → P (came ++ rest)) → IfSome a P
 of_all None b came P p h = tt
 of_all (Some x) None came P p h = absurd p
 of_all (Some x) (Some y) came P p h = rw p (h y)
 
--- where the reader tells its bytes and no read failed, it is so of all of them
 pub of_known : {R : Type 0} (remaining : R → Option (List ℕ)) (first reader : Counted R) (Is : Input → Type 0) → OfInput remaining first reader Is
     → reader.failures ≡ first.failures → IfSome (remaining first.device) (λ bytes. Is (whole bytes))
 of_known remaining first reader Is of same = elim of.so [
@@ -107,3 +125,27 @@ of_known remaining first reader Is of same = elim of.so [
   | inr (inl e) ↦ Consumes-whole (remaining first.device) (remaining reader.device) of.came (λ bytes. Is (whole bytes)) of.consumed e.at_end e.of_whole
   | inr (inr f) ↦ (let more = f.one_failure in absurd (omega arith))
 ]
+
+pub of_cut_off : {R : Type 0} (remaining : R → Option (List ℕ)) (first reader : Counted R) (Is : Input → Type 0) → OfInput remaining first reader Is
+    → reader.failures ≢ first.failures
+    → (came : List ℕ) × Consumes (remaining first.device) (remaining reader.device) came × Is (record { bytes = came; ended = false })
+of_cut_off remaining first reader Is of other = elim of.so [
+  | inl d ↦ absurd (other d.no_failure)
+  | inr (inl e) ↦ absurd (other e.no_failure)
+  | inr (inr f) ↦ (of.came, of.consumed, f.of_beginning)
+]
+
+reads_within : (a b : Option (List ℕ)) (came : List ℕ) (n m : ℕ) → Consumes a b came → n ≤ m + length came + 1 → IfSome a (λ bytes. n ≤ m + length bytes + 1)
+reads_within None b came n m p few = tt
+reads_within (Some x) None came n m p few = absurd p
+reads_within (Some x) (Some y) came n m p few = rw (p, length-append) (omega arith)
+
+pub few_of_known : {R : Type 0} (remaining : R → Option (List ℕ)) (first reader : Counted R) (Is : Input → Type 0) → OfInput remaining first reader Is
+    → IfSome (remaining first.device) (λ bytes. reader.reads ≤ first.reads + length bytes + 1)
+few_of_known remaining first reader Is of =
+    let few : reader.reads ≤ first.reads + length of.came + 1 = elim of.so [
+      | inl d ↦ (let few = d.few_reads in omega arith)
+      | inr (inl e) ↦ e.few_reads
+      | inr (inr f) ↦ f.few_reads
+    ] in
+    reads_within (remaining first.device) (remaining reader.device) of.came reader.reads first.reads of.consumed few
