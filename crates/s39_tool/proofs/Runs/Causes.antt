@@ -1,9 +1,8 @@
 -- Whose answer a run gives, and why a passphrase and a secret are refused.
-use Rattle.std.proofs.Common.{◌≡◌, ◌+◌, ℕ, Bool, true, false, List, length, ap, refl, sym, ◌∙◌, subst, inl, inr, arith, Option, Result, Ok, Err}
+use Rattle.std.proofs.Common.{◌≡◌, ℕ, Bool, true, false, List, length, ap, refl, sym, ◌∙◌, subst, inl, inr, arith, Option, Result, Err}
 use Rattle.s39_kdf.specs.declared.limits.BadPassphrase.{BadPassphrase}
 use Rattle.s39_kdf.specs.declared.limits.BadSecretLength.{BadSecretLength}
 use Rattle.s39_kdf.specs.Limits.{IsFirstUnprintable, IsSecretLength}
-use Rattle.s39_backup.specs.declared.create_error.CreateError.{CreateError}
 use Rattle.s39_backup.specs.declared.create_error.CreateError.TheVariants.{Passphrase as OfPassphrase, SecretLength as OfSecret, BadRandomLength}
 use Rattle.s39_tool.specs.declared.fault.Stop.{Stop}
 use Rattle.s39_tool.specs.declared.fault.Stop.TheVariants.{AtLine, ReadFailed}
