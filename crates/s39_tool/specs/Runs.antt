@@ -1,21 +1,42 @@
 -- What a run does with its devices.
-use Rattle.std.specs.Prelude.{◌≡◌, ◌≢◌, ℕ, ◌+◌, ◌≤◌, List, [], ◌++◌, length, Option, IfSome, true, false, Result, Err}
-use Rattle.std.specs.Io.KnownBytes.{Appends, Consumes}
+use Rattle.std.specs.Prelude.{◌≡◌, ◌≢◌, ◌⊎◌, ℕ, ◌+◌, ◌<◌, ◌≤◌, List, [], ◌++◌, length, Option, Bool, false, Result, Err}
+use Rattle.std.specs.Io.KnownBytes.{Appends, Consumes, IsAtEnd}
 use Rattle.s39_tool.specs.declared.fault.DeviceFailure.TheVariants.{Write}
 use Rattle.s39_tool.specs.declared.fault.Refusal.TheVariants.{Device}
 use Rattle.s39_tool.specs.declared.fault.Fault.{Fault}
 use Rattle.s39_tool.specs.Device.{Counted}
 use Rattle.s39_tool.specs.Fault.{fault_of, read_failures, write_failures}
-use Rattle.s39_tool.specs.Input.{Input}
+use Rattle.s39_tool.specs.Input.{Input, whole}
 
 module _ {R : Type 0} (remaining : R → Option (List ℕ)) where
-  -- This is so of the input that a reader gives: of all its bytes where no read fails, and of those that come before
-  -- where one does. It is read by one read for each byte and one more at most.
+  -- what came decides: this is so of the input whatever follows, and no more was asked for
+  pub record Decides (old new : Counted R) (came : List ℕ) (Is : Input → Type 0) : Type 0 where
+    pub whatever_follows : (rest : List ℕ) (ended : Bool) → Is (record { bytes = came ++ rest; ended = ended })
+    pub no_failure : new.failures ≡ old.failures
+    pub asked : 0 < length came → old.reads < new.reads
+    pub few_reads : new.reads ≤ old.reads + length came
+
+  -- the input ended after what came, as a read said
+  pub record Ends (old new : Counted R) (came : List ℕ) (Is : Input → Type 0) : Type 0 where
+    pub of_whole : Is (whole came)
+    pub at_end : IsAtEnd (remaining new.device)
+    pub no_failure : new.failures ≡ old.failures
+    pub asked : old.reads < new.reads
+    pub few_reads : new.reads ≤ old.reads + length came + 1
+
+  -- a read failed after what came
+  pub record Fails (old new : Counted R) (came : List ℕ) (Is : Input → Type 0) : Type 0 where
+    pub of_beginning : Is (record { bytes = came; ended = false })
+    pub one_failure : new.failures ≡ old.failures + 1
+    pub few_reads : new.reads ≤ old.reads + length came + 1
+
+  -- This is so of the input that a reader gives. Whatever the reader, some bytes came of it, by one read for each of them and
+  -- one more at most, and they decide, or the input ended after them, or a read failed. Where the reader tells its bytes,
+  -- they are the first of these.
   pub record OfInput (old new : Counted R) (Is : Input → Type 0) : Type 0 where
-    pub whole : new.failures ≡ old.failures → IfSome (remaining old.device) (λ bytes. Is (record { bytes = bytes; ended = true }))
-    pub cut_off : new.failures ≢ old.failures → (came : List ℕ) × Consumes (remaining old.device) (remaining new.device) came
-        × Is (record { bytes = came; ended = false })
-    pub few_reads : IfSome (remaining old.device) (λ bytes. new.reads ≤ old.reads + length bytes + 1)
+    pub came : List ℕ
+    pub consumed : Consumes (remaining old.device) (remaining new.device) came
+    pub so : Decides old new came Is ⊎ Ends old new came Is ⊎ Fails old new came Is
 
 module _ {W T : Type 0} (contents : W → Option (List ℕ)) where
   -- The writer's bytes grow by the text that has this answer. Where a write fails, they grow by a beginning of

@@ -1,7 +1,14 @@
 //! Facts about the definitions, each the contract of a function that does nothing.
-ghost use Rattle.std.specs.Prelude.{◌≡◌, ◌⊎◌, ℕ, List, All, Contains, Result, Ok, IfOk, ◌+◌, ◌++◌, length, suc, Option, Some, None};
+ghost use Rattle.std.specs.Prelude.{◌≡◌, ◌⊎◌, ℕ, List, All, Contains, Result, Ok, Err, IfOk, ◌+◌, ◌++◌, length, suc, Option, Some, None};
 ghost use Rattle.s39_words.specs.declared.ShareFields.{ShareFields};
 ghost use Rattle.s39_set.specs.ShareSet.{IsShareSet};
+ghost use Rattle.s39_kdf.specs.Limits.{IsFirstUnprintable, IsPrintable, IsSecretLength};
+ghost use Rattle.s39_kdf.specs.declared.limits.BadPassphrase.{BadPassphrase};
+ghost use Rattle.s39_kdf.specs.declared.limits.BadSecretLength.{BadSecretLength};
+ghost use Rattle.s39_tool.specs.Device.{Counted};
+ghost use Rattle.s39_tool.specs.Fault.{fault_of};
+ghost use Rattle.s39_tool.specs.declared.fault.Refusal.TheVariants.{Passphrase, SecretLength};
+ghost use Rattle.s39_tool.specs.Runs.{Runs, Writes};
 ghost use Rattle.s39_tool.specs.declared.fault.Fault.{Fault};
 ghost use Rattle.s39_tool.specs.declared.fault.LineRefusal.{LineRefusal};
 ghost use Rattle.s39_tool.specs.declared.fault.Stop.{Stop};
@@ -11,7 +18,6 @@ ghost use Rattle.s39_tool.specs.Input.{Input, longest_line, whole, lines_of};
 ghost use Rattle.s39_tool.specs.Lines.{Holds};
 ghost use Rattle.s39_tool.specs.Accepted.{IsReadAs};
 ghost use Rattle.s39_kdf.specs.Bytes.{AreBytes};
-ghost use Rattle.s39_kdf.specs.Limits.{IsPrintable, IsSecretLength};
 ghost use Rattle.s39_backup.specs.Plan.{IsPlan};
 ghost use Rattle.s39_tool.specs.Create.{Asked, needed_by, IsCreateOutput};
 ghost use Rattle.s39_tool.specs.Show.{IsShowOutput};
@@ -38,11 +44,63 @@ use s39_words::laws::{
     every_share_has_a_printed_form, every_text_has_a_reading, one_printed_form, one_reading,
     printed_forms,
 };
+use std::io::{Read, Write};
 
 /// The code's limits are those of the definitions.
 pub fn numbers()
     ensures line { MAX_LINE_BYTES ≡ longest_line }
     ensures random { MAX_BACKUP_RANDOM_BYTES ≡ most_random }
+{}
+
+/// Whatever the devices, also ones that don't tell their bytes, a run refuses a passphrase only where a byte of it isn't
+/// printable, and names the first one; and `create` refuses only a secret that may not have as many bytes.
+pub fn refusals_have_causes<R: Read, W: Write>()
+    ensures recover { (passphrase : List ℕ) (reader read_to : Counted R)
+        (writer written_to : Counted W) (bad : BadPassphrase)
+        → Runs R.remaining W.contents (IsRecoverOutput passphrase) reader read_to writer written_to
+        (Err (fault_of (Passphrase bad)))
+        → IsFirstUnprintable passphrase bad.position }
+    ensures drill { (passphrase : List ℕ) (after : Option (List (ℕ × ℕ))) (limit : ℕ)
+        (reader read_to : Counted R) (writer written_to : Counted W) (bad : BadPassphrase)
+        → Runs R.remaining W.contents (IsDrillOutput passphrase after limit) reader read_to
+        writer written_to (Err (fault_of (Passphrase bad)))
+        → IsFirstUnprintable passphrase bad.position }
+    ensures create { (asked : Asked) (reader read_to : Counted R) (writer written_to : Counted W)
+        (bad : BadPassphrase)
+        → Runs R.remaining W.contents (IsCreateOutput asked) reader read_to writer written_to
+        (Err (fault_of (Passphrase bad)))
+        → IsFirstUnprintable asked.passphrase bad.position }
+    ensures secret { (asked : Asked) (reader read_to : Counted R) (writer written_to : Counted W)
+        (bad : BadSecretLength)
+        → Runs R.remaining W.contents (IsCreateOutput asked) reader read_to writer written_to
+        (Err (fault_of (SecretLength bad)))
+        → ¬ IsSecretLength (length asked.secret) }
+{}
+
+/// Whatever the devices, what a run answers without a read is right whatever the input.
+pub fn unread_inputs_decide_nothing<R: Read, W: Write>()
+    ensures show { (reader read_to : Counted R) (writer written_to : Counted W)
+        (answer : Result (Unit {0}) Fault)
+        → Runs R.remaining W.contents IsShowOutput reader read_to writer written_to answer
+        → read_to.reads ≡ reader.reads → read_to.failures ≡ reader.failures → (input : Input)
+        → Writes W.contents (IsShowOutput input) writer written_to answer }
+    ensures recover { (passphrase : List ℕ) (reader read_to : Counted R)
+        (writer written_to : Counted W) (answer : Result (Unit {0}) Fault)
+        → Runs R.remaining W.contents (IsRecoverOutput passphrase) reader read_to
+        writer written_to answer
+        → read_to.reads ≡ reader.reads → read_to.failures ≡ reader.failures → (input : Input)
+        → Writes W.contents (IsRecoverOutput passphrase input) writer written_to answer }
+    ensures drill { (passphrase : List ℕ) (after : Option (List (ℕ × ℕ))) (limit : ℕ)
+        (reader read_to : Counted R) (writer written_to : Counted W) (answer : Result Done Fault)
+        → Runs R.remaining W.contents (IsDrillOutput passphrase after limit) reader read_to
+        writer written_to answer
+        → read_to.reads ≡ reader.reads → read_to.failures ≡ reader.failures → (input : Input)
+        → Writes W.contents (IsDrillOutput passphrase after limit input) writer written_to answer }
+    ensures create { (asked : Asked) (reader read_to : Counted R) (writer written_to : Counted W)
+        (answer : Result (Unit {0}) Fault)
+        → Runs R.remaining W.contents (IsCreateOutput asked) reader read_to writer written_to answer
+        → read_to.reads ≡ reader.reads → read_to.failures ≡ reader.failures → (input : Input)
+        → Writes W.contents (IsCreateOutput asked input) writer written_to answer }
 {}
 
 /// An input has a show output.

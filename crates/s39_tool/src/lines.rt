@@ -197,9 +197,6 @@ pub(crate) fn take_lines<R: Read, T: TakeLine>(
     ensures runs { OfInput R.remaining input.old input.new
         (λ input. RunsOver T.takes input taker.old taker.new result) }
     ensures failures { input.new.failures ≡ input.old.failures + stop_failures result }
-    // Of any reader, what came.
-    ensures came { (came : List ℕ) × (ended : Bool)
-        × RunsOver T.takes (record { bytes = came; ended = ended }) taker.old taker.new result }
 {
     let mut unfinished = Unfinished {
         line: ArrayVec::new(),

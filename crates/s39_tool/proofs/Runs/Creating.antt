@@ -22,6 +22,8 @@ use Rattle.s39_tool.specs.Create.{Asked, needed_by, Creates, ArePrintedLines, fa
 pub record IsTaking {D : Type 0} (remaining : D → Option (List ℕ)) (first reader : Counted D) (came : List ℕ) (limit : ℕ) : Type 0 where
   pub consumed : Consumes (remaining first.device) (remaining reader.device) came
   pub no_failure : reader.failures ≡ first.failures
+  pub more_reads : first.reads ≤ reader.reads
+  pub asked : 0 < length came → first.reads < reader.reads
   pub few_reads : reader.reads ≤ first.reads + length came
   pub few : length came ≤ limit
 

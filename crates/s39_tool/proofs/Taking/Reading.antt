@@ -133,5 +133,6 @@ pub record IsReading {S C D : Type 0} (takes : S → List ℕ → Result (Unit {
   pub midway : IsMidway takes came unfinished number old new
   pub ready : can_take new
   pub no_failure : reader.failures ≡ first.failures
+  pub more_reads : first.reads ≤ reader.reads
   pub few_reads : reader.reads ≤ first.reads + length came
   pub room : 0 < length piece

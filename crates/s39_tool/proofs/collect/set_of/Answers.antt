@@ -1,5 +1,5 @@
 use Rattle.std.proofs.lemmas.Result.{err_from_is_err_and}
-use Rattle.s39_tool.proofs.Runs.Devices.{OfInput-map}
+use Rattle.s39_tool.proofs.Runs.Devices.{OfInput-map, some_input}
 use Rattle.s39_tool.proofs.Sets.Collected.{runs_accepted, runs_refused}
 use Rattle.s39_tool.proofs.collect.set_of.Goals as goal
 
@@ -18,6 +18,6 @@ returns-clause-read g c =
 
 pub returns-clause-is_set : goal.returns-clause-is_set
 returns-clause-is_set g c =
-    let (came, ended, runs) = c.in_ok-take_lines.ensures.came in
-    (runs_accepted c.same_shares_refuse_the_same.ensures c.one_more_is_added.ensures (record { bytes = came; ended = ended }) c.new-set.result
+    let (input, runs) = some_input g.R.Read.remaining c.args.input.now c.take_lines.new.input _ c.in_ok-take_lines.ensures.runs in
+    (runs_accepted c.same_shares_refuse_the_same.ensures c.one_more_is_added.ensures input c.new-set.result
     c.take_lines.new.taker c.new-set.ensures runs).1
