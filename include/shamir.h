@@ -3,11 +3,12 @@
  *
  * Each function works on memory of its caller. It takes no memory, makes no system call, keeps nothing between calls, and
  * returns whatever bytes it is given. Calls share nothing, so they may run on any threads at once. A call takes at most
- * SHAMIR_STACK_BYTES bytes of stack.
+ * SHAMIR_STACK_BYTES bytes of stack. The main thread has them; one that was made with less ends the program in a drill.
  *
  * A slice is a pointer and the number of bytes there. What a call writes, a slice or a struct, overlaps nothing else that
  * the call is given. Where the number of bytes is 0, the pointer isn't used, and may be NULL; a pointer to a struct may not.
- * The number counts no zero at a text's end: a zero byte that is counted is a byte of the text. None is written.
+ * The number counts no zero at a text's end: a zero byte that is counted is a byte of the text. None is written. Texts are
+ * of char, and secrets, values and random bytes of uint8_t, so that a compiler notices where they change places.
  *
  * Whatever is refused: nothing is written then.
  *
@@ -19,6 +20,9 @@
 
 #include <stddef.h>
 #include <stdint.h>
+
+/* The version of this header, and of the library that it came with. */
+#define SHAMIR_VERSION "1.0.0"
 
 #ifdef __cplusplus
 extern "C" {
@@ -53,61 +57,73 @@ extern "C" {
 /* The most bytes of stack that a call takes. */
 #define SHAMIR_STACK_BYTES 262144
 
-/* Numbers that only a library answers; the others are those of the command shamir. */
-#define SHAMIR_TOO_SHORT 1
-#define SHAMIR_OUT_OF_RANGE 2
-
 /* In the place of a group in a digest's mismatch: the digest of the group shares. */
 #define SHAMIR_OF_GROUPS 16
 
+/* Attributes, where the compiler has them: an answer is looked at, and a pointer to a struct isn't NULL. */
+#if defined(__GNUC__)
+#define SHAMIR_CALL __attribute__((visibility("default"), warn_unused_result))
+#define SHAMIR_STRUCT(position) __attribute__((nonnull(position)))
+#else
+#define SHAMIR_CALL
+#define SHAMIR_STRUCT(position)
+#endif
+
 /*
- * What a call answers. Where code is 0, nothing was refused. Else it is the number of the first cause that applies:
- *
- *   code    what                                         first                       second
- *   1       a slice is too short                         the bytes that are needed
- *   2       a number is out of its range
- *   11      a word isn't in the word list                its position, from 1
- *   12      no mnemonic has so many words                their number
- *   13      the checksum is bad
- *   14      the padding is bad
- *   15      the group threshold is above the group count
- *   21..26  other identifier, extendable flag, exponent, group threshold, group count, length
- *   27      other member threshold                       the group, from 0
- *   28      a conflicting share                          the group                   the member, from 0
- *   29      no shares
- *   30      incomplete                                   the complete groups         the groups that are needed
- *   31      the text is no plan
- *   32      bad number of groups in the plan
- *   33      bad number of members in a group of the plan the group
- *   34      one of many is enough in a group of the plan the group
- *   41      a byte of the passphrase isn't printable     its position, from 1
- *   42      a secret may not have so many bytes          their number
- *   43      another number of random bytes is needed     the number that is needed
- *   51      a digest doesn't match                       the group, or SHAMIR_OF_GROUPS
- *   61      the text is no list of names
- *   62      the names are no quorum
- *   71      a line has more than 1,024 bytes
- *
- * What has no meaning is 0.
+ * The number of the first cause that applies, or 0. All but the first three are those of the command shamir. Behind each
+ * stands what first and second of the answer are; where they have no meaning they are 0. Groups and members count from 0.
  */
+typedef enum shamir_code {
+    SHAMIR_DONE = 0,                    /* nothing is refused */
+    SHAMIR_TOO_SHORT = 1,               /* a slice is too short; first: the bytes that are needed */
+    SHAMIR_OUT_OF_RANGE = 2,            /* a number is out of its range */
+    SHAMIR_UNKNOWN_WORD = 11,           /* a word isn't in the word list; first: its position, from 1 */
+    SHAMIR_WORD_COUNT = 12,             /* no mnemonic has so many words; first: their number */
+    SHAMIR_BAD_CHECKSUM = 13,           /* the checksum is bad */
+    SHAMIR_BAD_PADDING = 14,            /* the padding is bad */
+    SHAMIR_GROUP_THRESHOLD = 15,        /* the group threshold is above the group count */
+    SHAMIR_OTHER_IDENTIFIER = 21,       /* the identifier is another than that of the lines before */
+    SHAMIR_OTHER_EXTENDABLE = 22,       /* and so on: the extendable flag */
+    SHAMIR_OTHER_EXPONENT = 23,         /* the iteration exponent */
+    SHAMIR_OTHER_GROUP_THRESHOLD = 24,  /* the group threshold */
+    SHAMIR_OTHER_GROUP_COUNT = 25,      /* the group count */
+    SHAMIR_OTHER_LENGTH = 26,           /* the length */
+    SHAMIR_OTHER_MEMBER_THRESHOLD = 27, /* the member threshold of its group; first: the group */
+    SHAMIR_CONFLICTING_SHARE = 28,      /* a share of this name with another value; first: the group, second: the member */
+    SHAMIR_NO_SHARES = 29,              /* no line holds a mnemonic */
+    SHAMIR_INCOMPLETE = 30,             /* too few; first: the complete groups, second: the groups that are needed */
+    SHAMIR_BAD_PLAN = 31,               /* the text is no plan */
+    SHAMIR_PLAN_GROUPS = 32,            /* a bad number of groups in the plan */
+    SHAMIR_PLAN_MEMBERS = 33,           /* a bad number of members in a group of the plan; first: the group */
+    SHAMIR_ONE_OF_MANY = 34,            /* one of many is enough in a group of the plan; first: the group */
+    SHAMIR_PASSPHRASE = 41,             /* a byte of the passphrase isn't printable; first: its position, from 1 */
+    SHAMIR_SECRET_LENGTH = 42,          /* a secret may not have so many bytes; first: their number */
+    SHAMIR_RANDOM_LENGTH = 43,          /* another number of random bytes is needed; first: the number that is needed */
+    SHAMIR_DIGEST_MISMATCH = 51,        /* a digest doesn't match; first: the group, or SHAMIR_OF_GROUPS */
+    SHAMIR_BAD_CURSOR = 61,             /* the text is no list of names */
+    SHAMIR_NOT_A_QUORUM = 62,           /* the names are no quorum */
+    SHAMIR_LINE_TOO_LONG = 71           /* a line has more than SHAMIR_LINE_BYTES_MAX bytes */
+} shamir_code;
+
+/* What a call answers. */
 typedef struct shamir_answer {
-    uint32_t code;
+    uint32_t code;       /* a number of shamir_code */
     uint32_t mismatches; /* how many listed quorums are refused for a digest */
     uint64_t line;       /* the line that is refused, from 1, for the codes 11 to 28 and 71 of lines */
     uint64_t first;
     uint64_t second;
-    uint64_t written; /* how many bytes the call wrote */
+    uint64_t written;    /* how many bytes the call wrote */
 } shamir_answer;
 
 /* The fields of a mnemonic but its value. */
 typedef struct shamir_share {
-    uint16_t id;             /* the identifier of the backup, below 2^15 */
-    uint8_t extendable;      /* the extendable flag, 0 or 1 */
-    uint8_t exponent;        /* the iteration exponent, 0 to 15 */
-    uint8_t group_index;     /* 0 to 15 */
-    uint8_t group_threshold; /* 1 to group_count */
-    uint8_t group_count;     /* 1 to 16 */
-    uint8_t member_index;    /* 0 to 15 */
+    uint16_t id;              /* the identifier of the backup, below 2^15 */
+    uint8_t extendable;       /* the extendable flag, 0 or 1 */
+    uint8_t exponent;         /* the iteration exponent, 0 to 15 */
+    uint8_t group_index;      /* 0 to 15 */
+    uint8_t group_threshold;  /* 1 to group_count */
+    uint8_t group_count;      /* 1 to 16 */
+    uint8_t member_index;     /* 0 to 15 */
     uint8_t member_threshold; /* 1 to 16 */
 } shamir_share;
 
@@ -117,13 +133,15 @@ typedef struct shamir_share {
  * stand apart by spaces, tabs and carriage returns, as many as there are, and capitals count as small letters. share may
  * not be NULL. Refused: 11 to 15, and then 1.
  */
-shamir_answer shamir_parse(const uint8_t *line, size_t line_bytes, shamir_share *share, uint8_t *value, size_t value_bytes);
+SHAMIR_CALL SHAMIR_STRUCT(3)
+shamir_answer shamir_parse(const char *line, size_t line_bytes, shamir_share *share, uint8_t *value, size_t value_bytes);
 
 /*
  * How many random bytes a backup of a secret of so many bytes takes, by the text of a plan: first of the answer. A plan
  * is TofN, or GT/T1ofN1,T2ofN2,.. for several groups of which GT are needed. Refused: 31 to 34, and then 42.
  */
-shamir_answer shamir_random_needed(const uint8_t *plan, size_t plan_bytes, size_t secret_bytes);
+SHAMIR_CALL
+shamir_answer shamir_random_needed(const char *plan, size_t plan_bytes, size_t secret_bytes);
 
 /*
  * Creates a backup of a secret: its mnemonics go to the front of mnemonics, by group and member, each with a line feed
@@ -133,9 +151,10 @@ shamir_answer shamir_random_needed(const uint8_t *plan, size_t plan_bytes, size_
  * nobody can guess, and are used once. Refused: 2 for an exponent above 15, then 31 to 34, 41, 42, 43, and then 1, with the
  * bytes of all mnemonics.
  */
+SHAMIR_CALL
 shamir_answer shamir_create(
-    const uint8_t *plan, size_t plan_bytes, const uint8_t *secret, size_t secret_bytes, const uint8_t *passphrase, size_t passphrase_bytes,
-    uint32_t exponent, uint32_t extendable, const uint8_t *random, size_t random_bytes, uint8_t *mnemonics, size_t mnemonics_bytes);
+    const char *plan, size_t plan_bytes, const uint8_t *secret, size_t secret_bytes, const char *passphrase, size_t passphrase_bytes,
+    uint32_t exponent, uint32_t extendable, const uint8_t *random, size_t random_bytes, char *mnemonics, size_t mnemonics_bytes);
 
 /*
  * Recovers the secret of lines, each a mnemonic, blank, or a comment that begins with a number sign: that of the least
@@ -147,15 +166,22 @@ shamir_answer shamir_create(
  * of more than 64 bytes: at 15 these are some minutes. shamir_parse tells the exponent before. Where the slice is too short,
  * 1 comes after that work.
  */
+SHAMIR_CALL
 shamir_answer shamir_recover(
-    const uint8_t *lines, size_t lines_bytes, const uint8_t *passphrase, size_t passphrase_bytes, uint8_t *secret, size_t secret_bytes);
+    const char *lines, size_t lines_bytes, const char *passphrase, size_t passphrase_bytes, uint8_t *secret, size_t secret_bytes);
 
 /*
  * Tries the quorums of lines, as of shamir_recover, that come after the one that after names, as 0.0+0.2+1.0, or all where
- * it is empty. What the command drill writes of them goes to the front of text: a line for each quorum, with the secret in
- * hexadecimal, or which digest doesn't match; and a last line, which is "end", or "more after " and the text to go on after.
- * The call stops at the limit, or before the first quorum whose line doesn't fit with the last line behind it. So a loop of
- * such calls lists all quorums, each once. mismatches is how many of the listed quorums are refused for a digest.
+ * it is empty. What the command drill writes of them goes to the front of text: a line for each quorum, and a last line. The
+ * call stops at the limit, or before the first quorum whose line doesn't fit with the last line behind it. So a loop of such
+ * calls lists all quorums, each once. mismatches is how many of the listed quorums are refused for a digest.
+ *
+ * A line of a quorum is its names, one space, and what it recovers; a line feed ends it. The names are in order, each a group
+ * and a member in decimal with a dot between, and a plus sign stands between names. What it recovers is two hexadecimal
+ * digits, in small letters, for each byte of the secret, or "digest mismatch in group G", of the lowest such group, or
+ * "digest mismatch of groups". The last line is "end" where no quorum is left, else "more after " and the names to go on
+ * after; a line feed ends it too. after and text may not overlap: copy these names, at most SHAMIR_NAMES_BYTES_MAX bytes,
+ * before the next call writes to text.
  *
  * Refused: 2 for a limit of 0, then 61, 41, then the first refused line (11 to 28, 71), then 29, 30, 62, and then 1 where
  * not even one quorum fits: first is what its line and the last line need. That is 4 where no quorum comes after the named
@@ -164,16 +190,18 @@ shamir_answer shamir_recover(
  * The call takes as many iterations as shamir_recover for each value that quorums combine to: mostly all combine to one, but
  * each call begins anew, and 1 comes after that work too.
  */
+SHAMIR_CALL
 shamir_answer shamir_drill(
-    const uint8_t *lines, size_t lines_bytes, const uint8_t *passphrase, size_t passphrase_bytes, const uint8_t *after, size_t after_bytes,
-    uint32_t limit, uint8_t *text, size_t text_bytes);
+    const char *lines, size_t lines_bytes, const char *passphrase, size_t passphrase_bytes, const char *after, size_t after_bytes,
+    uint32_t limit, char *text, size_t text_bytes);
 
 /*
  * The text of an answer's code and details, as the command shamir prints it behind the number: it goes to the front of
  * text, with no zero at its end. For 0 it is "done", for 1 "slice too short: N bytes needed", for 2 "number out of range",
  * and for what no call answers "unknown answer". answer may not be NULL. Refused: 1.
  */
-shamir_answer shamir_text(const shamir_answer *answer, uint8_t *text, size_t text_bytes);
+SHAMIR_CALL SHAMIR_STRUCT(1)
+shamir_answer shamir_text(const shamir_answer *answer, char *text, size_t text_bytes);
 
 #ifdef __cplusplus
 }

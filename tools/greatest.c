@@ -24,12 +24,12 @@ static const char *const plans[] = {"16/16of16," GROUPS, "16/15of16," GROUPS};
 static const char passphrase[] = "TREZOR";
 static uint8_t secret[SHAMIR_SECRET_BYTES_MAX];
 static uint8_t random_bytes[SHAMIR_RANDOM_BYTES_MAX];
-static uint8_t mnemonics[SHAMIR_MNEMONICS_BYTES_MAX];
-static uint8_t mnemonic[SHAMIR_MNEMONIC_BYTES_MAX];
+static char mnemonics[SHAMIR_MNEMONICS_BYTES_MAX];
+static char mnemonic[SHAMIR_MNEMONIC_BYTES_MAX];
 static uint8_t value[SHAMIR_SECRET_BYTES_MAX];
-static uint8_t listing[SHAMIR_LISTING_BYTES_ENOUGH];
-static uint8_t cursor[SHAMIR_NAMES_BYTES_MAX];
-static uint8_t text[SHAMIR_TEXT_BYTES_MAX];
+static char listing[SHAMIR_LISTING_BYTES_ENOUGH];
+static char cursor[SHAMIR_NAMES_BYTES_MAX];
+static char text[SHAMIR_TEXT_BYTES_MAX];
 
 /* Ends the program where a call refused. */
 static size_t done(const char *call, shamir_answer answer)
@@ -72,7 +72,7 @@ static void drill_parts(size_t bytes)
 
     for (;;) {
         written = done("shamir_drill", shamir_drill(
-            mnemonics, bytes, (const uint8_t *)passphrase, strlen(passphrase), cursor, cursor_bytes, UINT32_MAX, listing, sizeof listing));
+            mnemonics, bytes, passphrase, strlen(passphrase), cursor, cursor_bytes, UINT32_MAX, listing, sizeof listing));
         fwrite(listing, 1, written, stdout);
         for (last = written - 2; listing[last] != '\n'; last--) {
         }
@@ -106,15 +106,14 @@ static void text_of_each(void)
 
 static void *calls(void *unused)
 {
-    const uint8_t *key = (const uint8_t *)passphrase;
-    const uint8_t *plan;
+    const char *plan;
     shamir_answer needed;
     size_t plan_bytes;
     size_t bytes;
     size_t i;
 
     for (i = 0; i < sizeof plans / sizeof plans[0]; i++) {
-        plan = (const uint8_t *)plans[i];
+        plan = plans[i];
         plan_bytes = strlen(plans[i]);
         needed = shamir_random_needed(plan, plan_bytes, sizeof secret);
         done("shamir_random_needed", needed);
@@ -123,10 +122,10 @@ static void *calls(void *unused)
             exit(1);
         }
         bytes = done("shamir_create", shamir_create(
-            plan, plan_bytes, secret, sizeof secret, key, strlen(passphrase), 0, 0, random_bytes, (size_t)needed.first, mnemonics, sizeof mnemonics));
+            plan, plan_bytes, secret, sizeof secret, passphrase, strlen(passphrase), 0, 0, random_bytes, (size_t)needed.first, mnemonics, sizeof mnemonics));
         fwrite(mnemonics, 1, bytes, stdout);
         parse_each(bytes);
-        if (done("shamir_recover", shamir_recover(mnemonics, bytes, key, strlen(passphrase), value, sizeof value)) != sizeof secret
+        if (done("shamir_recover", shamir_recover(mnemonics, bytes, passphrase, strlen(passphrase), value, sizeof value)) != sizeof secret
             || memcmp(value, secret, sizeof secret) != 0) {
             fprintf(stderr, "shamir_recover: another secret\n");
             exit(1);

@@ -61,9 +61,9 @@
 #define UNEVEN_GROUP_1 \
     "academic academic beard easy dragon mineral broken simple lips custody flame cylinder ending prune party scout beaver presence thank adapt"
 
-/* A slice that is handed in. */
+/* A slice that is handed in, of a text or of bytes. */
 typedef struct slice {
-    const uint8_t *bytes;
+    const void *bytes;
     size_t length;
 } slice;
 
@@ -226,7 +226,7 @@ static slice slice_of(const char *text)
     slice found = {NULL, 0};
 
     if (text != NULL) {
-        found.bytes = (const uint8_t *)text;
+        found.bytes = text;
         found.length = strlen(text);
     }
     return found;
@@ -260,7 +260,7 @@ static slice joined(const char *const *lines, char *kept)
 }
 
 /* The room with nothing in it, or NULL where a call is to get none of it. */
-static uint8_t *fresh(size_t bytes)
+static void *fresh(size_t bytes)
 {
     memset(room, UNTOUCHED, sizeof room);
     return bytes == 0 ? NULL : room;

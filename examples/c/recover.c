@@ -4,7 +4,8 @@
  *   cc -std=c89 -Iinclude examples/c/recover.c libshamir.a -o recover
  *   ./recover FILE [PASSPHRASE]
  *
- * It ends with status 1 where the library refuses the file, and with 2 where the file can't be read or the words are others.
+ * It ends with status 1 where the library refuses the file, with 2 where the file can't be read or the words are others, and
+ * with 3 where the secret can't be written.
  */
 #include <stdio.h>
 #include <string.h>
@@ -12,12 +13,17 @@
 #include "shamir.h"
 
 /* More lines than a backup has, of the longest. */
-static uint8_t lines[2 * SHAMIR_MNEMONICS_BYTES_MAX];
+static char lines[2 * SHAMIR_MNEMONICS_BYTES_MAX];
 static uint8_t secret[SHAMIR_SECRET_BYTES_MAX];
 
+/* The digits of the secret, and a line feed. */
+static char digits[2 * SHAMIR_SECRET_BYTES_MAX + 1];
+
 /* Clears memory; volatile keeps the compiler from leaving that out. */
-static void clear(volatile uint8_t *bytes, size_t count)
+static void clear(volatile void *memory, size_t count)
 {
+    volatile char *bytes = memory;
+
     while (count > 0) {
         bytes[--count] = 0;
     }
@@ -36,7 +42,8 @@ static int read_lines(const char *name, size_t *bytes)
     /* no buffer, which would keep a copy */
     setvbuf(file, NULL, _IONBF, 0);
     *bytes = fread(lines, 1, sizeof lines, file);
-    whole = !ferror(file) && feof(file);
+    /* one byte more, as a file of just so many ends only there */
+    whole = !ferror(file) && getc(file) == EOF && !ferror(file);
     if (!whole) {
         fprintf(stderr, "%s: it can't be read, or is too long\n", name);
     }
@@ -47,31 +54,46 @@ static int read_lines(const char *name, size_t *bytes)
 /* Prints a refusal as the command shamir does: its line where it has one, its number and its text. */
 static void print_refusal(const shamir_answer *answer)
 {
-    uint8_t text[SHAMIR_TEXT_BYTES_MAX];
+    char text[SHAMIR_TEXT_BYTES_MAX];
     size_t bytes = (size_t)shamir_text(answer, text, sizeof text).written;
 
     fprintf(stderr, "recover: ");
     if (answer->line != 0) {
         fprintf(stderr, "line %lu: ", (unsigned long)answer->line);
     }
-    fprintf(stderr, "%lu %.*s\n", (unsigned long)answer->code, (int)bytes, (const char *)text);
+    fprintf(stderr, "%lu %.*s\n", (unsigned long)answer->code, (int)bytes, text);
+}
+
+/* Prints so many bytes of the secret, and gives the status. */
+static int print_secret(size_t bytes)
+{
+    static const char hexadecimal[] = "0123456789abcdef";
+    size_t i;
+
+    for (i = 0; i < bytes; i++) {
+        digits[2 * i] = hexadecimal[secret[i] >> 4];
+        digits[2 * i + 1] = hexadecimal[secret[i] & 15];
+    }
+    digits[2 * bytes] = '\n';
+    /* no buffer here either */
+    setvbuf(stdout, NULL, _IONBF, 0);
+    if (fwrite(digits, 1, 2 * bytes + 1, stdout) != 2 * bytes + 1 || fflush(stdout) != 0) {
+        perror("recover: the secret can't be written");
+        return 3;
+    }
+    return 0;
 }
 
 /* Prints the secret of what was read, or why there is none, and gives the status. */
 static int recover(size_t bytes, const char *passphrase)
 {
-    shamir_answer answer = shamir_recover(lines, bytes, (const uint8_t *)passphrase, strlen(passphrase), secret, sizeof secret);
-    size_t i;
+    shamir_answer answer = shamir_recover(lines, bytes, passphrase, strlen(passphrase), secret, sizeof secret);
 
-    if (answer.code != 0) {
+    if (answer.code != SHAMIR_DONE) {
         print_refusal(&answer);
         return 1;
     }
-    for (i = 0; i < answer.written; i++) {
-        printf("%02x", secret[i]);
-    }
-    printf("\n");
-    return 0;
+    return print_secret((size_t)answer.written);
 }
 
 int main(int argc, char **argv)
@@ -86,5 +108,6 @@ int main(int argc, char **argv)
     }
     clear(lines, sizeof lines);
     clear(secret, sizeof secret);
+    clear(digits, sizeof digits);
     return status;
 }

@@ -2,33 +2,85 @@
 
 Each function hands its arguments to the library and what it answers back; no rule of the format stands here. The library
 is the file that the environment variable SHAMIR_LIBRARY names, or libshamir.so in this package's folder (`make lib`
-puts it there), or the system's libshamir.so. Calls share nothing, so they may run on any threads.
+puts it there), or the system's libshamir.so.1. Calls share nothing, so they may run on any threads; one takes at most
+256 kB of stack, which is more than a thread of a small `threading.stack_size` has.
 """
 from __future__ import annotations
 
+import array
 import ctypes
+import enum
+import mmap
 import operator
 import os
 import pathlib
 from dataclasses import dataclass, field
-from typing import Any, Callable, Iterable, Iterator, List, Optional, Tuple, Union
+from typing import Any, Callable, Iterable, Iterator, List, Optional, Tuple, Union, cast
 
-__all__ = ["Refusal", "Share", "create", "drill", "parse", "random_needed", "recover"]
+__all__ = ["Code", "Data", "Lines", "OF_GROUPS", "Outcome", "Refusal", "Share", "Text", "create", "drill", "parse", "random_needed", "recover"]
 
-Data = Union[bytes, bytearray, memoryview]
+__version__ = "1.0.0"
+
+# What lends bytes, as bytes does. Anything that memoryview takes works; these are the types that a checker knows.
+Data = Union[bytes, bytearray, memoryview, "array.array[Any]", mmap.mmap]
 Text = Union[str, Data]
+# A text of lines, or its lines, each of which may end with a line feed.
+Lines = Union[Text, Iterable[Text]]
 
 # Rooms that are long enough, as shamir.h names them.
 SECRET_BYTES_MAX = 128
 MNEMONICS_BYTES_MAX = 253440
 TEXT_BYTES_MAX = 64
 
+# In the place of a group: the digest of the group shares doesn't match.
+OF_GROUPS = 16
+
 DRILL_ROOM = 1 << 16
 LIMIT_MAX = (1 << 32) - 1
 MORE = b"more after "
 
 
+class Code(enum.IntEnum):
+    """The numbers of an answer, by the names that shamir.h gives them."""
+
+    DONE = 0
+    TOO_SHORT = 1
+    OUT_OF_RANGE = 2
+    UNKNOWN_WORD = 11
+    WORD_COUNT = 12
+    BAD_CHECKSUM = 13
+    BAD_PADDING = 14
+    GROUP_THRESHOLD = 15
+    OTHER_IDENTIFIER = 21
+    OTHER_EXTENDABLE = 22
+    OTHER_EXPONENT = 23
+    OTHER_GROUP_THRESHOLD = 24
+    OTHER_GROUP_COUNT = 25
+    OTHER_LENGTH = 26
+    OTHER_MEMBER_THRESHOLD = 27
+    CONFLICTING_SHARE = 28
+    NO_SHARES = 29
+    INCOMPLETE = 30
+    BAD_PLAN = 31
+    PLAN_GROUPS = 32
+    PLAN_MEMBERS = 33
+    ONE_OF_MANY = 34
+    PASSPHRASE = 41
+    SECRET_LENGTH = 42
+    RANDOM_LENGTH = 43
+    DIGEST_MISMATCH = 51
+    BAD_CURSOR = 61
+    NOT_A_QUORUM = 62
+    LINE_TOO_LONG = 71
+
+
 class _Answer(ctypes.Structure):
+    code: int
+    mismatches: int
+    line: int
+    first: int
+    second: int
+    written: int
     _fields_ = [
         ("code", ctypes.c_uint32),
         ("mismatches", ctypes.c_uint32),
@@ -54,11 +106,20 @@ class _Share(ctypes.Structure):
 
 _SLICE = [ctypes.c_char_p, ctypes.c_size_t]
 _ROOM = [ctypes.c_void_p, ctypes.c_size_t]
+_Call = Callable[[Any, int], Any]
 
 
 def _loaded() -> ctypes.CDLL:
     beside = pathlib.Path(__file__).parent / "libshamir.so"
-    library = ctypes.CDLL(os.environ.get("SHAMIR_LIBRARY") or (str(beside) if beside.exists() else "libshamir.so"))
+    name = os.environ.get("SHAMIR_LIBRARY") or (str(beside) if beside.exists() else "libshamir.so.1")
+    try:
+        return _declared(ctypes.CDLL(name))
+    except (OSError, AttributeError) as error:
+        raise ImportError(f"the library of this package isn't there, or is another one: {error}", name=__name__) from error
+
+
+def _declared(library: ctypes.CDLL) -> ctypes.CDLL:
+    """The library with the types of its calls."""
     for name, arguments in [
         ("shamir_parse", _SLICE + [ctypes.POINTER(_Share)] + _ROOM),
         ("shamir_random_needed", _SLICE + [ctypes.c_size_t]),
@@ -79,13 +140,13 @@ class Refusal(Exception):
     """What the library refuses: `code` is the number of the cause, `line` the line that is refused, counted from 1, or None,
     `details` two numbers whose meaning by code is a table in shamir.h, and `text` says it in words."""
 
-    def __init__(self, code: int, line: Optional[int], details: Tuple[int, int], text: str):
+    def __init__(self, code: Code, line: Optional[int], details: Tuple[int, int], text: str):
         super().__init__(code, line, details, text)
         self.code, self.line, self.details, self.text = code, line, details, text
 
     def __str__(self) -> str:
         place = f"line {self.line}: " if self.line else ""
-        return f"{place}{self.code} {self.text}"
+        return f"{place}{int(self.code)} {self.text}"
 
 
 @dataclass(frozen=True)
@@ -103,13 +164,23 @@ class Share:
     value: bytes = field(repr=False)
 
 
+@dataclass(frozen=True)
+class Outcome:
+    """What a drill finds of a quorum: its names, as `0.0+0.2+1.0`, and the secret that it recovers. Where a digest doesn't
+    match there is no secret, and `mismatch` is the lowest group of which it doesn't, or OF_GROUPS."""
+
+    names: str
+    secret: Optional[bytes] = field(repr=False)
+    mismatch: Optional[int] = None
+
+
 def _data(data: Data) -> bytes:
-    """The bytes of what lends bytes; TypeError of the rest, as of a number."""
-    return data if isinstance(data, bytes) else memoryview(data).tobytes()
+    """The bytes that are there, whatever a class of the caller's says of its length; TypeError of what lends none."""
+    return memoryview(data).tobytes()
 
 
 def _bytes(text: Text) -> bytes:
-    return text.encode() if isinstance(text, str) else _data(text)
+    return str.encode(text) if isinstance(text, str) else _data(text)
 
 
 def _slice(data: bytes) -> Tuple[bytes, int]:
@@ -124,39 +195,56 @@ def _number(number: int, kind: Any) -> int:
     return whole
 
 
+def _flag(flag: bool) -> int:
+    if not isinstance(flag, bool):
+        raise TypeError(f"a flag is True or False, and not of type {type(flag).__name__}")
+    return int(flag)
+
+
 def _checked(answer: _Answer) -> _Answer:
     if answer.code:
         room = ctypes.create_string_buffer(TEXT_BYTES_MAX)
         written = _library.shamir_text(ctypes.byref(answer), room, TEXT_BYTES_MAX).written
-        raise Refusal(answer.code, answer.line or None, (answer.first, answer.second), room.raw[:written].decode())
+        raise Refusal(Code(answer.code), answer.line or None, (answer.first, answer.second), room.raw[:written].decode())
     return answer
 
 
-def _filled(call: Callable[[Any, int], _Answer], room: int) -> bytes:
+def _filled(call: _Call, room: int) -> bytes:
     """What a call writes into a buffer of so many bytes."""
     buffer = ctypes.create_string_buffer(room)
     written = _checked(call(buffer, room)).written
     return ctypes.string_at(buffer, written)
 
 
-def _line(text: Text) -> bytes:
-    """A line of a list, which may have its line feed, as those of a file have."""
+def _line(number: int, text: Text) -> bytes:
+    """A line of a list, which may have its line feed, as those of a file have, and no other."""
     line = _bytes(text)
-    return line[:-1] if line.endswith(b"\n") else line
+    line = line[:-1] if line.endswith(b"\n") else line
+    if b"\n" in line:
+        raise ValueError(f"line {number} of the list holds a line feed, so it is several lines")
+    return line
 
 
-def _joined(lines: Union[Text, Iterable[Text]]) -> bytes:
-    if isinstance(lines, (str, bytes, bytearray, memoryview)):
-        return _bytes(lines)
-    return b"\n".join(map(_line, lines))
+def _lends(lines: Lines) -> bool:
+    try:
+        memoryview(lines)  # type: ignore[arg-type]
+    except TypeError:
+        return False
+    return True
+
+
+def _joined(lines: Lines) -> bytes:
+    if isinstance(lines, str) or _lends(lines):
+        return _bytes(cast(Text, lines))
+    return b"\n".join(_line(number, line) for number, line in enumerate(cast(Iterable[Text], lines), 1))
 
 
 def parse(mnemonic: Text) -> Share:
     """The share that a mnemonic spells: one line, without its line feed. Raises `Refusal` 11 to 15."""
     fields, line = _Share(), _bytes(mnemonic)
     value = _filled(lambda out, room: _library.shamir_parse(*_slice(line), ctypes.byref(fields), out, room), SECRET_BYTES_MAX)
-    header = {name: getattr(fields, name) for name, _ in _Share._fields_}
-    return Share(**{**header, "extendable": bool(fields.extendable)}, value=value)
+    header = {name: getattr(fields, name) for name, *_ in _Share._fields_}
+    return Share(**{**header, "extendable": bool(header["extendable"])}, value=value)
 
 
 def random_needed(plan: Text, secret_bytes: int) -> int:
@@ -165,7 +253,7 @@ def random_needed(plan: Text, secret_bytes: int) -> int:
 
 
 def create(
-    plan: Text, secret: Data, passphrase: Text = b"", exponent: int = 0, extendable: bool = False, random: Optional[Data] = None
+    plan: Text, secret: Data, *, passphrase: Text = b"", exponent: int = 0, extendable: bool = False, random: Optional[Data] = None
 ) -> List[str]:
     """The mnemonics of a new backup of a secret, by group and member.
 
@@ -173,9 +261,10 @@ def create(
     `random_needed` says, which nobody can guess and which are used once; where it is None they come from `os.urandom`.
     Raises `Refusal` 2, 31 to 34, or 41 to 43.
     """
-    text, key, whole, power = _bytes(plan), _bytes(passphrase), _data(secret), _number(exponent, ctypes.c_uint32)
+    text, key, whole = _bytes(plan), _bytes(passphrase), _data(secret)
+    options = _number(exponent, ctypes.c_uint32), _flag(extendable)
     drawn = _random_for(text, len(whole)) if random is None else _data(random)
-    given = _slice(text) + _slice(whole) + _slice(key) + (power, 1 if extendable else 0) + _slice(drawn)
+    given = _slice(text) + _slice(whole) + _slice(key) + options + _slice(drawn)
     return _filled(lambda out, room: _library.shamir_create(*given, out, room), MNEMONICS_BYTES_MAX).decode().splitlines()
 
 
@@ -185,32 +274,38 @@ def _random_for(plan: bytes, secret_bytes: int) -> bytes:
     return b"" if needed.code else os.urandom(needed.first)
 
 
-def recover(lines: Union[Text, Iterable[Text]], passphrase: Text = b"") -> bytes:
+def recover(lines: Lines, *, passphrase: Text = b"") -> bytes:
     """The secret of mnemonics, given as a text of lines or as a list of them: that of the least quorum among them.
 
-    A line of a list may have its line feed. A wrong passphrase isn't noticed: it gives another secret. Raises `Refusal`
-    11 to 30, 41, 51 or 71.
+    A line of a list may end with a line feed, and one that holds another is a ValueError. A wrong passphrase isn't noticed:
+    it gives another secret. Raises `Refusal` 11 to 30, 41, 51 or 71.
     """
     given = _slice(_joined(lines)) + _slice(_bytes(passphrase))
     return _filled(lambda out, room: _library.shamir_recover(*given, out, room), SECRET_BYTES_MAX)
 
 
-def drill(lines: Union[Text, Iterable[Text]], passphrase: Text = b"", after: Text = b"") -> Iterator[Tuple[str, str]]:
-    """Each quorum of mnemonics, in order, or those that come after a given one: pairs of its names, as `0.0+0.2+1.0`, and of
-    what it recovers, the secret in hexadecimal, or which digest doesn't match, as `digest mismatch in group 0` or
-    `digest mismatch of groups`.
+def drill(lines: Lines, *, passphrase: Text = b"", after: Optional[Text] = None) -> Iterator[Outcome]:
+    """Each quorum of mnemonics, in order, or those that come after the one that `after` names, with what it recovers.
 
-    They are computed in parts of so many as 64 kB hold. Nothing is looked at before the first `next`, which raises `Refusal`
-    11 to 30, 41, 61, 62 or 71; a digest that doesn't match is no refusal here.
+    They are computed in parts of so many as 64 kB of the library's lines hold. Nothing is looked at before the first `next`,
+    which raises `Refusal` 11 to 30, 41, 61, 62 or 71; a digest that doesn't match is no refusal here.
     """
-    data, key, cursor = _joined(lines), _slice(_bytes(passphrase)), _bytes(after)
+    data, key = _joined(lines), _slice(_bytes(passphrase))
+    # The library takes an empty text for the begin; it names no quorum, and neither does a sign alone.
+    cursor = b"" if after is None else _bytes(after) or b"+"
     while True:
         given = _slice(data) + key + _slice(cursor) + (LIMIT_MAX,)
         text = _filled(lambda out, room: _library.shamir_drill(*given, out, room), DRILL_ROOM)
         *listed, last = text.splitlines()
-        for line in listed:
-            names, outcome = line.decode().split(" ", 1)
-            yield names, outcome
+        yield from map(_outcome, listed)
         if not last.startswith(MORE):
             return
         cursor = last[len(MORE) :]
+
+
+def _outcome(line: bytes) -> Outcome:
+    """What a line of a drill says: names, and a secret's digits, or words of which the last is a group's number or `groups`."""
+    names, *found = line.decode().split(" ")
+    if len(found) == 1:
+        return Outcome(names, bytes.fromhex(found[0]))
+    return Outcome(names, None, OF_GROUPS if found[-1] == "groups" else int(found[-1]))

@@ -1,9 +1,13 @@
 """The worked examples, by the binding. Run with `python3 -m unittest discover -s bindings/python/tests`."""
 import array
 import ctypes
+import mmap
+import os
 import pathlib
 import re
+import subprocess
 import sys
+import threading
 import unittest
 from unittest import mock
 
@@ -36,7 +40,62 @@ MISMATCHED_GROUPS = [
 ]
 # With these random bytes 2of3 gives the two mnemonics TWO, and one between them.
 TWO_RANDOM = bytes.fromhex("64359164e7a006aadd75179d6d5c")
-HEADER = pathlib.Path(__file__).resolve().parents[3] / "include" / "shamir.h"
+ROOT = pathlib.Path(__file__).resolve().parents[3]
+HEADER = ROOT / "include" / "shamir.h"
+PACKAGE = pathlib.Path(shamir.__file__).resolve().parent
+
+
+class LongBytes(bytes):
+    """It says that it has 128 bytes, whatever it has."""
+
+    def __len__(self):
+        return 128
+
+    def __iter__(self):
+        return iter([0] * 128)
+
+    def __bytes__(self):
+        return b"other"
+
+
+class NoBytes(bytes):
+    def __len__(self):
+        return 0
+
+
+class LongArray(bytearray):
+    __len__, __iter__ = LongBytes.__len__, LongBytes.__iter__
+
+
+class LongNumbers(array.array):
+    __len__, __iter__ = LongBytes.__len__, LongBytes.__iter__
+
+
+class LongMap(mmap.mmap):
+    __len__ = LongBytes.__len__
+
+
+class OddText(str):
+    """It says that it is long, and that its encoding is something else."""
+
+    def __len__(self):
+        return 128
+
+    def encode(self, *_):
+        return LongBytes(b"other")
+
+
+def mapped(kind, data):
+    memory = kind(-1, len(data))
+    memory[:] = data
+    return memory
+
+
+def odd(data):
+    """The same bytes, lent by types whose length isn't theirs, and by some whose is."""
+    types = [LongBytes, NoBytes, LongArray, lambda it: LongNumbers("B", it), lambda it: mapped(LongMap, it)]
+    types += [bytes, bytearray, memoryview, lambda it: array.array("H", it), lambda it: mapped(mmap.mmap, it)]
+    return [kind(data) for kind in types + [lambda it: memoryview(it[::-1])[::-1]]]
 
 
 class WorkedExamples(unittest.TestCase):
@@ -58,22 +117,22 @@ class WorkedExamples(unittest.TestCase):
 
     def test_create(self):
         self.assertEqual(shamir.random_needed(PLAN, 16), 26)
-        self.assertEqual(shamir.create(PLAN, SECRET, "TREZOR", random=bytes(range(26))), FIVE)
-        self.assertEqual(shamir.create("1of1", SECRET, "TREZOR", random=b"\x1f\x09"), [ONE])
+        self.assertEqual(shamir.create(PLAN, SECRET, passphrase="TREZOR", random=bytes(range(26))), FIVE)
+        self.assertEqual(shamir.create("1of1", SECRET, passphrase="TREZOR", random=b"\x1f\x09"), [ONE])
         secret = bytes.fromhex("b43ceb7e57a0ea8766221624d01b0864")
-        self.assertEqual(shamir.create("2of3", secret, "TREZOR", exponent=2, random=TWO_RANDOM)[::2], TWO[::-1])
+        self.assertEqual(shamir.create("2of3", secret, passphrase="TREZOR", exponent=2, random=TWO_RANDOM)[::2], TWO[::-1])
         self.assertEqual(shamir.recover(shamir.create("10of16", bytes(range(128)))[6:]), bytes(range(128)))
         self.refused(43, None, (26, 0), shamir.create, PLAN, SECRET, random=b"")
         self.refused(42, None, (15, 0), shamir.create, PLAN, bytes(15), random=b"")
-        self.refused(41, None, (2, 0), shamir.create, PLAN, SECRET, "a\x07", random=b"")
+        self.refused(41, None, (2, 0), shamir.create, PLAN, SECRET, passphrase="a\x07", random=b"")
         self.refused(34, None, (1, 0), shamir.create, "2/2of2,1of2", SECRET)
         self.refused(31, None, (0, 0), shamir.random_needed, "1of1\xff", 16)
         self.refused(2, None, (0, 0), shamir.create, PLAN, SECRET, exponent=16, random=b"")
 
     def test_recover(self):
-        self.assertEqual(shamir.recover(ONE, "TREZOR"), SECRET)
-        self.assertEqual(shamir.recover(TWO, "TREZOR").hex(), "b43ceb7e57a0ea8766221624d01b0864")
-        self.assertEqual(shamir.recover(FIVE[3:], "TREZOR"), SECRET)
+        self.assertEqual(shamir.recover(ONE, passphrase="TREZOR"), SECRET)
+        self.assertEqual(shamir.recover(TWO, passphrase="TREZOR").hex(), "b43ceb7e57a0ea8766221624d01b0864")
+        self.assertEqual(shamir.recover(FIVE[3:], passphrase="TREZOR"), SECRET)
         self.refused(29, None, (0, 0), shamir.recover, "")
         self.refused(30, None, (0, 1), shamir.recover, TWO[:1])
         self.refused(21, 2, (0, 0), shamir.recover, [ONE, TWO[0]])
@@ -81,13 +140,13 @@ class WorkedExamples(unittest.TestCase):
 
     def test_drill(self):
         names = ["0.0+0.1+1.0", "0.0+0.1+2.0", "0.0+0.2+1.0", "0.0+0.2+2.0", "0.1+0.2+1.0", "0.1+0.2+2.0", "1.0+2.0"]
-        listed = [(it, SECRET.hex()) for it in names]
-        self.assertEqual(list(shamir.drill(FIVE, "TREZOR")), listed)
-        self.assertEqual(list(shamir.drill(FIVE[::-1], "TREZOR", after=names[4])), listed[5:])
-        self.assertEqual(list(shamir.drill(FIVE, "TREZOR", after=names[6])), [])
+        listed = [shamir.Outcome(it, SECRET) for it in names]
+        self.assertEqual(list(shamir.drill(FIVE, passphrase="TREZOR")), listed)
+        self.assertEqual(list(shamir.drill(FIVE[::-1], passphrase="TREZOR", after=names[4])), listed[5:])
+        self.assertEqual(list(shamir.drill(FIVE, passphrase="TREZOR", after=names[6])), [])
         for room in [68, 113, 200]:
             shamir.DRILL_ROOM, whole = room, shamir.DRILL_ROOM
-            self.assertEqual(list(shamir.drill(FIVE, "TREZOR")), listed)
+            self.assertEqual(list(shamir.drill(FIVE, passphrase="TREZOR")), listed)
             shamir.DRILL_ROOM = whole
         self.refused(62, None, (0, 0), list, shamir.drill(FIVE, after="0.1"))
         self.refused(61, None, (0, 0), list, shamir.drill(FIVE, after="0.1+"))
@@ -95,16 +154,16 @@ class WorkedExamples(unittest.TestCase):
     def test_mismatches(self):
         self.refused(51, None, (0, 0), shamir.recover, MISMATCHED)
         self.refused(51, None, (16, 0), shamir.recover, MISMATCHED_GROUPS)
-        self.assertEqual(list(shamir.drill(MISMATCHED)), [("0.0+0.1", "digest mismatch in group 0")])
-        self.assertEqual(list(shamir.drill(MISMATCHED_GROUPS)), [("0.0+1.0", "digest mismatch of groups")])
+        self.assertEqual(list(shamir.drill(MISMATCHED)), [shamir.Outcome("0.0+0.1", None, 0)])
+        self.assertEqual(list(shamir.drill(MISMATCHED_GROUPS)), [shamir.Outcome("0.0+1.0", None, shamir.OF_GROUPS)])
 
     def test_parts(self):
         """The drill in two parts, of which the first has room for four quorums and a half."""
-        whole = list(shamir.drill(FIVE, "TREZOR"))
+        whole = list(shamir.drill(FIVE, passphrase="TREZOR"))
         with mock.patch.object(shamir, "DRILL_ROOM", 4 * 45 + 30):
-            parts = shamir.drill(FIVE, "TREZOR")
+            parts = shamir.drill(FIVE, passphrase="TREZOR")
             first = [next(parts) for _ in range(4)]
-        self.assertEqual(first + list(shamir.drill(FIVE, "TREZOR", after=first[-1][0])), whole)
+        self.assertEqual(first + list(shamir.drill(FIVE, passphrase="TREZOR", after=first[-1].names)), whole)
 
     def test_short_slices(self):
         """A slice one byte too short is refused with what is needed, and nothing is written."""
@@ -127,9 +186,9 @@ class WorkedExamples(unittest.TestCase):
     def test_first_cause(self):
         """With random bytes of its own, create refuses what it refuses with given ones."""
         for random in (None, b""):
-            self.refused(41, None, (2, 0), shamir.create, "2of3", bytes(15), "a\x07", random=random)
+            self.refused(41, None, (2, 0), shamir.create, "2of3", bytes(15), passphrase="a\x07", random=random)
             self.refused(2, None, (0, 0), shamir.create, "1", SECRET, exponent=16, random=random)
-            self.refused(31, None, (0, 0), shamir.create, "1", b"", "a\x07", random=random)
+            self.refused(31, None, (0, 0), shamir.create, "1", b"", passphrase="a\x07", random=random)
             self.refused(42, None, (0, 0), shamir.create, "1of1", b"", random=random)
 
     def test_numbers(self):
@@ -144,23 +203,23 @@ class WorkedExamples(unittest.TestCase):
         self.refused(2, None, (0, 0), shamir.create, "1of1", SECRET, exponent=2**32 - 1)
         self.refused(42, None, (2**64 - 1, 0), shamir.random_needed, "1of1", 2**64 - 1)
         self.assertRaises(TypeError, shamir.create, "1of1", SECRET, exponent=1.0)
-        flags = [shamir.parse(shamir.create("1of1", SECRET, extendable=flag)[0]).extendable for flag in (False, True, 2**32)]
-        self.assertEqual(flags, [False, True, True])
+        flags = [shamir.parse(shamir.create("1of1", SECRET, extendable=flag)[0]).extendable for flag in (False, True)]
+        self.assertEqual(flags, [False, True])
 
     def test_types(self):
         """Texts are str or lend bytes, and secrets lend bytes; anything else is no input."""
         text = "\n".join(FIVE)
         ended = [line + "\n" for line in FIVE]
         for lines in [text, bytearray(text.encode()), memoryview(text.encode()), map(str.encode, FIVE), map(bytearray, map(str.encode, FIVE)), ended]:
-            self.assertEqual(shamir.recover(lines, bytearray(b"TREZOR")), SECRET)
+            self.assertEqual(shamir.recover(lines, passphrase=bytearray(b"TREZOR")), SECRET)
         self.refused(11, 2, (1, 0), shamir.recover, [ended[0], "x\n"])
         self.assertEqual(shamir.parse(memoryview(ONE.encode())), shamir.parse(ONE))
         lent = [bytearray(SECRET), memoryview(SECRET), array.array("B", SECRET)]
-        made = [shamir.create(PLAN, secret, "TREZOR", random=bytearray(range(26))) for secret in lent]
+        made = [shamir.create(PLAN, secret, passphrase="TREZOR", random=bytearray(range(26))) for secret in lent]
         self.assertEqual(made, [FIVE] * 3)
         for call in [
-            lambda: shamir.recover(FIVE, 6),
-            lambda: shamir.recover(FIVE, None),
+            lambda: shamir.recover(FIVE, passphrase=6),
+            lambda: shamir.recover(FIVE, passphrase=None),
             lambda: shamir.recover(6),
             lambda: shamir.recover([6]),
             lambda: shamir.parse(20),
@@ -168,9 +227,95 @@ class WorkedExamples(unittest.TestCase):
             lambda: shamir.create(PLAN, SECRET.hex()),
             lambda: shamir.create(PLAN, 16),
             lambda: shamir.create(PLAN, SECRET, random=26),
-            lambda: next(shamir.drill(FIVE, "TREZOR", 0)),
+            lambda: shamir.create(PLAN, list(SECRET)),
+            lambda: shamir.recover(SECRET[0]),
+            lambda: next(shamir.drill(FIVE, after=0)),
         ]:
             self.assertRaises(TypeError, call)
+
+    def test_held(self):
+        """What a buffer or a text really holds is taken, whatever its class says of it."""
+        given, key, plan = bytes(range(26)), b"TREZOR", PLAN.encode()
+        text = "\n".join(FIVE).encode()
+        text += b"\n" * (len(text) % 2)
+        for secret, passphrase, random in zip(odd(SECRET), odd(key), odd(given)):
+            self.assertEqual(shamir.create(PLAN, secret, passphrase=passphrase, random=random), FIVE)
+        for name in odd(plan) + [OddText(PLAN)]:
+            self.assertEqual(shamir.random_needed(name, 16), 26)
+        for line in odd(ONE.encode() + b" " * (len(ONE) % 2)) + [OddText(ONE)]:
+            self.assertEqual(shamir.parse(line), shamir.parse(ONE))
+            self.assertEqual(shamir.recover([line], passphrase=OddText("TREZOR")), SECRET)
+        for lines in odd(text) + [OddText(text.decode())]:
+            self.assertEqual(shamir.recover(lines, passphrase=b"TREZOR"), SECRET)
+            self.assertEqual(len(list(shamir.drill(lines, after=OddText("0.0+0.2+2.0")))), 3)
+        with self.assertRaisesRegex(shamir.Refusal, "^42 secret of 2 bytes$"):
+            shamir.create("1of1", LongBytes(bytes(2)), random=b"ab")
+
+    def test_options(self):
+        """Options have names, and a flag is a bool."""
+        for call in [
+            lambda: shamir.create("1of1", SECRET, "TREZOR"),
+            lambda: shamir.recover(FIVE, "TREZOR"),
+            lambda: shamir.drill(FIVE, "TREZOR"),
+            lambda: shamir.create("1of1", SECRET, extendable=1),
+            lambda: shamir.create("1of1", SECRET, extendable=None),
+            lambda: shamir.create("1of1", SECRET, extendable="no"),
+        ]:
+            self.assertRaises(TypeError, call)
+
+    def test_lines(self):
+        """A line of a list is one line, so that those behind it are counted right."""
+        self.assertEqual(shamir.recover(line for line in ["", "# a note\n", *FIVE, "\n"]), shamir.recover(FIVE))
+        self.refused(13, 3, (0, 0), shamir.recover, ["\n", "", ONE.replace("keyboard", "kidney") + "\n"])
+        for lines in [["\n".join(FIVE)], [ONE, b"a\nb\n"], ["\n\n"]]:
+            with self.assertRaisesRegex(ValueError, f"^line {len(lines)} of the list holds a line feed"):
+                shamir.recover(lines)
+
+    def test_outcome(self):
+        """An outcome has a secret or a mismatch, and isn't printed with the secret."""
+        [sound], [unsound] = shamir.drill(TWO, passphrase="TREZOR"), shamir.drill(MISMATCHED)
+        self.assertEqual((sound.names, len(sound.secret), sound.mismatch), ("0.0+0.2", 16, None))
+        self.assertEqual((unsound.names, unsound.secret, unsound.mismatch), ("0.0+0.1", None, 0))
+        self.assertEqual(repr(sound), "Outcome(names='0.0+0.2', mismatch=None)")
+
+    def test_after(self):
+        """An empty text names no quorum; None is the begin."""
+        self.assertEqual(len(list(shamir.drill(FIVE, after=None))), 7)
+        for empty in ["", b"", OddText()]:
+            self.refused(61, None, (0, 0), list, shamir.drill(FIVE, after=empty))
+
+    def test_threads(self):
+        """Calls run on threads at once, of a stack as docs/LIBRARY.md says."""
+        found = []
+        before = threading.stack_size(524288)
+        self.addCleanup(threading.stack_size, before)
+        threads = [threading.Thread(target=lambda: found.append(list(shamir.drill(FIVE, passphrase="TREZOR")))) for _ in range(3)]
+        for act in (threading.Thread.start, threading.Thread.join):
+            for thread in threads:
+                act(thread)
+        self.assertEqual(found, [[shamir.Outcome(it.names, SECRET) for it in found[0]]] * 3)
+
+    def test_code(self):
+        with self.assertRaises(shamir.Refusal) as raised:
+            shamir.parse("")
+        self.assertIs(raised.exception.code, shamir.Code.WORD_COUNT)
+        self.assertEqual(str(raised.exception), "12 0 words make no share")
+
+    @unittest.skipUnless(HEADER.exists(), "the header isn't here")
+    def test_codes(self):
+        found = dict(re.findall(r"^    SHAMIR_(\w+) = (\d+)\b", HEADER.read_text(), re.MULTILINE))
+        self.assertEqual({code.name: str(code.value) for code in shamir.Code}, found)
+
+    def test_no_library(self):
+        """Without its library, and with another one, the package says so as an ImportError."""
+        libc = pathlib.Path("/proc/self/maps").read_text()
+        libc = re.search(r"/\S*/libc\S*so\S*$", libc, re.MULTILINE)[0]
+        for name, told in [("/nowhere/libshamir.so", "/nowhere/libshamir.so: "), (libc, "shamir_parse")]:
+            done = subprocess.run(
+                [sys.executable, "-B", "-c", "import shamir"], cwd=PACKAGE.parent, env={**os.environ, "SHAMIR_LIBRARY": name}, capture_output=True, text=True
+            )
+            self.assertEqual(done.returncode, 1)
+            self.assertRegex(done.stderr.splitlines()[-1], "^ImportError: .*" + re.escape(told))
 
     def test_one_call(self):
         """Each backup is created by one call, however long it is, so that its key is derived once."""
