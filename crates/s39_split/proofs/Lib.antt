@@ -14,3 +14,4 @@ pub mod Pieces
 pub mod SplitLaws
 pub mod OneOutcome
 pub mod FittedPoints
+pub mod Completions

@@ -2,3 +2,4 @@ pub mod Shares
 pub mod Sharing
 pub mod Recovery
 pub mod Fitting
+pub mod Completion

@@ -2,6 +2,7 @@
 ghost use Rattle.std.specs.Prelude.{◌≡◌};
 ghost use Rattle.s39_split.specs.Sharing.{most_shares, digest_place, secret_place, digest_length, most_random_bytes};
 ghost use Rattle.s39_split.specs.Sharing.{SplitsTakeTheBytesNeeded, SharesAreAsLong, SharesAreBytes, HaveASplit, HaveOneSplit, FirstSharesAreASplit};
+ghost use Rattle.s39_split.specs.Completion.{AnyPointsComplete, PointsComplete, PointsCompleteOnce};
 ghost use Rattle.s39_split.specs.Recovery.{AnySharesCombine, SharesCombine, SharesCombineOnce, SecretsAreLikeTheirShares};
 
 use crate::places::{DIGEST_BYTES, DIGEST_PLACE, MAX_RANDOM_BYTES, MAX_SHARES, SECRET_PLACE};
@@ -57,4 +58,17 @@ pub fn shares_combine_once()
 /// The secret that shares combine to is as long as they are, and consists of bytes where they do.
 pub fn secrets_are_like_their_shares()
     ensures { SecretsAreLikeTheirShares }
+{}
+
+/// Any `threshold` points of a split, of its shares and its secret, complete to each of its shares, in any order, and to
+/// nothing else.
+pub fn any_points_complete()
+    ensures { AnyPointsComplete }
+{}
+
+/// One or more points of bytes at different places and of one length, as many as the threshold, complete to an outcome,
+/// and points at different places to at most one.
+pub fn points_complete()
+    ensures some { PointsComplete }
+    ensures one { PointsCompleteOnce }
 {}

@@ -10,6 +10,7 @@ ghost use Rattle.s39_split.specs.Shares.{indexed_bytes, AreDistinct, HaveOneLeng
 
 use crate::digest::digest_of;
 use crate::interpolation::interpolate;
+use crate::laws::any_shares_combine;
 use crate::places::{DIGEST_BYTES, DIGEST_PLACE, SECRET_PLACE};
 use crate::sharing::copied;
 use s39_kdf::Bytes;
@@ -53,11 +54,32 @@ pub fn combine(t: u8, shares: &[(u8, &Bytes)]) -> Result<Bytes, DigestMismatch>
     ensures length { (n : ℕ) → All (λ share. length share.1 ≡ n) (indexed_bytes shares.now)
         → IfOk result (λ secret. array_vec_len secret ≡ n) }
 {
+    any_shares_combine();
+    combine_points(t, shares)
+}
+
+/// What points combine to, each a share with its index or the secret with its place, as many as the threshold `t`.
+pub(crate) fn combine_points(t: u8, points: &[(u8, &Bytes)]) -> Result<Bytes, DigestMismatch>
+    requires positive { 1 ≤ t }
+    requires few { t ≤ most_shares }
+    requires number { length points.now ≡ t }
+    requires distinct { AreDistinct (indexed_bytes points.now) }
+    requires places { All (λ point. point.0 < 256) (indexed_bytes points.now) }
+    requires one_length { HaveOneLength (indexed_bytes points.now) }
+    requires long { All (λ point. shortest_secret ≤ length point.1) (indexed_bytes points.now) }
+    ensures secret { IfOk result
+        (λ secret. Combines t (indexed_bytes points.now) (Some secret.items)) }
+    ensures refused { OnErr result (Combines t (indexed_bytes points.now) None) }
+    ensures only { (outcome : Option (List ℕ)) → Combines t (indexed_bytes points.now) outcome
+        → outcome ≡ option_map (λ secret. secret.items) (result_ok result) }
+    ensures length { (n : ℕ) → All (λ point. length point.1 ≡ n) (indexed_bytes points.now)
+        → IfOk result (λ secret. array_vec_len secret ≡ n) }
+{
     if t == 1 {
-        return Ok(copied(shares[0].1));
+        return Ok(copied(points[0].1));
     }
-    let secret = interpolate(shares, SECRET_PLACE);
-    let digest_share = interpolate(shares, DIGEST_PLACE);
+    let secret = interpolate(points, SECRET_PLACE);
+    let digest_share = interpolate(points, DIGEST_PLACE);
     let (digest, key) = digest_share.split_at(DIGEST_BYTES);
     if digest == &digest_of(key, &secret)[..] {
         Ok(secret)

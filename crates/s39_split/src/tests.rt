@@ -45,6 +45,28 @@ fn another_digest(rt: HostRuntime) {
     assert_eq!(rt; refusal.map(|refusal| refusal.code()), Some(51));
 }
 
+/// The share value of member 1 of the same split, as a plain program in Python computes it from the other two.
+const MEMBER_1: [u8; 16] = *b"\x01\x83\x66\xda\xb9\x58\xa5\x55\xf8\x32\x02\xe2\x16\x0e\xfa\x68";
+
+/// What the split is of, the encrypted secret, as that program computes it.
+const SPLIT: [u8; 16] = *b"\xcd\xc0\x17\xfd\xdc\x82\x9e\x79\x1b\x13\x71\x78\x0b\xe0\x60\x5a";
+
+// From two members, from one and the secret, and from members of which one isn't of the split.
+#[test]
+fn completed_shares(rt: HostRuntime) {
+    let member_0 = Bytes::try_from(MEMBER_0.as_slice()).unwrap();
+    let member_1 = Bytes::try_from(MEMBER_1.as_slice()).unwrap();
+    let member_2 = Bytes::try_from(MEMBER_2.as_slice()).unwrap();
+    let secret = Bytes::try_from(SPLIT.as_slice()).unwrap();
+    let shown = complete(2, &[(0, &member_0), (2, &member_2)], 1).expect(&rt, "they combine");
+    assert_eq!(rt; shown.as_slice(), MEMBER_1.as_slice());
+    let shown = complete(2, &[(255, &secret), (0, &member_0)], 2).expect(&rt, "they combine");
+    assert_eq!(rt; shown.as_slice(), MEMBER_2.as_slice());
+    let shown = complete(1, &[(255, &secret)], 9).expect(&rt, "one is enough");
+    assert_eq!(rt; shown.as_slice(), SPLIT.as_slice());
+    assert!(rt; complete(2, &[(0, &member_1), (2, &member_2)], 1).is_err());
+}
+
 #[test]
 fn random_bytes(rt: HostRuntime) {
     assert_eq!(rt; random_needed(1, 16), 0);

@@ -1,0 +1,48 @@
+-- The share at another index of the split to which points belong (SLIP-0039, "Shamir's secret sharing"), and its laws.
+use Rattle.std.specs.Prelude.{◌≡◌, ◌⊎◌, ℕ, ◌<◌, ◌≤◌, List, Option, Some, None, length, All}
+use Rattle.std.specs.List.{slice_get}
+use Rattle.s39_field.specs.Interpolation.{InterpolatesBytes}
+use Rattle.s39_kdf.specs.Bytes.{AreBytes}
+use Rattle.s39_split.specs.Shares.{AreDistinct, HaveOneLength}
+use Rattle.s39_split.specs.Sharing.{secret_place, IsSplit}
+use Rattle.s39_split.specs.Recovery.{Combines}
+
+-- Points, each a share with its index or the secret with its place, as many as the threshold, complete to this share at
+-- an index: they combine, and interpolate it there. Where they don't combine they are refused, which is None.
+abbrev pub Completes : ℕ → List (ℕ × List ℕ) → ℕ → Option (List ℕ) → Type 0
+Completes threshold points index None = Combines threshold points None
+Completes threshold points index (Some share) =
+    ((secret : List ℕ) × Combines threshold points (Some secret)) × InterpolatesBytes points index share
+
+-- some of a split's shares, each with its index, and its secret with its place, or not, in any order
+pub record ArePointsOf (secret : List ℕ) (shares : List (List ℕ)) (chosen : List (ℕ × List ℕ)) : Type 0 where
+  pub distinct : AreDistinct chosen
+  pub belong : All (λ point. (slice_get shares point.0 ≡ Some point.1) ⊎ ((point.0 ≡ secret_place) × (point.1 ≡ secret))) chosen
+
+-- any threshold many points of a split, of bytes, complete to each of its shares at its index, and to nothing else
+abbrev pub AnyPointsComplete : Type 0
+AnyPointsComplete =
+    (threshold count : ℕ) (secret random : List ℕ) (shares : List (List ℕ)) (chosen : List (ℕ × List ℕ)) (index : ℕ) (share : List ℕ)
+    → All (λ point. AreBytes point.1) chosen
+    → IsSplit threshold count secret random shares
+    → ArePointsOf secret shares chosen → length chosen ≡ threshold
+    → slice_get shares index ≡ Some share
+    → Completes threshold chosen index (Some share)
+    × ((outcome : Option (List ℕ)) → Completes threshold chosen index outcome → outcome ≡ Some share)
+
+-- points at distinct places complete to at most one outcome at an index
+abbrev pub PointsCompleteOnce : Type 0
+PointsCompleteOnce = (threshold : ℕ) (points : List (ℕ × List ℕ)) (index : ℕ) (outcome other : Option (List ℕ))
+    → 0 < length points → All (λ point. point.0 < 256) points → AreDistinct points
+    → Completes threshold points index outcome → Completes threshold points index other → outcome ≡ other
+
+-- one or more points at distinct places, of bytes and of one length, as many as the threshold, complete to an outcome
+abbrev pub PointsComplete : Type 0
+PointsComplete = (threshold : ℕ) (points : List (ℕ × List ℕ)) (index : ℕ)
+    → 1 ≤ threshold
+    → length points ≡ threshold
+    → All (λ point. point.0 < 256) points
+    → All (λ point. AreBytes point.1) points
+    → HaveOneLength points
+    → AreDistinct points
+    → (outcome : Option (List ℕ)) × Completes threshold points index outcome
