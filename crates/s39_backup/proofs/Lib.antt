@@ -22,3 +22,4 @@ pub mod Chosen
 pub mod HeldGroups
 pub mod SameShares
 pub mod AfterFirst
+pub mod RefittedBack
