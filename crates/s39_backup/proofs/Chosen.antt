@@ -1,17 +1,18 @@
 -- The shares by which a level is refitted: those that are kept, and the lowest others.
-use Rattle.std.proofs.Common.{◌≡◌, ◌≢◌, ℕ, ◌+◌, ◌<◌, ◌≤◌, List, [], ◌∷◌, ◌++◌, length, get_or, take, map, All, AllPairs, Contains, Some, sym}
-use Rattle.std.proofs.Common.{ap, subst, ◌∙◌}
+use Rattle.std.proofs.Common.{◌≡◌, ◌≢◌, ℕ, ◌+◌, ◌-◌, ◌<◌, ◌≤◌, List, [], ◌∷◌, ◌++◌, length, get_or, take, map, All, AllPairs, Contains, Some, sym}
+use Rattle.std.proofs.Common.{refl, ap, subst, ◌∙◌}
 use Rattle.std.proofs.Common.{inl, inr, arith}
 use Rattle.std.specs.List.{slice_get}
 use Rattle.std.proofs.lemmas.Bool.{cases_lt}
 use Rattle.std.proofs.lemmas.List.{length-append, take_more, take_all, get_or_default, get_or-take, length-take-le}
-use Rattle.std.proofs.lemmas.List.Elements.{All-push, All-map, All-contains, Contains-push, Contains-append_left}
+use Rattle.std.proofs.lemmas.List.Elements.{All-nil, All-push, All-map, All-contains, Contains-push, Contains-push_cases, Contains-append_left, Contains-get_or}
 use Rattle.std.proofs.lemmas.List.Quantifiers.{all_pairs_push}
 use Rattle.std.proofs.lemmas.Option.{slice_get-get_or}
 use Rattle.s39_split.specs.Shares.{AreDistinct}
 use Rattle.s39_split.proofs.Lists.{All-from_map}
 use Rattle.s39_set.proofs.AtHand.{AllPairs-map}
-use Rattle.s39_backup.specs.Refitting.{AreSameAt}
+use Rattle.s39_set.proofs.Sublists.{AllPairs-nil, Contains-nil}
+use Rattle.s39_backup.specs.Refitting.{AreSameAt, StayTheSame}
 
 -- Of the indices below one, these were taken: all that are kept, and others, of which so many are left to take.
 pub record AreChosen (kept : List ℕ) (number index next others : ℕ) (indices : List ℕ) : Type 0 where
@@ -23,6 +24,27 @@ pub record AreChosen (kept : List ℕ) (number index next others : ℕ) (indices
   pub counted : length indices + others + length kept ≡ number + next
   pub full : 0 < others → length indices ≡ index
   pub short : length indices ≤ index
+  pub lowest : (i j : ℕ) → i < j → Contains indices j → ¬ Contains kept j → Contains indices i
+  pub filled : 0 < others → (i : ℕ) → i < index → Contains indices i
+
+-- none at first
+chosen-nothing : (kept : List ℕ) (number left : ℕ) → left + length kept ≡ number → AreChosen kept number 0 0 left []
+chosen-nothing kept number left few = record {
+  placed = omega arith;
+  before = All-nil (Contains []);
+  later = λ j d from inside. omega arith;
+  ascending = AllPairs-nil (λ a b. a < b);
+  below = All-nil (λ i. i < 0);
+  counted = omega arith;
+  full = λ some. refl;
+  short = omega arith;
+  lowest = λ i j less among other. absurd (Contains-nil j among);
+  filled = λ some i below. absurd (omega arith);
+}
+
+pub chosen-none : (kept : List ℕ) (number left : ℕ) (indices : List ℕ) → left + length kept ≡ number → indices ≡ []
+    → AreChosen kept number 0 0 left indices
+chosen-none kept number left indices few none = subst (AreChosen kept number 0 0 left) (sym none) (chosen-nothing kept number left few)
 
 module _ (kept : List ℕ) (sorted : AllPairs (λ a b. a < b) kept) (number index next others : ℕ) (indices : List ℕ)
     (so_far : AreChosen kept number index next others indices) where
@@ -35,6 +57,27 @@ module _ (kept : List ℕ) (sorted : AllPairs (λ a b. a < b) kept) (number inde
 
   length_more : length (indices ++ index ∷ []) ≡ length indices + 1
   length_more = length-append indices (index ∷ [])
+
+  earlier : (i : ℕ) → Contains indices i → Contains (indices ++ index ∷ []) i
+  earlier i among = Contains-append_left indices (index ∷ []) i among
+
+  filled_more : 0 < others → (i : ℕ) → i < index + 1 → Contains (indices ++ index ∷ []) i
+  filled_more some i below = elim (cases_lt i index) [
+    | inl less ↦ earlier i (so_far.filled some i less)
+    | inr last ↦
+        let here : index ≡ i = omega arith in
+        subst (Contains (indices ++ index ∷ [])) here (Contains-push indices index)
+  ]
+
+  -- where an index is added that is kept, or before which all were taken
+  lowest_more : (¬ Contains kept index → (i : ℕ) → i < index → Contains indices i)
+      → (i j : ℕ) → i < j → Contains (indices ++ index ∷ []) j → ¬ Contains kept j → Contains (indices ++ index ∷ []) i
+  lowest_more all_before i j less among other = elim (Contains-push_cases indices index j among) [
+    | inl old ↦ earlier i (so_far.lowest i j less old other)
+    | inr new ↦
+        let before : i < index = omega (arith, new) in
+        earlier i (all_before (subst (λ (k : ℕ). ¬ Contains kept k) (sym new) other) i before)
+  ]
 
   -- one that is kept
   pub chosen-kept : next < length kept → get_or kept next 0 ≡ index → AreChosen kept number (index + 1) (next + 1) others (indices ++ index ∷ [])
@@ -52,6 +95,8 @@ module _ (kept : List ℕ) (sorted : AllPairs (λ a b. a < b) kept) (number inde
     counted = let c = so_far.counted in omega (arith, length_more);
     full = λ some. let f = so_far.full some in omega (arith, length_more);
     short = let s = so_far.short in omega (arith, length_more);
+    lowest = lowest_more (λ other. absurd (other (subst (Contains kept) here (Contains-get_or kept next 0 within))));
+    filled = filled_more;
   }
 
   module _ (other : next < length kept → get_or kept next 0 ≢ index) where
@@ -78,6 +123,8 @@ module _ (kept : List ℕ) (sorted : AllPairs (λ a b. a < b) kept) (number inde
       counted = let c = so_far.counted in omega (arith, length_more);
       full = λ more. let f = so_far.full (omega arith) in omega (arith, length_more);
       short = let s = so_far.short in omega (arith, length_more);
+      lowest = lowest_more (λ _. so_far.filled (omega arith));
+      filled = λ more. filled_more (omega arith);
     }
 
     -- one that isn't taken
@@ -91,6 +138,8 @@ module _ (kept : List ℕ) (sorted : AllPairs (λ a b. a < b) kept) (number inde
       counted = so_far.counted;
       full = λ some. absurd (omega arith);
       short = let s = so_far.short in omega arith;
+      lowest = so_far.lowest;
+      filled = λ some. absurd (omega arith);
     }
 
   module _ (count : ℕ) (inside : All (λ i. i < count) kept) (end : index ≡ count) where
@@ -141,3 +190,25 @@ same_in_first shares fitted others kept count below same long first k d within =
     ∙ ap Some (sym (get_or-take count fitted index [] less))
     ∙ sym (slice_get-get_or (take count fitted) index [] (omega arith))
     ∙ ap (λ xs. slice_get xs index) first
+
+-- where no share is kept and one is enough
+pub none_stay : (threshold : ℕ) (secret kept random : List ℕ) (shares others : List (List ℕ)) → threshold ≤ 1 → length kept ≤ threshold - 2
+    → StayTheSame threshold secret kept random random shares others
+none_stay threshold secret kept random shares others one few = record {
+  indices = [];
+  staying = record {
+    ascending = AllPairs-nil (λ a b. a < b);
+    number = omega arith;
+    among = λ k d within. absurd (omega arith);
+    lowest = λ i j less among other. absurd (Contains-nil j among);
+  };
+  below = All-nil (λ i. i < length shares);
+  same = All-nil (λ i. slice_get shares i ≡ slice_get others i);
+  key = refl;
+}
+
+-- the shares that are kept are the same
+pub kept_stay : {threshold : ℕ} {secret kept random fitted : List ℕ} {shares others : List (List ℕ)}
+    → StayTheSame threshold secret kept random fitted shares others → AreSameAt kept shares others
+kept_stay {kept = kept} {shares = shares} {others = others} stay k d within =
+    All-contains (λ i. slice_get shares i ≡ slice_get others i) stay.indices (get_or kept k d) stay.same (stay.staying.among k d within)

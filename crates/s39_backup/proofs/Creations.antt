@@ -27,7 +27,7 @@ pub record AreSameParts {X : Type 0} (front other back rest : List X) : Type 0 w
   pub front_is : front ≡ other
   pub back_is : back ≡ rest
 
-same_front : {X : Type 0} (front other back rest : List X) → front ++ back ≡ other ++ rest → length front ≡ length other → AreSameParts front other back rest
+pub same_front : {X : Type 0} (front other back rest : List X) → front ++ back ≡ other ++ rest → length front ≡ length other → AreSameParts front other back rest
 same_front front other back rest whole as_long = record {
   front_is = sym (take-append_seam front back) ∙ ap₂ take as_long whole ∙ take-append_seam other rest;
   back_is = sym (drop-append_seam front back) ∙ ap₂ drop as_long whole ∙ drop-append_seam other rest;

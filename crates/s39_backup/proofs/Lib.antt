@@ -23,3 +23,4 @@ pub mod HeldGroups
 pub mod SameShares
 pub mod AfterFirst
 pub mod WholeBackups
+pub mod RefittedBack

@@ -95,6 +95,7 @@ refitted-none names group = record {
   split = tt;
   refitted = tt;
   same = tt;
+  each = tt;
 }
 
 pub refitted-empty : (names : List (ℕ × ℕ)) (group : ℕ) (groups : List Members) (shares others : List (List ℕ)) (random : List ℕ) → length groups ≡ 0
@@ -121,6 +122,7 @@ refitted-cons names group members groups share other shares others piece fitted 
   split = (one.split, more.split);
   refitted = (one.refitted, more.refitted);
   same = (one.same, more.same);
+  each = (one, more.each);
 }
 
 -- a group and those after it are all groups from it on

@@ -1,11 +1,14 @@
--- Backups of two secrets that have some shares in common. No public contract cites this.
-use Rattle.std.specs.Prelude.{◌≡◌, ℕ, ◌+◌, ◌-◌, ◌<◌, ◌≤◌, List, [], ◌∷◌, length, slice_index_or, All, AllPairs, true}
+-- Random bytes of backups of two secrets that have some shares in common.
+use Rattle.std.specs.Prelude.{◌≡◌, ℕ, ◌+◌, ◌-◌, ◌<◌, ◌≤◌, List, [], ◌∷◌, ◌++◌, length, map, take, slice_index_or, All, AllPairs, Contains, true, false}
 use Rattle.std.specs.List.{concat, slice_get}
-use Rattle.s39_split.specs.Sharing.{IsSplit}
+use Rattle.s39_kdf.specs.declared.params.Params.{Params}
+use Rattle.s39_kdf.specs.Cipher.{IsEncryption}
+use Rattle.s39_split.specs.Sharing.{digest_length, IsSplit}
 use Rattle.s39_set.specs.Names.{names_in_group}
 use Rattle.s39_backup.specs.declared.plan.Members.{Members}
-use Rattle.s39_backup.specs.Created.{AreSplitAmong}
-use Rattle.s39_backup.specs.TwoShort.{is_held}
+use Rattle.s39_backup.specs.declared.options.Options.{Options}
+use Rattle.s39_backup.specs.Created.{AreCreatedParams, AreSplitAmong}
+use Rattle.s39_backup.specs.TwoShort.{is_held, held_groups}
 
 -- indices of shares in order, at least two fewer than a threshold, or none
 pub record AreKept (threshold count : ℕ) (kept : List ℕ) : Type 0 where
@@ -17,12 +20,28 @@ pub record AreKept (threshold count : ℕ) (kept : List ℕ) : Type 0 where
 abbrev pub AreSameAt : List ℕ → List (List ℕ) → List (List ℕ) → Type 0
 AreSameAt kept shares others = All (λ index. slice_get shares index ≡ slice_get others index) kept
 
--- splits of two secrets, each with its random bytes, that have the shares with these indices in common
+-- Indices of shares of a level, as many as its threshold less two, none where that is 1: those that are kept, and the
+-- lowest others.
+pub record AreStaying (threshold : ℕ) (kept indices : List ℕ) : Type 0 where
+  pub ascending : AllPairs (λ a b. a < b) indices
+  pub number : length indices ≡ threshold - 2
+  pub among : All (Contains indices) kept
+  pub lowest : (i j : ℕ) → i < j → Contains indices j → ¬ Contains kept j → Contains indices i
+
+-- The random bytes of two splits begin with the same key of the digest, and the staying shares are the same.
+pub record StayTheSame (threshold : ℕ) (secret kept random fitted : List ℕ) (shares others : List (List ℕ)) : Type 0 where
+  pub indices : List ℕ
+  pub staying : AreStaying threshold kept indices
+  pub below : All (λ index. index < length shares) indices
+  pub same : AreSameAt indices shares others
+  pub key : take (length secret - digest_length) random ≡ take (length secret - digest_length) fitted
+
+-- splits of two secrets, each with its random bytes, of which the key of the digest and the staying shares are the same
 pub record AreLevels (threshold count : ℕ) (secret other : List ℕ) (kept : List ℕ) (random fitted : List ℕ)
     (shares others : List (List ℕ)) : Type 0 where
   pub split : IsSplit threshold count secret random shares
   pub refitted : IsSplit threshold count other fitted others
-  pub same : AreSameAt kept shares others
+  pub stay : StayTheSame threshold secret kept random fitted shares others
 
 -- of each group from this one on, the shares with these names are the same
 abbrev pub AreSameAmong : List (ℕ × ℕ) → ℕ → List (List (List ℕ)) → List (List (List ℕ)) → Type 0
@@ -43,7 +62,8 @@ HeldAreSame names group groups shares others = (i : ℕ) (d : Members) → i < l
     → is_held names (group + i, slice_index_or groups i d) ≡ true
     → slice_get shares i ≡ slice_get others i
 
--- splits of a group's share in two backups, each with its random bytes, that have the shares with these names in common
+-- Splits of a group's share in two backups, each with its random bytes, that have the shares with these names in common.
+-- Where the group is held, the random bytes are the same, and else the key of the digest and the staying shares.
 pub record IsRefittedGroup (names : List (ℕ × ℕ)) (group : ℕ) (members : Members) (share other : List ℕ)
     (random fitted : List ℕ) : Type 0 where
   pub values : List (List ℕ)
@@ -51,8 +71,18 @@ pub record IsRefittedGroup (names : List (ℕ × ℕ)) (group : ℕ) (members : 
   pub split : IsSplit members.threshold members.count share random values
   pub refitted : IsSplit members.threshold members.count other fitted others
   pub same : All (λ name. slice_get values name.1 ≡ slice_get others name.1) (names_in_group group names)
+  pub held : is_held names (group, members) ≡ true → fitted ≡ random
+  pub stay : is_held names (group, members) ≡ false
+      → StayTheSame members.threshold share (map (λ name. name.1) (names_in_group group names)) random fitted values others
 
--- the same of each group from this one on
+-- each group from this one on, with its share in two backups and its random bytes in them
+abbrev pub EachIsRefitted : List (ℕ × ℕ) → ℕ → List Members → (shares others pieces fitted : List (List ℕ)) → Type 0
+EachIsRefitted names group [] [] [] [] [] = Unit {0}
+EachIsRefitted names group (members ∷ groups) (share ∷ shares) (other ∷ others) (piece ∷ pieces) (fitted ∷ more) =
+    IsRefittedGroup names group members share other piece fitted × EachIsRefitted names (group + 1) groups shares others pieces more
+EachIsRefitted names group _ _ _ _ _ = ⊥
+
+-- the same of all of them
 pub record AreRefittedGroups (names : List (ℕ × ℕ)) (group : ℕ) (groups : List Members) (shares others : List (List ℕ))
     (random fitted : List ℕ) : Type 0 where
   pub pieces : List (List ℕ)
@@ -64,3 +94,30 @@ pub record AreRefittedGroups (names : List (ℕ × ℕ)) (group : ℕ) (groups :
   pub split : AreSplitAmong groups shares pieces values
   pub refitted : AreSplitAmong groups others fitted_pieces other_values
   pub same : AreSameAmong names group values other_values
+  pub each : EachIsRefitted names group groups shares others pieces fitted_pieces
+
+-- Random bytes of the creation of a backup of one secret, and those of another secret of its length, with the same
+-- passphrase, plan and options. The bytes of the identifier are the same, and at each level the key of the digest and as
+-- many shares as its threshold less two: those that the names keep, which are the held groups and the names' members, and
+-- the lowest others. Of a held group all random bytes are the same.
+pub record IsRefitting (names : List (ℕ × ℕ)) (group_threshold : ℕ) (groups : List Members) (options : Options)
+    (passphrase secret other random fitted : List ℕ) : Type 0 where
+  pub high : ℕ
+  pub low : ℕ
+  pub group_piece : List ℕ
+  pub fitted_piece : List ℕ
+  pub rest : List ℕ
+  pub fitted_rest : List ℕ
+  pub params : Params
+  pub encrypted : List ℕ
+  pub other_encrypted : List ℕ
+  pub group_shares : List (List ℕ)
+  pub other_shares : List (List ℕ)
+  pub consumed : random ≡ high ∷ low ∷ group_piece ++ rest
+  pub fitted_consumed : fitted ≡ high ∷ low ∷ fitted_piece ++ fitted_rest
+  pub params_are : AreCreatedParams options high low params
+  pub encryption : IsEncryption secret passphrase params encrypted
+  pub other_encryption : IsEncryption other passphrase params other_encrypted
+  pub levels : AreLevels group_threshold (length groups) encrypted other_encrypted (held_groups names groups)
+      group_piece fitted_piece group_shares other_shares
+  pub refitted : AreRefittedGroups names 0 groups group_shares other_shares rest fitted_rest

@@ -9,6 +9,7 @@ ghost use Rattle.s39_backup.specs.declared.options.Options.{Options};
 ghost use Rattle.s39_backup.specs.declared.plan_error.PlanError.{PlanError};
 ghost use Rattle.s39_backup.specs.Plan.{IsPlan, IsPlanReading};
 ghost use Rattle.s39_backup.specs.Created.{IsCreatedFrom, IsCreation, AreOfBackup, identifier_length, random_needed, most_random};
+ghost use Rattle.s39_backup.specs.Refitting.{IsRefitting};
 ghost use Rattle.s39_words.specs.declared.ShareFields.{ShareFields};
 ghost use Rattle.s39_words.specs.Share.{IsShare};
 ghost use Rattle.s39_set.specs.ShareSet.{IsShareSet, name_of, refusal_of};
@@ -82,6 +83,22 @@ pub fn created_shares_are_shares()
         → All IsShare shares }
 {
     shares_of_a_split();
+    encryption_keeps_length_and_bytes();
+}
+
+/// Random bytes that are refitted to another secret of one length, and then back with the same names, are what they were.
+pub fn refitted_back()
+    ensures { (names : List (ℕ × ℕ)) (group_threshold : ℕ) (groups : List Members)
+        (options : Options) (passphrase secret other random fitted back : List ℕ)
+        → IsSecretLength (length secret) → length other ≡ length secret
+        → IsRefitting names group_threshold groups options passphrase secret other random fitted
+        → IsRefitting names group_threshold groups options passphrase other secret fitted back
+        → back ≡ random }
+{
+    needed_random_bytes();
+    shares_of_a_split();
+    one_split();
+    one_encryption();
     encryption_keeps_length_and_bytes();
 }
 

@@ -12,7 +12,7 @@ ghost use Rattle.s39_backup.specs.Plan.{IsGroup};
 ghost use Rattle.s39_backup.specs.Created.{IsCreatedFrom, random_needed};
 ghost use Rattle.s39_backup.specs.Building.{ShareOneLength};
 ghost use Rattle.s39_backup.specs.TwoShort.{is_held, IsTwoShort, HaveTheShare};
-ghost use Rattle.s39_backup.specs.Refitting.{AreKept, AreSameAt, AreLevels, AreNamesOfGroups, HeldAreSame, IsRefittedGroup, AreRefittedGroups};
+ghost use Rattle.s39_backup.specs.Refitting.{AreKept, StayTheSame, AreLevels, AreNamesOfGroups, HeldAreSame, IsRefittedGroup, AreRefittedGroups, IsRefitting};
 
 use crate::creation::{ID_BYTES, params_from};
 use crate::laws::one_created_backup;
@@ -50,6 +50,8 @@ pub fn refit(
     ensures two_short { IsTrue result
         ↔ IsTwoShort plan.now.group_threshold plan.now.groups.items keep.now }
     ensures unchanged { result ≡ false → random.new ≡ random.old }
+    ensures stays { IsTrue result → IsRefitting keep.now plan.now.group_threshold
+        plan.now.groups.items options passphrase.now secret.now other.now random.old random.new }
     ensures refits { IsTrue result → (shares : List ShareFields)
         → IsCreatedFrom secret.now passphrase.now plan.now.group_threshold
         plan.now.groups.items options random.old shares
@@ -92,7 +94,9 @@ fn refit_backup(
         ≡ random_needed plan.now.group_threshold plan.now.groups.items (array_vec_len secret.now) }
     requires names { AreNames names.now }
     requires two_short { IsTwoShort plan.now.group_threshold plan.now.groups.items names.now }
-    ensures { (shares others : List ShareFields)
+    ensures stays { IsRefitting names.now plan.now.group_threshold plan.now.groups.items options
+        passphrase.now secret.now.items other.now.items random.old random.new }
+    ensures created { (shares others : List ShareFields)
         × IsCreatedFrom secret.now.items passphrase.now plan.now.group_threshold
         plan.now.groups.items options random.old shares
         × IsCreatedFrom other.now.items passphrase.now plan.now.group_threshold
@@ -253,7 +257,7 @@ fn fit_level(t: u8, shares: &[Bytes], secret: &Bytes, kept: &[u8], random: &mut 
     requires random { length random.old ≡ level_random_needed t (array_vec_len secret.now) }
     requires kept { AreKept t (length shares.now) kept.now }
     ensures { (fitted : List (List ℕ)) × IsSplit t most_shares secret.now.items random.new fitted
-        × AreSameAt kept.now (bytes_of shares.now) fitted }
+        × StayTheSame t secret.now.items kept.now random.old random.new (bytes_of shares.now) fitted }
 {
     let indices = with_lowest(kept, t - 2, shares.len() as u8);
     let known = lend(shares, indices.as_slice());
@@ -273,6 +277,8 @@ fn with_lowest(kept: &[u8], number: u8, count: u8) -> Indices
     ensures below { All (λ index. index < count) result.items }
     ensures number { length result.items ≡ number }
     ensures kept { All (Contains result.items) kept.now }
+    ensures lowest { (i j : ℕ) → i < j → Contains result.items j → ¬ Contains kept.now j
+        → Contains result.items i }
 {
     let mut indices = Indices::new();
     let mut next = 0;

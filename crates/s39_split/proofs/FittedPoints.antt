@@ -13,6 +13,7 @@ use Rattle.s39_field.specs.Theory.Strings.{strings_have_one_value}
 use Rattle.s39_kdf.specs.Bytes.{AreBytes}
 use Rattle.s39_split.specs.Shares.{AreDistinct}
 use Rattle.s39_split.specs.Sharing.{most_shares, digest_place, secret_place, digest_length, digest_share, base_points, IsSplit}
+use Rattle.s39_split.specs.Recovery.{AreSharesOf}
 use Rattle.s39_split.specs.Fitting.{Fits}
 use Rattle.s39_split.proofs.Lists.{concat-push}
 use Rattle.s39_split.proofs.Pieces.{length-concat}
@@ -150,6 +151,55 @@ module _ (threshold : ℕ) (secret key : List ℕ) (known : List (ℕ × List �
   some_points : 0 < length (fitting_points secret key known)
   some_points = omega (arith, length-points, are.several)
 
+  -- bytes by which a split has the known shares are of such strings
+  are_fitted : (count : ℕ) (random rest : List ℕ) (shares : List (List ℕ)) → random ≡ key ++ rest → IsSplit threshold count secret random shares
+      → AreSharesOf shares known → AreFitted (fitting_points secret key known) key (threshold - 2) random
+  are_fitted count random rest shares begins split among =
+      let m = length secret - digest_length in
+      let base = split_base threshold count secret random shares are.several split in
+      let b = base.1 in
+      let keys : base.0 ≡ key =
+      sym (take_at base.0 (concat (take (threshold - 2) shares)) m b.key_length) ∙ ap (take m) (sym b.consumed ∙ begins)
+      ∙ take_at key rest m (omega (arith, are.key_length)) in
+      let by_base : (x : ℕ) (y : List ℕ) → InterpolatesBytes (base_of threshold base.0 secret shares) x y
+      → InterpolatesBytes (fitting_points secret key known) x y =
+      λ x y h.
+      interpolates_by_others (base_of threshold base.0 secret shares) b.distinct b.places (fitting_points secret key known) x y
+      (length-points ∙ sym b.number)
+      (fitting_points-all secret key known (λ s. InterpolatesBytes (base_of threshold base.0 secret shares) s.0 s.1)
+      (λ k d within. b.share_interpolated (get_or known k d).0 (get_or known k d).1 (among.belong k d within))
+      (subst (λ k. InterpolatesBytes (base_of threshold base.0 secret shares) digest_place (digest_share k secret)) keys b.digest_interpolated)
+      b.secret_interpolated) h in
+      record {
+        strings = take (threshold - 2) shares;
+        number = b.random_number;
+        each = λ j d low.
+            let at : get_or (take (threshold - 2) shares) j d ≡ get_or shares j d = get_or-take (threshold - 2) shares j d low in
+            let in_shares : j < length shares = let enough = split.enough in omega (arith, split.number) in
+            subst (InterpolatesBytes (fitting_points secret key known) j) (sym at)
+            (by_base j (get_or shares j d) (b.share_interpolated j (get_or shares j d) (slice_get-get_or shares j d in_shares)));
+        begins = b.consumed ∙ ap (λ k. k ++ concat (take (threshold - 2) shares)) keys;
+      }
+
+  -- of which there are no others
+  fitted_once : (random other : List ℕ) → AreFitted (fitting_points secret key known) key (threshold - 2) random
+      → AreFitted (fitting_points secret key known) key (threshold - 2) other → random ≡ other
+  fitted_once random other f g =
+      let same : f.strings ≡ g.strings =
+      same_lists f.strings g.strings (f.number ∙ sym g.number)
+      (λ j d within.
+      let low : j < threshold - 2 = omega (arith, f.number) in
+      strings_have_one_value (fitting_points secret key known) j (get_or f.strings j d) (get_or g.strings j d)
+      some_points points_places points_distinct (f.each j d low) (g.each j d low)) in
+      f.begins ∙ ap (λ ss. key ++ concat ss) same ∙ sym g.begins
+
+  -- two splits of the secret that have the key and the known shares in common have all random bytes in common
+  pub one_split_by_known : (count : ℕ) (random other rest more : List ℕ) (shares others : List (List ℕ)) → random ≡ key ++ rest → other ≡ key ++ more
+      → IsSplit threshold count secret random shares → IsSplit threshold count secret other others
+      → AreSharesOf shares known → AreSharesOf others known → random ≡ other
+  one_split_by_known count random other rest more shares others begins also split another among in_others =
+      fitted_once random other (are_fitted count random rest shares begins split among) (are_fitted count other more others also another in_others)
+
   module _ (bytes : All (λ s. AreBytes s.1) (fitting_points secret key known)) where
     abbrev are_points : ArePoints (length secret) (fitting_points secret key known)
     are_points = record {
@@ -228,30 +278,4 @@ module _ (threshold : ℕ) (secret key : List ℕ) (known : List (ℕ × List �
 
       -- and no other bytes do
       pub fits_only : (other : List ℕ) → Fits threshold secret key known other → other ≡ random
-      fits_only other f =
-          let m = length secret - digest_length in
-          let base = split_base threshold most_shares secret other f.shares are.several f.split in
-          let b = base.1 in
-          let keys : base.0 ≡ key =
-          sym (take_at base.0 (concat (take (threshold - 2) f.shares)) m b.key_length) ∙ ap (take m) (sym b.consumed ∙ f.begins)
-          ∙ take_at key f.rest m (omega (arith, are.key_length)) in
-          let by_base : (x : ℕ) (y : List ℕ) → InterpolatesBytes (base_of threshold base.0 secret f.shares) x y
-          → InterpolatesBytes (fitting_points secret key known) x y =
-          λ x y h.
-          interpolates_by_others (base_of threshold base.0 secret f.shares) b.distinct b.places (fitting_points secret key known) x y
-          (length-points ∙ sym b.number)
-          (fitting_points-all secret key known (λ s. InterpolatesBytes (base_of threshold base.0 secret f.shares) s.0 s.1)
-          (λ k d within. b.share_interpolated (get_or known k d).0 (get_or known k d).1 (f.known_among.belong k d within))
-          (subst (λ k. InterpolatesBytes (base_of threshold base.0 secret f.shares) digest_place (digest_share k secret)) keys b.digest_interpolated)
-          b.secret_interpolated) h in
-          let same : take (threshold - 2) f.shares ≡ fitted.strings =
-          same_lists (take (threshold - 2) f.shares) fitted.strings (b.random_number ∙ sym fitted.number)
-          (λ j d within.
-          let low : j < threshold - 2 = omega (arith, b.random_number) in
-          let at : get_or (take (threshold - 2) f.shares) j d ≡ get_or f.shares j d = get_or-take (threshold - 2) f.shares j d low in
-          let in_shares : j < length f.shares = omega (arith, f.split.number, are.few) in
-          at ∙ strings_have_one_value (fitting_points secret key known) j (get_or f.shares j d) (get_or fitted.strings j d)
-          some_points points_places points_distinct
-          (by_base j (get_or f.shares j d) (b.share_interpolated j (get_or f.shares j d) (slice_get-get_or f.shares j d in_shares)))
-          (fitted.each j d low)) in
-          b.consumed ∙ ap₂ (λ k ss. k ++ concat ss) keys same ∙ sym fitted.begins
+      fits_only other f = fitted_once other random (are_fitted most_shares other f.rest f.shares f.begins f.split f.known_among) fitted

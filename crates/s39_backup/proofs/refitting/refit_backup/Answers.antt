@@ -9,7 +9,8 @@ use Rattle.s39_set.specs.Names.{names_in_group}
 use Rattle.s39_set.proofs.MembersOf.{names_in_group-group}
 use Rattle.s39_backup.specs.Created.{AreSplitAmong, created_groups}
 use Rattle.s39_backup.specs.TwoShort.{held_groups, IsNameOfPlan}
-use Rattle.s39_backup.specs.Refitting.{AreKept, AreSameAt}
+use Rattle.s39_backup.specs.Refitting.{AreKept, AreSameAt, AreLevels, AreRefittedGroups}
+use Rattle.s39_backup.proofs.Chosen.{kept_stay}
 use Rattle.s39_backup.proofs.Creating.{two_bytes}
 use Rattle.s39_backup.proofs.HeldGroups.{held-ascending, held-below, held-among, member-below, has_members}
 use Rattle.s39_backup.proofs.SameShares.{have_share}
@@ -53,11 +54,11 @@ refit_groups-requires-clause-held c i d within is =
     let held : c.as_slice.result.now ≡ held_groups names view = c.as_slice.ensures.value ∙ c.held_groups-held.ensures in
     let here : 0 + i ≡ i = omega arith in
     let same = All-contains (λ j. slice_get shares j ≡ slice_get others j) (held_groups names view) (0 + i)
-    (subst (λ kept. AreSameAt kept shares others) held c.refit_level.ensures.levels.same) (held-among names view i d within is) in
+    (subst (λ kept. AreSameAt kept shares others) held (kept_stay c.refit_level.ensures.levels.stay)) (held-among names view i d within is) in
     ap (slice_get shares) (sym here) ∙ same ∙ ap (slice_get others) here
 
-pub returns : goal.returns
-returns c =
+pub returns-clause-created : goal.returns-clause-created
+returns-clause-created c =
     let names = c.args.names.now in
     let threshold = c.args.plan.now.group_threshold in
     let groups = c.args.plan.now.groups.items in
@@ -120,3 +121,47 @@ returns c =
           have_share params threshold (length groups) names groups shares others built.pieces built.fitted_pieces built.values built.other_values
           0 name.0 name of.members split refitted built.same (Contains-get_or names k d within) (omega arith) of.at of.below,
     )
+
+pub returns-clause-stays : goal.returns-clause-stays
+returns-clause-stays c =
+    let names = c.args.names.now in
+    let threshold = c.args.plan.now.group_threshold in
+    let groups = c.args.plan.now.groups.items in
+    let view = c.as_slice-groups.result.now in
+    let id = c.split_at_mut-id.result.0.now in
+    let piece = c.split_at_mut-piece.result.0.now in
+    let rest = c.split_at_mut-piece.result.1.now in
+    let fitted = c.refit_level.new.random in
+    let fitted_rest = c.refit_groups.new.random in
+    let encrypted = c.encrypt-encrypted.result.items in
+    let other = c.encrypt-other_encrypted.result.items in
+    let shares = bytes_of c.refit_level.new.shares in
+    let others = bytes_of c.refit_level.new.others in
+    let number : length view ≡ length groups = ap length c.as_slice-groups.ensures.value in
+    let long = c.default-shares.ensures.long in
+    let count : length (take (length view) c.default-shares.result) ≡ length groups =
+    length-take-le (length view) c.default-shares.result (omega arith) ∙ number in
+    let held : c.as_slice.result.now ≡ held_groups names groups =
+    c.as_slice.ensures.value ∙ c.held_groups-held.ensures ∙ ap (held_groups names) c.as_slice-groups.ensures.value in
+    let two = two_bytes id c.split_at_mut-id.ensures.front_len in
+    record {
+      high = get_or id 0 0;
+      low = get_or id 1 0;
+      group_piece = piece;
+      fitted_piece = fitted;
+      rest = rest;
+      fitted_rest = fitted_rest;
+      params = c.params_from-params.result;
+      encrypted = encrypted;
+      other_encrypted = other;
+      group_shares = shares;
+      other_shares = others;
+      consumed = c.split_at_mut-id.ensures.value ∙ ap₂ (λ xs ys. xs ++ ys) two c.split_at_mut-piece.ensures.value;
+      fitted_consumed = ap (λ xs. xs ++ (fitted ++ fitted_rest)) two;
+      params_are = c.params_from-params.ensures;
+      encryption = c.encrypt-encrypted.ensures.value;
+      other_encryption = c.encrypt-other_encrypted.ensures.value;
+      levels = subst (λ kept. AreLevels threshold (length groups) encrypted other kept piece fitted shares others) held
+          (subst (λ n. AreLevels threshold n encrypted other c.as_slice.result.now piece fitted shares others) count c.refit_level.ensures.levels);
+      refitted = subst (λ gs. AreRefittedGroups names 0 gs shares others rest fitted_rest) c.as_slice-groups.ensures.value c.refit_groups.ensures;
+    }

@@ -1,4 +1,4 @@
-use Rattle.std.proofs.Common.{◌≡◌, ◌-◌, ◌<◌, length, map, take, refl, sym, subst, ◌∙◌, arith}
+use Rattle.std.proofs.Common.{◌≡◌, ◌-◌, ◌<◌, true, false, length, map, take, refl, sym, subst, ◌∙◌, arith}
 use Rattle.std.proofs.lemmas.List.{length-map, length-take-le, get_or_default}
 use Rattle.std.proofs.lemmas.List.Elements.{All-map}
 use Rattle.std.specs.List.{slice_get}
@@ -7,7 +7,8 @@ use Rattle.s39_split.specs.Shares.{bytes_of}
 use Rattle.s39_split.specs.Sharing.{IsSplit}
 use Rattle.s39_split.proofs.Lists.{All-from_map}
 use Rattle.s39_set.specs.Names.{names_in_group}
-use Rattle.s39_backup.specs.Refitting.{AreKept, AreSameAt}
+use Rattle.s39_backup.specs.Refitting.{AreKept, AreSameAt, StayTheSame}
+use Rattle.s39_backup.proofs.Chosen.{kept_stay}
 use Rattle.s39_backup.proofs.HeldGroups.{members-ascending, not_less}
 use Rattle.s39_backup.proofs.refitting.refit_group.Goals as goal
 
@@ -31,6 +32,8 @@ returns-then-is_held c =
       split = split;
       refitted = subst (λ s. IsSplit members.threshold members.count s random values) same split;
       same = λ k d within. refl;
+      held = λ _. refl;
+      stay = λ other. absurd (let is : true ≡ false = sym c.if-is_held.true ∙ c.is_held.ensures ∙ other in cc);
     }
 
 pub refit_level-requires-clause-kept : goal.refit_level-requires-clause-kept
@@ -68,5 +71,8 @@ returns c =
       split = subst (λ n. IsSplit members.threshold n c.args.share.now.items c.args.random.now values) count levels.split;
       refitted = subst (λ n. IsSplit members.threshold n c.args.other.now.items c.refit_level.new.random others) count levels.refitted;
       same = All-from_map (λ i. slice_get values i ≡ slice_get others i) (λ name. name.1) names
-          (subst (λ kept. AreSameAt kept values others) is levels.same);
+          (subst (λ kept. AreSameAt kept values others) is (kept_stay levels.stay));
+      held = λ other. absurd (let is : true ≡ false = sym other ∙ sym c.is_held.ensures ∙ c.if-is_held.false in cc);
+      stay = λ _. subst (λ kept. StayTheSame members.threshold c.args.share.now.items kept c.args.random.now c.refit_level.new.random values others)
+          is levels.stay;
     }

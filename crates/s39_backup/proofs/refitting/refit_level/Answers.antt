@@ -1,7 +1,8 @@
-use Rattle.std.proofs.Common.{length, take, subst, arith}
+use Rattle.std.proofs.Common.{◌≡◌, ◌-◌, ◌<◌, length, take, All, sym, ap, subst, ◌∙◌, arith}
 use Rattle.s39_split.specs.Shares.{bytes_of}
-use Rattle.s39_split.specs.Sharing.{most_shares, IsSplit}
-use Rattle.s39_backup.proofs.Chosen.{same_in_first}
+use Rattle.s39_split.specs.Sharing.{most_shares, digest_length, IsSplit}
+use Rattle.s39_backup.specs.Refitting.{StayTheSame}
+use Rattle.s39_backup.proofs.Chosen.{same_in_first, none_stay}
 use Rattle.s39_backup.proofs.refitting.refit_level.Goals as goal
 use Rattle.s39_backup.proofs.refitting.refit_level.Goals.{then-t-gt1, else-t-gt1}
 
@@ -16,15 +17,28 @@ returns-clause-levels c =
     record {
       split = c.split.ensures.shares;
       refitted = refitted;
-      same = elim c.if-t-gt1.branch [
+      stay = elim c.if-t-gt1.branch [
         | then-t-gt1 w ↦ (
-            let (fitted, split, same) = w.fit_level.ensures in
+            let (fitted, split, stay) = w.fit_level.ensures in
             let number = split.number in
             let random = w.fit_level.new.random in
             let first = c.first_shares.ensures t most_shares count other random fitted split c.requires.enough c.requires.few in
-            same_in_first (bytes_of c.split.new.out) fitted others c.args.kept.now count c.requires.kept.below same (let few = c.requires.few in omega arith)
-            (c.one_split.ensures.one t count other random (take count fitted) others first
-            (subst (λ xs. IsSplit t count other xs others) w.random-is refitted)))
-        | else-t-gt1 w ↦ λ k d within. absurd (let one = w.if-t-gt1.false in let few = c.requires.kept.few in omega arith)
+            let shares = bytes_of c.split.new.out in
+            let long : length shares ≡ count = c.split.ensures.shares.number in
+            let below : All (λ i. i < count) stay.indices = λ k d within. let less = stay.below k d within in omega (arith, long) in
+            record {
+              indices = stay.indices;
+              staying = stay.staying;
+              below = stay.below;
+              same = same_in_first shares fitted others stay.indices count below stay.same (let few = c.requires.few in omega arith)
+                  (c.one_split.ensures.one t count other random (take count fitted) others first
+                  (subst (λ xs. IsSplit t count other xs others) w.random-is refitted));
+              key = ap (λ n. take (n - digest_length) c.args.random.now) (sym c.requires.one_length) ∙ stay.key
+                  ∙ ap (λ n. take (n - digest_length) random) c.requires.one_length
+                  ∙ ap (take (length c.args.secret.now.items - digest_length)) (sym w.random-is);
+            })
+        | else-t-gt1 w ↦
+            subst (λ xs. StayTheSame t c.args.secret.now.items c.args.kept.now c.args.random.now xs (bytes_of c.split.new.out) others) (sym w.random-is)
+            (none_stay t c.args.secret.now.items c.args.kept.now c.args.random.now (bytes_of c.split.new.out) others w.if-t-gt1.false c.requires.kept.few)
       ];
     }

@@ -1,8 +1,13 @@
 use Rattle.std.proofs.Common.{◌≡◌, ◌≢◌, ◌<◌, [], ◌∷◌, ◌++◌, length, get_or, ap, ◌∙◌, arith}
-use Rattle.s39_backup.proofs.Chosen.{chosen-kept, chosen-other, chosen-without, chosen-kept_all}
+use Rattle.s39_backup.proofs.Chosen.{chosen-none, chosen-kept, chosen-other, chosen-without, chosen-kept_all}
 use Rattle.s39_backup.proofs.refitting.with_lowest.Goals as goal
 use Rattle.s39_backup.proofs.refitting.with_lowest.Goals.{then-next-kept+then-kept-next, else-next-kept+then-others-gt0, else-next-kept+else-others-gt0}
 use Rattle.s39_backup.proofs.refitting.with_lowest.Goals.{else-next-kept-via-then-next-kept+else-kept-next, else-next-kept-via-else-next-kept}
+
+pub loop-index-init : goal.loop-index-init
+loop-index-init c =
+    let few = c.requires.few in
+    chosen-none c.args.kept.now c.args.number _ c.new-indices.result.items (omega (arith, c.from.ensures)) c.new-indices.ensures
 
 pub loop-index-preserved : goal.loop-index-preserved
 loop-index-preserved c =
