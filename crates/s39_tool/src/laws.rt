@@ -2,7 +2,7 @@
 ghost use Rattle.std.specs.Prelude.{◌≡◌, ℕ, List, Result, Ok, Err, IfOk, ◌+◌, ◌++◌, length, suc, Option, Some};
 ghost use Rattle.s39_words.specs.declared.ShareFields.{ShareFields};
 ghost use Rattle.s39_set.specs.ShareSet.{IsShareSet};
-ghost use Rattle.s39_kdf.specs.Limits.{IsFirstUnprintable, IsPrintable, IsSecretLength};
+ghost use Rattle.s39_kdf.specs.Limits.{IsFirstUnprintable, IsSecretLength};
 ghost use Rattle.s39_kdf.specs.declared.limits.BadPassphrase.{BadPassphrase};
 ghost use Rattle.s39_kdf.specs.declared.limits.BadSecretLength.{BadSecretLength};
 ghost use Rattle.s39_tool.specs.Device.{Counted};
