@@ -8,3 +8,4 @@ pub mod OneRecover
 pub mod SomeRecover
 pub mod Creating
 pub mod OneCreate
+pub mod OnePut

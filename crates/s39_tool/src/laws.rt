@@ -20,7 +20,7 @@ ghost use Rattle.s39_tool.specs.declared.drill.Done.{Done};
 ghost use Rattle.s39_tool.specs.Drill.{DrillLaws, IsDrill, IsDrillOutput, ListsSecret, ListsSecretOrCause, DrillsCreated};
 ghost use Rattle.s39_tool.specs.declared.listing.Listing.{Listing};
 ghost use Rattle.s39_tool.specs.declared.memory.Unwritten.{Unwritten};
-ghost use Rattle.s39_tool.specs.Fitting.{Lists};
+ghost use Rattle.s39_tool.specs.Fitting.{Lists, Puts};
 ghost use Rattle.s39_tool.specs.OfBackup.{HoldsMnemonicsOf, IsSecretOrLack, RecoversCreated};
 ghost use Rattle.s39_backup.specs.Created.{AreOfBackup, most_random};
 
@@ -364,4 +364,15 @@ pub fn one_create_output()
     created_shares_are_shares();
     one_printed_form();
     every_share_has_a_printed_form();
+}
+
+/// What is put into a slice of what `create` writes is one thing: one slice, and one answer.
+pub fn one_text_in_a_slice()
+    ensures { (asked : Asked) (input : Input) (old new other : List ℕ)
+        (answer another : Result ℕ Unwritten)
+        → Puts (IsCreateOutput asked input) old new answer
+        → Puts (IsCreateOutput asked input) old other another
+        → (new ≡ other) × (answer ≡ another) }
+{
+    one_create_output();
 }
