@@ -9,3 +9,4 @@ pub mod SomeRecover
 pub mod Creating
 pub mod OneCreate
 pub mod Causes
+pub mod OnePut

@@ -13,6 +13,7 @@ mod listing;
 mod memory;
 mod output;
 mod recover;
+mod round_trips;
 mod show;
 mod slices;
 

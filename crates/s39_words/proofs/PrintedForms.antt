@@ -4,7 +4,7 @@ use Rattle.std.specs.Prelude.{All}
 use Rattle.std.specs.List.{join_with_byte}
 use Rattle.std.proofs.lemmas.List.{length-append}
 use Rattle.std.proofs.lemmas.List.Elements.{All-nil, All-cons, All-head, All-tail, All-append, All-weaker}
-use Rattle.s39_words.specs.Layout.{most_words, longest_text}
+use Rattle.s39_words.specs.Layout.{longest_text}
 use Rattle.s39_words.specs.declared.share.ShareFields.{ShareFields}
 use Rattle.s39_words.specs.Printing.{IsPrinted}
 use Rattle.s39_words.specs.Reading.{IsWordCount}

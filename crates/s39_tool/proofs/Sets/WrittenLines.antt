@@ -1,5 +1,5 @@
 -- What `create` writes holds the mnemonics of its backup.
-use Rattle.std.proofs.Common.{◌≡◌, ◌⊎◌, ℕ, ◌≤◌, false, List, [], ◌∷◌, ◌++◌, length, append_assoc, inl, inr, refl, ap, ◌∙◌, subst, arith}
+use Rattle.std.proofs.Common.{◌≡◌, ◌⊎◌, ℕ, ◌≤◌, false, List, [], ◌∷◌, ◌++◌, length, append_assoc, inl, inr, refl, ap, ◌∙◌, arith}
 use Rattle.std.proofs.Common.{All, Contains, Some, None, Ok}
 use Rattle.std.specs.List.{AllZip, flat_map}
 use Rattle.std.proofs.lemmas.Bool.Decides.{nat_tests}
@@ -91,7 +91,7 @@ module _ (first : (share : ShareFields) (text : List ℕ) → IsPrinted text sha
           ended = refl;
           lines =
               All-weaker (λ line. Holds line None ⊎ Contains (lines_of (whole text)) line) (HoldsNothingOrOneOf shares)
-                  (λ line one. selected_holds shares text line (text_holds shares text printed) one) (lines_of (whole bytes)) each;
+              (λ line one. selected_holds shares text line (text_holds shares text printed) one) (lines_of (whole bytes)) each;
         }
 
     -- so do all of them

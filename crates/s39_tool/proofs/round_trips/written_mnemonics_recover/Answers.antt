@@ -1,6 +1,6 @@
 use Rattle.s39_tool.specs.Input.{whole}
 use Rattle.s39_tool.proofs.Sets.WholeTexts.{whole_text_meets, recovers_whole}
-use Rattle.s39_tool.proofs.laws.written_mnemonics_recover.Goals as goal
+use Rattle.s39_tool.proofs.round_trips.written_mnemonics_recover.Goals as goal
 
 pub returns-clause-all_lines : goal.returns-clause-all_lines
 returns-clause-all_lines c = λ asked random text plan created.

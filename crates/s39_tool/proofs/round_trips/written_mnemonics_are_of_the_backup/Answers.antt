@@ -1,5 +1,5 @@
 use Rattle.s39_tool.proofs.Sets.WrittenLines.{some_lines_hold, all_lines_hold}
-use Rattle.s39_tool.proofs.laws.written_mnemonics_are_of_the_backup.Goals as goal
+use Rattle.s39_tool.proofs.round_trips.written_mnemonics_are_of_the_backup.Goals as goal
 
 pub returns-clause-all_lines : goal.returns-clause-all_lines
 returns-clause-all_lines c = all_lines_hold c.printed_forms.ensures.first c.printed_forms.ensures.letters c.printed_forms.ensures.short

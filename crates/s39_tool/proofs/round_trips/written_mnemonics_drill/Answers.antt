@@ -1,7 +1,7 @@
 use Rattle.std.proofs.Common.{None}
 use Rattle.s39_tool.specs.Input.{whole}
 use Rattle.s39_tool.proofs.Sets.WholeTexts.{whole_text_meets, lists_whole}
-use Rattle.s39_tool.proofs.laws.written_mnemonics_drill.Goals as goal
+use Rattle.s39_tool.proofs.round_trips.written_mnemonics_drill.Goals as goal
 
 pub returns-clause-all_lines : goal.returns-clause-all_lines
 returns-clause-all_lines c = λ asked random text limit output answer plan created drills.

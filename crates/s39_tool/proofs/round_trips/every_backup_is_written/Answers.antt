@@ -1,6 +1,6 @@
 use Rattle.std.proofs.Common.{refl}
 use Rattle.s39_tool.proofs.Runs.Creating.{printed_all}
-use Rattle.s39_tool.proofs.laws.every_backup_is_written.Goals as goal
+use Rattle.s39_tool.proofs.round_trips.every_backup_is_written.Goals as goal
 
 pub returns : goal.returns
 returns c = λ asked random plan printable secret_length secret_bytes random_bytes enough.
