@@ -1,12 +1,12 @@
 -- What calls give of the same things, and of what was in memory, is one answer and one memory.
-use Rattle.std.proofs.Common.{◌≡◌, ◌≢◌, ℕ, ◌<◌, ◌≤◌, ◌^◌, Bool, true, false, List, [], ◌∷◌, ◌++◌, length, drop, length-append, refl, sym, ap, ap₂, subst, ◌∙◌, inl, inr, arith}
+use Rattle.std.proofs.Common.{◌≡◌, ◌≢◌, ℕ, ◌<◌, ◌^◌, Bool, true, List, [], ◌∷◌, ◌++◌, length, drop, length-append, refl, sym, ap, ap₂, subst, ◌∙◌, inl, inr, arith}
 use Rattle.std.proofs.Common.{Option, Some, None, Result, Ok, Err}
 use Rattle.std.proofs.Math.Bridge.{le_prop}
 use Rattle.std.proofs.lemmas.List.{get_or_append_left}
 use Rattle.s39_kdf.specs.Bytes.{AreBytes}
 use Rattle.std.specs.Prelude.{◌↔◌}
 use Rattle.std.proofs.lemmas.Bool.{cases_lt, cases_Bool}
-use Rattle.s39_kdf.specs.Limits.{exponent_bits, IsSecretLength}
+use Rattle.s39_kdf.specs.Limits.{exponent_bits}
 use Rattle.s39_words.specs.declared.ShareFields.{ShareFields}
 use Rattle.s39_words.specs.declared.word_error.WordError.{WordError}
 use Rattle.s39_words.specs.Reading.{Reads}
@@ -17,7 +17,6 @@ use Rattle.s39_backup.specs.declared.plan.Members.{Members}
 use Rattle.s39_backup.specs.declared.plan_error.PlanError.{PlanError}
 use Rattle.s39_backup.specs.Plan.{IsPlanReading}
 use Rattle.s39_backup.specs.Created.{random_needed}
-use Rattle.s39_tool.specs.declared.drill.Done.{Done}
 use Rattle.s39_tool.specs.declared.fault.Fault.{Fault}
 use Rattle.s39_tool.specs.declared.listing.Listing.{Listing}
 use Rattle.s39_tool.specs.declared.memory.Unwritten.{Unwritten}
@@ -31,7 +30,7 @@ use Rattle.s39_tool.proofs.Texts.SecretLines.{same_secret, same_size}
 use Rattle.s39_c.specs.declared.answer.ShamirAnswer.{ShamirAnswer}
 use Rattle.s39_c.specs.declared.parsing.ShamirShare.{ShamirShare}
 use Rattle.s39_c.specs.Answers.{Gives, number, too_short, plan_refused, word_refused, refused, unwritten, listed}
-use Rattle.s39_c.specs.Parsing.{header_of, HasHeader, GivesShare}
+use Rattle.s39_c.specs.Parsing.{HasHeader, GivesShare}
 use Rattle.s39_c.specs.Creating.{Wanted, Asks, GivesMnemonics, GivesBackup, GivesNumber}
 use Rattle.s39_c.specs.Recovering.{GivesSecret}
 use Rattle.s39_c.specs.Drilling.{GivesListing, IsCursor, GivesDrill}
