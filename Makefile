@@ -1,8 +1,8 @@
 # shamir: `make` proves and builds, `make test` is the merge gate.
 #
 #   make lib         proves and builds the library: libshamir.a, and libshamir.so for the Python binding
-#   make check       the fast checks: commands and tables of the documents, the manual page, completions, terminals, the
-#                    library (make test runs them too)
+#   make check       the fast checks: commands and tables of the documents, the manual page, completions, terminals, refused
+#                    memory, the library (make test runs them too)
 #   make check-library   the library alone: its header, examples from C, the installed files, the Python binding, made cases
 #   make faults      lets each growth, read and write of the program fail in turn
 #   make compare     compares made cases with a plain reading of the standard in Python
@@ -60,6 +60,7 @@ check: shamir check-library
 	@tools/manual
 	@tools/completions
 	@tools/terminal
+	@tools/faults --growths
 
 check-library: shamir libshamir.so
 	@tools/library

@@ -112,7 +112,9 @@ fn exponent<'a>(alloc: Global) -> Arg<'a>
     option(alloc, "exponent", "E")
         .default_value("0")
         .value_parser(ValueParser::signed(0, i64::from(MAX_EXPONENT)))
-        .help("The iteration exponent, 0 to 15: a recovery takes 10,000 * 2^E iterations")
+        .help(
+            "The iteration exponent, 0 to 15: a recovery takes 10,000 * 2^E iterations, twice that for over 64 bytes",
+        )
 }
 
 fn extendable<'a>(alloc: Global) -> Arg<'a>

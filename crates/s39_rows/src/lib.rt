@@ -15,7 +15,15 @@ mod drill;
 #[cfg(test)]
 mod failures;
 #[cfg(test)]
+mod hands;
+#[cfg(test)]
+mod many;
+#[cfg(test)]
 mod numbers;
+#[cfg(test)]
+mod orders;
+#[cfg(test)]
+mod published;
 #[cfg(test)]
 mod recover;
 #[cfg(test)]

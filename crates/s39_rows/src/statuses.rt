@@ -31,7 +31,7 @@ Arguments:
 Options:
       --master-secret <HEX>  The secret in hexadecimal, 16 to 128 bytes and an even number of them
       --passphrase <TEXT>    The passphrase of the backup, by default empty
-      --exponent <E>         The iteration exponent, 0 to 15: a recovery takes 10,000 * 2^E iterations [default: 0]
+      --exponent <E>         The iteration exponent, 0 to 15: a recovery takes 10,000 * 2^E iterations, twice that for over 64 bytes [default: 0]
       --extendable           Leaves the identifier out of the encryption
   -h, --help                 Print help
 ";
