@@ -1,5 +1,5 @@
 -- What a run leaves in the writer behind a buffer.
-use Rattle.std.proofs.Common.{◌≡◌, ◌≢◌, ◌⊎◌, ◌+◌, ◌++◌, ◌∙◌, ℕ, suc, zero, List, [], Option, Some, None, IfSome, Result, Ok, Err, ap, arith, inl, inr, refl, subst, sym, append_assoc, append-nil, false}
+use Rattle.std.proofs.Common.{◌≡◌, ◌≢◌, ◌⊎◌, ◌++◌, ◌∙◌, ℕ, suc, zero, List, [], Option, Some, None, IfSome, Result, Ok, Err, ap, arith, inl, inr, refl, subst, sym, append_assoc, append-nil, false}
 use Rattle.std.proofs.lemmas.Option.{IfSome_then}
 use Rattle.std.specs.Io.KnownBytes.{Appends, Consumes, Keeps, append_known}
 use Rattle.std.specs.Io.Buffered.{writer_buffer, writer_contents, writer_inner}

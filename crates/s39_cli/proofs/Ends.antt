@@ -1,7 +1,6 @@
 -- How the program ends, from how its parts do.
-use Rattle.std.proofs.Common.{◌≡◌, ◌∙◌, ℕ, List, [], Option, true, false, true≢false, inl, inr, refl, subst, sym}
+use Rattle.std.proofs.Common.{◌≡◌, ◌∙◌, ℕ, List, [], Option, true, true≢false, inl, inr, subst, sym}
 use Rattle.clap.specs.Words.{Text, fault_of, takes}
-use Rattle.s39_tool.specs.Input.{Input}
 use Rattle.s39_cli.specs.declared.command.Job.{Job}
 use Rattle.s39_cli.specs.declared.command.NoJob.{NoJob}
 use Rattle.s39_cli.specs.declared.command.NoJob.TheVariants as no_job

@@ -4,7 +4,6 @@ use Rattle.s39_tool.specs.Drill.{IsDrillOutput}
 use Rattle.s39_tool.specs.Recover.{IsRecoverOutput}
 use Rattle.s39_tool.specs.Runs.{Runs}
 use Rattle.s39_tool.specs.Show.{IsShowOutput}
-use Rattle.s39_tool.proofs.Runs.Writing.{Runs-map}
 use Rattle.s39_cli.specs.declared.work.Work.{Work}
 use Rattle.s39_cli.specs.declared.work.Work.TheVariants as work
 use Rattle.s39_cli.specs.Work.{IsWorkOutput}
