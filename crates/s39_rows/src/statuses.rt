@@ -1,8 +1,8 @@
 //! Exit statuses: help, the version, refused command lines, flushing, a failing standard error, and no memory.
 
 use crate::devices::{Flushing, Full};
-use crate::vectors::{ONE_OF_ONE, ONE_OF_ONE_BAD_CHECKSUM, SHOW, SHOWN, expect_run};
-use s39_cli::{no_words, program};
+use crate::vectors::{ONE_OF_ONE, ONE_OF_ONE_BAD_CHECKSUM, SHOW, SHOWN, expect_run, program};
+use s39_cli::no_words;
 use std::io;
 use std::io::ErrorKind;
 
@@ -137,7 +137,7 @@ fn flushes_what_it_wrote(rt: HostRuntime) {
         3
     );
     assert_eq!(rt; told.as_slice(), b"shamir: 73 write failed\n".as_slice());
-    // After a fault it changes nothing.
+    // After a fault before which nothing was written it isn't asked.
     let mut told = Vec::new(alloc);
     let output = Flushing::new(alloc, true);
     let input = ONE_OF_ONE_BAD_CHECKSUM.as_bytes();
