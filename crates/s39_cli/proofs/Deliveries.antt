@@ -13,6 +13,7 @@ use Rattle.s39_tool.specs.Device.{Counted}
 use Rattle.s39_tool.specs.Fault.{read_failures, read_failures_in, write_failures, write_failures_in}
 use Rattle.s39_tool.specs.Input.{Input, whole}
 use Rattle.s39_tool.specs.Runs.{Runs, Writes}
+use Rattle.s39_tool.proofs.Runs.Devices.{of_known, of_cut_off}
 use Rattle.s39_cli.specs.Outcome.{status_of, status_of_refusal}
 use Rattle.s39_cli.specs.Ending.{Delivers, HandsOn, HasStatus, HoldsBeginning, IsFrom}
 
@@ -94,7 +95,7 @@ module _ {R B W : Type 0} (remaining : R → Option (List ℕ)) (held : B → Op
       let none = no_failures answer (λ three. other (ap status_of same ∙ three)) in
       let reads : read_to.failures ≡ reader.failures = omega (arith, runs.read_failures_are, none.0) in
       let writes : written_to.failures ≡ writer.failures = omega (arith, runs.write_failures_are, none.1) in
-      IfSome_then (remaining reader.device) (runs.output.whole reads) (λ bytes w.
+      IfSome_then (remaining reader.device) (of_known remaining reader read_to (λ input. Writes held (IsOutput input) writer written_to answer) runs.output reads) (λ bytes w.
       let both = w.whole writes in
       let text_is : w.text ≡ w.written = w.parts ∙ ap (λ rest. w.written ++ rest) both.0 ∙ append-nil w.written in (
         w.text,
@@ -126,9 +127,10 @@ module _ {R B W : Type 0} (remaining : R → Option (List ℕ)) (held : B → Op
           × HoldsBeginning (contents first) (contents last) text))
       by_reads (inl none) =
           let same : read_to.failures ≡ reader.failures = omega (arith, runs.read_failures_are, none) in
-          inl (IfSome_then (remaining reader.device) (runs.output.whole same) (λ bytes w. beginning_of (whole bytes) w))
+          inl (IfSome_then (remaining reader.device) (of_known remaining reader read_to (λ input. Writes held (IsOutput input) writer written_to answer) runs.output same) (λ bytes w. beginning_of (whole bytes) w))
       by_reads (inr some) =
-          let cut = runs.output.cut_off (λ same. some (omega (arith, runs.read_failures_are, same))) in
+          let cut = of_cut_off remaining reader read_to (λ input. Writes held (IsOutput input) writer written_to answer) runs.output
+          (λ same. some (omega (arith, runs.read_failures_are, same))) in
           inr (cut.0, cut.1, beginning_of (record { bytes = cut.0; ended = false }) cut.2)
 
   -- the same of the devices behind what counts their calls
