@@ -1,5 +1,5 @@
 -- Random bytes that are refitted to another secret, and back to the first, are what they were.
-use Rattle.std.proofs.Common.{◌≡◌, ℕ, ◌+◌, ◌-◌, ◌%◌, ◌<◌, ◌≤◌, List, [], ◌∷◌, ◌++◌, length, get_or, take, map, All, Contains, Some, true, false}
+use Rattle.std.proofs.Common.{◌≡◌, ℕ, ◌+◌, ◌-◌, ◌%◌, ◌<◌, ◌≤◌, List, [], ◌∷◌, ◌++◌, length, get_or, take, All, Contains, Some}
 use Rattle.std.proofs.Common.{◌⊎◌, inl, inr, refl, sym, ap, ap₂, subst, ◌∙◌, arith}
 use Rattle.std.specs.List.{concat, slice_get}
 use Rattle.std.proofs.lemmas.Bool.{cases_lt, cases_Bool}
@@ -10,7 +10,7 @@ use Rattle.s39_kdf.specs.declared.params.Params.{Params}
 use Rattle.s39_kdf.specs.Limits.{IsSecretLength}
 use Rattle.s39_kdf.specs.Cipher.{IsEncryption, SecretsHaveOneEncryption, EncryptionKeepsLengthAndBytes}
 use Rattle.s39_split.specs.Shares.{AreDistinct}
-use Rattle.s39_split.specs.Sharing.{digest_length, random_needed as level_random_needed, IsSplit, SplitsTakeTheBytesNeeded, SharesAreAsLong, HaveOneSplit}
+use Rattle.s39_split.specs.Sharing.{digest_length, IsSplit, SplitsTakeTheBytesNeeded, SharesAreAsLong, HaveOneSplit}
 use Rattle.s39_split.specs.Recovery.{AreSharesOf}
 use Rattle.s39_split.proofs.FittedPoints.{AreKnown, one_split_by_known}
 use Rattle.s39_set.proofs.Sublists.{Contains-head, Contains-cons, Contains-cases, Contains-nil, same_from_part}

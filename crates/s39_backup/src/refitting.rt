@@ -32,6 +32,9 @@ use s39_split::{DIGEST_BYTES, MAX_SHARES, Points, fit, random_needed, split};
 /// that it gives from `secret` with the bytes that were handed in; plan, passphrase and options are the same. So
 /// these shares fit either secret. Else `random` is unchanged.
 ///
+/// At each level the key of the digest stays, and of the shares that aren't kept the lowest, up to the threshold less two.
+/// So `refit` from `other` back to `secret`, with the same names, gives the bytes that were handed in.
+///
 /// `create` has to accept these arguments: the secrets have one length, an even number from 16 to 128 bytes, and
 /// there are as many random bytes as `Plan::random_needed` says of it.
 pub fn refit(

@@ -5,6 +5,7 @@
 mod answer;
 mod creating;
 mod drilling;
+pub mod laws;
 mod memory;
 mod parsing;
 mod recovering;

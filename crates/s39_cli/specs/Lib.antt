@@ -1,1 +1,5 @@
 pub mod Command
+pub mod Ending
+pub mod Outcome
+pub mod Unready
+pub mod Work

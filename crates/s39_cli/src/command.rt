@@ -1,6 +1,6 @@
 //! The command line.
 ghost use Rattle.std.specs.Prelude.{◌≡◌, [], codes, false, Some, true, map, IfOk, IfErr, OnOk};
-ghost use Rattle.clap.specs.Words.{app_of, found_of, kind_of, rows_of, rule_of, takes, with_rule, with_subcommand};
+ghost use Rattle.clap.specs.Words.{app_of, fault_of, found_of, kind_of, rows_of, rule_of, takes, with_rule, with_subcommand};
 ghost use Rattle.clap.specs.declared.builder.Command.TheViews.{out-Command};
 ghost use Rattle.s39_clap.specs.Found.{EntersOne};
 ghost use Rattle.s39_cli.specs.Command.{option_rule, plan_rule, secret_rule, passphrase_rule, exponent_rule, extendable_rule};
@@ -112,7 +112,9 @@ fn exponent<'a>(alloc: Global) -> Arg<'a>
     option(alloc, "exponent", "E")
         .default_value("0")
         .value_parser(ValueParser::signed(0, i64::from(MAX_EXPONENT)))
-        .help("The iteration exponent, 0 to 15: a recovery takes 10,000 * 2^E iterations")
+        .help(
+            "The iteration exponent, 0 to 15: a recovery takes 10,000 * 2^E iterations, twice that for over 64 bytes",
+        )
 }
 
 fn extendable<'a>(alloc: Global) -> Arg<'a>
@@ -308,6 +310,8 @@ pub fn read_words<'a>(alloc: Global, words: &'a [&'a str]) -> Result<Job<'a>, No
         → IfErr result (λ error. error ≡ NoJob.Memory) }
     // Words that it doesn't take are no job.
     ensures taken { OnOk result (takes shamir_app (map (λ word. word.now) words.now) ≡ true) }
+    // No step of the reading of words that are one fails.
+    ensures faultless { OnOk result (fault_of shamir_app (map (λ word. word.now) words.now) ≡ []) }
     // Help and the version go only to words that ask for them, and a refusal only to words that don't and that the
     // definition doesn't take.
     ensures answer { IfErr result (λ error. AnswersWords error (map (λ word. word.now) words.now)) }

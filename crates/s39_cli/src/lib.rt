@@ -3,9 +3,10 @@
 #![tactic(auto)]
 
 mod command;
+mod delivery;
 mod patient;
 mod status;
 mod work;
 
 pub use command::{Job, NoJob, read_words};
-pub use status::{no_words, program, program_at_terminal};
+pub use status::{Destination, Ended, no_words, program};

@@ -16,6 +16,13 @@ impl<W: Write> Patient<W> {
     {
         Patient { output }
     }
+
+    /// The writer.
+    pub(crate) fn into_inner(self) -> W
+        ensures { result ≡ self.output }
+    {
+        self.output
+    }
 }
 
 impl<W: Write> Write for Patient<W> {

@@ -1,14 +1,16 @@
 //! The program: a command line, a reader and two writers.
-ghost use Rattle.s39_cli.specs.Command.{IsInRange};
+ghost use Rattle.std.specs.Prelude.{◌≡◌, map};
+ghost use Rattle.s39_cli.specs.Ending.{Ends, EndsUnbegun, EndsWithoutJob, IsSilentAtNone, status_in};
+ghost use Rattle.s39_cli.specs.Outcome.{status_of, status_of_refusal};
 
-use crate::command::{Job, NoJob, read_words};
-use crate::patient::Patient;
-use crate::work::{Destination, Unready, Work};
+use crate::command::{NoJob, read_words};
+use crate::delivery::{Finished, by_buffer, by_lines, show, write_failed};
+use crate::work::{Unready, Work};
 use s39_text::FaultText;
-use s39_tool::{Counting, DeviceFailure, Fault, Refusal};
+use s39_tool::{Done, Fault, Refusal};
 use std::alloc::Global;
 use std::io;
-use std::io::{BufWriter, ErrorKind, LineWriter, Read, Write};
+use std::io::{ErrorKind, Read, Write};
 
 const DONE: u8 = 0;
 
@@ -20,6 +22,36 @@ const DEVICE_FAILED: u8 = 3;
 
 const NO_MEMORY: u8 = 4;
 
+/// Where the output of a command goes.
+#[derive(Clone, Copy, Debug, PartialEq, Eq)]
+pub enum Destination {
+    /// To a terminal, at which a person watches it.
+    Terminal,
+    /// To a file, or to another program.
+    Elsewhere,
+}
+
+/// How the program ended.
+#[derive(Drop)]
+pub enum Ended<R, W> {
+    /// With this exit status. The devices are given back.
+    With { status: u8, input: R, output: W },
+    /// For want of memory.
+    NoMemory,
+}
+
+impl<R: Drop, W: Drop> Ended<R, W> {
+    /// The exit status, which is 4 for want of memory.
+    pub fn status(self) -> u8
+        ensures { result ≡ status_in self }
+    {
+        match self {
+            Ended::With { status, .. } => status,
+            Ended::NoMemory => NO_MEMORY,
+        }
+    }
+}
+
 /// Runs the command that the words give, of which the first is the program's name, and gives the exit status.
 ///
 /// | Status | When |
@@ -30,140 +62,87 @@ const NO_MEMORY: u8 = 4;
 /// | 3 | a read or a write failed |
 /// | 4 | there is no memory |
 ///
-/// Results and help go to `output`. A fault is a line on `errors`, where the text of a refused command line goes too.
-/// All memory is taken before the first byte of `input` is asked for. A failing `errors` changes no status.
-pub fn program<R: Read + Drop, W: Write + Drop, E: Write + Drop>(
+/// Results and help go to `output`: the lines of `drill`, and at a terminal those of `show`, as soon as each is known. A
+/// fault is a line on `errors`, where the text of a refused command line goes too. All memory is taken before the first
+/// byte of `input` is asked for. A failing `errors` changes no status.
+pub fn program<R: Read + Drop, W: Write + Drop, E: Write>(
     alloc: Global,
     words: &[&str],
-    input: R,
-    output: W,
-    errors: E,
-) -> u8 {
-    obey(alloc, words, input, output, errors, Destination::Elsewhere)
-}
-
-/// As [`program`], where a person watches the output: each line of `show` goes out as soon as it is known, and not only
-/// each of `drill`.
-pub fn program_at_terminal<R: Read + Drop, W: Write + Drop, E: Write + Drop>(
-    alloc: Global,
-    words: &[&str],
-    input: R,
-    output: W,
-    errors: E,
-) -> u8 {
-    obey(alloc, words, input, output, errors, Destination::Terminal)
-}
-
-/// Does what the words ask for, and gives the exit status.
-fn obey<R: Read + Drop, W: Write + Drop, E: Write + Drop>(
-    alloc: Global,
-    words: &[&str],
-    input: R,
-    output: W,
-    errors: E,
-    destination: Destination,
-) -> u8 {
-    let mut errors = errors;
-    match read_words(alloc, words) {
-        Ok(job) => run(alloc, job, input, output, &mut errors, destination),
-        Err(NoJob::Help(text)) => show_help(text.as_str(), output, &mut errors),
-        Err(NoJob::Refused(text)) => {
-            let _ = errors.write_all(text.as_bytes());
-            NO_JOB
-        }
-        Err(NoJob::Memory) => no_memory(&mut errors),
-    }
-}
-
-/// Runs the command of a job, says its fault, and gives the exit status.
-fn run<R: Read + Drop, W: Write + Drop, E: Write>(
-    alloc: Global,
-    job: Job,
     input: R,
     output: W,
     errors: &mut E,
     destination: Destination,
-) -> u8
-    requires { IsInRange job }
+) -> Ended<R, W>
+    // Of readers and writers that tell their bytes.
+    ensures ends { Ends R.remaining W.contents (map (λ word. word.now) words.now) input output
+        result }
+    // Of any.
+    ensures silent { IsSilentAtNone result errors.old errors.new }
 {
+    let job = match read_words(alloc, words) {
+        Ok(job) => job,
+        Err(no_job) => return without_job(no_job, input, output, errors),
+    };
     let work = match Work::of(alloc, job) {
         Ok(work) => work,
-        Err(unready) => return refuse(unready, errors),
+        Err(unready) => return unbegun(unready, input, output, errors),
     };
-    let written = if work.goes_by_lines(destination) {
-        by_lines(alloc, &work, input, output)
-    } else {
-        by_buffer(alloc, &work, input, output)
-    };
-    match written {
-        Some(Ok(0)) => DONE,
-        Some(Ok(_)) => REFUSED,
-        Some(Err(fault)) => report(fault, errors),
-        None => no_memory(errors),
+    if work.goes_by_lines(destination) {
+        return answered(by_lines(&work, input, output), errors);
+    }
+    match by_buffer(alloc, &work, input, output) {
+        Some(finished) => answered(finished, errors),
+        None => no_memory_left(errors),
     }
 }
 
-/// Runs a command whose output goes out as its buffer fills; nothing where there is no memory for that.
-fn by_buffer<R: Read + Drop, W: Write + Drop>(
-    alloc: Global,
-    work: &Work,
+/// Answers words that give no job.
+fn without_job<R: Drop, W: Write + Drop, E: Write>(
+    no_job: NoJob,
     input: R,
     output: W,
-) -> Option<Result<u32, Fault>> {
-    let output = BufWriter::new(alloc, output).ok()?;
-    let (answer, output) = answered(work, input, output);
-    let (answer, output) = flushed(answer, output);
-    // A drop of the buffer would write again what a failed write left in it.
-    let _ = output.into_parts();
-    Some(answer)
+    errors: &mut E,
+) -> Ended<R, W>
+    ensures ends { EndsWithoutJob W.contents no_job input output result }
+    ensures silent { IsSilentAtNone result errors.old errors.new }
+{
+    match no_job {
+        NoJob::Help(text) => {
+            let (is_whole, output) = show(text.as_str(), output);
+            let status = if is_whole {
+                DONE
+            } else {
+                report(write_failed(), errors)
+            };
+            Ended::With {
+                status,
+                input,
+                output,
+            }
+        }
+        NoJob::Refused(text) => {
+            let _ = errors.write_all(text.as_bytes());
+            Ended::With {
+                status: NO_JOB,
+                input,
+                output,
+            }
+        }
+        NoJob::Memory => no_memory_left(errors),
+    }
 }
 
-/// Runs a command whose output goes out line by line; nothing where there is no memory for that.
-fn by_lines<R: Read + Drop, W: Write + Drop>(
-    alloc: Global,
-    work: &Work,
+/// Says why a command can't be begun.
+fn unbegun<R: Drop, W: Drop, E: Write>(
+    unready: Unready,
     input: R,
     output: W,
-) -> Option<Result<u32, Fault>> {
-    let output = LineWriter::new(alloc, Patient::new(output)).ok()?;
-    let (answer, output) = answered(work, input, output);
-    // Each line is written in one piece, so none is left for the drop of the buffer.
-    Some(flushed(answer, output).0)
-}
-
-/// Runs a command, and gives the device of its output back.
-fn answered<R: Read + Drop, W: Write + Drop>(
-    work: &Work,
-    input: R,
-    output: W,
-) -> (Result<u32, Fault>, W) {
-    let mut input = Counting::new(input);
-    let mut output = Counting::new(output);
-    let answer = work.run(&mut input, &mut output);
-    (answer, output.into_inner())
-}
-
-/// Writes what a device kept back, and gives the run's answer, or the failure to write after a run without a fault.
-fn flushed<W: Write + Drop>(answer: Result<u32, Fault>, output: W) -> (Result<u32, Fault>, W) {
-    let mut output = output;
-    let has_failed = matches!(
-        answer,
-        Err(Fault {
-            refusal: Refusal::Device(DeviceFailure::Write),
-            ..
-        })
-    );
-    let is_whole = !has_failed && output.flush().is_ok();
-    let answer = match answer {
-        Ok(_) if !is_whole => Err(write_failed()),
-        answer => answer,
-    };
-    (answer, output)
-}
-
-/// Says why a command can't be begun, and gives the exit status.
-fn refuse<E: Write>(unready: Unready, errors: &mut E) -> u8 {
-    match unready {
+    errors: &mut E,
+) -> Ended<R, W>
+    ensures ends { EndsUnbegun unready input output result }
+    ensures silent { IsSilentAtNone result errors.old errors.new }
+{
+    let status = match unready {
         Unready::Secret => {
             let _ = errors.write_all(b"shamir: master secret isn't hexadecimal\n");
             NO_JOB
@@ -176,29 +155,52 @@ fn refuse<E: Write>(unready: Unready, errors: &mut E) -> u8 {
             let _ = writeln!(errors, "{}", FaultText::from(error));
             REFUSED
         }
-        Unready::Memory => no_memory(errors),
+        Unready::Memory => return no_memory_left(errors),
+    };
+    Ended::With {
+        status,
+        input,
+        output,
     }
 }
 
-fn write_failed() -> Fault {
-    Fault::from(Refusal::Device(DeviceFailure::Write))
+/// Says what a command answered.
+fn answered<R: Drop, W: Drop, E: Write>(finished: Finished<R, W>, errors: &mut E) -> Ended<R, W>
+    ensures ends { result ≡ Ended.With (status_of finished.answer) finished.input finished.output }
+    ensures silent { IsSilentAtNone result errors.old errors.new }
+{
+    let Finished {
+        answer,
+        input,
+        output,
+    } = finished;
+    let status = status_of(answer, errors);
+    Ended::With {
+        status,
+        input,
+        output,
+    }
 }
 
-fn show_help<W: Write + Drop, E: Write>(text: &str, output: W, errors: &mut E) -> u8 {
-    let mut output = output;
-    if output.write_all(text.as_bytes()).is_err() || output.flush().is_err() {
-        return report(write_failed(), errors);
+/// The exit status of an answer, whose fault is said.
+fn status_of<E: Write>(answer: Result<Done, Fault>, errors: &mut E) -> u8
+    ensures status { result ≡ status_of answer }
+    ensures silent { result ≡ 0 → errors.new ≡ errors.old }
+{
+    match answer {
+        Ok(done) => { if done.mismatches == 0 { DONE } else { REFUSED } }
+        Err(fault) => report(fault, errors),
     }
-    DONE
 }
 
 /// Says the fault of a run, and gives the exit status.
-fn report<E: Write>(fault: Fault, errors: &mut E) -> u8 {
+fn report<E: Write>(fault: Fault, errors: &mut E) -> u8
+    ensures { result ≡ status_of_refusal fault.refusal }
+{
     let _ = writeln!(errors, "{}", FaultText::from(fault));
-    if matches!(fault.refusal, Refusal::Device(_)) {
-        DEVICE_FAILED
-    } else {
-        REFUSED
+    match fault.refusal {
+        Refusal::Device(_) => DEVICE_FAILED,
+        _ => REFUSED,
     }
 }
 
@@ -210,6 +212,14 @@ pub fn no_words<E: Write>(error: &io::Error, errors: &mut E) -> u8 {
     }
     let _ = errors.write_all(b"shamir: the arguments aren't UTF-8\n");
     NO_JOB
+}
+
+/// Says that there is no memory.
+fn no_memory_left<R, W, E: Write>(errors: &mut E) -> Ended<R, W>
+    ensures { result ≡ Ended.NoMemory }
+{
+    no_memory(errors);
+    Ended::NoMemory
 }
 
 /// Says that there is no memory, without taking any, and gives the exit status.

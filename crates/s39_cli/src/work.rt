@@ -1,8 +1,13 @@
 //! Commands that are ready to run.
-ghost use Rattle.std.specs.Prelude.{◌<◌, ◌≤◌};
+ghost use Rattle.std.specs.Prelude.{◌≡◌, ◌<◌, ◌≤◌, IfOk, IfErr, IsSomeAnd, Ok};
+ghost use Rattle.hex.specs.Hex.{decode_of};
+ghost use Rattle.s39_tool.specs.Runs.{Runs};
 ghost use Rattle.s39_cli.specs.Command.{IsInRange};
+ghost use Rattle.s39_cli.specs.Outcome.{IsCursor, IsNoCursor, without_mismatches};
+ghost use Rattle.s39_cli.specs.Unready.{IsNoSecret, IsUnready};
 
 use crate::command::Job;
+use crate::status::Destination;
 use hex::FromHexError;
 use s39_set::{BadCursor, Quorum, parse_quorum};
 use s39_tool::{
@@ -10,15 +15,6 @@ use s39_tool::{
 };
 use std::alloc::Global;
 use std::io::{Read, Write};
-
-/// Where the output of a command goes.
-#[derive(Clone, Copy, Debug, PartialEq, Eq)]
-pub(crate) enum Destination {
-    /// To a terminal, at which a person watches it.
-    Terminal,
-    /// To a file, or to another program.
-    Elsewhere,
-}
 
 /// What a backup is created from, beside its random bytes.
 #[derive(Debug, Drop)]
@@ -65,18 +61,30 @@ pub(crate) enum Unready {
 }
 
 impl From<PlanError> for Unready {
+    ghost use Rattle.s39_cli.specs.declared.work.Unready.TheVariants.{Plan as BadPlan};
+
+    ghost from_gives = { λ error unready. unready ≡ BadPlan error };
+
     fn from(error: PlanError) -> Unready {
         Unready::Plan(error)
     }
 }
 
 impl From<BadCursor> for Unready {
+    ghost use Rattle.s39_cli.specs.declared.work.Unready.TheVariants.{Cursor};
+
+    ghost from_gives = { λ error unready. unready ≡ Cursor error };
+
     fn from(error: BadCursor) -> Unready {
         Unready::Cursor(error)
     }
 }
 
 impl From<FromHexError> for Unready {
+    ghost use Rattle.s39_cli.specs.Unready.{unready_of};
+
+    ghost from_gives = { λ error unready. unready ≡ unready_of error };
+
     fn from(error: FromHexError) -> Unready {
         match error {
             FromHexError::OutOfMemory => Unready::Memory,
@@ -85,13 +93,36 @@ impl From<FromHexError> for Unready {
     }
 }
 
+/// The bytes of the text of a secret.
+fn secret_of(alloc: Global, text: &str) -> Result<Vec<u8>, Unready>
+    ensures secret { IfOk result (λ secret. decode_of text.now ≡ Ok secret.items) }
+    ensures refused { IfErr result (IsNoSecret text.now) }
+{
+    Ok(hex::decode(alloc, text.as_bytes())?)
+}
+
+/// The names after which a drill goes on, where a text gives some.
+fn cursor_of(text: Option<&str>) -> Result<Option<Quorum>, BadCursor>
+    ensures cursor { IfOk result (IsCursor text.entry) }
+    ensures refused { IfErr result (λ bad. IsSomeAnd text.entry (λ text. IsNoCursor text.now)) }
+{
+    match text {
+        Some(text) => Ok(Some(parse_quorum(text.as_bytes())?)),
+        None => Ok(None),
+    }
+}
+
 impl<'a> Work<'a> {
+    ghost use Rattle.s39_cli.specs.Work.{IsWorkOf, IsWorkOutput};
+
     /// The work of a job, whose texts are read here: of `create` first the secret and then the plan.
     pub(crate) fn of(alloc: Global, job: Job<'a>) -> Result<Work<'a>, Unready>
         requires { IsInRange job }
+        ensures work { IfOk result (IsWorkOf job.entry) }
+        ensures refused { IfErr result (IsUnready job.entry) }
     {
-        Ok(match job {
-            Job::Show => Work::Show,
+        match job {
+            Job::Show => Ok(Work::Show),
             Job::Create {
                 plan,
                 secret,
@@ -99,9 +130,9 @@ impl<'a> Work<'a> {
                 exponent,
                 extendable,
             } => {
-                let secret = hex::decode(alloc, secret.as_bytes())?;
+                let secret = secret_of(alloc, secret)?;
                 let plan = Plan::parse(plan)?;
-                Work::Create(Creation {
+                Ok(Work::Create(Creation {
                     plan,
                     secret,
                     passphrase: passphrase.as_bytes(),
@@ -109,24 +140,24 @@ impl<'a> Work<'a> {
                         exponent,
                         extendable,
                     },
-                })
+                }))
             }
-            Job::Recover { passphrase } => Work::Recover {
+            Job::Recover { passphrase } => Ok(Work::Recover {
                 passphrase: passphrase.as_bytes(),
-            },
+            }),
             Job::Drill {
                 passphrase,
                 after,
                 limit,
-            } => Work::Drill(Drill {
-                passphrase: passphrase.as_bytes(),
-                after: match after {
-                    Some(text) => Some(parse_quorum(text.as_bytes())?),
-                    None => None,
-                },
-                limit,
-            }),
-        })
+            } => {
+                let after = cursor_of(after)?;
+                Ok(Work::Drill(Drill {
+                    passphrase: passphrase.as_bytes(),
+                    after,
+                    limit,
+                }))
+            }
+        }
     }
 
     /// Whether each line of the output goes out as soon as it is known.
@@ -143,33 +174,42 @@ impl<'a> Work<'a> {
         &self,
         input: &mut Counting<R>,
         output: &mut Counting<W>,
-    ) -> Result<u32, Fault>
+    ) -> Result<Done, Fault>
         requires readable { input.old.failures < u64.MAX }
         requires writable { output.old.failures < u64.MAX }
+        ensures { Runs R.remaining W.contents (IsWorkOutput self.now)
+            input.old input.new output.old output.new result }
     {
         match self {
-            Work::Show => run_show(input, output)?,
-            Work::Create(creation) => run_create(
+            Work::Show => without_mismatches(run_show(input, output)),
+            Work::Create(creation) => without_mismatches(run_create(
                 &creation.plan,
                 creation.secret.as_slice(),
                 creation.passphrase,
                 creation.options,
                 input,
                 output,
-            )?,
-            Work::Recover { passphrase } => run_recover(passphrase, input, output)?,
-            Work::Drill(drill) => {
-                let after = drill.after.as_ref();
-                let Done { mismatches } = run_drill(
-                    drill.passphrase,
-                    after,
-                    drill.limit,
-                    input,
-                    output,
-                )?;
-                return Ok(mismatches);
+            )),
+            Work::Recover { passphrase } => {
+                without_mismatches(run_recover(passphrase, input, output))
             }
+            Work::Drill(drill) => run_drill(
+                drill.passphrase,
+                drill.after.as_ref(),
+                drill.limit,
+                input,
+                output,
+            ),
         }
-        Ok(0)
+    }
+}
+
+/// The answer of a run that looks for no mismatches.
+fn without_mismatches(answer: Result<(), Fault>) -> Result<Done, Fault>
+    ensures { result ≡ without_mismatches answer }
+{
+    match answer {
+        Ok(()) => Ok(Done { mismatches: 0 }),
+        Err(fault) => Err(fault),
     }
 }

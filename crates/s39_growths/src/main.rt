@@ -12,7 +12,7 @@ mod examples;
 
 use crate::arrays::{Sheet, Source};
 use crate::examples::{Example, example_of, run_of};
-use s39_cli::program;
+use s39_cli::{Destination, program};
 use std::alloc::Global;
 use std::io;
 use std::io::Read;
@@ -34,7 +34,15 @@ fn ending_of(alloc: Global, example: &Example) -> Ending {
     let mut input = Source::new(example.input);
     let mut output = Sheet::new();
     let mut errors = Sheet::new();
-    let status = program(alloc, example.words, &mut input, &mut output, &mut errors);
+    let status = program(
+        alloc,
+        example.words,
+        &mut input,
+        &mut output,
+        &mut errors,
+        Destination::Elsewhere,
+    )
+    .status();
     let has_no_memory = errors.as_slice() == b"shamir: out of memory\n".as_slice()
         && output.as_slice().is_empty()
         && input.reads() == 0;

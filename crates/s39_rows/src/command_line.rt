@@ -1,8 +1,8 @@
 //! The command line.
 
 use crate::devices::Full;
-use crate::vectors::ONE_OF_ONE;
-use s39_cli::{Job, NoJob, program, read_words};
+use crate::vectors::{ONE_OF_ONE, program};
+use s39_cli::{Job, NoJob, read_words};
 use std::alloc::Global;
 use std::process::Abort;
 

@@ -2,9 +2,8 @@
 
 use crate::vectors::{
     EXTENDABLE_ONE_OF_ONE, LONGEST_ONE_OF_ONE, LONGEST_ONE_OF_ONE_SECRET, ONE_OF_ONE,
-    ONE_OF_ONE_256_BITS, ONE_OF_ONE_SECRET, RECOVER, SHOW, expect_bytes, expect_run,
+    ONE_OF_ONE_256_BITS, ONE_OF_ONE_SECRET, RECOVER, SHOW, expect_bytes, expect_run, program,
 };
-use s39_cli::program;
 use sha2::{Digest, Sha256};
 use std::alloc::{AllocError, Global};
 use std::test::Fail;

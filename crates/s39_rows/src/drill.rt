@@ -5,9 +5,8 @@ use crate::devices::{Filling, Interrupted};
 use crate::recover::forged;
 use crate::vectors::{
     ONE_OF_ONE, ONE_OF_ONE_SECRET, SHOW, SHOWN, TWO_NEEDED_MEMBER_0, TWO_NEEDED_MEMBER_2,
-    expect_bytes, expect_run,
+    expect_bytes, expect_run, program, program_at_terminal,
 };
-use s39_cli::{program, program_at_terminal};
 use std::alloc::{AllocError, Global};
 use std::process::Abort;
 use std::test::Fail;

@@ -7,8 +7,8 @@ use crate::devices::{Filling, Full, Interrupted, InterruptedAtFirst, Source};
 use crate::drill::SEVEN;
 use crate::vectors::{
     ONE_OF_ONE, ONE_OF_ONE_BAD_CHECKSUM, ONE_OF_ONE_BAD_PADDING, ONE_OF_ONE_SECRET, SHOW, SHOWN,
+    program,
 };
-use s39_cli::program;
 use s39_kdf::check_secret;
 use s39_tool::{
     Counting, DeviceFailure, Done, Fault, LineRefusal, Options, Plan, Refusal, run_create,

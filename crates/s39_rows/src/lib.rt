@@ -3,6 +3,8 @@
 #![tactic(auto)]
 
 #[cfg(test)]
+mod bytes;
+#[cfg(test)]
 mod command_line;
 #[cfg(test)]
 mod create;
@@ -12,6 +14,16 @@ mod devices;
 mod drill;
 #[cfg(test)]
 mod failures;
+#[cfg(test)]
+mod hands;
+#[cfg(test)]
+mod many;
+#[cfg(test)]
+mod numbers;
+#[cfg(test)]
+mod orders;
+#[cfg(test)]
+mod published;
 #[cfg(test)]
 mod recover;
 #[cfg(test)]

@@ -3,10 +3,9 @@
 use crate::vectors::{
     EXTENDABLE_ONE_OF_ONE, LONGEST_ONE_OF_ONE, LONGEST_ONE_OF_ONE_SECRET, ONE_OF_ONE,
     ONE_OF_ONE_256_BITS, ONE_OF_ONE_EXTENDABLE_MEMBER_1, ONE_OF_ONE_SECRET, RECOVER,
-    TWO_NEEDED_MEMBER_0, TWO_NEEDED_MEMBER_2, expect_run,
+    TWO_NEEDED_MEMBER_0, TWO_NEEDED_MEMBER_2, expect_run, program,
 };
 use arrayvec::ArrayVec;
-use s39_cli::program;
 use s39_kdf::check_secret;
 use s39_words::{MAX_TEXT_BYTES, Share, ShareFields, parse, print};
 use std::test::Fail;

@@ -5,9 +5,8 @@ use crate::vectors::{
     EXTENDABLE_ONE_OF_ONE, EXTENDABLE_ONE_OF_ONE_SHOWN, EXTENDABLE_TWO_WORDS_EXCHANGED,
     LONGEST_ONE_OF_ONE, LONGEST_ONE_OF_ONE_SHOWN, ONE_OF_ONE, ONE_OF_ONE_256_BITS,
     ONE_OF_ONE_256_BITS_SHOWN, ONE_OF_ONE_BAD_CHECKSUM, ONE_OF_ONE_BAD_PADDING, SHOW, SHOWN,
-    TWO_NEEDED_MEMBER_0, TWO_NEEDED_MEMBER_2, expect_run,
+    TWO_NEEDED_MEMBER_0, TWO_NEEDED_MEMBER_2, expect_run, program,
 };
-use s39_cli::program;
 use s39_words::laws::read_back;
 use s39_words::{WordError, parse, print};
 use std::alloc::{AllocError, Global};

@@ -1,8 +1,8 @@
 //! Exit statuses: help, the version, refused command lines, flushing, a failing standard error, and no memory.
 
 use crate::devices::{Flushing, Full};
-use crate::vectors::{ONE_OF_ONE, ONE_OF_ONE_BAD_CHECKSUM, SHOW, SHOWN, expect_run};
-use s39_cli::{no_words, program};
+use crate::vectors::{ONE_OF_ONE, ONE_OF_ONE_BAD_CHECKSUM, SHOW, SHOWN, expect_run, program};
+use s39_cli::no_words;
 use std::io;
 use std::io::ErrorKind;
 
@@ -31,7 +31,7 @@ Arguments:
 Options:
       --master-secret <HEX>  The secret in hexadecimal, 16 to 128 bytes and an even number of them
       --passphrase <TEXT>    The passphrase of the backup, by default empty
-      --exponent <E>         The iteration exponent, 0 to 15: a recovery takes 10,000 * 2^E iterations [default: 0]
+      --exponent <E>         The iteration exponent, 0 to 15: a recovery takes 10,000 * 2^E iterations, twice that for over 64 bytes [default: 0]
       --extendable           Leaves the identifier out of the encryption
   -h, --help                 Print help
 ";
@@ -137,7 +137,7 @@ fn flushes_what_it_wrote(rt: HostRuntime) {
         3
     );
     assert_eq!(rt; told.as_slice(), b"shamir: 73 write failed\n".as_slice());
-    // After a fault it changes nothing.
+    // After a fault before which nothing was written it isn't asked.
     let mut told = Vec::new(alloc);
     let output = Flushing::new(alloc, true);
     let input = ONE_OF_ONE_BAD_CHECKSUM.as_bytes();

@@ -1,7 +1,8 @@
 //! The vectors that the rows share, and a run of the program on an input.
 
-use s39_cli::program;
+use s39_cli::Destination;
 use std::alloc::Global;
+use std::io::{Read, Write};
 use std::process::Abort;
 
 // Vectors of SLIP-0039; their passphrase is `TREZOR`.
@@ -58,6 +59,46 @@ pub const SHOWN: &str =
 pub const SHOW: [&str; 2] = ["shamir", "show"];
 
 pub const RECOVER: [&str; 4] = ["shamir", "recover", "--passphrase", "TREZOR"];
+
+/// Runs the program where no terminal is, and gives its exit status.
+pub fn program<R: Read + Drop, W: Write + Drop, E: Write + Drop>(
+    alloc: Global,
+    words: &[&str],
+    input: R,
+    output: W,
+    errors: E,
+) -> u8 {
+    let mut errors = errors;
+    s39_cli::program(
+        alloc,
+        words,
+        input,
+        output,
+        &mut errors,
+        Destination::Elsewhere,
+    )
+    .status()
+}
+
+/// Runs the program at a terminal.
+pub fn program_at_terminal<R: Read + Drop, W: Write + Drop, E: Write + Drop>(
+    alloc: Global,
+    words: &[&str],
+    input: R,
+    output: W,
+    errors: E,
+) -> u8 {
+    let mut errors = errors;
+    s39_cli::program(
+        alloc,
+        words,
+        input,
+        output,
+        &mut errors,
+        Destination::Terminal,
+    )
+    .status()
+}
 
 /// Runs the words on the lines, and compares what is written and the status.
 pub fn expect_run(

@@ -62,7 +62,7 @@ module _ (T : ℕ → Option ℕ) (positive : (g t : ℕ) → T g ≡ Some t →
         at_hand = just.at_hand;
         exact = exact;
         groups = just.groups
-            ∙ ap length (filter-range_agree (is_complete T names) (has_members names) 0 most_groups (λ g _. complete_is_members names exact g));
+            ∙ ap length (filter-range_agree (is_complete T names) (has_members names) 0 most_groups (λ g _ _. complete_is_members names exact g));
       }
 
   pub just_from_exact : (N : List (ℕ × ℕ)) (G : ℕ) (names : List (ℕ × ℕ)) → IsExact T N G names → HasJust T N G names
@@ -70,7 +70,7 @@ module _ (T : ℕ → Option ℕ) (positive : (g t : ℕ) → T g ≡ Some t →
     ascending = is.ascending;
     at_hand = is.at_hand;
     groups = is.groups
-        ∙ sym (ap length (filter-range_agree (is_complete T names) (has_members names) 0 most_groups (λ g _. complete_is_members names is.exact g)));
+        ∙ sym (ap length (filter-range_agree (is_complete T names) (has_members names) 0 most_groups (λ g _ _. complete_is_members names is.exact g)));
     members = members_from_exact names is.exact;
   }
 
@@ -87,18 +87,7 @@ range-split a (suc m) n =
 
 -- tests that agree on a range let as many pass
 pub passing-agree : (p q : ℕ → Bool) (a k : ℕ) → ((g : ℕ) → a ≤ g → g < a + k → p g ≡ q g) → passing p a k ≡ passing q a k
-passing-agree p q a zero h = refl
-passing-agree p q a (suc k) h =
-    let rest : passing p (a + 1) k ≡ passing q (a + 1) k = passing-agree p q (a + 1) k (λ g from below. h g (omega arith) (omega arith)) in
-    by (p a) (q a) (h a (omega arith) (omega arith)) rest
-  where
-    by : (b c : Bool) → b ≡ c → passing p (a + 1) k ≡ passing q (a + 1) k
-        → length (cond b (a ∷ filter p (range_with_len (a + 1) k)) (filter p (range_with_len (a + 1) k))) ≡ length
-        (cond c (a ∷ filter q (range_with_len (a + 1) k)) (filter q (range_with_len (a + 1) k)))
-    by true true e rest = ap suc rest
-    by true false e rest = cc
-    by false true e rest = cc
-    by false false e rest = rest
+passing-agree p q a k h = ap length (filter-range_agree p q a k h)
 
 -- none pass where the test fails
 pub passing-none : (p : ℕ → Bool) (a k : ℕ) → ((g : ℕ) → a ≤ g → g < a + k → p g ≡ false) → passing p a k ≡ 0

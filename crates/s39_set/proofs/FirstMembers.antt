@@ -62,7 +62,7 @@ module _ (T : ℕ → Option ℕ) (N : List (ℕ × ℕ)) (positive : (g t : ℕ
     at_hand = All-append_right (Contains N) front back h.at_hand;
     from = λ i d below. let past : a < (get_or back i d).0 = later i d below in omega arith;
     groups = ap length (filter-range_agree (is_complete T (front ++ back)) (is_complete T back) (a + 1) k
-        (λ g from. rw (names_in_group-joined_later a front back here later g (omega arith))));
+        (λ g from _. rw (names_in_group-joined_later a front back here later g (omega arith))));
     members = λ i d below.
         rw (← names_in_group-joined_later a front back here later (get_or back i d).0 (later i d below))
         (All-append_right (λ name. T name.0 ≡ Some (length (names_in_group name.0 (front ++ back)))) front back h.members i d below);

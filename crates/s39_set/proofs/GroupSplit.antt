@@ -113,10 +113,10 @@ pub is_complete-none : (T : ℕ → Option ℕ) (names : List (ℕ × ℕ)) (g :
 is_complete-none T names g positive none =
     ap (λ some. option_map_or (λ threshold. nat_le threshold (length some)) (T g) false) none ∙ not_reached (T g) positive
 
--- tests that agree from a number on choose the same numbers of a range from there
-pub filter-range_agree : (p q : ℕ → Bool) (a k : ℕ) → ((g : ℕ) → a ≤ g → p g ≡ q g) → filter p (range_with_len a k) ≡ filter q (range_with_len a k)
+-- tests that agree on a range choose the same numbers of it
+pub filter-range_agree : (p q : ℕ → Bool) (a k : ℕ) → ((g : ℕ) → a ≤ g → g < a + k → p g ≡ q g) → filter p (range_with_len a k) ≡ filter q (range_with_len a k)
 filter-range_agree p q a zero h = refl
 filter-range_agree p q a (suc k) h =
     let rest : filter p (range_with_len (a + 1) k) ≡ filter q (range_with_len (a + 1) k) =
-    filter-range_agree p q (a + 1) k (λ g from. h g (omega arith)) in
-    rw (h a (omega arith), rest)
+    filter-range_agree p q (a + 1) k (λ g from below. h g (omega arith) (omega arith)) in
+    rw (h a (omega arith) (omega arith), rest)

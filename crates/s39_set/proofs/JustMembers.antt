@@ -1,19 +1,19 @@
 -- Names that have of each of their groups just as many as its threshold asks.
-use Rattle.std.proofs.Common.{◌≡◌, ℕ, ◌<◌, ◌≤◌, ◌==◌, Bool, List, [], ◌∷◌, length, get_or, filter, All, Contains}
+use Rattle.std.proofs.Common.{◌≡◌, ℕ, ◌<◌, ◌≤◌, ◌==◌, Bool, List, length, get_or, filter, All, Contains}
 use Rattle.std.proofs.Common.{Option, Some, nat_lt, inl, inr, refl, sym, ap, subst, ◌∙◌, arith}
 use Rattle.std.specs.List.{range_with_len}
 use Rattle.std.proofs.lemmas.Bool.{cases_lt, lt-ltb, le-ltb, eq-eqb}
 use Rattle.std.proofs.lemmas.List.{nil_from_length}
-use Rattle.std.proofs.lemmas.List.Elements.{All-head, All-tail, All-contains, All-contains_itself}
+use Rattle.std.proofs.lemmas.List.Elements.{All-contains, All-contains_itself}
 use Rattle.s39_words.specs.declared.share.ShareFields.{ShareFields}
 use Rattle.s39_set.specs.Names.{names_in_group, most_groups}
 use Rattle.s39_set.specs.Groups.{is_complete, complete_groups}
 use Rattle.s39_set.specs.ShareSet.{IsShareSet}
 use Rattle.s39_set.specs.Quorums.{group_threshold_of, member_threshold_of, HasJustTheMembers}
 use Rattle.s39_set.proofs.Sublists.{Contains-filter, Contains-sublist, filter_kept}
-use Rattle.s39_set.proofs.CompleteGroups.{is_complete_from, range-below}
+use Rattle.s39_set.proofs.CompleteGroups.{is_complete_from}
 use Rattle.s39_set.proofs.MembersOf.{names_in_group-group, one_of}
-use Rattle.s39_set.proofs.GroupSplit.{is_complete-none}
+use Rattle.s39_set.proofs.GroupSplit.{is_complete-none, filter-range_agree}
 use Rattle.s39_set.proofs.SetQuorums.{member_threshold-positive}
 
 -- some of these names are of the group
@@ -23,13 +23,6 @@ has_members names group = nat_lt 0 (length (names_in_group group names))
 -- each group below a number that has some of these names has just as many as its threshold
 abbrev pub AreExactBelow : (ℕ → Option ℕ) → List (ℕ × ℕ) → ℕ → Type 0
 AreExactBelow T names n = (g : ℕ) → g < n → 0 < length (names_in_group g names) → T g ≡ Some (length (names_in_group g names))
-
--- tests that agree at each element of a list choose the same ones
-filter_same : {X : Type 0} (p q : X → Bool) (xs : List X) → All (λ x. p x ≡ q x) xs → filter p xs ≡ filter q xs
-filter_same p q [] h = refl
-filter_same p q (x ∷ xs) h =
-    let rest = filter_same p q xs (All-tail (λ y. p y ≡ q y) x xs h) in
-    rw (All-head (λ y. p y ≡ q y) x xs h, rest)
 
 -- a name's group has a name
 pub some_in_group : (names : List (ℕ × ℕ)) (name : ℕ × ℕ) → Contains names name → 0 < length (names_in_group name.0 names)
@@ -50,10 +43,9 @@ module _ (T : ℕ → Option ℕ) (positive : (g t : ℕ) → T g ≡ Some t →
   -- where each group that has names has just as many as its threshold, the complete groups are those that have names
   complete_groups-exact : AreExactBelow T names most_groups → complete_groups T names ≡ filter (has_members names) (range_with_len 0 most_groups)
   complete_groups-exact exact =
-      filter_same (is_complete T names) (has_members names) (range_with_len 0 most_groups)
-      (λ k d within.
-      let g = get_or (range_with_len 0 most_groups) k d in
-      let low : g < most_groups = range-below most_groups k d within in
+      filter-range_agree (is_complete T names) (has_members names) 0 most_groups
+      (λ g from within.
+      let low : g < most_groups = omega arith in
       elim (cases_lt 0 (length (names_in_group g names))) [
         | inl some ↦ is_complete_from T names g (length (names_in_group g names)) (exact g low some) (omega arith)
             ∙ sym (lt-ltb 0 (length (names_in_group g names)) some)

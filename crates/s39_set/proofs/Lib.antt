@@ -21,7 +21,6 @@ pub mod JustMembers
 pub mod Ranges
 pub mod OptionTests
 pub mod AtHand
-pub mod FirstAtHand
 pub mod IndexText
 pub mod NameText
 pub mod WrittenNames
@@ -36,6 +35,7 @@ pub mod Inserted
 pub mod Pushed
 pub mod Fronts
 pub mod CompleteAtHand
+pub mod Completion
 pub mod Step
 pub mod NextQuorum
 pub mod StepOf

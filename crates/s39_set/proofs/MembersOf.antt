@@ -5,8 +5,8 @@ use Rattle.std.specs.List.{All, AllPairs, Contains}
 use Rattle.std.specs.Option.{unwrap_or}
 use Rattle.std.specs.declared.cmp.Ordering.TheVariants.{Less}
 use Rattle.std.proofs.lemmas.Bool.{eqb-true, eq-eqb, ne_eqb}
-use Rattle.std.proofs.lemmas.List.{append-nil, flat_map_more, length-take-le}
-use Rattle.std.proofs.lemmas.List.Elements.{All-nil, All-append, All-contains, All-take, All-weaker, filter-append, filter_passes, All-contains_itself}
+use Rattle.std.proofs.lemmas.List.{append-nil, length-take-le}
+use Rattle.std.proofs.lemmas.List.Elements.{All-nil, All-append, All-contains, All-take, filter-append, filter_passes, All-contains_itself}
 use Rattle.s39_set.specs.Names.{name_cmp, IsAscending, names_in_group}
 use Rattle.s39_set.specs.Groups.{complete_groups, first_members, members_of}
 use Rattle.s39_set.proofs.Sublists.{IsSublist, AllPairs-nil, AllPairs-head, AllPairs-tail, AllPairs-append}
@@ -64,16 +64,6 @@ module _ (T : ℕ → Option ℕ) (names : List (ℕ × ℕ)) where
       All-append (λ name. Contains (g ∷ gs) name.0) (first_members T names g) (members_of T names gs)
       (λ k d below. subst (Contains (g ∷ gs)) (sym (first_members-group g k d below)) (Contains-head g gs))
       (λ k d below. Contains-cons g gs (get_or (members_of T names gs) k d).0 (members_of-groups gs k d below))
-
-  -- of groups below a number they are of groups below it
-  pub members_of-below : (groups : List ℕ) (n : ℕ) → All (λ group. group < n) groups → All (λ name. name.0 < n) (members_of T names groups)
-  members_of-below groups n below =
-      All-weaker (λ name. Contains groups name.0) (λ name. name.0 < n) (λ name among. All-contains (λ group. group < n) groups name.0 below among)
-      (members_of T names groups) (members_of-groups groups)
-
-  -- one group more has its first members behind the others
-  pub members_of_push : (groups : List ℕ) (group : ℕ) → members_of T names (groups ++ group ∷ []) ≡ members_of T names groups ++ first_members T names group
-  members_of_push groups group = sym (flat_map_more (first_members T names) [] groups group)
 
   -- each is one of the names
   pub members_of-at_hand : (groups : List ℕ) → All (Contains names) (members_of T names groups)

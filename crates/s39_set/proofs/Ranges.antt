@@ -1,13 +1,12 @@
 -- The numbers of a range that pass a test.
 use Rattle.std.proofs.Common.{◌≡◌, ℕ, ◌+◌, ◌<◌, ◌≤◌, Bool, true, false, cond, List, [], ◌∷◌, ◌++◌, length, filter, take}
-use Rattle.std.proofs.Common.{All, inl, inr, sym, ap, ◌∙◌, arith, append-nil}
+use Rattle.std.proofs.Common.{sym, ap, ◌∙◌, arith, append-nil}
 use Rattle.std.specs.List.{range_with_len}
-use Rattle.std.proofs.lemmas.Bool.{cases_Bool, cond-true, cond-false}
+use Rattle.std.proofs.lemmas.Bool.{cond-true, cond-false}
 use Rattle.std.proofs.lemmas.List.{map-id, length_push, length-take, take-append-le, take_all}
-use Rattle.std.proofs.lemmas.List.Elements.{filter-append, All-filter, All-take}
+use Rattle.std.proofs.lemmas.List.Elements.{filter-append}
 use Rattle.std.proofs.lemmas.List.FromFn.{map-range_with_len_more, length-range_with_len}
 use Rattle.std.proofs.lemmas.List.Sums.{length-filter, count_by-le-length}
-use Rattle.s39_set.proofs.CompleteGroups.{range-below}
 
 -- one more element, where fewer are taken than asked for, is taken
 pub take_push_short : {X : Type 0} (n : ℕ) (xs : List X) (x : X) → length (take n xs) < n → take n (xs ++ x ∷ []) ≡ take n xs ++ x ∷ []
@@ -50,30 +49,3 @@ module _ (p : ℕ → Bool) (n : ℕ) where
   -- no more pass than there are
   pub length-filter-range-le : length (filter p (range_with_len 0 n)) ≤ n
   length-filter-range-le = omega (arith, length-filter p (range_with_len 0 n), count_by-le-length p (range_with_len 0 n), length-range_with_len 0 n)
-
--- the first so many numbers below n that pass
-abbrev pub first_passing : (ℕ → Bool) → ℕ → ℕ → List ℕ
-first_passing p many n = take many (filter p (range_with_len 0 n))
-
-module _ (p : ℕ → Bool) (many n : ℕ) where
-  -- a number that passes is one more of them, where they are too few
-  pub first_passing_more : p n ≡ true → length (first_passing p many n) < many → first_passing p many (n + 1) ≡ first_passing p many n ++ n ∷ []
-  first_passing_more passes few =
-      ap (take many) (filter-range_more_yes p n passes) ∙ take_push_short many (filter p (range_with_len 0 n)) n few
-
-  -- one that doesn't changes nothing
-  pub first_passing_without : p n ≡ false → first_passing p many (n + 1) ≡ first_passing p many n
-  first_passing_without fails = ap (take many) (filter-range_more_no p n fails)
-
-  -- nor does any, where they are enough
-  pub first_passing_full : many ≤ length (first_passing p many n) → first_passing p many (n + 1) ≡ first_passing p many n
-  first_passing_full full =
-      elim (cases_Bool (p n)) [
-        | inl passes ↦ (ap (take many) (filter-range_more_yes p n passes) ∙ take_push_full many (filter p (range_with_len 0 n)) n full)
-        | inr fails ↦ first_passing_without fails
-      ]
-
-  -- they are below n
-  pub first_passing-below : All (λ k. k < n) (first_passing p many n)
-  first_passing-below =
-      All-take (λ k. k < n) many (filter p (range_with_len 0 n)) (All-filter p (λ k. k < n) (range_with_len 0 n) (range-below n))

@@ -1,12 +1,12 @@
 -- A step of a set, from what its masks know.
-use Rattle.std.proofs.Common.{◌≡◌, ◌≢◌, ℕ, zero, suc, ◌+◌, ◌-◌, ◌<◌, ◌≤◌, ◌++◌, Bool, true, false, List, [], ◌∷◌}
+use Rattle.std.proofs.Common.{◌≡◌, ◌≢◌, ℕ, suc, ◌+◌, ◌-◌, ◌<◌, ◌≤◌, ◌++◌, true, false, List, [], ◌∷◌}
 use Rattle.std.proofs.Common.{length, get_or, map, filter, take, All, Contains, Option, Some, None, Less}
-use Rattle.std.proofs.Common.{Greater, nat_lt, unwrap_or, refl, sym, ap, ap₂, subst, ◌∙◌, arith, add-one}
-use Rattle.std.specs.List.{range_with_len, flat_map}
+use Rattle.std.proofs.Common.{Greater, nat_lt, refl, sym, ap, ap₂, subst, ◌∙◌, arith, add-one}
+use Rattle.std.specs.List.{range_with_len}
 use Rattle.std.specs.Prelude.{IsTrue}
 use Rattle.std.proofs.lemmas.Bool.{lt-ltb, false≢true}
 use Rattle.std.proofs.lemmas.Bool.Decides.{nat_tests}
-use Rattle.std.proofs.lemmas.List.Elements.{Contains-append_right, All-head, All-tail, All-map, All-filter, All-take, All-contains, filter_passes}
+use Rattle.std.proofs.lemmas.List.Elements.{Contains-append_right, All-map, All-filter, All-contains, filter_passes}
 use Rattle.std.proofs.lemmas.List.Kept.{AllPairs-filter}
 use Rattle.s39_words.specs.declared.share.ShareFields.{ShareFields}
 use Rattle.s39_set.specs.declared.masks.Masks.{Masks}
@@ -14,11 +14,11 @@ use Rattle.s39_set.specs.declared.next.Choice.{Choice}
 use Rattle.s39_set.specs.declared.next.Tail.{Tail}
 use Rattle.s39_set.specs.declared.next.Tail.TheVariants.{Group, LaterGroups}
 use Rattle.s39_set.specs.Names.{name_cmp, names_cmp, names_in_group, AreNames, most_groups, most_members}
-use Rattle.s39_set.specs.Groups.{is_complete, first_members, members_of, groups_above}
+use Rattle.s39_set.specs.Groups.{is_complete, members_of, groups_above}
 use Rattle.s39_set.specs.ShareSet.{IsShareSet, name_of}
 use Rattle.s39_set.specs.Quorums.{group_threshold_of, member_threshold_of, IsQuorum, IsFirstQuorumAfter}
 use Rattle.s39_set.specs.Masks.{is_in}
-use Rattle.s39_set.specs.Steps.{AreMasksOf, Knows, members_from, members_taken, groups_from, groups_taken, IsTailFor, groups_used, tail_names}
+use Rattle.s39_set.specs.Steps.{AreMasksOf, Knows, members_from, groups_taken, IsTailFor, groups_used, tail_names}
 use Rattle.s39_set.proofs.Thresholds.{HasJust}
 use Rattle.s39_set.proofs.Sublists.{Contains-filter, Contains-head}
 use Rattle.s39_set.proofs.SetQuorums.{member_threshold-positive, groups-below, members-below}
@@ -26,7 +26,7 @@ use Rattle.s39_set.proofs.SetQuorums.{group_threshold-from_meets, just_from_quor
 use Rattle.s39_set.proofs.SetQuorums.{set_from_just, written_of_quorum}
 use Rattle.s39_set.proofs.AtHand.{Contains-map, AllPairs-map, member-less}
 use Rattle.s39_set.proofs.JustMembers.{has_members}
-use Rattle.s39_set.proofs.CompleteAtHand.{names_in_group-masks}
+use Rattle.s39_set.proofs.Completion.{groups_taken-members}
 use Rattle.s39_set.proofs.CompleteGroups.{range_from-ascending, range_from-bounds, Contains-range_from}
 use Rattle.s39_set.proofs.Exact.{passing-agree, passing_above}
 use Rattle.s39_set.proofs.Step.{AreAbove, least_of_group, least_of_later, nothing_greater}
@@ -71,19 +71,6 @@ above_from_masks masks names x masks_are low low_g low_m =
           (Contains-filter p (range_with_len (x.1 + 1) (most_members - (x.1 + 1))) n.1
           (Contains-range_from (x.1 + 1) (most_members - (x.1 + 1)) n.1 (omega arith) (omega arith)) set_bit));
     }
-
--- tests that agree on a range choose the same numbers
-filter-range_within : (p q : ℕ → Bool) (a k : ℕ) → ((g : ℕ) → a ≤ g → g < a + k → p g ≡ q g) → filter p (range_with_len a k) ≡ filter q (range_with_len a k)
-filter-range_within p q a zero h = refl
-filter-range_within p q a (suc k) h =
-    let rest : filter p (range_with_len (a + 1) k) ≡ filter q (range_with_len (a + 1) k) =
-    filter-range_within p q (a + 1) k (λ g from below. h g (omega arith) (omega arith)) in
-    rw (h a (omega arith) (omega arith), rest)
-
--- functions that agree at each element give the same lists
-flat_map-same : (f g : ℕ → List (ℕ × ℕ)) (xs : List ℕ) → All (λ x. f x ≡ g x) xs → flat_map f xs ≡ flat_map g xs
-flat_map-same f g [] h = refl
-flat_map-same f g (x ∷ xs) h = ap₂ ◌++◌ (All-head (λ y. f y ≡ g y) x xs h) (flat_map-same f g xs (All-tail (λ y. f y ≡ g y) x xs h))
 
 module _ (shares : List ShareFields) (is : IsShareSet shares) (Q : List (ℕ × ℕ)) (quorum : IsQuorum shares Q) where
   abbrev pub NoneBehind : List (ℕ × ℕ) → Type 0
@@ -143,27 +130,8 @@ module _ (shares : List ShareFields) (is : IsShareSet shares) (Q : List (ℕ × 
         passing-agree (λ g. nat_lt 0 (get_or choice.members g 0)) (has_members (P ++ x ∷ S)) (x.0 + 1) (most_groups - (x.0 + 1))
         (λ g from below. ap (λ n. nat_lt 0 n) (knows.members g (omega arith) ∙ ap (λ q. length (names_in_group g q)) parts))
 
-    groups_same : groups_from choice.complete (x.0 + 1) ≡ filter (is_complete T N) (groups_above x.0)
-    groups_same =
-        let low = low_g in
-        filter-range_within (λ g. get_or choice.complete g false) (is_complete T N) (x.0 + 1) (most_groups - (x.0 + 1))
-        (λ g from below. knows.complete g (omega arith))
-
     members_same : (n : ℕ) → groups_taken shares choice (x.0 + 1) n ≡ members_of T N (take n (filter (is_complete T N) (groups_above x.0)))
-    members_same n =
-        let low = low_g in
-        let groups = take n (filter (is_complete T N) (groups_above x.0)) in
-        let bounds : All (λ g. ((x.0 + 1) ≤ g) × (g < (x.0 + 1) + (most_groups - (x.0 + 1)))) groups =
-        All-take (λ g. ((x.0 + 1) ≤ g) × (g < (x.0 + 1) + (most_groups - (x.0 + 1)))) n (filter (is_complete T N) (groups_above x.0))
-        (All-filter (is_complete T N) (λ g. ((x.0 + 1) ≤ g) × (g < (x.0 + 1) + (most_groups - (x.0 + 1)))) (groups_above x.0)
-        (range_from-bounds (x.0 + 1) (most_groups - (x.0 + 1)))) in
-        ap (λ gs. flat_map (members_taken shares choice.at_hand) (take n gs)) groups_same
-        ∙ flat_map-same (members_taken shares choice.at_hand) (first_members T N) groups
-        (λ k d within.
-        let g = get_or groups k d in
-        let b = bounds k d within in
-        let small : g < most_groups = omega (arith, b.1) in
-        ap (take (unwrap_or (T g) 0)) (sym (names_in_group-masks shares is choice.at_hand knows.at_hand g small)))
+    members_same n = groups_taken-members shares is choice knows.complete knows.at_hand (x.0 + 1) n
 
     all_chosen : ((m : ℕ) → x.1 < m → m < most_members → IsTrue (is_in choice.at_hand x.0 m) → IsTrue (is_in choice.chosen x.0 m)) → (n : ℕ × ℕ) → Contains A n
         → Contains C n

@@ -173,7 +173,7 @@ fn count_members(masks: &Masks, group: u8, from: u8, looks: &mut Looks) -> u8
 }
 
 impl Choice {
-    fn of(set: &ShareSet, names: &[(u8, u8)], looks: &mut Looks) -> Choice
+    pub(crate) fn of(set: &ShareSet, names: &[(u8, u8)], looks: &mut Looks) -> Choice
         requires names { AreNames names.now }
         requires short { length names.now ≤ most_names }
         requires is_set { IsShareSet set.now }
@@ -245,7 +245,7 @@ impl Choice {
 
     /// Appends the first members of the first complete groups from one on, so many groups as wanted, of each as many
     /// as its member threshold asks.
-    fn push_groups(
+    pub(crate) fn push_groups(
         &self,
         set: &ShareSet,
         from: u8,

@@ -1,5 +1,5 @@
 -- The random bytes by which a split has known shares: there is one list of them.
-use Rattle.std.proofs.Common.{◌≡◌, ℕ, ◌+◌, ◌-◌, ◌*◌, ◌<◌, ◌≤◌, List, [], ◌∷◌, ◌++◌, Some, length, map, get_or, take, refl, sym, ap, ap₂, ◌∙◌, subst}
+use Rattle.std.proofs.Common.{◌≡◌, ℕ, ◌+◌, ◌-◌, ◌*◌, ◌<◌, ◌≤◌, List, [], ◌∷◌, ◌++◌, Some, length, map, get_or, take, refl, sym, ap, ◌∙◌, subst}
 use Rattle.std.proofs.Common.{inl, inr, arith, length-append, append_assoc, zero-add}
 use Rattle.std.specs.List.{All, concat, range_with_len, enumerate_from}
 use Rattle.std.proofs.lemmas.List.{take_at, same_lists, get_or-take, get_or-append_right, get_or_append_left, get_or_at, get_or-append-add}

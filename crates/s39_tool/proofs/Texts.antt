@@ -1,3 +1,4 @@
 -- The texts that are written.
 pub mod Decimals
 pub mod Write
+pub mod SecretLines

@@ -12,7 +12,7 @@ ghost use Rattle.s39_words.specs.declared.share.ShareFields.{ShareFields};
 ghost use Rattle.s39_words.specs.declared.word_error.WordError.{WordError as Cause};
 ghost use Rattle.s39_words.specs.Checksum.{generator, IsValidChecksum};
 ghost use Rattle.s39_words.specs.Division.{packed, generator_times};
-ghost use Rattle.s39_words.specs.Mistyping.{count_of_differences, IsMnemonic, IsMistyped};
+ghost use Rattle.s39_words.specs.Mistyping.{count_of_differences, most_wrong_words, IsMnemonic, IsMistyped};
 ghost use Rattle.s39_words.specs.Printing.{IsPrinted};
 ghost use Rattle.s39_words.specs.Reading.{IsWordCount, flag_of, Reads};
 ghost use Rattle.s39_words.specs.Share.{IsShare};
@@ -31,7 +31,7 @@ use crate::size::{
 use crate::spelling::parse;
 use crate::word_error::WordError;
 
-/// The numbers by which the code goes are those of the definitions.
+/// The numbers by which the code goes are those of the definitions; up to three wrong words are always found.
 pub fn numbers()
     ensures letters { MAX_LETTERS ≡ longest_word }
     ensures bits { WORD_BITS ≡ word_bits }
@@ -54,6 +54,7 @@ pub fn numbers()
     ensures fewest { MIN_WORDS ≡ fewest_words }
     ensures most { MAX_WORDS ≡ most_words }
     ensures text { MAX_TEXT_BYTES ≡ longest_text }
+    ensures wrong { most_wrong_words ≡ 3 }
 {}
 
 /// A mnemonic has 20 to 110 words: it may have 20, it may have 110, and it may have no fewer and no more.

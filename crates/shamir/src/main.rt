@@ -1,7 +1,7 @@
 //! The program `shamir`: SLIP-0039 backups on the command line.
 #![tactic(auto)]
 
-use s39_cli::{no_words, program, program_at_terminal};
+use s39_cli::{Destination, no_words, program};
 use std::alloc::{AllocError, Global};
 use std::io::IsTerminal;
 use std::process::ExitCode;
@@ -18,12 +18,14 @@ fn status(rt: &HostRuntime) -> io::Result<u8> {
     let alloc = rt.alloc();
     let arguments: Vec<String> = env::args(rt)?.collect(alloc)?;
     let words = texts(alloc, &arguments)?;
-    let (input, output, errors) = (rt.stdin(), rt.stdout(), rt.stderr());
-    Ok(if output.is_terminal() {
-        program_at_terminal(alloc, &words, input, output, errors)
+    let (input, output) = (rt.stdin(), rt.stdout());
+    let destination = if output.is_terminal() {
+        Destination::Terminal
     } else {
-        program(alloc, &words, input, output, errors)
-    })
+        Destination::Elsewhere
+    };
+    let errors = &mut rt.stderr();
+    Ok(program(alloc, &words, input, output, errors, destination).status())
 }
 
 fn main(rt: HostRuntime) -> ExitCode {

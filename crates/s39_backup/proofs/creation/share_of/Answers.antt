@@ -7,6 +7,12 @@ pub unwrap-requires-2 : goal.unwrap-requires-2
 unwrap-requires-2 c =
     let valued : c.unwrap.result.items ≡ c.args.value.now = search rules in
     let header = c.args.header.now.is_header in
+    let few = c.requires.members.enough.few in
+    let enough = c.requires.members.enough.enough in
+    let positive = c.requires.members.positive in
+    let groups_few = header.few in
+    let groups_enough = header.enough in
+    let groups_positive = header.positive in
     c.new.ensures.in_range.1 (record {
       id = c.args.header.now.params.id_in_range;
       exponent = c.args.header.now.params.exponent_in_range;
@@ -15,8 +21,8 @@ unwrap-requires-2 c =
       threshold_in_count = header.enough;
       group_count = header.few;
       member_index = c.requires.member;
-      member_threshold = c.requires.members.positive;
-      member_threshold_in_range = let few = c.requires.members.enough.few in let enough = c.requires.members.enough.enough in omega arith;
+      member_threshold = omega arith;
+      member_threshold_in_range = omega arith;
       value = subst IsValue (sym valued)
           (record {
             bytes = λ k d below.

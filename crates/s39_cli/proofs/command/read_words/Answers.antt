@@ -1,5 +1,5 @@
-use Rattle.std.proofs.Common.{◌∙◌, ap, map, List, ℕ, Bor}
-use Rattle.clap.specs.Words.{App, app_of, found_of, kind_of, rows_of, takes}
+use Rattle.std.proofs.Common.{◌∙◌, ap, map, List, sym, ℕ, Bor}
+use Rattle.clap.specs.Words.{App, app_of, fault_of, found_of, kind_of, rows_of, takes}
 use Rattle.s39_cli.proofs.Jobs.{answer_by_kind, known_faults, met_enters, met_is, never_none, no_fault_taken}
 use Rattle.s39_cli.proofs.command.read_words.Goals as goal
 
@@ -45,3 +45,9 @@ unreachable-requires c =
     let a = app_of c.in_ok-command.command in
     never_none a words c.in-Ok.matches c.in_ok-command.ensures c.in-Ok.ensures.matches (c.in-Ok.ensures.kinds (known_faults a c.in_ok-command.ensures))
     c.in-None.ensures.variant
+
+pub returns-clause-faultless : goal.returns-clause-faultless
+returns-clause-faultless c =
+    let words = map (λ (word : Bor (List ℕ)). word.now) c.args.words.now in
+    let a = app_of c.in_ok-command.command in
+    ap (λ (x : App). fault_of x words) (sym c.in_ok-command.ensures) ∙ c.in-Ok.ensures.kinds (known_faults a c.in_ok-command.ensures)

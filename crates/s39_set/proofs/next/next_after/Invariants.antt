@@ -1,4 +1,4 @@
-use Rattle.std.proofs.Common.{◌≡◌, ◌≢◌, ◌+◌, ◌-◌, ◌*◌, ◌≤◌, ◌++◌, ℕ, List, length, take, drop, sum_by, Less}
+use Rattle.std.proofs.Common.{◌≡◌, ◌≢◌, ◌+◌, ◌*◌, ◌≤◌, ◌++◌, ℕ, List, length, take, drop, sum_by, Less}
 use Rattle.s39_set.specs.Names.{names_cmp}
 use Rattle.s39_set.specs.Quorums.{IsQuorum}
 use Rattle.s39_set.specs.Looks.{test_looks, choice_looks, place_looks}

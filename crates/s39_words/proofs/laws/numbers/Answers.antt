@@ -24,4 +24,5 @@ returns c = record {
   fewest = refl;
   most = refl;
   text = refl;
+  wrong = refl;
 }

@@ -1,4 +1,4 @@
-use Rattle.std.proofs.Common.{◌≡◌, ◌+◌, ◌-◌, ◌*◌, ◌≤◌, ◌<◌, ◌++◌, length, get_or, filter, take, false, All}
+use Rattle.std.proofs.Common.{◌≡◌, ◌+◌, ◌-◌, ◌*◌, ◌<◌, ◌++◌, length, get_or, filter, take, false, All}
 use Rattle.std.specs.List.{range_with_len, flat_map}
 use Rattle.s39_set.specs.Steps.{members_taken}
 use Rattle.s39_set.specs.Names.{most_members}

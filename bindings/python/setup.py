@@ -1,0 +1,42 @@
+"""The wheel holds the shared library, so its tag names the platform. It is for every Python 3, as no extension of Python is in it."""
+import pathlib
+import sys
+
+from setuptools import setup
+from setuptools.command.build_py import build_py
+from setuptools.dist import Distribution
+
+try:
+    from setuptools.command.bdist_wheel import bdist_wheel
+except ImportError:
+    try:
+        from wheel.bdist_wheel import bdist_wheel
+    except ImportError:
+        sys.exit("shamir: a wheel needs the package wheel, or setuptools 70.1 or later (Debian: python3-setuptools and python3-wheel)")
+
+HERE = pathlib.Path(__file__).resolve().parent
+NEEDED = {
+    "shamir/libshamir.so": "the package is nothing without its library: `make lib` at the top of the repository puts it there",
+    "NOTICE": "it goes with every copy of the library: copy it from the top of the repository",
+}
+
+
+class WithLibrary(build_py):
+    def run(self):
+        for name, why in NEEDED.items():
+            if not (HERE / name).is_file():
+                sys.exit(f"shamir: {HERE / name} isn't here, and {why}")
+        super().run()
+
+
+class OfPlatform(bdist_wheel):
+    def get_tag(self):
+        return "py3", "none", super().get_tag()[2]
+
+
+class NotPure(Distribution):
+    def has_ext_modules(self):
+        return True
+
+
+setup(distclass=NotPure, cmdclass={"build_py": WithLibrary, "bdist_wheel": OfPlatform})

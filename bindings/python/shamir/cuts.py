@@ -1,0 +1,144 @@
+"""Where to cut a drill: `python3 -m shamir.cuts N < mnemonics` prints the options of N drills that together list what one
+would, a line for each in order, as `--limit 3217` and `--after 0.0+0.2 --limit 3217`. Their numbers of quorums differ by
+at most one.
+
+Nothing is deciphered: which members each group has and needs is counted, by what the mnemonics say of themselves.
+"""
+import argparse
+import math
+import signal
+import sys
+from dataclasses import dataclass
+from typing import Iterator, List, Tuple
+
+import shamir
+
+Name = Tuple[int, int]
+
+
+@dataclass(frozen=True)
+class Group:
+    """A group: its number, how many of its members are needed, and which there are, in order."""
+
+    number: int
+    threshold: int
+    members: List[int]
+
+    def choices(self) -> int:
+        return math.comb(len(self.members), self.threshold)
+
+    def choice(self, rank: int) -> List[Name]:
+        """Its members that are chosen at this place, of all choices in the order of their names."""
+        chosen: List[Name] = []
+        for at, member in enumerate(self.members):
+            more = self.threshold - len(chosen)
+            with_it = math.comb(len(self.members) - at - 1, more - 1) if more else 0
+            if rank < with_it:
+                chosen.append((self.number, member))
+            else:
+                rank -= with_it
+        return chosen
+
+
+class Quorums:
+    """The quorums of mnemonics in the order of a drill, by their places from 0 on."""
+
+    def __init__(self, groups: List[Group], needed: int):
+        self.groups, self.needed = groups, needed
+        # By how many of the groups are behind, and how many of these are needed: how many ways there are.
+        self.ways = [[1] + [0] * needed]
+        for group in reversed(groups):
+            behind = self.ways[-1]
+            self.ways.append([1] + [behind[count] + group.choices() * behind[count - 1] for count in range(1, needed + 1)])
+
+    def count(self) -> int:
+        return self.ways[-1][self.needed]
+
+    def names(self, rank: int) -> str:
+        """The quorum at a place, as a drill writes it. Those with the first group come first, by the choice of its members."""
+        found: List[Name] = []
+        needed = self.needed
+        for at, group in enumerate(self.groups):
+            behind = self.ways[len(self.groups) - at - 1]
+            with_it = group.choices() * behind[needed - 1] if needed else 0
+            if rank < with_it:
+                needed -= 1
+                choice, rank = divmod(rank, behind[needed])
+                found += group.choice(choice)
+            else:
+                rank -= with_it
+        return written(found)
+
+
+def written(names: List[Name]) -> str:
+    return "+".join(f"{group}.{member}" for group, member in names)
+
+
+def mnemonics_of(text: bytes) -> Iterator[bytes]:
+    lines = (line.strip(b" \t\r") for line in text.split(b"\n"))
+    return (line for line in lines if line and not line.startswith(b"#"))
+
+
+def shares_of(text: bytes) -> Iterator[shamir.Share]:
+    """The shares of lines, up to the first that is refused."""
+    for line in mnemonics_of(text):
+        try:
+            yield shamir.parse(line)
+        except shamir.Refusal:
+            return
+
+
+def check(text: bytes, shares: List[shamir.Share]) -> None:
+    """Raises what a drill refuses of lines. It is to go on after names that are no quorum, so it never gets to decipher."""
+    alone = any((share.group_index, share.member_threshold) == (0, 1) for share in shares)
+    try:
+        next(shamir.drill(text, after="0.0+0.1" if alone else "0.0"))
+    except shamir.Refusal as refusal:
+        if refusal.code != shamir.Code.NOT_A_QUORUM:
+            raise
+
+
+def quorums(text: bytes) -> Quorums:
+    """The quorums of lines of mnemonics. Raises `Refusal` as a drill of them does, but 41 and 61."""
+    shares = list(shares_of(text))
+    check(text, shares)
+    thresholds = {share.group_index: share.member_threshold for share in shares}
+    names = {(share.group_index, share.member_index) for share in shares}
+    groups = [Group(number, thresholds[number], sorted(member for group, member in names if group == number)) for number in sorted(thresholds)]
+    return Quorums(groups, shares[0].group_threshold)
+
+
+def cuts(whole: Quorums, parts: int) -> Iterator[str]:
+    """The options of so many drills, or of one for each quorum where there are fewer; ValueError where a part is too large."""
+    count = whole.count()
+    enough = -(-count // shamir.LIMIT_MAX)
+    if parts < enough:
+        raise ValueError(f"a part of more than {shamir.LIMIT_MAX} quorums, of {count} in all: {enough} parts are needed at least")
+    return options(whole, count, min(parts, count))
+
+
+def options(whole: Quorums, count: int, parts: int) -> Iterator[str]:
+    begin = 0
+    for part in range(1, parts + 1):
+        end = count * part // parts
+        after = f"--after {whole.names(begin - 1)} " if begin else ""
+        yield f"{after}--limit {end - begin}"
+        begin = end
+
+
+def main() -> None:
+    signal.signal(signal.SIGPIPE, signal.SIG_DFL)
+    parser = argparse.ArgumentParser(prog="python3 -m shamir.cuts", description="Prints the options of N drills that together list what one would.")
+    parser.add_argument("parts", metavar="N", type=int, help="how many drills, 1 or more")
+    parts = parser.parse_args().parts
+    if parts < 1:
+        parser.error("N is 1 or more")
+    try:
+        for line in cuts(quorums(sys.stdin.buffer.read()), parts):
+            print(line)
+    except (shamir.Refusal, ValueError) as refused:
+        sys.exit(f"shamir.cuts: {refused}")
+
+
+if __name__ == "__main__":
+    main()

@@ -1,0 +1,308 @@
+-- What calls give of the same things, and of what was in memory, is one answer and one memory.
+use Rattle.std.proofs.Common.{◌≡◌, ◌≢◌, ℕ, ◌<◌, ◌^◌, Bool, true, List, [], ◌∷◌, ◌++◌, length, drop, length-append, refl, sym, ap, ap₂, subst, ◌∙◌, inl, inr, arith}
+use Rattle.std.proofs.Common.{Option, Some, None, Result, Ok, Err}
+use Rattle.std.proofs.Math.Bridge.{le_prop}
+use Rattle.std.proofs.lemmas.List.{get_or_append_left}
+use Rattle.s39_kdf.specs.Bytes.{AreBytes}
+use Rattle.std.specs.Prelude.{◌↔◌}
+use Rattle.std.proofs.lemmas.Bool.{cases_lt, cases_Bool}
+use Rattle.s39_kdf.specs.Limits.{exponent_bits}
+use Rattle.s39_words.specs.declared.ShareFields.{ShareFields}
+use Rattle.s39_words.specs.declared.word_error.WordError.{WordError}
+use Rattle.s39_words.specs.Reading.{Reads}
+use Rattle.std.specs.Fmt.{decimal}
+use Rattle.s39_set.specs.Written.{name_text, quorum_text, IsWrittenForm}
+use Rattle.s39_backup.specs.declared.options.Options.{Options}
+use Rattle.s39_backup.specs.declared.plan.Members.{Members}
+use Rattle.s39_backup.specs.declared.plan_error.PlanError.{PlanError}
+use Rattle.s39_backup.specs.Plan.{IsPlanReading}
+use Rattle.s39_backup.specs.Created.{random_needed}
+use Rattle.s39_tool.specs.declared.fault.Fault.{Fault}
+use Rattle.s39_tool.specs.declared.listing.Listing.{Listing}
+use Rattle.s39_tool.specs.declared.memory.Unwritten.{Unwritten}
+use Rattle.s39_tool.specs.declared.memory.Unwritten.TheVariants.{Refused, TooShort as SliceTooShort}
+use Rattle.s39_tool.specs.Input.{Input, whole}
+use Rattle.s39_tool.specs.Create.{Asked, IsCreateOutput}
+use Rattle.s39_tool.specs.Drill.{IsDrillOutput}
+use Rattle.s39_tool.specs.Recover.{secret_line, IsRecoverOutput}
+use Rattle.s39_tool.specs.Fitting.{Lists}
+use Rattle.s39_tool.proofs.Texts.SecretLines.{same_secret, same_size}
+use Rattle.s39_c.specs.declared.answer.ShamirAnswer.{ShamirAnswer}
+use Rattle.s39_c.specs.declared.parsing.ShamirShare.{ShamirShare}
+use Rattle.s39_c.specs.Answers.{Gives, number, too_short, plan_refused, word_refused, refused, unwritten, listed}
+use Rattle.s39_c.specs.Parsing.{HasHeader, GivesShare}
+use Rattle.s39_c.specs.Creating.{Wanted, Asks, GivesMnemonics, GivesBackup, GivesNumber}
+use Rattle.s39_c.specs.Recovering.{GivesSecret}
+use Rattle.s39_c.specs.Drilling.{GivesListing, IsCursor, GivesDrill}
+
+-- the same bytes are given in one way
+gives_once : (bytes old new other : List ℕ) (answer another : ShamirAnswer) → Gives bytes old new answer → Gives bytes old other another
+    → (new ≡ other) × (answer ≡ another)
+gives_once bytes old new other answer another (inl (fits, is, says)) (inl (also, same, too)) = (is ∙ sym same, says ∙ sym too)
+gives_once bytes old new other answer another (inl (fits, is, says)) (inr (long, same, too)) = absurd (omega (arith, fits, long))
+gives_once bytes old new other answer another (inr (long, is, says)) (inl (fits, same, too)) = absurd (omega (arith, fits, long))
+gives_once bytes old new other answer another (inr (long, is, says)) (inr (also, same, too)) = (is ∙ sym same, says ∙ sym too)
+
+-- ---- a share
+
+module _ (one_reading : (text : List ℕ) (r s : Result ShareFields WordError) → Reads text r → Reads text s → r ≡ s) where
+  same_header : (fields : ShareFields) (room : List ℕ) (old new other : ShamirShare) → HasHeader fields room old new → HasHeader fields room old other
+      → new ≡ other
+  same_header fields room old new other is also = elim (cases_lt (length room) (length fields.value.items)) [
+    | inl short ↦ is.1 short ∙ sym (also.1 short)
+    | inr fits ↦ is.0 fits ∙ sym (also.0 fits)
+  ]
+
+  abbrev read : ShareFields → Result ShareFields WordError
+  read x = Ok x
+
+  abbrev unread : WordError → Result ShareFields WordError
+  unread e = Err e
+
+  same_fields : (x y : ShareFields) → read x ≡ read y → x ≡ y
+  same_fields x y same = cc
+
+  same_error : (x y : WordError) → unread x ≡ unread y → x ≡ y
+  same_error x y same = cc
+
+  not_both : (x : ShareFields) (y : WordError) → Ok x ≡ Err y → ⊥
+  not_both x y same = absurd (cc)
+
+  pub share_once : (line : List ℕ) (header first second : ShamirShare) (old new other : List ℕ) (answer another : ShamirAnswer)
+      → GivesShare line header first old new answer → GivesShare line header second old other another
+      → (first ≡ second) × (new ≡ other) × (answer ≡ another)
+  share_once line header first second old new other answer another (inl (f, reads, has, gives)) (inl (g, reads', has', gives')) =
+      let same : g ≡ f = same_fields g f (one_reading line (Ok g) (Ok f) reads' reads) in
+      let given = gives_once f.value.items old new other answer another gives (subst (λ (h : ShareFields). Gives h.value.items old other another) same gives') in (
+        same_header f old header first second has (subst (λ (h : ShareFields). HasHeader h old header second) same has'),
+        given.0,
+        given.1,
+      )
+  share_once line header first second old new other answer another (inl (f, reads, has, gives)) (inr (e, reads', same, is, says)) =
+      absurd (not_both f e (one_reading line (Ok f) (Err e) reads reads'))
+  share_once line header first second old new other answer another (inr (e, reads', same, is, says)) (inl (f, reads, has, gives)) =
+      absurd (not_both f e (one_reading line (Ok f) (Err e) reads reads'))
+  share_once line header first second old new other answer another (inr (e, reads, same, is, says)) (inr (d, reads', same', is', says')) =
+      let errors : e ≡ d = same_error e d (one_reading line (Err e) (Err d) reads reads') in
+      (same ∙ sym same', is ∙ sym is', says ∙ ap word_refused errors ∙ sym says')
+
+-- ---- a plan
+
+module _ (one_plan_reading : (text : List ℕ) (reading other : Result (ℕ × List Members) PlanError)
+    → IsPlanReading text reading → IsPlanReading text other → reading ≡ other) where
+  abbrev plan_of : ℕ × List Members → Result (ℕ × List Members) PlanError
+  plan_of x = Ok x
+
+  abbrev no_plan_for : PlanError → Result (ℕ × List Members) PlanError
+  no_plan_for e = Err e
+
+  same_plan : (x y : ℕ × List Members) → plan_of x ≡ plan_of y → x ≡ y
+  same_plan x y same = cc
+
+  same_cause : (x y : PlanError) → no_plan_for x ≡ no_plan_for y → x ≡ y
+  same_cause x y same = cc
+
+  no_plan : (x : ℕ × List Members) (y : PlanError) → Ok x ≡ Err y → ⊥
+  no_plan x y same = absurd (cc)
+
+  pub number_once : (plan : List ℕ) (n : ℕ) (answer another : ShamirAnswer) → GivesNumber plan n answer → GivesNumber plan n another → answer ≡ another
+  number_once plan n answer another (inl (e, reads, says)) (inl (d, reads', says')) =
+      says ∙ ap plan_refused (same_cause e d (one_plan_reading plan (Err e) (Err d) reads reads')) ∙ sym says'
+  number_once plan n answer another (inl (e, reads, says)) (inr (t, gs, reads', number')) =
+      absurd (no_plan (t, gs) e (one_plan_reading plan (Ok (t, gs)) (Err e) reads' reads))
+  number_once plan n answer another (inr (t, gs, reads', number')) (inl (e, reads, says)) =
+      absurd (no_plan (t, gs) e (one_plan_reading plan (Ok (t, gs)) (Err e) reads' reads))
+  number_once plan n answer another (inr (t, gs, reads, inl (not, says))) (inr (u, hs, reads', inl (not', says'))) = says ∙ sym says'
+  number_once plan n answer another (inr (t, gs, reads, inl (not, says))) (inr (u, hs, reads', inr (is, says'))) = absurd (not is)
+  number_once plan n answer another (inr (t, gs, reads, inr (is, says))) (inr (u, hs, reads', inl (not, says'))) = absurd (not is)
+  number_once plan n answer another (inr (t, gs, reads, inr (is, says))) (inr (u, hs, reads', inr (also, says'))) =
+      let plans = same_plan (t, gs) (u, hs) (one_plan_reading plan (Ok (t, gs)) (Ok (u, hs)) reads reads') in
+      says ∙ ap (λ (p : ℕ × List Members). number (random_needed p.0 p.1 n)) plans ∙ sym says'
+
+  -- ---- a backup
+
+  same_flag : (a b : Bool) (P : Type 0) → (a ≡ true) ↔ P → (b ≡ true) ↔ P → a ≡ b
+  same_flag a b P is also = elim (cases_Bool a) [
+    | inl set ↦ set ∙ sym (also.1 (is.0 set))
+    | inr clear ↦ elim (cases_Bool b) [
+      | inl set ↦ is.1 (also.0 set) ∙ sym set
+      | inr none ↦ clear ∙ sym none
+    ]
+  ]
+
+  abbrev of_fields : (exponent : ℕ) (extendable : Bool) → exponent < 2 ^ exponent_bits → Options
+  of_fields exponent extendable within = record { exponent = exponent; extendable = extendable; exponent_in_range = within }
+
+  -- options are known by their fields
+  same_options : (p q : Options) → p.exponent ≡ q.exponent → p.extendable ≡ q.extendable → p ≡ q
+  same_options p q exponent extendable =
+      subst (λ (e : ℕ). (k : e < 2 ^ exponent_bits) → p ≡ of_fields e q.extendable k) exponent
+      (λ k. subst (λ (f : Bool). p ≡ of_fields p.exponent f k) extendable
+      (ap (λ (t : p.exponent < 2 ^ exponent_bits). of_fields p.exponent p.extendable t) (le_prop p.exponent_in_range k)))
+      q.exponent_in_range
+
+  abbrev asked_of : List ℕ → List ℕ → ℕ × List Members → Options → Asked
+  asked_of secret passphrase plan options =
+      record { secret = secret; passphrase = passphrase; group_threshold = plan.0; groups = plan.1; options = options }
+
+  asked_once : (wanted : Wanted) (asked other : Asked) → Asks wanted asked → Asks wanted other → asked ≡ other
+  asked_once wanted asked other is also =
+      let plans = same_plan (asked.group_threshold, asked.groups) (other.group_threshold, other.groups)
+      (one_plan_reading wanted.plan (Ok (asked.group_threshold, asked.groups)) (Ok (other.group_threshold, other.groups)) is.plan also.plan) in
+      let options : asked.options ≡ other.options = same_options asked.options other.options (is.exponent ∙ sym also.exponent)
+      (same_flag asked.options.extendable other.options.extendable (wanted.extendable ≢ 0) is.extendable also.extendable) in
+      ap₂ (λ s p. asked_of s p (asked.group_threshold, asked.groups) asked.options) (is.secret ∙ sym also.secret) (is.passphrase ∙ sym also.passphrase)
+      ∙ ap₂ (λ (plan : ℕ × List Members) (o : Options). asked_of other.secret other.passphrase plan o) plans options
+
+  module _ (one_create_output : (asked : Asked) (input : Input) (text other : List ℕ) (answer another : Result (Unit {0}) Fault)
+      → IsCreateOutput asked input text answer → IsCreateOutput asked input other another → (text ≡ other) × (answer ≡ another)) where
+    mnemonics_once : (asked : Asked) (random old new other : List ℕ) (answer another : ShamirAnswer) → GivesMnemonics asked random old new answer
+        → GivesMnemonics asked random old other another → (new ≡ other) × (answer ≡ another)
+    mnemonics_once asked random old new other answer another (inl (text, output, gives)) (inl (text', output', gives')) =
+        let same : text' ≡ text = (one_create_output asked (whole random) text' text (Ok tt) (Ok tt) output' output).0 in
+        gives_once text old new other answer another gives (subst (λ (t : List ℕ). Gives t old other another) same gives')
+    mnemonics_once asked random old new other answer another (inl (text, output, gives)) (inr (fault, output', is, says)) =
+        let same = (one_create_output asked (whole random) text [] (Ok tt) (Err fault) output output').1 in
+        absurd (cc)
+    mnemonics_once asked random old new other answer another (inr (fault, output', is, says)) (inl (text, output, gives)) =
+        let same = (one_create_output asked (whole random) text [] (Ok tt) (Err fault) output output').1 in
+        absurd (cc)
+    mnemonics_once asked random old new other answer another (inr (fault, output, is, says)) (inr (fault', output', is', says')) =
+        let same = (one_create_output asked (whole random) [] [] (Err fault) (Err fault') output output').1 in
+        let faults : fault ≡ fault' = cc in
+        (is ∙ sym is', says ∙ ap refused faults ∙ sym says')
+
+    pub backup_once : (wanted : Wanted) (random old new other : List ℕ) (answer another : ShamirAnswer) → GivesBackup wanted random old new answer
+        → GivesBackup wanted random old other another → (new ≡ other) × (answer ≡ another)
+    backup_once wanted random old new other answer another (inl (high, is, says)) (inl (high', is', says')) = (is ∙ sym is', says ∙ sym says')
+    backup_once wanted random old new other answer another (inl (high, is, says)) (inr (inl low)) = absurd (omega (arith, high, low.0))
+    backup_once wanted random old new other answer another (inl (high, is, says)) (inr (inr low)) = absurd (omega (arith, high, low.0))
+    backup_once wanted random old new other answer another (inr (inl low)) (inl (high, is, says)) = absurd (omega (arith, high, low.0))
+    backup_once wanted random old new other answer another (inr (inr low)) (inl (high, is, says)) = absurd (omega (arith, high, low.0))
+    backup_once wanted random old new other answer another (inr (inl (low, e, reads, is, says))) (inr (inl (low', d, reads', is', says'))) =
+        (is ∙ sym is', says ∙ ap plan_refused (same_cause e d (one_plan_reading wanted.plan (Err e) (Err d) reads reads')) ∙ sym says')
+    backup_once wanted random old new other answer another (inr (inl (low, e, reads, is, says))) (inr (inr (low', asked, asks, gives))) =
+        absurd (no_plan (asked.group_threshold, asked.groups) e
+        (one_plan_reading wanted.plan (Ok (asked.group_threshold, asked.groups)) (Err e) asks.plan reads))
+    backup_once wanted random old new other answer another (inr (inr (low', asked, asks, gives))) (inr (inl (low, e, reads, is, says))) =
+        absurd (no_plan (asked.group_threshold, asked.groups) e
+        (one_plan_reading wanted.plan (Ok (asked.group_threshold, asked.groups)) (Err e) asks.plan reads))
+    backup_once wanted random old new other answer another (inr (inr (low, asked, asks, gives))) (inr (inr (low', asked', asks', gives'))) =
+        mnemonics_once asked random old new other answer another gives
+        (subst (λ (a : Asked). GivesMnemonics a random old other another) (asked_once wanted asked' asked asks' asks) gives')
+
+-- ---- a secret
+
+-- what stands in front of bytes are bytes
+front_bytes : (front rest : List ℕ) → AreBytes (front ++ rest) → AreBytes front
+front_bytes front rest bytes k d within =
+    subst (λ (b : ℕ). b < 256) (get_or_append_left front rest d k within) (bytes k d (omega (arith, within, length-append front rest)))
+
+secret_given_once : (s t old new other : List ℕ) (answer another : ShamirAnswer) → AreBytes new → AreBytes other → secret_line s ≡ secret_line t
+    → Gives s old new answer → Gives t old other another → (new ≡ other) × (answer ≡ another)
+secret_given_once s t old new other answer another bytes others same (inl (fits, is, says)) (inl (fits', is', says')) =
+    let secrets : t ≡ s = same_secret t s (front_bytes t (drop (length t) old) (subst AreBytes is' others))
+    (front_bytes s (drop (length s) old) (subst AreBytes is bytes)) (sym same) in
+    gives_once s old new other answer another (inl (fits, is, says))
+    (subst (λ (x : List ℕ). Gives x old other another) secrets (inl (fits', is', says')))
+secret_given_once s t old new other answer another bytes others same (inl (fits, is, says)) (inr (long, is', says')) =
+    absurd (omega (arith, fits, long, same_size s t same))
+secret_given_once s t old new other answer another bytes others same (inr (long, is, says)) (inl (fits, is', says')) =
+    absurd (omega (arith, fits, long, same_size s t same))
+secret_given_once s t old new other answer another bytes others same (inr (long, is, says)) (inr (long', is', says')) =
+    (is ∙ sym is', says ∙ ap too_short (same_size s t same) ∙ sym says')
+
+module _ (one_recover_output : (passphrase : List ℕ) (input : Input) (text other : List ℕ) (answer another : Result (Unit {0}) Fault)
+    → IsRecoverOutput passphrase input text answer → IsRecoverOutput passphrase input other another → (text ≡ other) × (answer ≡ another)) where
+  pub secret_once : (passphrase lines old new other : List ℕ) (answer another : ShamirAnswer) → AreBytes new → AreBytes other
+      → GivesSecret (IsRecoverOutput passphrase (whole lines)) old new answer
+      → GivesSecret (IsRecoverOutput passphrase (whole lines)) old other another → (new ≡ other) × (answer ≡ another)
+  secret_once passphrase lines old new other answer another bytes others (inl (s, output, gives)) (inl (t, output', gives')) =
+      let same = (one_recover_output passphrase (whole lines) (secret_line s) (secret_line t) (Ok tt) (Ok tt) output output').0 in
+      secret_given_once s t old new other answer another bytes others same gives gives'
+  secret_once passphrase lines old new other answer another bytes others (inl (s, output, gives)) (inr (fault, output', is, says)) =
+      let same = (one_recover_output passphrase (whole lines) (secret_line s) [] (Ok tt) (Err fault) output output').1 in
+      absurd (cc)
+  secret_once passphrase lines old new other answer another bytes others (inr (fault, output', is, says)) (inl (s, output, gives)) =
+      let same = (one_recover_output passphrase (whole lines) (secret_line s) [] (Ok tt) (Err fault) output output').1 in
+      absurd (cc)
+  secret_once passphrase lines old new other answer another bytes others (inr (fault, output, is, says)) (inr (fault', output', is', says')) =
+      let same = (one_recover_output passphrase (whole lines) [] [] (Err fault) (Err fault') output output').1 in
+      let faults : fault ≡ fault' = cc in
+      (is ∙ sym is', says ∙ ap refused faults ∙ sym says')
+
+-- ---- a drill
+
+-- the written form of names has a byte
+no_empty_form : (names : List (ℕ × ℕ)) → IsWrittenForm [] names → ⊥
+no_empty_form [] is = absurd (is.some refl)
+no_empty_form (name ∷ []) is =
+    let whole = ap length is.text_is in
+    absurd (omega (arith, whole, length-append (decimal name.0) (46 ∷ decimal name.1)))
+no_empty_form (name ∷ next ∷ names) is =
+    let whole = ap length is.text_is in
+    absurd (omega (
+      arith,
+      whole,
+      length-append (name_text name) (43 ∷ quorum_text (next ∷ names)),
+    ))
+
+-- the answer for what is put into a slice, or isn't
+abbrev answer_of : Result Listing Unwritten → ShamirAnswer
+answer_of (Ok listing) = listed listing.written listing.mismatches
+answer_of (Err cause) = unwritten cause
+
+module _ (one_listing_in_a_slice : (passphrase : List ℕ) (after : Option (List (ℕ × ℕ))) (limit : ℕ) (input : Input) (old new other : List ℕ)
+    (answer another : Result Listing Unwritten)
+    → Lists (λ n. IsDrillOutput passphrase after n input) limit old new answer
+    → Lists (λ n. IsDrillOutput passphrase after n input) limit old other another → (new ≡ other) × (answer ≡ another))
+    (written_once : (text : List ℕ) (names others : List (ℕ × ℕ)) → IsWrittenForm text names → IsWrittenForm text others → names ≡ others)
+    (passphrase lines : List ℕ) where
+  -- what is put into a slice, and the answer for it
+  puts : (after : Option (List (ℕ × ℕ))) (limit : ℕ) (old new : List ℕ) (answer : ShamirAnswer)
+      → GivesListing (λ n. IsDrillOutput passphrase after n (whole lines)) limit old new answer
+      → (result : Result Listing Unwritten) × Lists (λ n. IsDrillOutput passphrase after n (whole lines)) limit old new result
+      × (answer ≡ answer_of result)
+  puts after limit old new answer (inl (listing, fits, says)) = (Ok listing, fits, says)
+  puts after limit old new answer (inr (inl (short, is_short, is, says))) = (Err (SliceTooShort short), (is_short, is), says)
+  puts after limit old new answer (inr (inr (fault, output, is, says))) = (Err (Refused fault), (output, is), says)
+
+  listing_once : (after : Option (List (ℕ × ℕ))) (limit : ℕ) (old new other : List ℕ) (answer another : ShamirAnswer)
+      → GivesListing (λ n. IsDrillOutput passphrase after n (whole lines)) limit old new answer
+      → GivesListing (λ n. IsDrillOutput passphrase after n (whole lines)) limit old other another → (new ≡ other) × (answer ≡ another)
+  listing_once after limit old new other answer another is also =
+      let (result, lists, says) = puts after limit old new answer is in
+      let (result', lists', says') = puts after limit old other another also in
+      let same = one_listing_in_a_slice passphrase after limit (whole lines) old new other result result' lists lists' in
+      (same.0, says ∙ ap answer_of same.1 ∙ sym says')
+
+  -- a text writes one list of names, or none
+  cursor_once : (cursor : List ℕ) (after other : Option (List (ℕ × ℕ))) → IsCursor cursor after → IsCursor cursor other → after ≡ other
+  cursor_once cursor None None is also = refl
+  cursor_once cursor None (Some names) is also = absurd (no_empty_form names (subst (λ (t : List ℕ). IsWrittenForm t names) is also))
+  cursor_once cursor (Some names) None is also = absurd (no_empty_form names (subst (λ (t : List ℕ). IsWrittenForm t names) also is))
+  cursor_once cursor (Some names) (Some others) is also = ap Some (written_once cursor names others is also)
+
+  no_form : (cursor : List ℕ) (after : Option (List (ℕ × ℕ))) → IsCursor cursor after → cursor ≢ []
+      → ((names : List (ℕ × ℕ)) → ¬ IsWrittenForm cursor names) → ⊥
+  no_form cursor None is some none = some is
+  no_form cursor (Some names) is some none = none names is
+
+  pub drill_once : (cursor : List ℕ) (limit : ℕ) (old new other : List ℕ) (answer another : ShamirAnswer)
+      → GivesDrill (λ names n. IsDrillOutput passphrase names n (whole lines)) cursor limit old new answer
+      → GivesDrill (λ names n. IsDrillOutput passphrase names n (whole lines)) cursor limit old other another → (new ≡ other) × (answer ≡ another)
+  drill_once cursor limit old new other answer another (inl (zero, is, says)) (inl (zero', is', says')) = (is ∙ sym is', says ∙ sym says')
+  drill_once cursor limit old new other answer another (inl (zero, is, says)) (inr (inl some)) = absurd (omega (arith, zero, some.0))
+  drill_once cursor limit old new other answer another (inl (zero, is, says)) (inr (inr some)) = absurd (omega (arith, zero, some.0))
+  drill_once cursor limit old new other answer another (inr (inl some)) (inl (zero, is, says)) = absurd (omega (arith, zero, some.0))
+  drill_once cursor limit old new other answer another (inr (inr some)) (inl (zero, is, says)) = absurd (omega (arith, zero, some.0))
+  drill_once cursor limit old new other answer another (inr (inl (some, full, none, is, says))) (inr (inl (some', full', none', is', says'))) =
+      (is ∙ sym is', says ∙ sym says')
+  drill_once cursor limit old new other answer another (inr (inl (some, full, none, is, says))) (inr (inr (some', after, is_cursor, gives))) =
+      absurd (no_form cursor after is_cursor full none)
+  drill_once cursor limit old new other answer another (inr (inr (some', after, is_cursor, gives))) (inr (inl (some, full, none, is, says))) =
+      absurd (no_form cursor after is_cursor full none)
+  drill_once cursor limit old new other answer another (inr (inr (some, after, is_cursor, gives))) (inr (inr (some', after', is_cursor', gives'))) =
+      listing_once after limit old new other answer another gives
+      (subst (λ (a : Option (List (ℕ × ℕ))). GivesListing (λ n. IsDrillOutput passphrase a n (whole lines)) limit old other another)
+      (cursor_once cursor after' after is_cursor' is_cursor) gives')

@@ -1,0 +1,69 @@
+//! Facts about the definitions, each the contract of a function that does nothing: of the same things, and of what was
+//! in memory before, a call gives one answer, and leaves one memory.
+ghost use Rattle.std.specs.Prelude.{◌≡◌, ℕ, List};
+ghost use Rattle.s39_kdf.specs.Bytes.{AreBytes};
+ghost use Rattle.s39_tool.specs.Drill.{IsDrillOutput};
+ghost use Rattle.s39_tool.specs.Input.{whole};
+ghost use Rattle.s39_tool.specs.Recover.{IsRecoverOutput};
+ghost use Rattle.s39_c.specs.declared.answer.ShamirAnswer.{ShamirAnswer as Answer};
+ghost use Rattle.s39_c.specs.declared.parsing.ShamirShare.{ShamirShare as Header};
+ghost use Rattle.s39_c.specs.Creating.{Wanted, GivesBackup, GivesNumber};
+ghost use Rattle.s39_c.specs.Drilling.{GivesDrill};
+ghost use Rattle.s39_c.specs.Parsing.{GivesShare};
+ghost use Rattle.s39_c.specs.Recovering.{GivesSecret};
+
+use s39_backup::laws::one_plan_reading;
+use s39_set::laws::written_forms;
+use s39_tool::laws::{one_create_output, one_listing_in_a_slice, one_recover_output};
+use s39_words::laws::one_reading;
+
+/// A line gives one header, one value in a slice, and one answer.
+pub fn one_share()
+    ensures { (line : List ℕ) (header first second : Header) (old new other : List ℕ)
+        (answer another : Answer) → GivesShare line header first old new answer
+        → GivesShare line header second old other another
+        → (first ≡ second) × (new ≡ other) × (answer ≡ another) }
+{
+    one_reading();
+}
+
+/// A plan's text and a secret's length give one number of random bytes, or one refusal.
+pub fn one_number()
+    ensures { (plan : List ℕ) (n : ℕ) (answer another : Answer) → GivesNumber plan n answer
+        → GivesNumber plan n another → answer ≡ another }
+{
+    one_plan_reading();
+}
+
+/// What a creation is given gives one slice of mnemonics, and one answer.
+pub fn one_backup()
+    ensures { (wanted : Wanted) (random old new other : List ℕ) (answer another : Answer)
+        → GivesBackup wanted random old new answer → GivesBackup wanted random old other another
+        → (new ≡ other) × (answer ≡ another) }
+{
+    one_plan_reading();
+    one_create_output();
+}
+
+/// Lines and passphrase give one secret in a slice of bytes, and one answer.
+pub fn one_secret()
+    ensures { (passphrase lines old new other : List ℕ) (answer another : Answer)
+        → AreBytes new → AreBytes other
+        → GivesSecret (IsRecoverOutput passphrase (whole lines)) old new answer
+        → GivesSecret (IsRecoverOutput passphrase (whole lines)) old other another
+        → (new ≡ other) × (answer ≡ another) }
+{
+    one_recover_output();
+}
+
+/// Lines, passphrase, cursor and limit give one listing in a slice, and one answer.
+pub fn one_drill()
+    ensures { (passphrase lines cursor : List ℕ) (limit : ℕ) (old new other : List ℕ)
+        (answer another : Answer)
+        → GivesDrill (λ names n. IsDrillOutput passphrase names n (whole lines)) cursor limit old new answer
+        → GivesDrill (λ names n. IsDrillOutput passphrase names n (whole lines)) cursor limit old other another
+        → (new ≡ other) × (answer ≡ another) }
+{
+    one_listing_in_a_slice();
+    written_forms();
+}

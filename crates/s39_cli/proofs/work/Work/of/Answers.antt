@@ -1,0 +1,31 @@
+use Rattle.std.proofs.Common.{refl}
+use Rattle.std.proofs.lemmas.Result.{err_from_is_err_and}
+use Rattle.s39_cli.proofs.Unreadiness.{bad_cursor}
+use Rattle.s39_cli.proofs.work.Work.of.Goals as goal
+
+pub returns-in_err-after-in-Drill-clause-refused : goal.returns-in_err-after-in-Drill-clause-refused
+returns-in_err-after-in-Drill-clause-refused c =
+    let p = err_from_is_err_and c.from_residual-in_err-after-in-Drill.result c.from_residual-in_err-after-in-Drill.ensures.1 in
+    rw (p.1, p.2) (bad_cursor c.args.job c.in-Drill.passphrase c.in-Drill.after c.in-Drill.limit c.in-Drill.is c.in_err-after-in-Drill.ensures.refused)
+
+pub returns-in_ok-plan-in-Create-clause-work : goal.returns-in_ok-plan-in-Create-clause-work
+returns-in_ok-plan-in-Create-clause-work c = rw c.in-Create.is (
+  _,
+  refl,
+  record {
+    read = record { secret_is = c.in_ok-secret-in-Create.ensures.secret; plan_is = c.in_ok-plan-in-Create.ensures.reading };
+    passphrase_is = c.as_bytes.ensures.value;
+    given = record { exponent_is = refl; extendable_is = refl };
+  },
+)
+
+pub returns-in_ok-after-in-Drill-clause-work : goal.returns-in_ok-after-in-Drill-clause-work
+returns-in_ok-after-in-Drill-clause-work c = rw c.in-Drill.is (
+  _,
+  refl,
+  record {
+    passphrase_is = c.as_bytes-in-Drill.ensures.value;
+    cursor = c.in_ok-after-in-Drill.ensures.cursor;
+    limit_is = refl;
+  },
+)

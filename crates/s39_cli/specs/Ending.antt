@@ -1,0 +1,127 @@
+-- How the program ends: what it read, what it wrote, and the exit status.
+use Rattle.std.specs.Prelude.{◌≡◌, ◌≢◌, ◌⊎◌, ◌++◌, ℕ, Bool, true, false, List, Option, Some, IfSome, Result, Err}
+use Rattle.std.specs.Io.KnownBytes.{Appends, Consumes, Keeps, append_known}
+use Rattle.clap.specs.Words.{Text, takes}
+use Rattle.s39_backup.specs.declared.plan_error.PlanError.{PlanError}
+use Rattle.s39_tool.specs.declared.fault.DeviceFailure.TheVariants.{Write}
+use Rattle.s39_tool.specs.declared.fault.Refusal.TheVariants.{Device}
+use Rattle.s39_tool.specs.declared.fault.Fault.{Fault}
+use Rattle.s39_tool.specs.declared.drill.Done.{Done}
+use Rattle.s39_tool.specs.Fault.{fault_of}
+use Rattle.s39_tool.specs.Input.{Input, whole}
+use Rattle.s39_cli.specs.declared.command.Job.{Job}
+use Rattle.s39_cli.specs.declared.command.NoJob.{NoJob}
+use Rattle.s39_cli.specs.declared.command.NoJob.TheVariants as no_job
+use Rattle.s39_cli.specs.declared.status.Ended.{Ended}
+use Rattle.s39_cli.specs.declared.status.Ended.TheVariants.{With, NoMemory}
+use Rattle.s39_cli.specs.declared.work.Unready.{Unready}
+use Rattle.s39_cli.specs.declared.work.Unready.TheVariants as unready
+use Rattle.s39_cli.specs.Command.{AsksForText, GivesJob, shamir_app}
+use Rattle.s39_cli.specs.Outcome.{HasBadSecret, HasBadPlan, HasBadCursor, IsJobOutput, status_of}
+
+-- the text is written for the input by an answer with this exit status
+abbrev pub HasStatus : (Input → List ℕ → Result Done Fault → Type 0) → Input → List ℕ → ℕ → Type 0
+HasStatus IsOutput input text status = (answer : Result Done Fault) × IsOutput input text answer × (status ≡ status_of answer)
+
+-- what the job writes for the input, and the exit status
+abbrev pub IsOutcome : Job → Input → List ℕ → ℕ → Type 0
+IsOutcome job = HasStatus (IsJobOutput job)
+
+-- the input is what came from a reader that had these bytes, of which these are left: all, or those before a read failed
+abbrev pub IsFrom : List ℕ → Option (List ℕ) → Input → Type 0
+IsFrom bytes left input = (input ≡ whole bytes) ⊎ ((input.ended ≡ false) × Consumes (Some bytes) left input.bytes)
+
+-- the writer holds a beginning of what it held with this text behind it
+abbrev pub HoldsBeginning : Option (List ℕ) → Option (List ℕ) → List ℕ → Type 0
+HoldsBeginning old new text = (lost : List ℕ) × Keeps (append_known old text) (append_known new lost)
+
+module _ {R W : Type 0} where
+  -- this is so of the exit status and of the devices then, unless there was no memory
+  abbrev pub OnEnd : Ended R W → (ℕ → R → W → Type 0) → Type 0
+  OnEnd (With status read_to written_to) Is = Is status read_to written_to
+  OnEnd NoMemory Is = Unit {0}
+
+  -- the exit status
+  abbrev pub status_in : Ended R W → ℕ
+  status_in (With status read_to written_to) = status
+  status_in NoMemory = 4
+
+  -- the exit status is this, and nothing is read or written
+  abbrev pub EndsAtOnce : ℕ → R → W → ℕ → R → W → Type 0
+  EndsAtOnce wanted reader writer status read_to written_to = (status ≡ wanted) × (read_to ≡ reader) × (written_to ≡ writer)
+
+  -- nothing is said where the exit status is 0
+  abbrev pub IsSilentAtNone : {E : Type 0} → Ended R W → E → E → Type 0
+  IsSilentAtNone ended old new = OnEnd ended (λ status read_to written_to. status ≡ 0 → new ≡ old)
+
+module _ {R W : Type 0} (contents : W → Option (List ℕ)) where
+  -- nothing is read; a text goes out, and the exit status is 0; or a beginning of it does, and the exit status is 3
+  abbrev pub ShowsText : R → W → ℕ → R → W → Type 0
+  ShowsText reader writer status read_to written_to =
+      (read_to ≡ reader)
+      × (text : List ℕ)
+      × (((status ≡ 0) × Appends (contents writer) (contents written_to) text)
+      ⊎ ((status ≡ 3) × HoldsBeginning (contents writer) (contents written_to) text))
+
+module _ {R W : Type 0} (remaining : R → Option (List ℕ)) (contents : W → Option (List ℕ)) where
+  -- The text that is so of the reader's bytes goes out. With any exit status but 3, all of it does, of all bytes. With 3 a device
+  -- failed: a beginning does, of the text of the bytes that came.
+  pub record Delivers (IsOutput : Input → List ℕ → ℕ → Type 0) (reader : R) (writer : W) (status : ℕ) (read_to : R) (written_to : W) : Type 0 where
+    pub done : status ≢ 3 → IfSome (remaining reader) (λ bytes.
+        (text : List ℕ) × IsOutput (whole bytes) text status × Appends (contents writer) (contents written_to) text)
+    pub failed : status ≡ 3 → IfSome (remaining reader) (λ bytes.
+        (input : Input) × IsFrom bytes (remaining read_to) input
+        × ((text : List ℕ) × ((full : ℕ) × IsOutput input text full) × HoldsBeginning (contents writer) (contents written_to) text))
+
+  -- The job is done. In this order: a secret that isn't hexadecimal is 2, and a plan or a cursor that is none is 1, with nothing
+  -- read or written; else the job's output goes out.
+  abbrev pub DoesJob : Job → R → W → ℕ → R → W → Type 0
+  DoesJob job reader writer status read_to written_to =
+      (HasBadSecret job × EndsAtOnce 2 reader writer status read_to written_to)
+      ⊎ (((error : PlanError) × HasBadPlan job error) × EndsAtOnce 1 reader writer status read_to written_to)
+      ⊎ (HasBadCursor job × EndsAtOnce 1 reader writer status read_to written_to)
+      ⊎ Delivers (IsOutcome job) reader writer status read_to written_to
+
+  -- how the program ends with these words: with help or the version where they ask for it; with 2 where they are no command; else
+  -- by the job that they give
+  pub record EndsAs (words : List Text) (reader : R) (writer : W) (status : ℕ) (read_to : R) (written_to : W) : Type 0 where
+    pub asked : AsksForText words → ShowsText contents reader writer status read_to written_to
+    pub refused : takes shamir_app words ≡ false → (AsksForText words → ⊥) → EndsAtOnce 2 reader writer status read_to written_to
+    pub taken : takes shamir_app words ≡ true → (job : Job) × GivesJob words job × DoesJob job reader writer status read_to written_to
+
+  -- that is so unless there was no memory
+  abbrev pub Ends : List Text → R → W → Ended R W → Type 0
+  Ends words reader writer ended = OnEnd ended (EndsAs words reader writer)
+
+-- ---- within the program; no public contract cites this
+
+-- What a device held at the end of a run that answered so is in the writer behind it; or a beginning is, and the writer failed.
+abbrev pub HandsOn : Option (List ℕ) → Option (List ℕ) → Result Done Fault → Result Done Fault → Type 0
+HandsOn held last answer given = ((given ≡ answer) × Keeps held last)
+    ⊎ ((given ≡ Err (fault_of (Device Write))) × (lost : List ℕ) × Keeps held (append_known last lost))
+
+-- the text is written, or a beginning of it
+abbrev pub GoesOut : Option (List ℕ) → Option (List ℕ) → List ℕ → Bool → Type 0
+GoesOut old new text true = Appends old new text
+GoesOut old new text false = HoldsBeginning old new text
+
+-- the text is written but for a rest
+pub record IsGoingOut (old now : Option (List ℕ)) (text rest : List ℕ) : Type 0 where
+  pub written : List ℕ
+  pub appends : Appends old now written
+  pub parts : text ≡ written ++ rest
+
+module _ {R W : Type 0} (contents : W → Option (List ℕ)) where
+  -- how words end that give no job
+  abbrev pub EndsWithoutJob : NoJob → R → W → Ended R W → Type 0
+  EndsWithoutJob (no_job.Help text) reader writer ended = OnEnd ended (ShowsText contents reader writer)
+  EndsWithoutJob (no_job.Refused text) reader writer ended = OnEnd ended (EndsAtOnce 2 reader writer)
+  EndsWithoutJob no_job.Memory reader writer ended = ended ≡ NoMemory
+
+module _ {R W : Type 0} where
+  -- how a job ends that isn't begun
+  abbrev pub EndsUnbegun : Unready → R → W → Ended R W → Type 0
+  EndsUnbegun unready.Secret reader writer ended = OnEnd ended (EndsAtOnce 2 reader writer)
+  EndsUnbegun (unready.Plan error) reader writer ended = OnEnd ended (EndsAtOnce 1 reader writer)
+  EndsUnbegun (unready.Cursor error) reader writer ended = OnEnd ended (EndsAtOnce 1 reader writer)
+  EndsUnbegun unready.Memory reader writer ended = ended ≡ NoMemory

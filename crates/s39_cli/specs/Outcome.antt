@@ -1,0 +1,109 @@
+-- What a job gives of an input: its output, and the exit status.
+use Rattle.std.specs.Prelude.{◌≡◌, ◌==◌, ℕ, Bool, List, Option, Some, None, Result, Ok, Err, if◌then◌else◌}
+use Rattle.std.specs.Borrow.{Bor}
+use Rattle.hex.specs.Hex.{decode_of}
+use Rattle.hex.specs.declared.error.FromHexError.{FromHexError}
+use Rattle.clap.specs.Words.{Text}
+use Rattle.s39_set.specs.Written.{IsWrittenForm}
+use Rattle.s39_backup.specs.declared.plan.Members.{Members}
+use Rattle.s39_backup.specs.declared.plan_error.PlanError.{PlanError}
+use Rattle.s39_backup.specs.declared.options.Options.{Options}
+use Rattle.s39_backup.specs.Plan.{IsPlanReading}
+use Rattle.s39_tool.specs.declared.fault.Refusal.{Refusal}
+use Rattle.s39_tool.specs.declared.fault.Refusal.TheVariants.{Device}
+use Rattle.s39_tool.specs.declared.fault.Fault.{Fault}
+use Rattle.s39_tool.specs.declared.drill.Done.{Done}
+use Rattle.s39_tool.specs.Input.{Input}
+use Rattle.s39_tool.specs.Show.{IsShowOutput}
+use Rattle.s39_tool.specs.Create.{IsCreateOutput}
+use Rattle.s39_tool.specs.Recover.{IsRecoverOutput}
+use Rattle.s39_tool.specs.Drill.{IsDrillOutput}
+use Rattle.s39_cli.specs.declared.command.Job.{Job}
+use Rattle.s39_cli.specs.declared.command.Job.TheVariants.{Show, Create, Recover, Drill}
+
+-- ---- a job that isn't begun
+
+-- the text isn't hexadecimal: it has an odd number of digits, or a byte that is none
+abbrev pub IsNotHexadecimal : Text → Type 0
+IsNotHexadecimal text = (error : FromHexError) × (decode_of text ≡ Err error)
+
+-- the text is the written form of no names
+abbrev pub IsNoCursor : Text → Type 0
+IsNoCursor text = (names : List (ℕ × ℕ)) → ¬ IsWrittenForm text names
+
+-- the text of the job's secret isn't hexadecimal
+abbrev pub HasBadSecret : Job → Type 0
+HasBadSecret (Create plan secret passphrase exponent extendable) = IsNotHexadecimal secret.now
+HasBadSecret _ = ⊥
+
+-- the text of the job's secret is hexadecimal, and that of its plan gives none for this cause
+abbrev pub HasBadPlan : Job → PlanError → Type 0
+HasBadPlan (Create plan secret passphrase exponent extendable) error =
+    ((bytes : List ℕ) × (decode_of secret.now ≡ Ok bytes)) × IsPlanReading plan.now (Err error)
+HasBadPlan _ error = ⊥
+
+-- the text after whose quorum the job goes on is the written form of no names
+abbrev pub HasBadCursor : Job → Type 0
+HasBadCursor (Drill passphrase (Some after) limit) = IsNoCursor after.now
+HasBadCursor _ = ⊥
+
+-- ---- what is written
+
+-- the names after which a drill goes on: those that the given text writes, and none where no text is given
+abbrev pub IsCursor : Option (Bor Text) → Option (List (ℕ × ℕ)) → Type 0
+IsCursor None after = after ≡ None
+IsCursor (Some text) after = (names : List (ℕ × ℕ)) × (after ≡ Some names) × IsWrittenForm text.now names
+
+-- what a backup is created from is what these texts give: the secret in hexadecimal digits, and the plan
+pub record AreRead (plan_text secret_text : Text) (secret : List ℕ) (group_threshold : ℕ) (groups : List Members) : Type 0 where
+  pub secret_is : decode_of secret_text ≡ Ok secret
+  pub plan_is : IsPlanReading plan_text (Ok (group_threshold, groups))
+
+-- these are the options of this exponent and this flag
+pub record AreOptions (exponent : ℕ) (extendable : Bool) (options : Options) : Type 0 where
+  pub exponent_is : options.exponent ≡ exponent
+  pub extendable_is : options.extendable ≡ extendable
+
+-- `create` writes this text for these texts, the exponent, the flag and the input, and answers so
+pub record CreatesFrom (plan_text secret_text passphrase : Text) (exponent : ℕ) (extendable : Bool) (input : Input) (text : List ℕ)
+    (answer : Result (Unit {0}) Fault) : Type 0 where
+  pub secret : List ℕ
+  pub group_threshold : ℕ
+  pub groups : List Members
+  pub options : Options
+  pub read : AreRead plan_text secret_text secret group_threshold groups
+  pub given : AreOptions exponent extendable options
+  pub output : IsCreateOutput (record {
+    secret = secret;
+    passphrase = passphrase;
+    group_threshold = group_threshold;
+    groups = groups;
+    options = options;
+  }) input text answer
+
+-- the answer of a run that looks for no mismatches
+abbrev pub without_mismatches : Result (Unit {0}) Fault → Result Done Fault
+without_mismatches (Ok _) = Ok (record { mismatches = 0 })
+without_mismatches (Err fault) = Err fault
+
+-- The job writes this text for the input, and answers so: each value is the job's, and its texts are read as above.
+abbrev pub IsJobOutput : Job → Input → List ℕ → Result Done Fault → Type 0
+IsJobOutput Show input text answer =
+    (plain : Result (Unit {0}) Fault) × IsShowOutput input text plain × (answer ≡ without_mismatches plain)
+IsJobOutput (Create plan secret passphrase exponent extendable) input text answer =
+    (plain : Result (Unit {0}) Fault) × CreatesFrom plan.now secret.now passphrase.now exponent extendable input text plain
+    × (answer ≡ without_mismatches plain)
+IsJobOutput (Recover passphrase) input text answer =
+    (plain : Result (Unit {0}) Fault) × IsRecoverOutput passphrase.now input text plain × (answer ≡ without_mismatches plain)
+IsJobOutput (Drill passphrase after limit) input text answer =
+    (names : Option (List (ℕ × ℕ))) × IsCursor after names × IsDrillOutput passphrase.now names limit input text answer
+
+-- the exit status of a refusal: 3 where a device failed, else 1
+abbrev pub status_of_refusal : Refusal → ℕ
+status_of_refusal (Device _) = 3
+status_of_refusal _ = 1
+
+-- the exit status of a run that answers so: 0, or 1 where it found a mismatch, or that of its refusal
+abbrev pub status_of : Result Done Fault → ℕ
+status_of (Ok done) = if done.mismatches == 0 then 0 else 1
+status_of (Err fault) = status_of_refusal fault.refusal

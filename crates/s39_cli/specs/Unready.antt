@@ -1,0 +1,26 @@
+-- Why a job isn't begun. No public contract cites this.
+use Rattle.hex.specs.declared.error.FromHexError.{FromHexError}
+use Rattle.hex.specs.declared.error.FromHexError.TheVariants.{OutOfMemory}
+use Rattle.clap.specs.Words.{Text}
+use Rattle.s39_cli.specs.declared.command.Job.{Job}
+use Rattle.s39_cli.specs.declared.work.Unready.{Unready}
+use Rattle.s39_cli.specs.declared.work.Unready.TheVariants.{Secret, Plan, Cursor, Memory}
+use Rattle.s39_cli.specs.Outcome.{IsNotHexadecimal, HasBadSecret, HasBadPlan, HasBadCursor}
+
+-- the cause applies to the job
+abbrev pub IsUnready : Job → Unready → Type 0
+IsUnready job Secret = HasBadSecret job
+IsUnready job (Plan error) = HasBadPlan job error
+IsUnready job (Cursor bad) = HasBadCursor job
+IsUnready job Memory = Unit {0}
+
+-- why a text that is decoded so gives no secret
+abbrev pub unready_of : FromHexError → Unready
+unready_of OutOfMemory = Memory
+unready_of _ = Secret
+
+-- the cause applies to the text of a secret
+abbrev pub IsNoSecret : Text → Unready → Type 0
+IsNoSecret text Secret = IsNotHexadecimal text
+IsNoSecret text Memory = Unit {0}
+IsNoSecret text _ = ⊥

@@ -1,0 +1,54 @@
+-- What is run for a job. No public contract cites this.
+use Rattle.std.specs.Prelude.{◌≡◌, ℕ, Bool, List, Option, Result}
+use Rattle.std.specs.Borrow.{Bor}
+use Rattle.clap.specs.Words.{Text}
+use Rattle.s39_tool.specs.declared.fault.Fault.{Fault}
+use Rattle.s39_tool.specs.declared.drill.Done.{Done}
+use Rattle.s39_tool.specs.Input.{Input}
+use Rattle.s39_tool.specs.Show.{IsShowOutput}
+use Rattle.s39_tool.specs.Create.{IsCreateOutput}
+use Rattle.s39_tool.specs.Recover.{IsRecoverOutput}
+use Rattle.s39_tool.specs.Drill.{IsDrillOutput}
+use Rattle.s39_cli.specs.declared.command.Job.{Job}
+use Rattle.s39_cli.specs.declared.command.Job.TheVariants as job
+use Rattle.s39_cli.specs.declared.work.Creation.{Creation}
+use Rattle.s39_cli.specs.declared.work.Drill.{Drill}
+use Rattle.s39_cli.specs.declared.work.Work.{Work}
+use Rattle.s39_cli.specs.declared.work.Work.TheVariants as work
+use Rattle.s39_cli.specs.Outcome.{AreRead, AreOptions, IsCursor, without_mismatches}
+
+-- the creation has what these texts, the exponent and the flag give
+pub record IsCreationOf (plan_text secret_text given_passphrase : Text) (exponent : ℕ) (extendable : Bool) (creation : Creation) : Type 0 where
+  pub read : AreRead plan_text secret_text creation.secret.items creation.plan.group_threshold creation.plan.groups.items
+  pub passphrase_is : creation.passphrase.now ≡ given_passphrase
+  pub given : AreOptions exponent extendable creation.options
+
+-- the drill has the values that are given
+pub record IsDrillOf (given_passphrase : Text) (given_after : Option (Bor Text)) (given_limit : ℕ) (drill : Drill) : Type 0 where
+  pub passphrase_is : drill.passphrase.now ≡ given_passphrase
+  pub cursor : IsCursor given_after drill.after
+  pub limit_is : drill.limit ≡ given_limit
+
+-- the work is the job's
+abbrev pub IsWorkOf : Job → Work → Type 0
+IsWorkOf job.Show w = w ≡ work.Show
+IsWorkOf (job.Create plan secret passphrase exponent extendable) w =
+    (creation : Creation) × (w ≡ work.Create creation) × IsCreationOf plan.now secret.now passphrase.now exponent extendable creation
+IsWorkOf (job.Recover passphrase) w = (given : Bor Text) × (w ≡ work.Recover given) × (given.now ≡ passphrase.now)
+IsWorkOf (job.Drill passphrase after limit) w = (drill : Drill) × (w ≡ work.Drill drill) × IsDrillOf passphrase.now after limit drill
+
+-- the work writes this text for the input, and answers so
+abbrev pub IsWorkOutput : Work → Input → List ℕ → Result Done Fault → Type 0
+IsWorkOutput work.Show input text answer =
+    (plain : Result (Unit {0}) Fault) × IsShowOutput input text plain × (answer ≡ without_mismatches plain)
+IsWorkOutput (work.Create creation) input text answer =
+    (plain : Result (Unit {0}) Fault) × IsCreateOutput (record {
+      secret = creation.secret.items;
+      passphrase = creation.passphrase.now;
+      group_threshold = creation.plan.group_threshold;
+      groups = creation.plan.groups.items;
+      options = creation.options;
+    }) input text plain × (answer ≡ without_mismatches plain)
+IsWorkOutput (work.Recover passphrase) input text answer =
+    (plain : Result (Unit {0}) Fault) × IsRecoverOutput passphrase.now input text plain × (answer ≡ without_mismatches plain)
+IsWorkOutput (work.Drill drill) input text answer = IsDrillOutput drill.passphrase.now drill.after drill.limit input text answer

@@ -1,0 +1,153 @@
+//! How the output of a command goes to its writer.
+ghost use Rattle.std.specs.Prelude.{◌≡◌, IsTrue, IfSome, []};
+ghost use Rattle.std.specs.Io.Buffered.{writer_buffer, writer_contents};
+ghost use Rattle.std.specs.Io.KnownBytes.{Keeps};
+ghost use Rattle.s39_tool.specs.Fault.{fault_of};
+ghost use Rattle.s39_cli.specs.Ending.{Delivers, GoesOut, HandsOn, HasStatus};
+ghost use Rattle.s39_cli.specs.Outcome.{status_of};
+ghost use Rattle.s39_cli.specs.Work.{IsWorkOutput};
+
+use crate::patient::Patient;
+use crate::work::Work;
+use s39_tool::{Counting, DeviceFailure, Done, Fault, Refusal};
+use std::alloc::Global;
+use std::io::{BufWriter, Read, Write};
+
+/// What a command answered, and its devices.
+#[derive(Drop)]
+pub(crate) struct Finished<R, W> {
+    pub(crate) answer: Result<Done, Fault>,
+    pub(crate) input: R,
+    pub(crate) output: W,
+}
+
+/// Runs a command whose output goes out as its buffer fills; nothing where there is no memory for that.
+pub(crate) fn by_buffer<R: Read + Drop, W: Write + Drop>(
+    alloc: Global,
+    work: &Work,
+    input: R,
+    output: W,
+) -> Option<Finished<R, W>>
+    ensures { IfSome result (λ finished.
+        Delivers R.remaining W.contents (HasStatus (IsWorkOutput work.now))
+        input output (status_of finished.answer) finished.input finished.output) }
+{
+    let Ok(buffered) = BufWriter::new(alloc, output) else {
+        return None;
+    };
+    let mut reader = Counting::new(input);
+    let mut writer = Counting::new(buffered);
+    let answer = work.run(&mut reader, &mut writer);
+    let (answer, output) = handed_on(answer, writer.into_inner());
+    Some(Finished {
+        answer,
+        input: reader.into_inner(),
+        output,
+    })
+}
+
+/// Hands on what a buffer keeps after a run that gave this answer, which becomes that the writer failed where that fails.
+fn handed_on<W: Write + Drop>(
+    answer: Result<Done, Fault>,
+    output: BufWriter<W>,
+) -> (Result<Done, Fault>, W)
+    ensures { HandsOn (writer_contents W.contents output) (W.contents result.1) answer result.0 }
+{
+    let mut output = output;
+    let is_whole = hand_on(&answer, &mut output);
+    // A drop of the buffer would write again what a failed write left in it.
+    let (output, _kept) = output.into_parts();
+    if is_whole {
+        (answer, output)
+    } else {
+        (Err(write_failed()), output)
+    }
+}
+
+/// Hands on what a buffer keeps after a run that gave this answer; whether all of the output has gone then. Where nothing
+/// was written before a refusal, the writer isn't asked.
+fn hand_on<W: Write + Drop>(answer: &Result<Done, Fault>, output: &mut BufWriter<W>) -> bool
+    ensures kept { Keeps (writer_contents W.contents output.old)
+        (writer_contents W.contents output.new) }
+    ensures whole { IsTrue result → writer_buffer output.new ≡ [] }
+{
+    if answer.is_err() && output.buffer().is_empty() {
+        return true;
+    }
+    !has_failed(answer) && output.flush().is_ok()
+}
+
+/// Runs a command whose output goes out line by line, each line in one piece.
+pub(crate) fn by_lines<R: Read + Drop, W: Write + Drop>(
+    work: &Work,
+    input: R,
+    output: W,
+) -> Finished<R, W>
+    ensures { Delivers R.remaining W.contents (HasStatus (IsWorkOutput work.now))
+        input output (status_of result.answer) result.input result.output }
+{
+    let mut reader = Counting::new(input);
+    let mut writer = Counting::new(Patient::new(output));
+    let answer = work.run(&mut reader, &mut writer);
+    let (answer, output) = flushed(answer, writer.into_inner());
+    Finished {
+        answer,
+        input: reader.into_inner(),
+        output,
+    }
+}
+
+/// Flushes a writer after a run that gave this answer, which becomes that the writer failed where that fails.
+fn flushed<W: Write>(answer: Result<Done, Fault>, output: Patient<W>) -> (Result<Done, Fault>, W)
+    ensures { HandsOn (W.contents output.output) (W.contents result.1) answer result.0 }
+{
+    let mut output = output;
+    let is_whole = has_failed(&answer) || output.flush().is_ok();
+    let output = output.into_inner();
+    if is_whole {
+        (answer, output)
+    } else {
+        (Err(write_failed()), output)
+    }
+}
+
+/// Whether a write failed.
+fn has_failed(answer: &Result<Done, Fault>) -> bool {
+    match answer {
+        Ok(_) => false,
+        Err(fault) => fault.refusal == Refusal::Device(DeviceFailure::Write),
+    }
+}
+
+/// Writes a text and flushes it; whether all of it has gone.
+pub(crate) fn show<W: Write>(text: &str, output: W) -> (bool, W)
+    ensures { GoesOut (W.contents output) (W.contents result.1) text.now result.0 }
+{
+    let mut output = Patient::new(output);
+    let is_whole = write_whole(&mut output, text.as_bytes()) && output.flush().is_ok();
+    (is_whole, output.into_inner())
+}
+
+/// Writes a text; whether no write failed, or took no byte.
+fn write_whole<W: Write>(output: &mut W, text: &[u8]) -> bool
+    ensures { GoesOut (W.contents output.old) (W.contents output.new) text.now result }
+{
+    let mut rest = text;
+    while !rest.is_empty() {
+        let Ok(count) = output.write(rest) else {
+            return false;
+        };
+        if count == 0 {
+            return false;
+        }
+        rest = &rest[count..];
+    }
+    true
+}
+
+/// The fault of a writer that failed.
+pub(crate) fn write_failed() -> Fault
+    ensures { result ≡ fault_of (Refusal.Device DeviceFailure.Write) }
+{
+    Fault::from(Refusal::Device(DeviceFailure::Write))
+}
