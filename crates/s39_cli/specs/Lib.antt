@@ -1,5 +1,6 @@
 pub mod Command
 pub mod Ending
+pub mod Headline
 pub mod Outcome
 pub mod Unready
 pub mod Work

@@ -4,6 +4,7 @@
 
 mod command;
 mod delivery;
+pub mod laws;
 mod patient;
 mod status;
 mod work;
