@@ -199,6 +199,7 @@ module _ (set : List ShareFields) (passphrase secret : List ℕ) (is_set : IsSha
           let enough = is_group.enough.enough in
           let has = has_member group members 0 at (omega arith) in
           (has.share, has.among)
+
       by : (xs : List ShareFields) → set ≡ xs → group_threshold_of xs ≡ Some backup.group_threshold
       by [] none =
           let positive = backup.is_plan.positive in
