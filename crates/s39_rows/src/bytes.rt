@@ -1,8 +1,7 @@
 //! What each byte stands for: every one of the 256 in the place of a byte of a text.
 
 use crate::create::create;
-use crate::vectors::{ONE_OF_ONE, SHOW};
-use s39_cli::program;
+use crate::vectors::{ONE_OF_ONE, SHOW, program};
 use s39_kdf::{BadPassphrase, check_passphrase};
 use s39_set::parse_quorum;
 use s39_tool::Plan;

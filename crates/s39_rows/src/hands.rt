@@ -4,8 +4,9 @@
 use crate::create::{FIVE, RANDOM, SECRET, create, lines};
 use crate::devices::{Flushing, Full, Source};
 use crate::drill::SEVEN;
-use crate::vectors::{ONE_OF_ONE, ONE_OF_ONE_SECRET, RECOVER, SHOW, SHOWN};
-use s39_cli::{program, program_at_terminal};
+use crate::vectors::{
+    ONE_OF_ONE, ONE_OF_ONE_SECRET, RECOVER, SHOW, SHOWN, program, program_at_terminal,
+};
 use s39_tool::Counting;
 use std::alloc::{AllocError, Global};
 use std::io;

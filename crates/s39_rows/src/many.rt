@@ -1,7 +1,7 @@
 //! A backup with an exponent above 3, and a drill of more quorums than it lists by itself.
 
 use crate::create::SECRET;
-use s39_cli::program;
+use crate::vectors::program;
 use sha2::{Digest, Sha256};
 use std::test::Fail;
 

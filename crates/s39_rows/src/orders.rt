@@ -3,8 +3,7 @@
 
 use crate::create::{SECRET, create, lines};
 use crate::devices::Source;
-use crate::vectors::{ONE_OF_ONE, expect_run};
-use s39_cli::program;
+use crate::vectors::{ONE_OF_ONE, expect_run, program};
 use std::alloc::Global;
 use std::process::Abort;
 use std::test::Fail;
