@@ -58,6 +58,7 @@ libshamir.so: libshamir.a packaging/libshamir.map
 	$(CC) $(CFLAGS) $(LDFLAGS) -shared -Wl,-soname,$(SONAME),--version-script,packaging/libshamir.map,-z,defs,-z,relro,-z,now \
 		-o $@ -Wl,--whole-archive libshamir.a -Wl,--no-whole-archive
 	cp $@ bindings/python/shamir/libshamir.so
+	cp NOTICE bindings/python/NOTICE
 
 test:
 	@RT=$(RT) tools/gate
@@ -145,4 +146,4 @@ dist:
 	sha256sum shamir-$(VERSION).tar.gz
 
 clean:
-	rm -rf shamir libshamir.a libshamir.so bindings/python/shamir/libshamir.so shamir-$(VERSION).tar.gz shamir-*.whl *.deb crates/*/out
+	rm -rf shamir libshamir.a libshamir.so bindings/python/shamir/libshamir.so bindings/python/NOTICE shamir-$(VERSION).tar.gz shamir-*.whl *.deb crates/*/out
