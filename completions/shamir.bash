@@ -1,14 +1,20 @@
 # Completion of shamir for bash: source this file, or install it as PREFIX/share/bash-completion/completions/shamir.
-# A plan, a secret, a passphrase and a cursor are the owner's to say: nothing is offered for them, and no files.
+# A plan, a secret, a passphrase and a cursor are the owner's to say: for them bash offers its variables, and no files.
+# Files are offered behind a redirection.
 
 _shamir() {
     local word=${COMP_WORDS[COMP_CWORD]} previous=${COMP_WORDS[COMP_CWORD - 1]}
     local command='' said=' ' options at
+    local redirection='^&?[<>]+[&|]?$'
     COMPREPLY=()
+    # What bash completes by itself: the file of a redirection, variables, and the words of another command.
+    [[ $word =~ $redirection || $previous =~ $redirection || $word == *[\$\`]* ]] && return 0
     for ((at = 1; at < COMP_CWORD; at++)); do
-        [[ -n $command || ${COMP_WORDS[at]} == -* ]] || command=${COMP_WORDS[at]}
+        [[ ${COMP_WORDS[at]} == [\<\>]\(* ]] && return 0
+        [[ -n $command || ${COMP_WORDS[at]} != [a-z]* || ${COMP_WORDS[at - 1]} =~ $redirection ]] || command=${COMP_WORDS[at]}
         said+="${COMP_WORDS[at]} "
     done
+    compopt +o default
     # Behind an equals sign, which may be a word of its own, stands the value of the option before it.
     if [[ $word == = ]]; then
         word=''
@@ -37,4 +43,4 @@ _shamir() {
     return 0
 }
 
-complete -F _shamir shamir
+complete -o bashdefault -o default -F _shamir shamir
