@@ -1,7 +1,8 @@
 -- Points of a split, as many as its threshold, complete to its shares.
-use Rattle.std.proofs.Common.{◌≡◌, ℕ, ◌<◌, ◌≤◌, List, [], ◌∷◌, Option, Some, None, length, get_or, slice_index, refl, sym, ap, ◌∙◌, inl, inr, arith}
+use Rattle.std.proofs.Common.{◌≡◌, ◌≢◌, ◌⊎◌, ℕ, ◌<◌, ◌≤◌, List, [], ◌∷◌, Option, Some, None, length, get_or, slice_index, refl, sym, ap, ◌∙◌, inl, inr, arith}
 use Rattle.std.specs.List.{All, slice_get}
 use Rattle.std.proofs.lemmas.List.Elements.{All-nil, All-cons}
+use Rattle.std.proofs.lemmas.List.Kept.{AllPairs-cons}
 use Rattle.std.proofs.lemmas.Option.{slice_get_within, get_or_from_slice_get}
 use Rattle.std.proofs.lemmas.Bool.{cases_lt}
 use Rattle.s39_field.specs.FieldProduct.{byte_field}
@@ -13,7 +14,7 @@ use Rattle.s39_field.specs.Theory.Strings.{strings_have_one_value}
 use Rattle.s39_kdf.specs.Bytes.{AreBytes}
 use Rattle.s39_split.specs.Sharing.{most_shares, digest_place, secret_place, digest_share, IsSplit}
 use Rattle.s39_split.specs.Recovery.{Combines}
-use Rattle.s39_split.specs.Completion.{Completes, ArePointsOf, AnyPointsComplete, PointsCompleteOnce, PointsComplete}
+use Rattle.s39_split.specs.Completion.{Completes, ArePointsOf, SharesArePoints, AnyPointsComplete, PointsCompleteOnce, PointsComplete}
 use Rattle.s39_split.proofs.Interpolations.{interpolates_by_others}
 use Rattle.s39_split.proofs.SplitPoints.{base_of, SplitBase, split_base}
 use Rattle.s39_split.proofs.Choices.{combines_accepted, one_combines_to, several_combine_to}
@@ -158,3 +159,21 @@ points_complete threshold points index positive number places bytes one_length d
     let same = All-from_same (λ s. length s.1) points one_length in
     let are : ArePoints same.0 points = record { places = places; bytes = bytes; lengths = same.1; distinct = distinct } in
     outcome_of threshold points index same.0 are combined.0 combined.1
+
+-- shares are points, and no share has the secret's place
+pub shares_are_points : SharesArePoints
+shares_are_points threshold count secret random shares chosen split choice =
+    let few : length shares ≤ most_shares = omega (arith, split.number, split.few) in
+    let other : All (λ point. secret_place ≢ point.0) chosen =
+    λ k d within same.
+    let below = slice_get_within shares (get_or chosen k d).0 (get_or chosen k d).1 (choice.belong k d within) in
+    omega arith in
+    let Belongs : ℕ × List ℕ → Type 0 =
+    λ point. (slice_get shares point.0 ≡ Some point.1) ⊎ ((point.0 ≡ secret_place) × (point.1 ≡ secret)) in
+    let belong : All Belongs chosen = λ k d within. inl (choice.belong k d within) in (
+      record { distinct = choice.distinct; belong = belong },
+      record {
+        distinct = AllPairs-cons (λ a b. a.0 ≢ b.0) (secret_place, secret) chosen other choice.distinct;
+        belong = All-cons Belongs (secret_place, secret) chosen (inr (refl, refl)) belong;
+      },
+    )

@@ -1,11 +1,11 @@
 -- The share at another index of the split to which points belong (SLIP-0039, "Shamir's secret sharing"), and its laws.
-use Rattle.std.specs.Prelude.{◌≡◌, ◌⊎◌, ℕ, ◌<◌, ◌≤◌, List, Option, Some, None, length, All}
+use Rattle.std.specs.Prelude.{◌≡◌, ◌⊎◌, ℕ, ◌<◌, ◌≤◌, List, ◌∷◌, Option, Some, None, length, All}
 use Rattle.std.specs.List.{slice_get}
 use Rattle.s39_field.specs.Interpolation.{InterpolatesBytes}
 use Rattle.s39_kdf.specs.Bytes.{AreBytes}
 use Rattle.s39_split.specs.Shares.{AreDistinct, HaveOneLength}
 use Rattle.s39_split.specs.Sharing.{secret_place, IsSplit}
-use Rattle.s39_split.specs.Recovery.{Combines}
+use Rattle.s39_split.specs.Recovery.{Combines, AreSharesOf}
 
 -- Points, each a share with its index or the secret with its place, as many as the threshold, complete to this share at
 -- an index: they combine, and interpolate it there. Where they don't combine they are refused, which is None.
@@ -18,6 +18,13 @@ Completes threshold points index (Some share) =
 pub record ArePointsOf (secret : List ℕ) (shares : List (List ℕ)) (chosen : List (ℕ × List ℕ)) : Type 0 where
   pub distinct : AreDistinct chosen
   pub belong : All (λ point. (slice_get shares point.0 ≡ Some point.1) ⊎ ((point.0 ≡ secret_place) × (point.1 ≡ secret))) chosen
+
+-- some of a split's shares are points of it, and so are they with the secret at its place
+abbrev pub SharesArePoints : Type 0
+SharesArePoints = (threshold count : ℕ) (secret random : List ℕ) (shares : List (List ℕ)) (chosen : List (ℕ × List ℕ))
+    → IsSplit threshold count secret random shares
+    → AreSharesOf shares chosen
+    → ArePointsOf secret shares chosen × ArePointsOf secret shares ((secret_place, secret) ∷ chosen)
 
 -- any threshold many points of a split, of bytes, complete to each of its shares at its index, and to nothing else
 abbrev pub AnyPointsComplete : Type 0

@@ -24,7 +24,8 @@ pub fn complete(t: u8, points: &[(u8, &Bytes)], index: u8) -> Result<Bytes, Dige
     requires few { t ≤ most_shares }
     requires number { length points.now ≡ t }
     requires distinct { AreDistinct (indexed_bytes points.now) }
-    requires places { All (λ point. (point.0 < most_shares) ⊎ (point.0 ≡ secret_place)) (indexed_bytes points.now) }
+    requires places { All (λ point. (point.0 < most_shares) ⊎ (point.0 ≡ secret_place))
+        (indexed_bytes points.now) }
     requires one_length { HaveOneLength (indexed_bytes points.now) }
     requires long { All (λ point. shortest_secret ≤ length point.1) (indexed_bytes points.now) }
     ensures share { IfOk result

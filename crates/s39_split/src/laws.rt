@@ -2,7 +2,7 @@
 ghost use Rattle.std.specs.Prelude.{◌≡◌};
 ghost use Rattle.s39_split.specs.Sharing.{most_shares, digest_place, secret_place, digest_length, most_random_bytes};
 ghost use Rattle.s39_split.specs.Sharing.{SplitsTakeTheBytesNeeded, SharesAreAsLong, SharesAreBytes, HaveASplit, HaveOneSplit, FirstSharesAreASplit};
-ghost use Rattle.s39_split.specs.Completion.{AnyPointsComplete, PointsComplete, PointsCompleteOnce};
+ghost use Rattle.s39_split.specs.Completion.{AnyPointsComplete, PointsComplete, PointsCompleteOnce, SharesArePoints};
 ghost use Rattle.s39_split.specs.Recovery.{AnySharesCombine, SharesCombine, SharesCombineOnce, SecretsAreLikeTheirShares};
 
 use crate::places::{DIGEST_BYTES, DIGEST_PLACE, MAX_RANDOM_BYTES, MAX_SHARES, SECRET_PLACE};
@@ -71,4 +71,9 @@ pub fn any_points_complete()
 pub fn points_complete()
     ensures some { PointsComplete }
     ensures one { PointsCompleteOnce }
+{}
+
+/// Shares of a split are points of it, in any order, and so are they with the secret at its place.
+pub fn shares_are_points()
+    ensures { SharesArePoints }
 {}
