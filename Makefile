@@ -4,7 +4,7 @@
 #   make check       the fast checks: commands and tables of the documents, the manual page, completions, terminals, refused
 #                    memory, the library (make test runs them too)
 #   make check-library   the library alone: its header, examples from C, the Python binding, the cuts of a drill, made cases
-#   make faults      lets each growth, read and write of the program fail in turn
+#   make faults      lets each allocation, read and write of the program fail in turn
 #   make compare     compares made cases with a plain reading of the standard in Python
 #   make bench       measures
 #   make install     the program and the library, into the folders below, behind DESTDIR; it proves nothing, and says what
@@ -34,8 +34,10 @@ override PREFIX := $(abspath $(PREFIX))
 override LIBDIR := $(abspath $(LIBDIR))
 override INCLUDEDIR := $(abspath $(INCLUDEDIR))
 # The crate of the program: the one that has a main, but for the bench and the examples over arrays.
-PROGRAM = $(filter-out s39_bench s39_growths,$(patsubst crates/%/src/main.rt,%,$(wildcard crates/*/src/main.rt)))
+PROGRAM = $(filter-out s39_bench s39_allocations,$(patsubst crates/%/src/main.rt,%,$(wildcard crates/*/src/main.rt)))
 DOCUMENTS = README.md CHANGELOG.md CONTRIBUTING.md SECURITY.md NOTICE
+# Prints the calls of the library; the manual page shamir(3) is found by the name of each.
+CALLS = sed -n 's/^shamir_answer \([a-z_]*\).*/\1/p' include/shamir.h
 SOURCES = $(shell find crates -path '*/out' -prune -o -type f -print) crates.txt
 
 .PHONY: all lib test check check-library check-packages bench faults compare install install-bin install-lib uninstall wheel deb dist clean
@@ -70,7 +72,7 @@ check: shamir check-library check-packages
 	@tools/manual
 	@tools/completions
 	@tools/terminal
-	@tools/faults --growths
+	@tools/faults --allocations
 
 check-library: shamir libshamir.so
 	@tools/library
@@ -80,7 +82,7 @@ check-packages: shamir libshamir.so
 	@tools/packages
 
 faults: shamir
-	cd crates/s39_growths && $(RT) run < stdin > /dev/null
+	cd crates/s39_allocations && $(RT) run < stdin > /dev/null
 	@tools/faults
 
 compare: shamir
@@ -111,7 +113,8 @@ install-bin:
 install-lib:
 	@for file in libshamir.a libshamir.so; do \
 	test -f $$file || { echo "make install-lib: ./$$file isn't here: 'make lib' proves and builds it" >&2; exit 1; }; done
-	$(INSTALL) -d "$(DESTDIR)$(LIBDIR)/pkgconfig" "$(DESTDIR)$(INCLUDEDIR)" "$(DESTDIR)$(DOCDIR)/docs" "$(DESTDIR)$(DOCDIR)/examples/c"
+	$(INSTALL) -d "$(DESTDIR)$(LIBDIR)/pkgconfig" "$(DESTDIR)$(INCLUDEDIR)" "$(DESTDIR)$(MANDIR)/man3" "$(DESTDIR)$(DOCDIR)/docs" \
+		"$(DESTDIR)$(DOCDIR)/examples/c"
 	$(INSTALL) -m 644 libshamir.a "$(DESTDIR)$(LIBDIR)/libshamir.a"
 	$(INSTALL) -m 644 libshamir.so "$(DESTDIR)$(LIBDIR)/libshamir.so.$(VERSION)"
 	ln -sf libshamir.so.$(VERSION) "$(DESTDIR)$(LIBDIR)/$(SONAME)"
@@ -120,16 +123,19 @@ install-lib:
 	sed 's|@PREFIX@|$(PREFIX)|; s|@LIBDIR@|$(LIBDIR:$(PREFIX)/%=$${prefix}/%)|; s|@INCLUDEDIR@|$(INCLUDEDIR:$(PREFIX)/%=$${prefix}/%)|; s|@VERSION@|$(VERSION)|' \
 		include/shamir.pc.in > "$(DESTDIR)$(LIBDIR)/pkgconfig/shamir.pc"
 	chmod 644 "$(DESTDIR)$(LIBDIR)/pkgconfig/shamir.pc"
+	$(INSTALL) -m 644 man/shamir.3 "$(DESTDIR)$(MANDIR)/man3/shamir.3"
+	for call in $$($(CALLS)); do ln -sf shamir.3 "$(DESTDIR)$(MANDIR)/man3/$$call.3"; done
 	$(INSTALL) -m 644 NOTICE "$(DESTDIR)$(DOCDIR)"
 	$(INSTALL) -m 644 docs/LIBRARY.md "$(DESTDIR)$(DOCDIR)/docs"
-	$(INSTALL) -m 644 examples/c/recover.c "$(DESTDIR)$(DOCDIR)/examples/c"
+	$(INSTALL) -m 644 examples/c/*.c "$(DESTDIR)$(DOCDIR)/examples/c"
 
 uninstall:
 	rm -f "$(DESTDIR)$(BINDIR)/shamir" "$(DESTDIR)$(MANDIR)/man1/shamir.1"
 	rm -f "$(DESTDIR)$(BASHDIR)/shamir" "$(DESTDIR)$(ZSHDIR)/_shamir" "$(DESTDIR)$(FISHDIR)/shamir.fish"
 	rm -f "$(DESTDIR)$(LIBDIR)/libshamir.a" "$(DESTDIR)$(LIBDIR)/libshamir.so" "$(DESTDIR)$(LIBDIR)/$(SONAME)" "$(DESTDIR)$(LIBDIR)/libshamir.so.$(VERSION)"
 	rm -f "$(DESTDIR)$(LIBDIR)/pkgconfig/shamir.pc" "$(DESTDIR)$(INCLUDEDIR)/shamir.h"
-	cd "$(DESTDIR)$(DOCDIR)" && rm -f $(DOCUMENTS) docs/*.md examples/*.txt examples/c/recover.c && \
+	for page in shamir $$($(CALLS)); do rm -f "$(DESTDIR)$(MANDIR)/man3/$$page.3"; done
+	cd "$(DESTDIR)$(DOCDIR)" && rm -f $(DOCUMENTS) docs/*.md examples/*.txt examples/c/*.c && \
 	rmdir examples/c examples docs "$$(pwd)" 2> /dev/null; true
 
 wheel: libshamir.so

@@ -3,7 +3,8 @@
  *
  * Each function works on memory of its caller. It takes no memory, makes no system call, keeps nothing between calls, and
  * returns whatever bytes it is given. Calls share nothing, so they may run on any threads at once. A call takes at most
- * SHAMIR_STACK_BYTES bytes of stack. The main thread has them; one that was made with less ends the program in a drill.
+ * SHAMIR_STACK_BYTES bytes of stack. The main thread has them. In one that was made with less, shamir_create,
+ * shamir_recover and shamir_drill may end the program; the others take little.
  *
  * A slice is a pointer and the number of bytes there. What a call writes, a slice or a struct, overlaps nothing else that
  * the call is given. Where the number of bytes is 0, the pointer isn't used, and may be NULL; a pointer to a struct may not.
@@ -12,8 +13,8 @@
  *
  * Whatever is refused: nothing is written then.
  *
- * Not wiped: copies of secrets and passphrases may be left on the stack. Nor is the time of a call the same for all
- * secrets. docs/LIBRARY.md says what is promised and what isn't.
+ * Not wiped: copies of secrets and passphrases may be left on the stack; examples/c/cleared.c calls on a stack of its own,
+ * and clears that. Nor is the time of a call the same for all secrets. docs/LIBRARY.md says what is promised and what isn't.
  */
 #ifndef SHAMIR_H
 #define SHAMIR_H
@@ -21,7 +22,7 @@
 #include <stddef.h>
 #include <stdint.h>
 
-/* The version of this header, and of the library that it came with. */
+/* The version of this header; shamir_version tells that of the library. */
 #define SHAMIR_VERSION "1.0.0"
 
 #ifdef __cplusplus
@@ -54,8 +55,11 @@ extern "C" {
 /* The most bytes that shamir_text writes. */
 #define SHAMIR_TEXT_BYTES_MAX 64
 
+/* The greatest iteration exponent: as max_exponent it lets every mnemonic pass. */
+#define SHAMIR_EXPONENT_MAX 15
+
 /* The most bytes of stack that a call takes. */
-#define SHAMIR_STACK_BYTES 262144
+#define SHAMIR_STACK_BYTES 393216
 
 /* In the place of a group in a digest's mismatch: the digest of the group shares. */
 #define SHAMIR_OF_GROUPS 16
@@ -70,13 +74,14 @@ extern "C" {
 #endif
 
 /*
- * The number of the first cause that applies, or 0. All but the first three are those of the command shamir. Behind each
+ * The number of the first cause that applies, or 0. All but the first four are those of the command shamir. Behind each
  * stands what first and second of the answer are; where they have no meaning they are 0. Groups and members count from 0.
  */
 typedef enum shamir_code {
     SHAMIR_DONE = 0,                    /* nothing is refused */
     SHAMIR_TOO_SHORT = 1,               /* a slice is too short; first: the bytes that are needed */
     SHAMIR_OUT_OF_RANGE = 2,            /* a number is out of its range */
+    SHAMIR_HIGH_EXPONENT = 3,           /* the exponent is above the most; first: the exponent of the mnemonics */
     SHAMIR_UNKNOWN_WORD = 11,           /* a word isn't in the word list; first: its position, from 1 */
     SHAMIR_WORD_COUNT = 12,             /* no mnemonic has so many words; first: their number */
     SHAMIR_BAD_CHECKSUM = 13,           /* the checksum is bad */
@@ -159,16 +164,18 @@ shamir_answer shamir_create(
 /*
  * Recovers the secret of lines, each a mnemonic, blank, or a comment that begins with a number sign: that of the least
  * quorum among them. A line ends with a line feed, which the last may lack. The secret goes to the front of secret. A wrong
- * passphrase isn't noticed: it gives another secret. Refused: 41, then the first refused line (11 to 28, 71), then 29, 30,
- * 51, and then 1.
+ * passphrase isn't noticed: it gives another secret. Refused: 3, then 41, then the first refused line (11 to 28, 71), then
+ * 29, 30, 51, and then 1.
  *
  * The call takes 10,000 * 2^exponent iterations, with the exponent that the mnemonics say, and twice as many for a secret
- * of more than 64 bytes: at 15 these are some minutes. shamir_parse tells the exponent before. Where the slice is too short,
- * 1 comes after that work.
+ * of more than 64 bytes: at 15 these are some minutes. Where no line is refused, the mnemonics have a quorum, and their
+ * exponent is above max_exponent, the answer is 3, whatever else could be refused, and no iteration was made.
+ * SHAMIR_EXPONENT_MAX allows every exponent. Where the slice is too short, 1 comes after that work.
  */
 SHAMIR_CALL
 shamir_answer shamir_recover(
-    const char *lines, size_t lines_bytes, const char *passphrase, size_t passphrase_bytes, uint8_t *secret, size_t secret_bytes);
+    const char *lines, size_t lines_bytes, const char *passphrase, size_t passphrase_bytes, uint32_t max_exponent, uint8_t *secret,
+    size_t secret_bytes);
 
 /*
  * Tries the quorums of lines, as of shamir_recover, that come after the one that after names, as 0.0+0.2+1.0, or all where
@@ -183,25 +190,33 @@ shamir_answer shamir_recover(
  * after; a line feed ends it too. after and text may not overlap: copy these names, at most SHAMIR_NAMES_BYTES_MAX bytes,
  * before the next call writes to text.
  *
- * Refused: 2 for a limit of 0, then 61, 41, then the first refused line (11 to 28, 71), then 29, 30, 62, and then 1 where
- * not even one quorum fits: first is what its line and the last line need. That is 4 where no quorum comes after the named
- * one, for "end" and a line feed. SHAMIR_LISTING_BYTES_ENOUGH is always enough, and more room takes fewer calls.
+ * Refused: 3 as by shamir_recover, then 2 for a limit of 0, then 61, 41, then the first refused line (11 to 28, 71), then 29,
+ * 30, 62, and then 1 where not even one quorum fits: first is what its line and the last line need. That is 4 where no quorum
+ * comes after the named one, for "end" and a line feed. SHAMIR_LISTING_BYTES_ENOUGH is always enough.
  *
  * The call takes as many iterations as shamir_recover for each value that quorums combine to: mostly all combine to one, but
- * each call begins anew, and 1 comes after that work too.
+ * each call begins anew, and 1 comes after that work too. So give it a room of 65536 bytes: in parts of one quorum the drill
+ * of a large backup takes tens of times as long.
  */
 SHAMIR_CALL
 shamir_answer shamir_drill(
-    const char *lines, size_t lines_bytes, const char *passphrase, size_t passphrase_bytes, const char *after, size_t after_bytes,
-    uint32_t limit, char *text, size_t text_bytes);
+    const char *lines, size_t lines_bytes, const char *passphrase, size_t passphrase_bytes, uint32_t max_exponent, const char *after,
+    size_t after_bytes, uint32_t limit, char *text, size_t text_bytes);
 
 /*
  * The text of an answer's code and details, as the command shamir prints it behind the number: it goes to the front of
  * text, with no zero at its end. For 0 it is "done", for 1 "slice too short: N bytes needed", for 2 "number out of range",
- * and for what no call answers "unknown answer". answer may not be NULL. Refused: 1.
+ * for 3 "exponent E above the most", and for what no call answers "unknown answer". answer may not be NULL. Refused: 1.
  */
 SHAMIR_CALL SHAMIR_STRUCT(1)
 shamir_answer shamir_text(const shamir_answer *answer, char *text, size_t text_bytes);
+
+/*
+ * The version of the library, as SHAMIR_VERSION is that of the header: it goes to the front of text, with no zero at its end.
+ * SHAMIR_TEXT_BYTES_MAX bytes are enough for it. Refused: 1.
+ */
+SHAMIR_CALL
+shamir_answer shamir_version(char *text, size_t text_bytes);
 
 #ifdef __cplusplus
 }

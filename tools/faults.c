@@ -1,18 +1,18 @@
-/* Preloaded into the program by tools/faults. It counts the growths of memory, the reads of standard input and the writes
+/* Preloaded into the program by tools/faults. It counts the allocations, the reads of standard input and the writes
    that the program itself makes, lets those fail that the environment names, and logs each.
 
-   FAULT_LOG             the descriptor of the log: a line 'KIND SIZE RESULT' for each call, of which kinds are growth,
-                         read, write (of standard output) and error (a write of standard error)
-   FAULT_GROWTH          the number, from 1, of the growth that is refused
-   FAULT_GROWTHS_FROM    all from this one on are refused
-   FAULT_READ            the number of the read that fails, and
-   FAULT_READ_BYTES      the number of bytes that come before a read fails
-   FAULT_WRITE           the number of the write of standard output that fails, and
-   FAULT_WRITE_BYTES     the number of bytes that are taken before a write fails
-   FAULT_WRITE_NONE      the number of the write of standard output that takes no byte
-   FAULT_ERRORS          each write of standard error fails
-   FAULT_SINGLE          a read gives, and a write takes, one byte at most
-   FAULT_ERRNO           the error of a failing read or write, by default EIO */
+   FAULT_LOG               the descriptor of the log: a line 'KIND SIZE RESULT' for each call, of which kinds are
+                           allocation, read, write (of standard output) and error (a write of standard error)
+   FAULT_ALLOCATION        the number, from 1, of the allocation that is refused
+   FAULT_ALLOCATIONS_FROM  all from this one on are refused
+   FAULT_READ              the number of the read that fails, and
+   FAULT_READ_BYTES        the number of bytes that come before a read fails
+   FAULT_WRITE             the number of the write of standard output that fails, and
+   FAULT_WRITE_BYTES       the number of bytes that are taken before a write fails
+   FAULT_WRITE_NONE        the number of the write of standard output that takes no byte
+   FAULT_ERRORS            each write of standard error fails
+   FAULT_SINGLE            a read gives, and a write takes, one byte at most
+   FAULT_ERRNO             the error of a failing read or write, by default EIO */
 #define _GNU_SOURCE
 #include <dlfcn.h>
 #include <errno.h>
@@ -25,8 +25,9 @@
 #include <unistd.h>
 
 static uintptr_t first_address, last_address;
-static long log_to, growth, growths_from, read_at, read_bytes, write_at, write_bytes, write_none, errors, single, failure;
-static long growths, reads, read_sum, writes, write_sum;
+static long log_to, allocation, allocations_from, read_at, read_bytes;
+static long write_at, write_bytes, write_none, errors, single, failure;
+static long allocations, reads, read_sum, writes, write_sum;
 
 static long setting(const char *name, long otherwise)
 {
@@ -50,8 +51,8 @@ static int find_program(struct dl_phdr_info *info, size_t size, void *data)
 __attribute__((constructor)) static void begin(void)
 {
     log_to = setting("FAULT_LOG", 2);
-    growth = setting("FAULT_GROWTH", -1);
-    growths_from = setting("FAULT_GROWTHS_FROM", -1);
+    allocation = setting("FAULT_ALLOCATION", -1);
+    allocations_from = setting("FAULT_ALLOCATIONS_FROM", -1);
     read_at = setting("FAULT_READ", -1);
     read_bytes = setting("FAULT_READ_BYTES", -1);
     write_at = setting("FAULT_WRITE", -1);
@@ -79,9 +80,9 @@ static int is_refused(void *caller, size_t size)
 {
     if (!is_program(caller))
         return 0;
-    growths++;
-    int refused = growths == growth || (growths_from > 0 && growths >= growths_from);
-    tell("growth", size, refused ? -1 : 0);
+    allocations++;
+    int refused = allocations == allocation || (allocations_from > 0 && allocations >= allocations_from);
+    tell("allocation", size, refused ? -1 : 0);
     return refused;
 }
 

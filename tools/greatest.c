@@ -72,7 +72,7 @@ static void drill_parts(size_t bytes)
 
     for (;;) {
         written = done("shamir_drill", shamir_drill(
-            mnemonics, bytes, passphrase, strlen(passphrase), cursor, cursor_bytes, UINT32_MAX, listing, sizeof listing));
+            mnemonics, bytes, passphrase, strlen(passphrase), SHAMIR_EXPONENT_MAX, cursor, cursor_bytes, UINT32_MAX, listing, sizeof listing));
         fwrite(listing, 1, written, stdout);
         for (last = written - 2; listing[last] != '\n'; last--) {
         }
@@ -125,7 +125,7 @@ static void *calls(void *unused)
             plan, plan_bytes, secret, sizeof secret, passphrase, strlen(passphrase), 0, 0, random_bytes, (size_t)needed.first, mnemonics, sizeof mnemonics));
         fwrite(mnemonics, 1, bytes, stdout);
         parse_each(bytes);
-        if (done("shamir_recover", shamir_recover(mnemonics, bytes, passphrase, strlen(passphrase), value, sizeof value)) != sizeof secret
+        if (done("shamir_recover", shamir_recover(mnemonics, bytes, passphrase, strlen(passphrase), SHAMIR_EXPONENT_MAX, value, sizeof value)) != sizeof secret
             || memcmp(value, secret, sizeof secret) != 0) {
             fprintf(stderr, "shamir_recover: another secret\n");
             exit(1);
@@ -133,6 +133,7 @@ static void *calls(void *unused)
         drill_parts(bytes);
     }
     text_of_each();
+    done("shamir_version", shamir_version(text, sizeof text));
     return unused;
 }
 

@@ -102,6 +102,7 @@ typedef struct create_example {
 typedef struct recover_example {
     const char *lines[LINES_MAX];
     const char *passphrase;
+    uint32_t max_exponent;
     wanted answer;
     const char *secret;
 } recover_example;
@@ -110,6 +111,7 @@ typedef struct recover_example {
 typedef struct drill_example {
     const char *lines[LINES_MAX];
     const char *passphrase;
+    uint32_t max_exponent;
     const char *after;
     uint32_t limit;
     size_t room;
@@ -119,6 +121,8 @@ typedef struct drill_example {
 } drill_example;
 
 #define DONE {0, 0, 0, 0, "done"}
+/* The vector of two mnemonics has the exponent 2. */
+#define HIGH {3, 0, 2, 0, "exponent 2 above the most"}
 #define NO_SHARE {65535, 255, 255, 255, 255, 255, 255, 255}
 
 /* NULL is handed in as NULL with no bytes. */
@@ -157,19 +161,21 @@ static const create_example create_examples[] = {
 };
 
 static const recover_example recover_examples[] = {
-    {{ONE}, KEY, DONE, SECRET},
-    {{TWO_2, TWO_0}, KEY, DONE, TWO_SECRET},
-    {{FIVE}, KEY, DONE, SECRET},
-    {{FIVE_3, "", "# a note", FIVE_4}, KEY, DONE, SECRET},
-    {{ONE}, NULL, DONE, "3972a9318cf16a33ee9b0564c5a0bd0b"},
-    {{ONE_WRONG}, KEY, {13, 1, 0, 0, "bad checksum"}, ""},
-    {{FIVE_3, ONE_WRONG}, KEY, {13, 2, 0, 0, "bad checksum"}, ""},
-    {{TWO_0, ONE}, KEY, {21, 2, 0, 0, "other identifier"}, ""},
-    {{TWO_0}, KEY, {30, 0, 0, 1, "incomplete: 0 of 1 groups"}, ""},
-    {{UNEVEN_0, UNEVEN_1}, NULL, {51, 0, 0, 0, "digest mismatch in group 0"}, ""},
-    {{UNEVEN_GROUP_0, UNEVEN_GROUP_1}, NULL, {51, 0, SHAMIR_OF_GROUPS, 0, "digest mismatch of groups"}, ""},
-    {{NULL}, KEY, {29, 0, 0, 0, "no shares"}, ""},
-    {{NULL}, "a\x07", {41, 0, 2, 0, "passphrase byte 2 not printable"}, ""}
+    {{ONE}, KEY, 0, DONE, SECRET},
+    {{TWO_2, TWO_0}, KEY, 2, DONE, TWO_SECRET},
+    {{TWO_2, TWO_0}, KEY, 1, HIGH, ""},
+    {{TWO_2, TWO_0}, "a\x07", 0, HIGH, ""},
+    {{FIVE}, KEY, SHAMIR_EXPONENT_MAX, DONE, SECRET},
+    {{FIVE_3, "", "# a note", FIVE_4}, KEY, SHAMIR_EXPONENT_MAX, DONE, SECRET},
+    {{ONE}, NULL, 0, DONE, "3972a9318cf16a33ee9b0564c5a0bd0b"},
+    {{ONE_WRONG}, KEY, 0, {13, 1, 0, 0, "bad checksum"}, ""},
+    {{FIVE_3, ONE_WRONG}, KEY, 0, {13, 2, 0, 0, "bad checksum"}, ""},
+    {{TWO_0, ONE}, KEY, SHAMIR_EXPONENT_MAX, {21, 2, 0, 0, "other identifier"}, ""},
+    {{TWO_0}, KEY, 0, {30, 0, 0, 1, "incomplete: 0 of 1 groups"}, ""},
+    {{UNEVEN_0, UNEVEN_1}, NULL, SHAMIR_EXPONENT_MAX, {51, 0, 0, 0, "digest mismatch in group 0"}, ""},
+    {{UNEVEN_GROUP_0, UNEVEN_GROUP_1}, NULL, SHAMIR_EXPONENT_MAX, {51, 0, SHAMIR_OF_GROUPS, 0, "digest mismatch of groups"}, ""},
+    {{NULL}, KEY, 0, {29, 0, 0, 0, "no shares"}, ""},
+    {{NULL}, "a\x07", 0, {41, 0, 2, 0, "passphrase byte 2 not printable"}, ""}
 };
 
 #define LISTED(names) names " " SECRET "\n"
@@ -178,27 +184,29 @@ static const recover_example recover_examples[] = {
 
 /* Of the five a line has 45 bytes, and the last line 23, but for "end". */
 static const drill_example drill_examples[] = {
-    {{ONE}, KEY, NULL, 9, 41, DONE, 0, LISTED("0.0") "end\n"},
-    {{TWO_0, TWO_2}, KEY, "", 9, 45, DONE, 0, "0.0+0.2 " TWO_SECRET "\nend\n"},
-    {{FIVE}, KEY, NULL, 4, 203, DONE, 0, FIRST_PART},
-    {{FIVE}, KEY, NULL, 9, 247, DONE, 0, FIRST_PART},
-    {{FIVE}, KEY, "0.0+0.2+2.0", 9, 135, DONE, 0, LAST_PART},
-    {{FIVE}, KEY, "0.1+0.2+2.0", 9, 45, DONE, 0, LISTED("1.0+2.0") "end\n"},
-    {{FIVE}, KEY, "1.0+2.0", 1, 4, DONE, 0, "end\n"},
-    {{UNEVEN_0, UNEVEN_1}, NULL, NULL, 1, 39, DONE, 1, "0.0+0.1 digest mismatch in group 0\nend\n"},
-    {{UNEVEN_GROUP_0, UNEVEN_GROUP_1}, "", "", 1, ROOM_BYTES, DONE, 1, "0.0+1.0 digest mismatch of groups\nend\n"},
-    {{FIVE}, KEY, NULL, 9, 67, {1, 0, 68, 0, "slice too short: 68 bytes needed"}, 0, ""},
-    {{FIVE}, KEY, "0.0+0.2+2.0", 9, 0, {1, 0, 68, 0, "slice too short: 68 bytes needed"}, 0, ""},
-    {{FIVE}, KEY, "1.0+2.0", 9, 3, {1, 0, 4, 0, "slice too short: 4 bytes needed"}, 0, ""},
-    {{UNEVEN_0, UNEVEN_1}, NULL, NULL, 9, 38, {1, 0, 39, 0, "slice too short: 39 bytes needed"}, 0, ""},
-    {{ONE}, KEY, NULL, 9, 40, {1, 0, 41, 0, "slice too short: 41 bytes needed"}, 0, ""},
-    {{ONE_WRONG}, KEY, NULL, 9, ROOM_BYTES, {13, 1, 0, 0, "bad checksum"}, 0, ""},
-    {{NULL}, "a\x07", "0.1+", 0, ROOM_BYTES, {2, 0, 0, 0, "number out of range"}, 0, ""},
-    {{NULL}, "a\x07", "0.1+", 1, ROOM_BYTES, {61, 0, 0, 0, "bad cursor"}, 0, ""},
-    {{NULL}, "a\x07", "0.1", 1, ROOM_BYTES, {41, 0, 2, 0, "passphrase byte 2 not printable"}, 0, ""},
-    {{NULL}, NULL, "0.1", 1, ROOM_BYTES, {29, 0, 0, 0, "no shares"}, 0, ""},
-    {{TWO_2}, NULL, "0.1", 1, ROOM_BYTES, {30, 0, 0, 1, "incomplete: 0 of 1 groups"}, 0, ""},
-    {{FIVE}, NULL, "0.1", 1, ROOM_BYTES, {62, 0, 0, 0, "cursor is no quorum"}, 0, ""}
+    {{ONE}, KEY, 0, NULL, 9, 41, DONE, 0, LISTED("0.0") "end\n"},
+    {{TWO_0, TWO_2}, KEY, 2, "", 9, 45, DONE, 0, "0.0+0.2 " TWO_SECRET "\nend\n"},
+    {{TWO_0, TWO_2}, KEY, 1, "", 9, 45, HIGH, 0, ""},
+    {{TWO_0, TWO_2}, "a\x07", 0, "0.1+", 0, 0, HIGH, 0, ""},
+    {{FIVE}, KEY, SHAMIR_EXPONENT_MAX, NULL, 4, 203, DONE, 0, FIRST_PART},
+    {{FIVE}, KEY, SHAMIR_EXPONENT_MAX, NULL, 9, 247, DONE, 0, FIRST_PART},
+    {{FIVE}, KEY, SHAMIR_EXPONENT_MAX, "0.0+0.2+2.0", 9, 135, DONE, 0, LAST_PART},
+    {{FIVE}, KEY, SHAMIR_EXPONENT_MAX, "0.1+0.2+2.0", 9, 45, DONE, 0, LISTED("1.0+2.0") "end\n"},
+    {{FIVE}, KEY, SHAMIR_EXPONENT_MAX, "1.0+2.0", 1, 4, DONE, 0, "end\n"},
+    {{UNEVEN_0, UNEVEN_1}, NULL, 0, NULL, 1, 39, DONE, 1, "0.0+0.1 digest mismatch in group 0\nend\n"},
+    {{UNEVEN_GROUP_0, UNEVEN_GROUP_1}, "", 0, "", 1, ROOM_BYTES, DONE, 1, "0.0+1.0 digest mismatch of groups\nend\n"},
+    {{FIVE}, KEY, SHAMIR_EXPONENT_MAX, NULL, 9, 67, {1, 0, 68, 0, "slice too short: 68 bytes needed"}, 0, ""},
+    {{FIVE}, KEY, SHAMIR_EXPONENT_MAX, "0.0+0.2+2.0", 9, 0, {1, 0, 68, 0, "slice too short: 68 bytes needed"}, 0, ""},
+    {{FIVE}, KEY, SHAMIR_EXPONENT_MAX, "1.0+2.0", 9, 3, {1, 0, 4, 0, "slice too short: 4 bytes needed"}, 0, ""},
+    {{UNEVEN_0, UNEVEN_1}, NULL, 0, NULL, 9, 38, {1, 0, 39, 0, "slice too short: 39 bytes needed"}, 0, ""},
+    {{ONE}, KEY, 0, NULL, 9, 40, {1, 0, 41, 0, "slice too short: 41 bytes needed"}, 0, ""},
+    {{ONE_WRONG}, KEY, 0, NULL, 9, ROOM_BYTES, {13, 1, 0, 0, "bad checksum"}, 0, ""},
+    {{NULL}, "a\x07", 0, "0.1+", 0, ROOM_BYTES, {2, 0, 0, 0, "number out of range"}, 0, ""},
+    {{NULL}, "a\x07", 0, "0.1+", 1, ROOM_BYTES, {61, 0, 0, 0, "bad cursor"}, 0, ""},
+    {{NULL}, "a\x07", 0, "0.1", 1, ROOM_BYTES, {41, 0, 2, 0, "passphrase byte 2 not printable"}, 0, ""},
+    {{NULL}, NULL, 0, "0.1", 1, ROOM_BYTES, {29, 0, 0, 0, "no shares"}, 0, ""},
+    {{TWO_2}, NULL, 0, "0.1", 1, ROOM_BYTES, {30, 0, 0, 1, "incomplete: 0 of 1 groups"}, 0, ""},
+    {{FIVE}, NULL, SHAMIR_EXPONENT_MAX, "0.1", 1, ROOM_BYTES, {62, 0, 0, 0, "cursor is no quorum"}, 0, ""}
 };
 
 /* What is being tried, an example of a table from 0, for messages; and how often something differed. */
@@ -414,13 +422,15 @@ static void check_recover(const recover_example *example)
     slice secret = bytes_of(example->secret, secret_kept);
     slice nothing = {NULL, 0};
     size_t bytes = secret.length == 0 ? ROOM_BYTES : secret.length;
-    shamir_answer found = shamir_recover(lines.bytes, lines.length, key.bytes, key.length, fresh(bytes), bytes);
+    shamir_answer found = shamir_recover(lines.bytes, lines.length, key.bytes, key.length, example->max_exponent, fresh(bytes), bytes);
 
     compare(found, answer_of(&example->answer, secret.length, 0), secret);
     check_text(found, example->answer.told);
     if (secret.length > 0) {
-        compare(shamir_recover(lines.bytes, lines.length, key.bytes, key.length, fresh(bytes), bytes - 1), too_short(bytes), nothing);
-        compare(shamir_recover(lines.bytes, lines.length, key.bytes, key.length, fresh(0), 0), too_short(bytes), nothing);
+        found = shamir_recover(lines.bytes, lines.length, key.bytes, key.length, example->max_exponent, fresh(bytes), bytes - 1);
+        compare(found, too_short(bytes), nothing);
+        found = shamir_recover(lines.bytes, lines.length, key.bytes, key.length, example->max_exponent, fresh(0), 0);
+        compare(found, too_short(bytes), nothing);
     }
 }
 
@@ -432,16 +442,30 @@ static void check_drill(const drill_example *example)
     slice after = slice_of(example->after);
     slice text = slice_of(example->text);
     shamir_answer found = shamir_drill(
-        lines.bytes, lines.length, key.bytes, key.length, after.bytes, after.length, example->limit, fresh(example->room), example->room);
+        lines.bytes, lines.length, key.bytes, key.length, example->max_exponent, after.bytes, after.length, example->limit, fresh(example->room),
+        example->room);
 
     compare(found, answer_of(&example->answer, text.length, example->mismatches), text);
     check_text(found, example->answer.told);
 }
 
+/* The library has the header's version, and says so in a slice of just its bytes, or refuses a shorter one. */
+static void check_version(void)
+{
+    slice version = slice_of(SHAMIR_VERSION);
+    slice none = {NULL, 0};
+    wanted done = DONE;
+
+    export_name = "shamir_version";
+    compare(shamir_version(fresh(version.length), version.length), answer_of(&done, version.length, 0), version);
+    compare(shamir_version(fresh(version.length), version.length - 1), too_short(version.length), none);
+    compare(shamir_version(fresh(0), 0), too_short(version.length), none);
+}
+
 /* Numbers that no export answers have a text too. */
 static void check_unknown(void)
 {
-    wanted unknown = {3, 0, 0, 0, NULL};
+    wanted unknown = {4, 0, 0, 0, NULL};
 
     check_text(answer_of(&unknown, 0, 0), "unknown answer");
 }
@@ -459,6 +483,7 @@ int main(void)
     CHECK_EACH("shamir_create", create_examples, check_create)
     CHECK_EACH("shamir_recover", recover_examples, check_recover)
     CHECK_EACH("shamir_drill", drill_examples, check_drill)
+    check_version();
     check_unknown();
     return differences != 0;
 }

@@ -87,7 +87,7 @@ static int print_secret(size_t bytes)
 /* Prints the secret of what was read, or why there is none, and gives the status. */
 static int recover(size_t bytes, const char *passphrase)
 {
-    shamir_answer answer = shamir_recover(lines, bytes, passphrase, strlen(passphrase), secret, sizeof secret);
+    shamir_answer answer = shamir_recover(lines, bytes, passphrase, strlen(passphrase), SHAMIR_EXPONENT_MAX, secret, sizeof secret);
 
     if (answer.code != SHAMIR_DONE) {
         print_refusal(&answer);

@@ -3,7 +3,7 @@
 Each function hands its arguments to the library and what it answers back; no rule of the format stands here. The library
 is the file that the environment variable SHAMIR_LIBRARY names, or libshamir.so in this package's folder (`make lib`
 puts it there), or the system's libshamir.so.1. Calls share nothing, so they may run on any threads; one takes at most
-256 kB of stack, which is more than a thread of a small `threading.stack_size` has.
+384 kB of stack, which is more than a thread of a small `threading.stack_size` has.
 """
 from __future__ import annotations
 
@@ -17,7 +17,8 @@ import pathlib
 from dataclasses import dataclass, field
 from typing import Any, Callable, Iterable, Iterator, List, Optional, Tuple, Union, cast
 
-__all__ = ["Code", "Data", "Lines", "OF_GROUPS", "Outcome", "Refusal", "Share", "Text", "create", "drill", "parse", "random_needed", "recover"]
+__all__ = ["Code", "Data", "EXPONENT_MAX", "Lines", "OF_GROUPS", "Outcome", "Refusal", "Share", "Text"]
+__all__ += ["create", "drill", "library_version", "parse", "random_needed", "recover"]
 
 __version__ = "1.0.0"
 
@@ -31,6 +32,9 @@ Lines = Union[Text, Iterable[Text]]
 SECRET_BYTES_MAX = 128
 MNEMONICS_BYTES_MAX = 253440
 TEXT_BYTES_MAX = 64
+
+# The greatest iteration exponent.
+EXPONENT_MAX = 15
 
 # In the place of a group: the digest of the group shares doesn't match.
 OF_GROUPS = 16
@@ -46,6 +50,7 @@ class Code(enum.IntEnum):
     DONE = 0
     TOO_SHORT = 1
     OUT_OF_RANGE = 2
+    HIGH_EXPONENT = 3
     UNKNOWN_WORD = 11
     WORD_COUNT = 12
     BAD_CHECKSUM = 13
@@ -124,9 +129,10 @@ def _declared(library: ctypes.CDLL) -> ctypes.CDLL:
         ("shamir_parse", _SLICE + [ctypes.POINTER(_Share)] + _ROOM),
         ("shamir_random_needed", _SLICE + [ctypes.c_size_t]),
         ("shamir_create", _SLICE * 3 + [ctypes.c_uint32] * 2 + _SLICE + _ROOM),
-        ("shamir_recover", _SLICE * 2 + _ROOM),
-        ("shamir_drill", _SLICE * 3 + [ctypes.c_uint32] + _ROOM),
+        ("shamir_recover", _SLICE * 2 + [ctypes.c_uint32] + _ROOM),
+        ("shamir_drill", _SLICE * 2 + [ctypes.c_uint32] + _SLICE + [ctypes.c_uint32] + _ROOM),
         ("shamir_text", [ctypes.POINTER(_Answer)] + _ROOM),
+        ("shamir_version", _ROOM),
     ]:
         function = getattr(library, name)
         function.argtypes, function.restype = arguments, _Answer
@@ -239,6 +245,11 @@ def _joined(lines: Lines) -> bytes:
     return b"\n".join(_line(number, line) for number, line in enumerate(cast(Iterable[Text], lines), 1))
 
 
+def library_version() -> str:
+    """The version of the library, as `__version__` is that of the package."""
+    return _filled(_library.shamir_version, TEXT_BYTES_MAX).decode()
+
+
 def parse(mnemonic: Text) -> Share:
     """The share that a mnemonic spells: one line, without its line feed. Raises `Refusal` 11 to 15."""
     fields, line = _Share(), _bytes(mnemonic)
@@ -274,27 +285,29 @@ def _random_for(plan: bytes, secret_bytes: int) -> bytes:
     return b"" if needed.code else os.urandom(needed.first)
 
 
-def recover(lines: Lines, *, passphrase: Text = b"") -> bytes:
+def recover(lines: Lines, *, passphrase: Text = b"", max_exponent: int = EXPONENT_MAX) -> bytes:
     """The secret of mnemonics, given as a text of lines or as a list of them: that of the least quorum among them.
 
     A line of a list may end with a line feed, and one that holds another is a ValueError. A wrong passphrase isn't noticed:
-    it gives another secret. Raises `Refusal` 11 to 30, 41, 51 or 71.
+    it gives another secret. Mnemonics with a quorum and an exponent above `max_exponent`, which take 10,000 * 2^exponent
+    iterations, are refused before any of these (3). Raises `Refusal` 3, 11 to 30, 41, 51 or 71.
     """
-    given = _slice(_joined(lines)) + _slice(_bytes(passphrase))
+    given = _slice(_joined(lines)) + _slice(_bytes(passphrase)) + (_number(max_exponent, ctypes.c_uint32),)
     return _filled(lambda out, room: _library.shamir_recover(*given, out, room), SECRET_BYTES_MAX)
 
 
-def drill(lines: Lines, *, passphrase: Text = b"", after: Optional[Text] = None) -> Iterator[Outcome]:
+def drill(lines: Lines, *, passphrase: Text = b"", after: Optional[Text] = None, max_exponent: int = EXPONENT_MAX) -> Iterator[Outcome]:
     """Each quorum of mnemonics, in order, or those that come after the one that `after` names, with what it recovers.
 
     They are computed in parts of so many as 64 kB of the library's lines hold. Nothing is looked at before the first `next`,
-    which raises `Refusal` 11 to 30, 41, 61, 62 or 71; a digest that doesn't match is no refusal here.
+    which raises `Refusal` 3 (as by `recover`), 11 to 30, 41, 61, 62 or 71; a digest that doesn't match is no refusal here.
     """
-    data, key = _joined(lines), _slice(_bytes(passphrase))
+    data = _joined(lines)
+    options = _slice(_bytes(passphrase)) + (_number(max_exponent, ctypes.c_uint32),)
     # The library takes an empty text for the begin; it names no quorum, and neither does a sign alone.
     cursor = b"" if after is None else _bytes(after) or b"+"
     while True:
-        given = _slice(data) + key + _slice(cursor) + (LIMIT_MAX,)
+        given = _slice(data) + options + _slice(cursor) + (LIMIT_MAX,)
         text = _filled(lambda out, room: _library.shamir_drill(*given, out, room), DRILL_ROOM)
         *listed, last = text.splitlines()
         yield from map(_outcome, listed)

@@ -157,6 +157,22 @@ class WorkedExamples(unittest.TestCase):
         self.assertEqual(list(shamir.drill(MISMATCHED)), [shamir.Outcome("0.0+0.1", None, 0)])
         self.assertEqual(list(shamir.drill(MISMATCHED_GROUPS)), [shamir.Outcome("0.0+1.0", None, shamir.OF_GROUPS)])
 
+    def test_max_exponent(self):
+        """Mnemonics of exponent 2 are refused below it, before all else and before any work, and taken from it on."""
+        for most, key in [(0, "TREZOR"), (1, "TREZOR"), (1, "a\x07")]:
+            self.refused(3, None, (2, 0), shamir.recover, TWO, passphrase=key, max_exponent=most)
+            self.refused(3, None, (2, 0), next, shamir.drill(TWO, passphrase=key, after="0.1+", max_exponent=most))
+        for most in (2, 15, 2**32 - 1):
+            secret = shamir.recover(TWO, passphrase="TREZOR", max_exponent=most)
+            self.assertEqual(secret.hex(), "b43ceb7e57a0ea8766221624d01b0864")
+            self.assertEqual([it.secret for it in shamir.drill(TWO, passphrase="TREZOR", max_exponent=most)], [secret])
+        self.refused(30, None, (0, 1), shamir.recover, TWO[:1], max_exponent=0)
+        with self.assertRaisesRegex(shamir.Refusal, "^3 exponent 2 above the most$"):
+            shamir.recover(TWO, max_exponent=1)
+
+    def test_version(self):
+        self.assertEqual(shamir.library_version(), shamir.__version__)
+
     def test_parts(self):
         """The drill in two parts, of which the first has room for four quorums and a half."""
         whole = list(shamir.drill(FIVE, passphrase="TREZOR"))
@@ -172,8 +188,9 @@ class WorkedExamples(unittest.TestCase):
         calls = [
             (16, lambda *room: library.shamir_parse(one, len(one), shamir._Share(), *room)),
             (715, lambda *room: library.shamir_create(PLAN.encode(), 16, SECRET, 16, *key, 0, 0, bytes(range(26)), 26, *room)),
-            (16, lambda *room: library.shamir_recover(text, len(text), *key, *room)),
-            (68, lambda *room: library.shamir_drill(text, len(text), *key, None, 0, 1, *room)),
+            (16, lambda *room: library.shamir_recover(text, len(text), *key, 0, *room)),
+            (68, lambda *room: library.shamir_drill(text, len(text), *key, 0, None, 0, 1, *room)),
+            (5, library.shamir_version),
             (14, lambda *room: library.shamir_text(shamir._Answer(code=11, first=2), *room)),
         ]
         for needed, call in calls:
@@ -198,8 +215,11 @@ class WorkedExamples(unittest.TestCase):
             lambda: shamir.create("1of1", SECRET, exponent=-1),
             lambda: shamir.random_needed("1of1", 2**64 + 16),
             lambda: shamir.random_needed("1of1", -16),
+            lambda: shamir.recover(ONE, max_exponent=2**32),
+            lambda: next(shamir.drill(ONE, max_exponent=-1)),
         ]:
             self.assertRaises(OverflowError, call)
+        self.assertRaises(TypeError, shamir.recover, ONE, max_exponent=None)
         self.refused(2, None, (0, 0), shamir.create, "1of1", SECRET, exponent=2**32 - 1)
         self.refused(42, None, (2**64 - 1, 0), shamir.random_needed, "1of1", 2**64 - 1)
         self.assertRaises(TypeError, shamir.create, "1of1", SECRET, exponent=1.0)
@@ -340,16 +360,17 @@ class WorkedExamples(unittest.TestCase):
     @unittest.skipUnless(HEADER.exists(), "the header isn't here")
     def test_sizes(self):
         sizes = dict(re.findall(r"^#define SHAMIR_(\w+) (\d+)$", HEADER.read_text(), re.MULTILINE))
-        for name in ["SECRET_BYTES_MAX", "MNEMONICS_BYTES_MAX", "TEXT_BYTES_MAX"]:
+        for name in ["SECRET_BYTES_MAX", "MNEMONICS_BYTES_MAX", "TEXT_BYTES_MAX", "EXPONENT_MAX"]:
             self.assertEqual(getattr(shamir, name), int(sizes[name]))
         self.assertEqual(ctypes.sizeof(shamir._Answer), 40)
 
     def test_null(self):
         library = shamir._library
-        self.assertEqual(library.shamir_recover(None, 0, None, 0, None, 0).code, 29)
+        self.assertEqual(library.shamir_recover(None, 0, None, 0, 0, None, 0).code, 29)
+        self.assertEqual(library.shamir_version(None, 0).first, 5)
         self.assertEqual(library.shamir_random_needed(None, 0, 16).code, 31)
         self.assertEqual(library.shamir_parse(None, 0, shamir._Share(), None, 0).code, 12)
-        self.assertEqual(library.shamir_drill(None, 0, None, 0, None, 0, 1, None, 0).code, 29)
+        self.assertEqual(library.shamir_drill(None, 0, None, 0, 0, None, 0, 1, None, 0).code, 29)
         self.assertEqual(library.shamir_text(shamir._Answer(), None, 0).first, 4)
         answer = library.shamir_create(b"1of1", 4, SECRET, 16, None, 0, 0, 0, b"\x1f\x09", 2, None, 0)
         self.assertEqual((answer.code, answer.first), (1, 152))

@@ -16,7 +16,6 @@ pub mod PlanTexts
 pub mod PlanReadings
 pub mod Creations
 pub mod Causes
-pub mod EveryReading
 pub mod SharesCreated
 pub mod Chosen
 pub mod HeldGroups
@@ -24,3 +23,11 @@ pub mod SameShares
 pub mod AfterFirst
 pub mod WholeBackups
 pub mod RefittedBack
+pub mod MembersAtHand
+pub mod OtherGroups
+pub mod Determined
+pub mod Reissued
+pub mod LargerPlans
+pub mod OneReissue
+pub mod MissingValues
+pub mod EveryReissue

@@ -6,7 +6,7 @@ use Rattle.std.specs.Bool.{then_some}
 use Rattle.std.specs.Fmt.{decimal}
 use Rattle.std.proofs.lemmas.Bool.{eqb-true, eq-eqb}
 use Rattle.std.proofs.lemmas.List.{append_assoc, append-nil, length-append, length-take, take-append-le, take_all}
-use Rattle.std.proofs.lemmas.List.Elements.{All-cons, All-head, All-nil, All-tail}
+use Rattle.std.proofs.lemmas.List.Elements.{All-cons, All-head, All-tail}
 use Rattle.s39_set.specs.Names.{most_groups}
 use Rattle.s39_backup.specs.declared.plan.Members.{Members}
 use Rattle.s39_backup.specs.declared.plan_text.GroupList.{GroupList}
@@ -19,9 +19,6 @@ use Rattle.s39_backup.proofs.PlanNumbers.{AreSame, number_once}
 
 pub threshold-number : (text : List ℕ) (n : ℕ) (rest : List ℕ) → BeginsWithGroupThreshold text n rest → BeginsWithNumber text n (47 ∷ rest)
 threshold-number text n rest is = record { number = is.number; text_is = is.text_is; ends = λ digit. let low = digit.0 in omega arith }
-
-pub number-threshold : (text : List ℕ) (n : ℕ) (after rest : List ℕ) → BeginsWithNumber text n after → after ≡ 47 ∷ rest → BeginsWithGroupThreshold text n rest
-number-threshold text n after rest is slash = record { number = is.number; text_is = is.text_is ∙ ap (λ xs. decimal n ++ xs) slash }
 
 pub threshold_once : (text : List ℕ) (m n : ℕ) (rest others : List ℕ) → BeginsWithGroupThreshold text m rest → BeginsWithGroupThreshold text n others
     → AreSame m n rest others
@@ -48,16 +45,6 @@ pub members-count : (text : List ℕ) (members : Members) (rest : List ℕ) → 
     → BeginsWithNumber (decimal members.count ++ rest) members.count rest
 members-count text members rest is = record { number = is.count; text_is = refl; ends = is.ends }
 
-pub numbers-members : (text : List ℕ) (members : Members) (after of rest : List ℕ) → BeginsWithNumber text members.threshold after → after ≡ 111 ∷ 102 ∷ of
-    → BeginsWithNumber of members.count rest → BeginsWithMembers text members rest
-numbers-members text members after of rest threshold letters count = record {
-  threshold = threshold.number;
-  count = count.number;
-  text_is = threshold.text_is ∙ ap (λ xs. decimal members.threshold ++ xs) (letters ∙ ap (λ xs. 111 ∷ 102 ∷ xs) count.text_is)
-      ∙ sym (append_assoc (decimal members.threshold) (111 ∷ 102 ∷ decimal members.count) rest);
-  ends = count.ends;
-}
-
 -- members are known by their numbers
 same_members : (members other : Members) → members.threshold ≡ other.threshold → members.count ≡ other.count → members ≡ other
 same_members members other threshold count = ap₂ (λ (t n : ℕ). the_members t n) threshold count
@@ -81,14 +68,6 @@ members_once text members other rest others is also =
     (subst (λ xs. BeginsWithNumber xs other.count others) (sym counts) (members-count text other others also)) in
     record { members_are = same_members members other first.number second.number; rest_is = second.rest_is }
 
--- what follows is shorter
-pub members-shorter : (text : List ℕ) (members : Members) (rest : List ℕ) → BeginsWithMembers text members rest → length rest < length text
-members-shorter text members rest is =
-    let whole : length text ≡ length (members_text members) + length rest = ap length is.text_is ∙ length-append (members_text members) rest in
-    let some : length (members_text members) ≡ length (decimal members.threshold) + length (111 ∷ 102 ∷ decimal members.count) =
-    length-append (decimal members.threshold) (111 ∷ 102 ∷ decimal members.count) in
-    omega arith
-
 -- ---- the groups
 
 -- one group
@@ -110,14 +89,6 @@ pub record IsGroupAndMore (text : List ℕ) (groups : List Members) : Type 0 whe
 groups_text-more : (members : Members) (others : List Members) → others ≢ [] → groups_text (members ∷ others) ≡ members_text members ++ 44 ∷ groups_text others
 groups_text-more members [] some = absurd (some refl)
 groups_text-more members (next ∷ more) some = refl
-
-pub one_group : (text : List ℕ) (members : Members) → BeginsWithMembers text members [] → IsGroupsText text (members ∷ [])
-one_group text members is = record {
-  some = λ none. let l : 1 ≡ 0 = ap length none in omega arith;
-  thresholds = All-cons (λ m. IsPlanNumber m.threshold) members [] is.threshold (All-nil (λ m. IsPlanNumber m.threshold));
-  counts = All-cons (λ m. IsPlanNumber m.count) members [] is.count (All-nil (λ m. IsPlanNumber m.count));
-  text_is = is.text_is ∙ append-nil (members_text members);
-}
 
 pub more_groups : (text : List ℕ) (members : Members) (others : List Members) (next : List ℕ) → BeginsWithMembers text members (44 ∷ next)
     → IsGroupsText next others → IsGroupsText text (members ∷ others)
@@ -192,10 +163,6 @@ groups_once text (g ∷ gs) others is also =
             ∙ ap (λ gs. more'.members ∷ gs) (sym tail ∙ rest) ∙ sym more'.groups_are)
       ]
     ]
-
--- no groups were read
-pub read-none : (text : List ℕ) → AreReadBefore text text []
-read-none text = record { with_others = λ others is. is; leaves_others = λ groups is. (groups, refl, is) }
 
 module _ (text rest : List ℕ) (done : List Members) (before : AreReadBefore text rest done) where
   -- a text of groups goes on with members
@@ -306,16 +273,6 @@ form_cases text group_threshold groups form =
         is_text = record { some = form.some; thresholds = form.thresholds; counts = form.counts; text_is = one.2 };
       })
     ]
-
-pub form_with_threshold : (text : List ℕ) (group_threshold : ℕ) (rest : List ℕ) (groups : List Members) → BeginsWithGroupThreshold text group_threshold rest
-    → IsGroupsText rest groups → HasPlanForm text group_threshold groups
-form_with_threshold text group_threshold rest groups begins is = record {
-  some = is.some;
-  threshold_number = begins.number;
-  thresholds = is.thresholds;
-  counts = is.counts;
-  written = inl (begins.text_is ∙ ap (λ xs. decimal group_threshold ++ 47 ∷ xs) is.text_is);
-}
 
 pub form_of_one : (text : List ℕ) (groups : List Members) → IsGroupsText text groups → length groups ≡ 1 → HasPlanForm text 1 groups
 form_of_one text groups is one = record {

@@ -37,7 +37,7 @@ module _ (params : Params) (group_threshold group_count : ℕ) where
   share_of_member group members member value = created_share params group_threshold group_count group members member value
 
   -- each value of each group is that of a share
-  contains_created : (start : ℕ) (groups : List Members) (values : List (List (List ℕ))) (place : ℕ) (members : Members) (others : List (List ℕ))
+  pub contains_created : (start : ℕ) (groups : List Members) (values : List (List (List ℕ))) (place : ℕ) (members : Members) (others : List (List ℕ))
       (member : ℕ) (value : List ℕ) → slice_get groups place ≡ Some members → slice_get values place ≡ Some others → slice_get others member ≡ Some value
       → Contains (created_groups params group_threshold group_count start groups values) (share_of_member (start + place) members member value)
   contains_created start [] values place members others member value at among is = absurd (let none : None ≡ Some members = at in cc)
@@ -63,13 +63,13 @@ module _ (params : Params) (group_threshold group_count : ℕ) where
       (contains_created (start + 1) gs vs place members others member value at among is))
 
 -- a group has as many values as members, and enough for its threshold
-record HasValues (values : List (List (List ℕ))) (place : ℕ) (members : Members) : Type 0 where
-  others : List (List ℕ)
-  values_are : slice_get values place ≡ Some others
-  number : length others ≡ members.count
-  enough : members.threshold ≤ members.count
+pub record HasValues (values : List (List (List ℕ))) (place : ℕ) (members : Members) : Type 0 where
+  pub others : List (List ℕ)
+  pub values_are : slice_get values place ≡ Some others
+  pub number : length others ≡ members.count
+  pub enough : members.threshold ≤ members.count
 
-values_at : (groups : List Members) (shares pieces : List (List ℕ)) (values : List (List (List ℕ))) (place : ℕ) (members : Members)
+pub values_at : (groups : List Members) (shares pieces : List (List ℕ)) (values : List (List (List ℕ))) (place : ℕ) (members : Members)
     → AreSplitAmong groups shares pieces values → slice_get groups place ≡ Some members → HasValues values place members
 values_at (g ∷ gs) (s ∷ ss) (p ∷ ps) (v ∷ vs) zero members all at =
     let same : g ≡ members = some_same g members at in

@@ -9,3 +9,6 @@ pub mod Building
 pub mod TwoShort
 pub mod Refitting
 pub mod Memo
+pub mod Reissue
+pub mod Reissuing
+pub mod LargerPlan

@@ -38,7 +38,7 @@ impl Mismatch {
 }
 
 /// Group shares, each its group index and its bytes.
-type GroupShares = ArrayVec<(u8, Bytes), MAX_SHARES>;
+pub(crate) type GroupShares = ArrayVec<(u8, Bytes), MAX_SHARES>;
 
 /// The encrypted secret to which the shares of a quorum of the set combine, or the mismatch of a digest. It is as
 /// long as the values of the set: an even number of bytes, from 16 to 128.
@@ -141,7 +141,7 @@ fn lent_value(set: &ShareSet, group: u8, member: u8) -> &Bytes
 }
 
 /// These shares, lent.
-fn lend(shares: &GroupShares) -> Points<'_>
+pub(crate) fn lend(shares: &GroupShares) -> Points<'_>
     ensures { result ≡ indexed_group_shares shares.now.items }
 {
     let mut lent = Points::new();
@@ -152,7 +152,7 @@ fn lend(shares: &GroupShares) -> Points<'_>
 }
 
 /// What shares combine to, as many as their threshold asks.
-fn combine_all(shares: &Points<'_>) -> Result<Bytes, DigestMismatch>
+pub(crate) fn combine_all(shares: &Points<'_>) -> Result<Bytes, DigestMismatch>
     requires { (bytes : ℕ) × AreOfOneLevel bytes shares.now }
     ensures secret { IfOk result (λ secret.
         Combines (length shares.now) shares.now (Some secret.items)) }

@@ -18,17 +18,23 @@ ghost use Rattle.s39_backup.specs.declared.combination.Mismatch.{Mismatch};
 ghost use Rattle.s39_backup.specs.Combination.{IsCombination};
 ghost use Rattle.s39_backup.specs.Outcome.{IsOutcome};
 ghost use Rattle.s39_backup.specs.Memo.{most_kept};
+ghost use Rattle.s39_backup.specs.TwoShort.{IsNameOfPlan};
+ghost use Rattle.s39_backup.specs.Reissue.{AreOfPlan, IsReissue, IsRightFor};
+ghost use Rattle.s39_backup.specs.LargerPlan.{HaveMoreMembers, ArePartOf};
+ghost use Rattle.s39_backup.specs.declared.reissue_error.ReissueError.{ReissueError};
 
 use crate::creation::ID_BYTES;
 use crate::memo::MAX_KEPT;
+use crate::plan::Plan;
 use s39_kdf::laws::{
     encryption_keeps_length_and_bytes, encrypts_one_secret, one_encryption,
     passphrases_are_printable_or_not,
 };
 use s39_set::laws::{quorums_are_exact, shares_that_agree_join};
 use s39_split::laws::{
-    any_shares_combine, needed_random_bytes, one_split, secrets_are_like_their_shares,
-    shares_combine, shares_combine_once, shares_of_a_split,
+    any_points_complete, any_shares_combine, first_shares, needed_random_bytes, one_split,
+    points_complete, secrets_are_like_their_shares, shares_are_points, shares_combine,
+    shares_combine_once, shares_of_a_split,
 };
 
 /// The program's constants are the numbers by which the definitions go, and the plan of sixteen groups of sixteen members,
@@ -126,11 +132,12 @@ pub fn one_plan_reading()
         → IsPlanReading text reading → IsPlanReading text other → reading ≡ other }
 {}
 
-/// Every text is a plan, or refused.
-pub fn every_text_has_a_plan_reading()
-    ensures { (text : List ℕ)
-        → (reading : Result (ℕ × List Members) PlanError) × IsPlanReading text reading }
-{}
+/// Every text is a plan, or refused: its reader answers which.
+pub fn every_text_has_a_plan_reading(text: &[u8])
+    ensures { (reading : Result (ℕ × List Members) PlanError) × IsPlanReading text.now reading }
+{
+    let _ = Plan::parse_bytes(text);
+}
 
 /// A quorum of a share set combines to one encrypted secret or mismatch.
 pub fn one_combination()
@@ -214,3 +221,70 @@ pub fn whole_backups_meet_the_thresholds()
         → IsShareSet set → (backup : AreOfBackup set passphrase secret)
         → All (Contains set) backup.shares → MeetsThresholds set (map name_of set) }
 {}
+
+/// The share of a name of a plan is one share, or it is missing for one cause.
+pub fn one_reissue()
+    ensures { (set : List ShareFields) (group_threshold : ℕ) (groups : List Members)
+        (name : ℕ × ℕ) (result other : Result ShareFields ReissueError)
+        → IsShareSet set → IsPlan group_threshold groups
+        → IsReissue set group_threshold groups name result
+        → IsReissue set group_threshold groups name other
+        → result ≡ other }
+{
+    shares_combine_once();
+    points_complete();
+}
+
+/// The share of every name of a plan is a share, or missing for a cause.
+pub fn every_name_has_a_reissue()
+    ensures { (set : List ShareFields) (group_threshold : ℕ) (groups : List Members)
+        (name : ℕ × ℕ)
+        → IsShareSet set → IsPlan group_threshold groups → IsNameOfPlan groups name
+        → (result : Result ShareFields ReissueError)
+        × IsReissue set group_threshold groups name result }
+{
+    shares_combine();
+    points_complete();
+    secrets_are_like_their_shares();
+}
+
+/// Shares of a created backup are of its plan. The share of a name of this plan that they determine is the backup's, and
+/// no digest refuses what it is computed from.
+pub fn backups_reissue_their_shares()
+    ensures of_plan { (set : List ShareFields) (passphrase secret : List ℕ)
+        → IsShareSet set → (backup : AreOfBackup set passphrase secret)
+        → AreOfPlan backup.group_threshold backup.groups set }
+    ensures right { (set : List ShareFields) (passphrase secret : List ℕ)
+        (name : ℕ × ℕ) (result : Result ShareFields ReissueError)
+        → IsShareSet set → (backup : AreOfBackup set passphrase secret)
+        → IsNameOfPlan backup.groups name
+        → IsReissue set backup.group_threshold backup.groups name result
+        → IsRightFor backup.shares name result }
+{
+    any_shares_combine();
+    secrets_are_like_their_shares();
+    any_points_complete();
+    shares_are_points();
+}
+
+/// A plan with more members has a backup of which that of the plan is a part, with the same random bytes.
+pub fn larger_plans_keep_the_shares()
+    ensures exists { (secret passphrase : List ℕ) (group_threshold : ℕ)
+        (groups larger : List Members) (options : Options) (random : List ℕ)
+        → IsPlan group_threshold larger → HaveMoreMembers groups larger
+        → IsSecretLength (length secret) → AreBytes secret → AreBytes random
+        → length random ≡ random_needed group_threshold groups (length secret)
+        → (others : List ShareFields)
+        × IsCreatedFrom secret passphrase group_threshold larger options random others }
+    ensures part { (secret passphrase : List ℕ) (group_threshold : ℕ)
+        (groups larger : List Members) (options : Options) (random : List ℕ)
+        (shares others : List ShareFields)
+        → IsPlan group_threshold groups → HaveMoreMembers groups larger
+        → IsCreatedFrom secret passphrase group_threshold groups options random shares
+        → IsCreatedFrom secret passphrase group_threshold larger options random others
+        → ArePartOf groups shares others }
+{
+    first_shares();
+    one_created_backup();
+    every_backup_can_be_created();
+}

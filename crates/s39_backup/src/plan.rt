@@ -1,5 +1,5 @@
 //! Plans: how many groups a backup has and how many of them are needed, and the same of the members of each group.
-ghost use Rattle.std.specs.Prelude.{◌≡◌, ℕ, ◌≤◌, List, length, All, Result, IfErr, OnOk};
+ghost use Rattle.std.specs.Prelude.{◌≡◌, ◌↔◌, ℕ, ◌≤◌, List, length, All, Result, IfErr, IsTrue, OnOk};
 ghost use Rattle.std.specs.Result.{result_map_both};
 ghost use Rattle.s39_set.specs.Names.{most_groups};
 ghost use Rattle.s39_kdf.specs.Limits.{shortest_secret, longest_secret};
@@ -8,11 +8,13 @@ ghost use Rattle.s39_backup.specs.PlanText.{RefusesAGroup};
 ghost use Rattle.s39_backup.specs.declared.plan.Members.{Members};
 ghost use Rattle.s39_backup.specs.declared.plan_error.PlanError.{PlanError};
 ghost use Rattle.s39_backup.specs.Created.{random_needed, most_random};
+ghost use Rattle.s39_backup.specs.TwoShort.{IsNameOfPlan};
 
 use crate::creation::ID_BYTES;
 use crate::laws::one_plan_reading;
 use crate::plan_error::PlanError;
 use crate::plan_text::plan_form;
+use crate::two_short::is_of_plan;
 use arrayvec::ArrayVec;
 use s39_set::{GROUPS, MAX_MEMBERS};
 use s39_split::random_needed;
@@ -95,6 +97,13 @@ impl Plan {
             needed += random_needed(members.threshold, n_bytes);
         }
         needed
+    }
+
+    /// Whether the plan has a share of this name.
+    pub fn has_name(&self, group: u8, member: u8) -> bool
+        ensures { IsTrue result ↔ IsNameOfPlan self.now.groups.items (group, member) }
+    {
+        is_of_plan(self.groups.as_slice(), (group, member))
     }
 }
 

@@ -28,7 +28,7 @@ fn are_of_plan(groups: &[Members], names: &[(u8, u8)]) -> bool
 }
 
 /// Whether this is the name of a share of a plan with these groups.
-fn is_of_plan(groups: &[Members], name: (u8, u8)) -> bool
+pub(crate) fn is_of_plan(groups: &[Members], name: (u8, u8)) -> bool
     ensures { IsTrue result ↔ IsNameOfPlan groups.now name }
 {
     match groups.get(usize::from(name.0)) {

@@ -1,2 +1,3 @@
 mod Outputs
 mod OneAnswer
+mod MostExponents

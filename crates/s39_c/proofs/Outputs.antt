@@ -1,12 +1,22 @@
--- What a drill gives of mnemonics of a created backup.
-use Rattle.std.proofs.Common.{◌+◌, ℕ, List, [], inl, inr}
+-- What a drill gives where it is refused, and of mnemonics of a created backup.
+use Rattle.std.proofs.Common.{◌≡◌, ◌+◌, ℕ, List, [], inl, inr}
 use Rattle.std.specs.Prelude.{Option, Result, Ok, Err}
 use Rattle.s39_tool.specs.declared.drill.Done.{Done}
 use Rattle.s39_tool.specs.declared.fault.Fault.{Fault}
+use Rattle.s39_tool.specs.declared.memory.Unwritten.{Unwritten}
+use Rattle.s39_tool.specs.declared.memory.Unwritten.TheVariants.{Refused, TooShort}
+use Rattle.s39_tool.specs.Fitting.{Lists}
 use Rattle.s39_tool.specs.Input.{Input}
 use Rattle.s39_tool.specs.Drill.{IsDrillOutput, DrillsCreated}
 use Rattle.s39_c.specs.declared.answer.ShamirAnswer.{ShamirAnswer}
+use Rattle.s39_c.specs.Answers.{unwritten}
 use Rattle.s39_c.specs.Drilling.{GivesListing}
+
+-- why nothing is listed, as it is answered
+pub gives_refusal : (IsOutput : ℕ → List ℕ → Result Done Fault → Type 0) (limit : ℕ) (old new : List ℕ) (cause : Unwritten) (answer : ShamirAnswer)
+    → Lists IsOutput limit old new (Err cause) → answer ≡ unwritten cause → GivesListing IsOutput limit old new answer
+gives_refusal IsOutput limit old new (Refused fault) answer (output, same) is = inr (inr (fault, output, same, is))
+gives_refusal IsOutput limit old new (TooShort short) answer (is_short, same) is = inr (inl (short, is_short, same, is))
 
 module _ (created_backups_drill : (passphrase : List ℕ) (after : Option (List (ℕ × ℕ))) (limit : ℕ) (input : Input) (text : List ℕ)
     (answer : Result Done Fault) → IsDrillOutput passphrase after limit input text answer → DrillsCreated passphrase after limit input text answer)

@@ -38,6 +38,10 @@ too_short needed = refusal 1 0 (needed, 0)
 abbrev pub out_of_range : ShamirAnswer
 out_of_range = refusal 2 0 (0, 0)
 
+-- mnemonics have this exponent, which is above the most that is allowed
+abbrev pub high_exponent : ℕ → ShamirAnswer
+high_exponent exponent = refusal 3 0 (exponent, 0)
+
 -- nothing is refused, and the answer is this number
 abbrev pub number : ℕ → ShamirAnswer
 number n = record { code = 0; mismatches = 0; line = 0; first = n; second = 0; written = 0 }

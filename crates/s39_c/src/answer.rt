@@ -1,6 +1,6 @@
 //! What a call answers.
 ghost use Rattle.std.specs.Prelude.{◌≡◌, ℕ};
-ghost use Rattle.s39_c.specs.Answers.{done, number, too_short, out_of_range, refusal, plan_refused, cursor_refused, word_refused, refused};
+ghost use Rattle.s39_c.specs.Answers.{done, number, too_short, out_of_range, high_exponent, refusal, plan_refused, cursor_refused, word_refused, refused};
 ghost use Rattle.s39_c.specs.Answers.{plan_details, word_details, set_details, lack_details, mismatch_details, line_details, details_of};
 
 use s39_backup::{Mismatch, PlanError};
@@ -13,6 +13,9 @@ pub(crate) const TOO_SHORT: u32 = 1;
 
 /// The code of a number that is out of its range.
 pub(crate) const OUT_OF_RANGE: u32 = 2;
+
+/// The code of mnemonics whose exponent is above the most that is allowed.
+pub(crate) const HIGH_EXPONENT: u32 = 3;
 
 /// In the place of a group's index: the digest of the group shares themselves.
 pub(crate) const OF_GROUPS: u64 = 16;
@@ -63,6 +66,13 @@ impl ShamirAnswer {
         ensures { result ≡ out_of_range }
     {
         refusal(OUT_OF_RANGE, 0, (0, 0))
+    }
+
+    /// Mnemonics have this exponent, and it is above the most that is allowed.
+    pub(crate) fn high_exponent(exponent: u8) -> ShamirAnswer
+        ensures { result ≡ high_exponent exponent }
+    {
+        refusal(HIGH_EXPONENT, 0, (u64::from(exponent), 0))
     }
 
     /// A number is asked for, and it is this.

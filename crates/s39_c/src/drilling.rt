@@ -4,8 +4,10 @@ ghost use Rattle.std.specs.Prelude.{◌≤◌};
 ghost use Rattle.s39_tool.specs.Drill.{IsDrillOutput, DrillsCreated};
 ghost use Rattle.s39_tool.specs.Input.{whole};
 ghost use Rattle.s39_c.specs.Drilling.{GivesListing, GivesDrill};
+ghost use Rattle.s39_c.specs.Exponents.{UpTo};
 
 use crate::answer::ShamirAnswer;
+use crate::exponent::exponent_above;
 use s39_set::{Quorum, parse_quorum};
 use s39_tool::drill_lines;
 use s39_tool::laws::created_backups_drill;
@@ -15,20 +17,36 @@ use s39_tool::laws::created_backups_drill;
 /// the first quorum whose line doesn't fit with the last line behind it. `written` is the number of bytes, and `mismatches`
 /// how many of the listed quorums are refused for a digest. The last line is `end`, or `more after` and a text to go on after.
 ///
-/// The first that applies is refused, and then the slice is unchanged: a limit of 0 (2), a text that is no list of names
-/// (61), what the command refuses of passphrase, lines and names, and that `text` is too short for one quorum, or for
-/// `end` where none is left (1).
+/// The first that applies is refused, and then the slice is unchanged: that the mnemonics have a quorum and an exponent
+/// above `max_exponent` (3), before any iteration; a limit of 0 (2), a text that is no list of names (61), what the command
+/// refuses of passphrase, lines and names, and that `text` is too short for one quorum, or for `end` where none is left (1).
 #[unsafe(no_mangle)]
 pub extern "C" fn shamir_drill(
     lines: &[u8],
     passphrase: &[u8],
+    max_exponent: u32,
     after: &[u8],
     limit: u32,
     text: &mut [u8],
 ) -> ShamirAnswer
+    ensures drills { UpTo max_exponent lines.now text.old text.new result
+        (GivesDrill (λ names n. IsDrillOutput passphrase.now names n (whole lines.now))
+        after.now limit text.old text.new result) }
+    // Of mnemonics of a created backup, with the passphrase of the creation: just the quorums, each with its secret.
+    ensures complete { UpTo max_exponent lines.now text.old text.new result
+        (GivesDrill (λ names n. DrillsCreated passphrase.now names n (whole lines.now))
+        after.now limit text.old text.new result) }
+{
+    match exponent_above(max_exponent, lines) {
+        Some(exponent) => ShamirAnswer::high_exponent(exponent),
+        None => drill(lines, passphrase, after, limit, text),
+    }
+}
+
+/// Drills lines, whatever their exponent.
+fn drill(lines: &[u8], passphrase: &[u8], after: &[u8], limit: u32, text: &mut [u8]) -> ShamirAnswer
     ensures drills { GivesDrill (λ names n. IsDrillOutput passphrase.now names n (whole lines.now))
         after.now limit text.old text.new result }
-    // Of mnemonics of a created backup, with the passphrase of the creation: just the quorums, each with its secret.
     ensures complete { GivesDrill (λ names n. DrillsCreated passphrase.now names n (whole lines.now))
         after.now limit text.old text.new result }
 {

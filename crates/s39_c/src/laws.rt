@@ -1,6 +1,6 @@
 //! Facts about the definitions, each the contract of a function that does nothing: of the same things, and of what was
-//! in memory before, a call gives one answer, and leaves one memory.
-ghost use Rattle.std.specs.Prelude.{◌≡◌, ℕ, List};
+//! in memory before, a call gives one answer, and leaves one memory. A most exponent of 15 or more changes nothing.
+ghost use Rattle.std.specs.Prelude.{◌≡◌, ℕ, ◌≤◌, List};
 ghost use Rattle.s39_kdf.specs.Bytes.{AreBytes};
 ghost use Rattle.s39_tool.specs.Drill.{IsDrillOutput};
 ghost use Rattle.s39_tool.specs.Input.{whole};
@@ -9,12 +9,16 @@ ghost use Rattle.s39_c.specs.declared.answer.ShamirAnswer.{ShamirAnswer as Answe
 ghost use Rattle.s39_c.specs.declared.parsing.ShamirShare.{ShamirShare as Header};
 ghost use Rattle.s39_c.specs.Creating.{Wanted, GivesBackup, GivesNumber};
 ghost use Rattle.s39_c.specs.Drilling.{GivesDrill};
+ghost use Rattle.s39_c.specs.Exponents.{UpTo};
 ghost use Rattle.s39_c.specs.Parsing.{GivesShare};
 ghost use Rattle.s39_c.specs.Recovering.{GivesSecret};
 
 use s39_backup::laws::one_plan_reading;
 use s39_set::laws::written_forms;
-use s39_tool::laws::{one_create_output, one_listing_in_a_slice, one_recover_output};
+use s39_tool::laws::{
+    every_exponent_is_at_most_15, one_create_output, one_exponent, one_listing_in_a_slice,
+    one_recover_output,
+};
 use s39_words::laws::one_reading;
 
 /// A line gives one header, one value in a slice, and one answer.
@@ -45,25 +49,46 @@ pub fn one_backup()
     one_create_output();
 }
 
-/// Lines and passphrase give one secret in a slice of bytes, and one answer.
+/// Lines, passphrase and most exponent give one secret in a slice of bytes, and one answer.
 pub fn one_secret()
-    ensures { (passphrase lines old new other : List ℕ) (answer another : Answer)
+    ensures { (most : ℕ) (passphrase lines old new other : List ℕ) (answer another : Answer)
         → AreBytes new → AreBytes other
-        → GivesSecret (IsRecoverOutput passphrase (whole lines)) old new answer
-        → GivesSecret (IsRecoverOutput passphrase (whole lines)) old other another
+        → UpTo most lines old new answer
+        (GivesSecret (IsRecoverOutput passphrase (whole lines)) old new answer)
+        → UpTo most lines old other another
+        (GivesSecret (IsRecoverOutput passphrase (whole lines)) old other another)
         → (new ≡ other) × (answer ≡ another) }
 {
+    one_exponent();
     one_recover_output();
 }
 
-/// Lines, passphrase, cursor and limit give one listing in a slice, and one answer.
+/// Lines, passphrase, most exponent, cursor and limit give one listing in a slice, and one answer.
 pub fn one_drill()
-    ensures { (passphrase lines cursor : List ℕ) (limit : ℕ) (old new other : List ℕ)
+    ensures { (most : ℕ) (passphrase lines cursor : List ℕ) (limit : ℕ) (old new other : List ℕ)
         (answer another : Answer)
-        → GivesDrill (λ names n. IsDrillOutput passphrase names n (whole lines)) cursor limit old new answer
-        → GivesDrill (λ names n. IsDrillOutput passphrase names n (whole lines)) cursor limit old other another
+        → UpTo most lines old new answer
+        (GivesDrill (λ names n. IsDrillOutput passphrase names n (whole lines)) cursor limit old new answer)
+        → UpTo most lines old other another
+        (GivesDrill (λ names n. IsDrillOutput passphrase names n (whole lines)) cursor limit old other another)
         → (new ≡ other) × (answer ≡ another) }
 {
+    one_exponent();
     one_listing_in_a_slice();
     written_forms();
+}
+
+/// A most exponent of 15 or more refuses nothing: a recovery and a drill give what they give without one.
+pub fn a_most_of_15_refuses_nothing()
+    ensures recovers { (most : ℕ) (passphrase lines old new : List ℕ) (answer : Answer) → 15 ≤ most
+        → UpTo most lines old new answer
+        (GivesSecret (IsRecoverOutput passphrase (whole lines)) old new answer)
+        → GivesSecret (IsRecoverOutput passphrase (whole lines)) old new answer }
+    ensures drills { (most : ℕ) (passphrase lines cursor : List ℕ) (limit : ℕ) (old new : List ℕ)
+        (answer : Answer) → 15 ≤ most
+        → UpTo most lines old new answer
+        (GivesDrill (λ names n. IsDrillOutput passphrase names n (whole lines)) cursor limit old new answer)
+        → GivesDrill (λ names n. IsDrillOutput passphrase names n (whole lines)) cursor limit old new answer }
+{
+    every_exponent_is_at_most_15();
 }

@@ -5,11 +5,13 @@
 mod answer;
 mod creating;
 mod drilling;
+mod exponent;
 pub mod laws;
 mod memory;
 mod parsing;
 mod recovering;
 mod telling;
+mod version;
 
 pub use answer::ShamirAnswer;
 pub use creating::{shamir_create, shamir_random_needed};
@@ -17,6 +19,9 @@ pub use drilling::shamir_drill;
 pub use parsing::{ShamirShare, shamir_parse};
 pub use recovering::shamir_recover;
 pub use telling::shamir_text;
+pub use version::shamir_version;
 
+#[cfg(test)]
+mod exponent_tests;
 #[cfg(test)]
 mod tests;

@@ -1,7 +1,7 @@
 //! The texts of answers.
 ghost use Rattle.s39_c.specs.Telling.{GivesText};
 
-use crate::answer::{OF_GROUPS, OUT_OF_RANGE, ShamirAnswer, TOO_SHORT};
+use crate::answer::{HIGH_EXPONENT, OF_GROUPS, OUT_OF_RANGE, ShamirAnswer, TOO_SHORT};
 use crate::memory::give;
 use s39_text::RefusalText;
 use std::fmt::InlineText;
@@ -19,6 +19,8 @@ enum AnswerText {
     TooShort(u64),
     #[error("number out of range")]
     OutOfRange,
+    #[error("exponent {0} above the most")]
+    HighExponent(u64),
     #[error("{0}")]
     Refused(RefusalText),
     #[error("unknown answer")]
@@ -41,6 +43,7 @@ fn answer_text(answer: &ShamirAnswer) -> AnswerText {
         0 => AnswerText::Done,
         TOO_SHORT => AnswerText::TooShort(answer.first),
         OUT_OF_RANGE => AnswerText::OutOfRange,
+        HIGH_EXPONENT => AnswerText::HighExponent(answer.first),
         _ => match refusal_text(answer) {
             Some(text) => AnswerText::Refused(text),
             None => AnswerText::Unknown,

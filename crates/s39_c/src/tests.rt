@@ -197,10 +197,10 @@ fn recovers(rt: HostRuntime) {
     ];
     for (lines, secret) in cases {
         let mut out = [7; 16];
-        let short = shamir_recover(lines, b"TREZOR", &mut out[..15]);
+        let short = shamir_recover(lines, b"TREZOR", 15, &mut out[..15]);
         assert_eq!(rt; short, refusal(1, 0, 16, 0));
         assert_eq!(rt; out, [7; 16]);
-        let answer = shamir_recover(lines, b"TREZOR", &mut out);
+        let answer = shamir_recover(lines, b"TREZOR", 2, &mut out);
         assert_eq!(rt;
             answer,
             ShamirAnswer {
@@ -238,17 +238,18 @@ fn refuses_lines(rt: HostRuntime) {
     ];
     for (lines, passphrase, refused) in cases {
         let mut out = [7; 16];
-        assert_eq!(rt; shamir_recover(lines, passphrase, &mut out), refused);
+        assert_eq!(rt; shamir_recover(lines, passphrase, 0, &mut out), refused);
         assert_eq!(rt; out, [7; 16]);
     }
 }
 
 #[test]
 fn tells(rt: HostRuntime) {
-    let cases: [(ShamirAnswer, &[u8]); 34] = [
+    let cases: [(ShamirAnswer, &[u8]); 35] = [
         (refusal(0, 0, 0, 0), b"done"),
         (refusal(1, 0, 715, 0), b"slice too short: 715 bytes needed"),
         (refusal(2, 0, 0, 0), b"number out of range"),
+        (refusal(3, 0, 15, 0), b"exponent 15 above the most"),
         (refusal(11, 3, 2, 0), b"unknown word 2"),
         (refusal(12, 3, 19, 0), b"19 words make no share"),
         (refusal(13, 3, 0, 0), b"bad checksum"),
@@ -279,7 +280,7 @@ fn tells(rt: HostRuntime) {
         (refusal(61, 0, 0, 0), b"bad cursor"),
         (refusal(62, 0, 0, 0), b"cursor is no quorum"),
         (refusal(71, 4, 0, 0), b"line too long"),
-        (refusal(3, 0, 0, 0), b"unknown answer"),
+        (refusal(4, 0, 0, 0), b"unknown answer"),
         (refusal(72, 0, 0, 0), b"unknown answer"),
         (refusal(27, 2, 256, 0), b"unknown answer"),
         (refusal(28, 2, 3, 256), b"unknown answer"),
@@ -323,7 +324,7 @@ fn drills(rt: HostRuntime) {
     ];
     for (after, limit, listed) in parts {
         let mut text = [7; 150];
-        let answer = shamir_drill(FIVE, b"TREZOR", after, limit, &mut text);
+        let answer = shamir_drill(FIVE, b"TREZOR", 0, after, limit, &mut text);
         assert_eq!(rt; answer, written(listed.len()));
         assert!(rt; text.starts_with(listed));
         assert_eq!(rt; text[listed.len()], 7);
@@ -346,7 +347,7 @@ fn lists_mismatches(rt: HostRuntime) {
     ];
     for (lines, listed) in cases {
         let mut text = [7; 40];
-        let answer = shamir_drill(lines, b"", b"", 9, &mut text);
+        let answer = shamir_drill(lines, b"", 0, b"", 9, &mut text);
         let one = ShamirAnswer {
             mismatches: 1,
             ..written(listed.len())
@@ -362,12 +363,12 @@ fn drills_what_fits(rt: HostRuntime) {
     // A line has 45 bytes, and the last line 23.
     let mut text = [7; 140];
     for (room, bytes) in [(68, 68), (112, 68), (113, 113), (140, 113)] {
-        let answer = shamir_drill(FIVE, b"TREZOR", b"", 7, &mut text[..room]);
+        let answer = shamir_drill(FIVE, b"TREZOR", 15, b"", 7, &mut text[..room]);
         assert_eq!(rt; answer, written(bytes));
         assert!(rt; text[..bytes].ends_with(b"\n"));
     }
     let mut narrow = [7; 67];
-    let answer = shamir_drill(FIVE, b"TREZOR", b"", 7, &mut narrow);
+    let answer = shamir_drill(FIVE, b"TREZOR", 15, b"", 7, &mut narrow);
     assert_eq!(rt; answer, refusal(1, 0, 68, 0));
     assert_eq!(rt; narrow, [7; 67]);
 }
@@ -384,7 +385,7 @@ fn refuses_drills(rt: HostRuntime) {
     for (after, limit, passphrase, refused) in refused {
         let mut text = [7; 100];
         assert_eq!(rt;
-            shamir_drill(FIVE, passphrase, after, limit, &mut text),
+            shamir_drill(FIVE, passphrase, 15, after, limit, &mut text),
             refused
         );
         assert_eq!(rt; text, [7; 100]);

@@ -20,10 +20,6 @@ going_out_goes_on a b c text rest count out more = record {
   parts = out.parts ∙ ap (λ tail. out.written ++ tail) (sym (take-append-drop count rest)) ∙ sym (append_assoc out.written (take count rest) (drop count rest));
 }
 
-pub going_out_ends : (a b : Option (List ℕ)) (text rest : List ℕ) → IsGoingOut a b text rest → rest ≡ [] → Appends a b text
-going_out_ends a b text rest out none =
-    subst (Appends a b) (sym (out.parts ∙ ap (λ tail. out.written ++ tail) none ∙ append-nil out.written)) out.appends
-
 begun : (a b c : Option (List ℕ)) (written rest : List ℕ) → Appends a b written → Keeps b c → HoldsBeginning a c (written ++ rest)
 begun None b c written rest more kept = (rest, tt)
 begun (Some x) None c written rest more kept = absurd more

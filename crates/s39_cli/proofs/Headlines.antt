@@ -1,64 +1,34 @@
--- What is written for the words of a drill and of a recovery.
-use Rattle.std.proofs.Common.{◌≡◌, ◌∙◌, ◌==◌, ℕ, List, [], Bor, codes, Option, Some, None, Result, Ok, Err, ap, inl, inr, if◌then◌else◌, option_and_then, option_map, refl, subst, sym, unwrap_or, false, true≢false}
+-- What is written for the words of a drill, of a recovery and of a creation.
+use Rattle.std.proofs.Common.{◌≡◌, ◌∙◌, ◌==◌, ℕ, Bool, List, [], Bor, codes, Option, Some, None, Result, Ok, Err, arith, ap, inl, inr, if◌then◌else◌, option_map, refl, subst, sym, unwrap_or, false, true≢false}
 use Rattle.std.specs.Str.{bytes_eq}
 use Rattle.std.specs.Str.Parse.{digits_value, without_leading_plus}
 use Rattle.std.proofs.lemmas.Slice.Eq.{bytes_eq-Decides}
-use Rattle.clap.specs.Lexer.{without_minus}
-use Rattle.clap.specs.Walk.{walked}
-use Rattle.clap.specs.Words.{Row, Text, first_of, one_of, subcommand_of}
+use Rattle.hex.specs.Hex.{decode_of}
+use Rattle.clap.specs.Words.{Row, Text}
 use Rattle.s39_words.specs.declared.ShareFields.{ShareFields}
 use Rattle.s39_set.specs.Written.{IsWrittenForm}
+use Rattle.s39_backup.specs.Plan.{IsPlan}
 use Rattle.s39_tool.specs.declared.drill.Done.{Done}
 use Rattle.s39_tool.specs.declared.drill.Undrilled.{Undrilled}
 use Rattle.s39_tool.specs.declared.drill.Undrilled.TheVariants.{Lack, NotAQuorum}
+use Rattle.s39_tool.specs.declared.fault.Refusal.{Refusal}
+use Rattle.s39_tool.specs.declared.fault.Refusal.TheVariants.{Device}
 use Rattle.s39_tool.specs.declared.fault.Fault.{Fault}
-use Rattle.s39_tool.specs.Input.{Input}
+use Rattle.s39_tool.specs.Input.{Input, whole}
 use Rattle.s39_tool.specs.Accepted.{IsReadAs}
+use Rattle.s39_tool.specs.Create.{Asked, IsCreateOutput}
 use Rattle.s39_tool.specs.OfBackup.{HoldsMnemonicsOf, IsSecretOrLack, RecoversCreated}
-use Rattle.s39_tool.specs.Recover.{IsRecoverOutput}
+use Rattle.s39_tool.specs.Recover.{IsRecoverOutput, secret_line}
 use Rattle.s39_tool.specs.Drill.{DrillsCreated, IsDrillOutput, ListsSecretOrCause, fault_of_undrilled}
 use Rattle.s39_cli.specs.declared.command.Job.{Job}
 use Rattle.s39_cli.specs.declared.command.Job.TheVariants as job
-use Rattle.s39_cli.specs.Command.{Gives, shamir_app}
-use Rattle.s39_cli.specs.Outcome.{IsCursor, IsJobOutput, status_of, without_mismatches}
-use Rattle.s39_cli.specs.Headline.{DrillWordsList, ListsOrRefuses, RecoverWordsRecover, RecoversOrRefuses, drill_words, limit_of, recover_words}
+use Rattle.s39_cli.specs.Command.{Gives}
+use Rattle.s39_cli.specs.Outcome.{CreatesFrom, IsCursor, IsJobOutput, status_of, status_of_refusal, without_mismatches}
+use Rattle.s39_cli.specs.Headline.{AreRecoverWords, CreatedWordsRecover, DrillWordsList, ListsOrRefuses, RecoverWordsRecover, RecoversOrRefuses, WordsWrite, limit_of}
+use Rattle.s39_cli.proofs.Words.{IsCreateFound, IsDrillFound, IsRecoverFound, create_found, drill_found, recover_found}
 
-other_text : (a b : Text) → bytes_eq a b ≡ false → a ≡ b → ⊥
+pub other_text : (a b : Text) → bytes_eq a b ≡ false → a ≡ b → ⊥
 other_text a b differ same = true≢false (sym ((bytes_eq-Decides a b).1 same) ∙ differ)
-
--- what is found in the words of a drill
-record IsDrillFound (passphrase after limit name : Text) (rows : List Row) : Type 0 where
-  name_is : name ≡ codes "drill"
-  passphrase_is : first_of (codes "passphrase") rows ≡ Some passphrase
-  after_is : first_of (codes "after") rows ≡ Some after
-  limit_is : one_of (codes "limit") rows ≡ Some (without_minus limit)
-
-drill_found : (passphrase after limit name : Text) (rows : List Row) → subcommand_of shamir_app (drill_words passphrase after limit) ≡ Some (name, rows)
-    → IsDrillFound passphrase after limit name rows
-unfolding shamir_app walked
-drill_found passphrase after limit name rows met =
-    let named : Some (codes "drill") ≡ Some name = ap (option_map (λ (f : Text × List Row). f.0)) met in
-    record {
-      name_is = cc;
-      passphrase_is = sym (ap (option_and_then (λ (f : Text × List Row). first_of (codes "passphrase") f.1)) met);
-      after_is = sym (ap (option_and_then (λ (f : Text × List Row). first_of (codes "after") f.1)) met);
-      limit_is = sym (ap (option_and_then (λ (f : Text × List Row). one_of (codes "limit") f.1)) met);
-    }
-
--- and in those of a recovery
-record IsRecoverFound (passphrase name : Text) (rows : List Row) : Type 0 where
-  name_is : name ≡ codes "recover"
-  passphrase_is : first_of (codes "passphrase") rows ≡ Some passphrase
-
-recover_found : (passphrase name : Text) (rows : List Row) → subcommand_of shamir_app (recover_words passphrase) ≡ Some (name, rows)
-    → IsRecoverFound passphrase name rows
-unfolding shamir_app walked
-recover_found passphrase name rows met =
-    let named : Some (codes "recover") ≡ Some name = ap (option_map (λ (f : Text × List Row). f.0)) met in
-    record {
-      name_is = cc;
-      passphrase_is = sym (ap (option_and_then (λ (f : Text × List Row). first_of (codes "passphrase") f.1)) met);
-    }
 
 some_now : (o : Option (Bor Text)) (found : Option Text) (text : Text) → option_map (λ (t : Bor Text). t.now) o ≡ found → found ≡ Some text
     → (t : Bor Text) × (o ≡ Some t) × (t.now ≡ text)
@@ -110,35 +80,102 @@ module _ (created : (passphrase : List ℕ) (after : Option (List (ℕ × ℕ)))
       (drill.0, drill.1, (cursor.0, cursor.2, drilled drill.0 secret cursor.0 (limit_of limit) text answer status drill.2 is))
 
   pub drill_words_list : DrillWordsList
-  drill_words_list passphrase secret after limit input text status holds writes =
+  drill_words_list passphrase after limit words input text status are writes secret holds =
       of_drill passphrase secret after limit input text status writes.1.0 writes.1.1 writes.0 holds
-      (drill_found passphrase after limit writes.1.0 writes.1.1 writes.1.2) writes.1.3 writes.2.0 writes.2.1 writes.2.2
+      (drill_found passphrase after limit words writes.1.0 writes.1.1 are writes.1.2) writes.1.3 writes.2.0 writes.2.1 writes.2.2
 
-recovered : (set : List ShareFields) (secret text : List ℕ) (plain : Result (Unit {0}) Fault) (answer : Result Done Fault) (status : ℕ)
-    → IsSecretOrLack set secret text plain → answer ≡ without_mismatches plain → status ≡ status_of answer → RecoversOrRefuses set secret text status
-recovered set secret text (Ok _) answer status so same is = inl (so.0, so.1, is ∙ ap status_of same)
-recovered set secret text (Err fault) answer status so same is =
-    inr ((so.1.0, so.1.1), so.0, is ∙ ap status_of same ∙ ap (λ (f : Fault). status_of (Err f)) so.1.2)
+recovered : (set : List ShareFields) (secret text : List ℕ) (plain : Result (Unit {0}) Fault) (status : ℕ) → IsSecretOrLack set secret text plain
+    → status ≡ status_of (without_mismatches plain) → RecoversOrRefuses set secret text status
+recovered set secret text (Ok _) status so is = inl (so.0, so.1, is)
+recovered set secret text (Err fault) status so is = inr ((so.1.0, so.1.1), so.0, is ∙ ap (λ (f : Fault). status_of (Err f)) so.1.2)
 
-module _ (created : (passphrase : List ℕ) (input : Input) (text : List ℕ) (answer : Result (Unit {0}) Fault)
-    → IsRecoverOutput passphrase input text answer → RecoversCreated passphrase input text answer) where
-  of_recover : (passphrase secret : List ℕ) (input : Input) (text : List ℕ) (status : ℕ) (name : Text) (rows : List Row) (j : Job)
-      → HoldsMnemonicsOf passphrase secret input → IsRecoverFound passphrase name rows → Gives name rows j
-      → (answer : Result Done Fault) → IsJobOutput j input text answer → status ≡ status_of answer
-      → (set : List ShareFields) × IsReadAs input (Ok set) × RecoversOrRefuses set secret text status
-  of_recover passphrase secret input text status name rows job.Show holds found gives answer output is =
-      absurd (other_text (codes "recover") (codes "show") refl (sym found.name_is ∙ gives))
-  of_recover passphrase secret input text status name rows (job.Create p s w e x) holds found gives answer output is =
-      absurd (other_text (codes "recover") (codes "create") refl (sym found.name_is ∙ gives.0))
-  of_recover passphrase secret input text status name rows (job.Drill p q n) holds found gives answer output is =
-      absurd (other_text (codes "recover") (codes "drill") refl (sym found.name_is ∙ gives.0))
-  of_recover passphrase secret input text status name rows (job.Recover p) holds found gives answer output is =
-      let same : p.now ≡ passphrase = gives.1 ∙ ap (λ (o : Option Text). unwrap_or o []) found.passphrase_is in
-      let asked = subst (λ (t : Text). IsRecoverOutput t input text output.0) same output.1 in
-      let recovery = created passphrase input text output.0 asked secret holds in
-      (recovery.0, recovery.1, recovered recovery.0 secret text output.0 answer status recovery.2 output.2 is)
+-- the job of the words of a recovery recovers with their passphrase
+recovery_of : (passphrase : Text) (input : Input) (text : List ℕ) (name : Text) (rows : List Row) (j : Job) → IsRecoverFound passphrase name rows
+    → Gives name rows j → (answer : Result Done Fault) → IsJobOutput j input text answer
+    → (plain : Result (Unit {0}) Fault) × IsRecoverOutput passphrase input text plain × (answer ≡ without_mismatches plain)
+recovery_of passphrase input text name rows job.Show found gives answer output =
+    absurd (other_text (codes "recover") (codes "show") refl (sym found.name_is ∙ gives))
+recovery_of passphrase input text name rows (job.Create p s w e x) found gives answer output =
+    absurd (other_text (codes "recover") (codes "create") refl (sym found.name_is ∙ gives.0))
+recovery_of passphrase input text name rows (job.Drill p q n) found gives answer output =
+    absurd (other_text (codes "recover") (codes "drill") refl (sym found.name_is ∙ gives.0))
+recovery_of passphrase input text name rows (job.Recover p) found gives answer output =
+    let same : p.now ≡ passphrase = gives.1 ∙ ap (λ (o : Option Text). unwrap_or o []) found.passphrase_is in
+    (output.0, subst (λ (t : Text). IsRecoverOutput t input text output.0) same output.1, output.2)
 
-  pub recover_words_recover : RecoverWordsRecover
-  recover_words_recover passphrase secret input text status holds writes =
-      of_recover passphrase secret input text status writes.1.0 writes.1.1 writes.0 holds
-      (recover_found passphrase writes.1.0 writes.1.1 writes.1.2) writes.1.3 writes.2.0 writes.2.1 writes.2.2
+-- so do the words
+recovery_by_words : (passphrase : Text) (words : List Text) (input : Input) (text : List ℕ) (status : ℕ) → AreRecoverWords passphrase words
+    → WordsWrite words input text status
+    → (plain : Result (Unit {0}) Fault) × IsRecoverOutput passphrase input text plain × (status ≡ status_of (without_mismatches plain))
+recovery_by_words passphrase words input text status are writes =
+    let found = recover_found passphrase words writes.1.0 writes.1.1 are writes.1.2 in
+    let recovery = recovery_of passphrase input text writes.1.0 writes.1.1 writes.0 found writes.1.3 writes.2.0 writes.2.1 in
+    (recovery.0, recovery.1, writes.2.2 ∙ ap status_of recovery.2)
+
+pub recover_words_recover : ((passphrase : List ℕ) (input : Input) (text : List ℕ) (answer : Result (Unit {0}) Fault)
+    → IsRecoverOutput passphrase input text answer → RecoversCreated passphrase input text answer) → RecoverWordsRecover
+recover_words_recover created passphrase words input text status are writes secret holds =
+    let recovery = recovery_by_words passphrase words input text status are writes in
+    let so = created passphrase input text recovery.0 recovery.1 secret holds in
+    (so.0, so.1, recovered so.0 secret text recovery.0 status so.2 recovery.2)
+
+-- ---- a creation, and a recovery of what it wrote
+
+-- what is asked of a creation that is done
+record IsDone (secret passphrase : Text) (random : Input) (text : List ℕ) : Type 0 where
+  asked : Asked
+  secret_is : decode_of secret ≡ Ok asked.secret
+  passphrase_is : asked.passphrase ≡ passphrase
+  plan_is : IsPlan asked.group_threshold asked.groups
+  output : IsCreateOutput asked (whole random.bytes) text (Ok tt)
+
+refusal_not_done : (r : Refusal) → 0 ≡ status_of_refusal r → ⊥
+refusal_not_done (Device failure) is = omega arith
+refusal_not_done _ is = omega arith
+
+creation_done : (secret passphrase : Text) (random : Input) (text : List ℕ) (p s w : Text) (e : ℕ) (x : Bool) (plain : Result (Unit {0}) Fault)
+    → s ≡ secret → w ≡ passphrase → CreatesFrom p s w e x random text plain → 0 ≡ status_of (without_mismatches plain) → IsDone secret passphrase random text
+creation_done secret passphrase random text p s w e x (Err fault) same_secret same_passphrase creates done =
+    absurd (refusal_not_done fault.refusal done)
+creation_done secret passphrase random text p s w e x (Ok unit) same_secret same_passphrase creates done = record {
+  asked = record {
+    secret = creates.secret;
+    passphrase = w;
+    group_threshold = creates.group_threshold;
+    groups = creates.groups;
+    options = creates.options;
+  };
+  secret_is = ap decode_of (sym same_secret) ∙ creates.read.secret_is;
+  passphrase_is = same_passphrase;
+  plan_is = creates.read.plan_is.1;
+  output = (creates.output.0, refl, creates.output.2, creates.output.3);
+}
+
+creation_of : (secret passphrase : Text) (random : Input) (text : List ℕ) (name : Text) (rows : List Row) (j : Job)
+    → IsCreateFound secret passphrase name rows → Gives name rows j → (answer : Result Done Fault) → IsJobOutput j random text answer → 0 ≡ status_of answer
+    → IsDone secret passphrase random text
+creation_of secret passphrase random text name rows job.Show found gives answer output done =
+    absurd (other_text (codes "create") (codes "show") refl (sym found.name_is ∙ gives))
+creation_of secret passphrase random text name rows (job.Recover p) found gives answer output done =
+    absurd (other_text (codes "create") (codes "recover") refl (sym found.name_is ∙ gives.0))
+creation_of secret passphrase random text name rows (job.Drill p q n) found gives answer output done =
+    absurd (other_text (codes "create") (codes "drill") refl (sym found.name_is ∙ gives.0))
+creation_of secret passphrase random text name rows (job.Create p s w e x) found gives answer output done =
+    let given : Some secret ≡ Some s.now = sym found.secret_is ∙ gives.1.secret_given in
+    let same_secret : s.now ≡ secret = cc in
+    let same_passphrase : w.now ≡ passphrase = gives.1.passphrase_or_empty ∙ ap (λ (o : Option Text). unwrap_or o []) found.passphrase_is in
+    creation_done secret passphrase random text p.now s.now w.now e x output.0 same_secret same_passphrase output.1 (done ∙ ap status_of output.2)
+
+module _ (written : (asked : Asked) (random text : List ℕ) → IsPlan asked.group_threshold asked.groups → IsCreateOutput asked (whole random) text (Ok tt)
+    → IsRecoverOutput asked.passphrase (whole text) (secret_line asked.secret) (Ok tt))
+    (one : (passphrase : List ℕ) (input : Input) (text other : List ℕ) (answer another : Result (Unit {0}) Fault)
+    → IsRecoverOutput passphrase input text answer → IsRecoverOutput passphrase input other another → (text ≡ other) × (answer ≡ another)) where
+  pub created_words_recover : CreatedWordsRecover
+  created_words_recover plan secret passphrase creating recovering random text output status are_creating are_recovering created recovers =
+      let found = create_found plan secret passphrase creating created.1.0 created.1.1 are_creating created.1.2 in
+      let done = creation_of secret passphrase random text created.1.0 created.1.1 created.0 found created.1.3 created.2.0 created.2.1 created.2.2 in
+      let recovery = recovery_by_words passphrase recovering (whole text) output status are_recovering recovers in
+      let right = subst (λ (t : Text). IsRecoverOutput t (whole text) (secret_line done.asked.secret) (Ok tt)) done.passphrase_is
+      (written done.asked random.bytes text done.plan_is done.output) in
+      let same = one passphrase (whole text) (secret_line done.asked.secret) output (Ok tt) recovery.0 right recovery.1 in
+      (done.asked.secret, done.secret_is, sym same.0, recovery.2 ∙ ap (λ (r : Result (Unit {0}) Fault). status_of (without_mismatches r)) (sym same.1))

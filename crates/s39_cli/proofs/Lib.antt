@@ -1,3 +1,4 @@
+pub mod ByWords
 pub mod Deliveries
 pub mod Ends
 pub mod GoingOut
@@ -5,4 +6,5 @@ pub mod Headlines
 pub mod Interrupted
 pub mod Jobs
 pub mod Unreadiness
+pub mod Words
 pub mod Works

@@ -33,7 +33,7 @@ pub Runs-without_mismatches : {R W : Type 0} (remaining : R → Option (List ℕ
     → Runs remaining contents Follows reader read_to writer written_to given
 Runs-without_mismatches remaining contents IsOutput Follows reader read_to writer written_to answer given runs is then =
     subst (Runs remaining contents Follows reader read_to writer written_to) (sym is) (record {
-      output = OfInput-map remaining reader read_to _ _ runs.output (λ input w. record {
+      output = OfInput-map runs.output (λ input w. record {
         text = w.text;
         full_answer = without_mismatches w.full_answer;
         output = then input w.text w.full_answer w.output;

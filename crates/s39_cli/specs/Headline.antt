@@ -1,35 +1,83 @@
--- What is written for the words of a drill and of a recovery, all their values given.
-use Rattle.std.specs.Prelude.{◌≡◌, ◌⊎◌, ◌++◌, ℕ, List, [], ◌∷◌, codes, Some, Ok}
+-- The words of a drill, of a recovery and of a creation, all their values given, and what is written for them.
+use Rattle.std.specs.Prelude.{◌≡◌, ◌⊎◌, ◌++◌, ℕ, true, List, [], ◌∷◌, codes, pos, Some, Ok}
 use Rattle.std.specs.Str.Parse.{digits_value, without_leading_plus}
+use Rattle.hex.specs.Hex.{decode_of}
 use Rattle.clap.specs.Lexer.{without_minus}
-use Rattle.clap.specs.Words.{Text}
+use Rattle.clap.specs.Words.{IsSignedIn, Text, takes}
 use Rattle.s39_words.specs.declared.ShareFields.{ShareFields}
 use Rattle.s39_set.specs.Quorums.{IsQuorum}
 use Rattle.s39_set.specs.Lack.{IsLack}
 use Rattle.s39_set.specs.Written.{IsWrittenForm}
 use Rattle.s39_set.specs.declared.set_lack.SetLack.{SetLack}
 use Rattle.s39_tool.specs.declared.drill.Undrilled.{Undrilled}
-use Rattle.s39_tool.specs.Input.{Input}
+use Rattle.s39_tool.specs.Input.{Input, whole}
 use Rattle.s39_tool.specs.Accepted.{IsReadAs}
 use Rattle.s39_tool.specs.OfBackup.{HoldsMnemonicsOf}
 use Rattle.s39_tool.specs.Recover.{secret_line}
 use Rattle.s39_tool.specs.Drill.{IsUndrilled, ListsSecret}
 use Rattle.s39_cli.specs.declared.command.Job.{Job}
-use Rattle.s39_cli.specs.Command.{GivesJob}
+use Rattle.s39_cli.specs.Command.{GivesJob, shamir_app}
 use Rattle.s39_cli.specs.Ending.{IsOutcome}
 
--- `shamir drill --passphrase=P --after=Q --limit=N`
-abbrev pub drill_words : Text → Text → Text → List Text
-drill_words passphrase after limit = codes "shamir" ∷ codes "drill" ∷ (codes "--passphrase=" ++ passphrase)
-    ∷ (codes "--after=" ++ after) ∷ (codes "--limit=" ++ limit) ∷ []
+-- ---- the words
+
+-- the text doesn't begin with a dash
+abbrev pub HasNoDash : Text → Type 0
+HasNoDash text = (rest : Text) → ¬ (text ≡ codes "-" ++ rest)
+
+-- an option with its value, as one word
+abbrev pub option_word : Text → Text → Text
+option_word name value = codes "--" ++ (name ++ (codes "=" ++ value))
+
+-- `shamir drill --passphrase=P --after=Q --limit=N`; the first word is any name of the program
+abbrev pub drill_words : Text → Text → Text → Text → List Text
+drill_words program passphrase after limit = program ∷ codes "drill" ∷ option_word (codes "passphrase") passphrase
+    ∷ option_word (codes "after") after ∷ option_word (codes "limit") limit ∷ []
 
 -- `shamir recover --passphrase=P`
-abbrev pub recover_words : Text → List Text
-recover_words passphrase = codes "shamir" ∷ codes "recover" ∷ (codes "--passphrase=" ++ passphrase) ∷ []
+abbrev pub recover_words : Text → Text → List Text
+recover_words program passphrase = program ∷ codes "recover" ∷ option_word (codes "passphrase") passphrase ∷ []
+
+-- `shamir create --master-secret=HEX --passphrase=P PLAN`
+abbrev pub create_words : Text → Text → Text → Text → List Text
+create_words program plan secret passphrase = program ∷ codes "create" ∷ option_word (codes "master-secret") secret
+    ∷ option_word (codes "passphrase") passphrase ∷ plan ∷ []
+
+-- these are the words of a drill
+abbrev pub AreDrillWords : Text → Text → Text → List Text → Type 0
+AreDrillWords passphrase after limit words = (program : Text) × (words ≡ drill_words program passphrase after limit)
+
+-- these are the words of a recovery
+abbrev pub AreRecoverWords : Text → List Text → Type 0
+AreRecoverWords passphrase words = (program : Text) × (words ≡ recover_words program passphrase)
+
+-- these are the words of a creation; a plan begins with no dash
+abbrev pub AreCreateWords : Text → Text → Text → List Text → Type 0
+AreCreateWords plan secret passphrase words = HasNoDash plan × (program : Text) × (words ≡ create_words program plan secret passphrase)
+
+-- the text writes a limit: a number from 1 to 4294967295
+abbrev pub IsLimit : Text → Type 0
+IsLimit text = IsSignedIn (pos 1) (pos 4294967295) text
 
 -- the number that the text of a limit writes
 abbrev pub limit_of : Text → ℕ
 limit_of text = digits_value 10 (without_leading_plus (without_minus text))
+
+-- the definition of the command line takes the words of a drill with such a limit
+abbrev pub DrillWordsAreTaken : Type 0
+DrillWordsAreTaken = (passphrase after limit : Text) (words : List Text) → AreDrillWords passphrase after limit words → IsLimit limit
+    → takes shamir_app words ≡ true
+
+-- and those of a recovery
+abbrev pub RecoverWordsAreTaken : Type 0
+RecoverWordsAreTaken = (passphrase : Text) (words : List Text) → AreRecoverWords passphrase words → takes shamir_app words ≡ true
+
+-- and those of a creation
+abbrev pub CreateWordsAreTaken : Type 0
+CreateWordsAreTaken = (plan secret passphrase : Text) (words : List Text) → AreCreateWords plan secret passphrase words
+    → takes shamir_app words ≡ true
+
+-- ---- what is written
 
 -- the job of these words writes this text for the input, with this exit status
 abbrev pub WordsWrite : List Text → Input → List ℕ → ℕ → Type 0
@@ -42,13 +90,18 @@ ListsOrRefuses set secret names limit text status =
     (IsQuorum set names × ListsSecret set secret (Some names) limit text × (status ≡ 0))
     ⊎ (((cause : Undrilled) × IsUndrilled set (Some names) cause) × (text ≡ []) × (status ≡ 1))
 
--- The words of a drill, on mnemonics of a backup that was created with their passphrase: the quorum's text is a quorum's, and
--- after that one just the quorums of the shares read are listed, each with the secret, as many as the limit.
-abbrev pub DrillWordsList : Type 0
-DrillWordsList = (passphrase secret after limit : List ℕ) (input : Input) (text : List ℕ) (status : ℕ)
-    → HoldsMnemonicsOf passphrase secret input → WordsWrite (drill_words passphrase after limit) input text status
+-- That is so where the input holds mnemonics of a backup that was created with this passphrase: the cursor's text is that of
+-- names, and after these just the quorums of the shares read are listed, each with the secret, as many as the limit.
+abbrev pub DrillsBackup : Text → Text → ℕ → Input → List ℕ → ℕ → Type 0
+DrillsBackup passphrase after limit input text status = (secret : List ℕ) → HoldsMnemonicsOf passphrase secret input
     → (set : List ShareFields) × IsReadAs input (Ok set)
-    × ((names : List (ℕ × ℕ)) × IsWrittenForm after names × ListsOrRefuses set secret names (limit_of limit) text status)
+    × ((names : List (ℕ × ℕ)) × IsWrittenForm after names × ListsOrRefuses set secret names limit text status)
+
+-- the words of a drill write that
+abbrev pub DrillWordsList : Type 0
+DrillWordsList = (passphrase after limit : Text) (words : List Text) (input : Input) (text : List ℕ) (status : ℕ)
+    → AreDrillWords passphrase after limit words → WordsWrite words input text status
+    → DrillsBackup passphrase after (limit_of limit) input text status
 
 -- the digits of the secret are written, and the exit status is 0; or nothing is written, and it is 1, as the set has no quorum
 abbrev pub RecoversOrRefuses : List ShareFields → List ℕ → List ℕ → ℕ → Type 0
@@ -56,8 +109,24 @@ RecoversOrRefuses set secret text status =
     (((names : List (ℕ × ℕ)) × IsQuorum set names) × (text ≡ secret_line secret) × (status ≡ 0))
     ⊎ (((lack : SetLack) × IsLack set lack) × (text ≡ []) × (status ≡ 1))
 
--- and the words of a recovery
-abbrev pub RecoverWordsRecover : Type 0
-RecoverWordsRecover = (passphrase secret : List ℕ) (input : Input) (text : List ℕ) (status : ℕ)
-    → HoldsMnemonicsOf passphrase secret input → WordsWrite (recover_words passphrase) input text status
+-- that is so of such an input
+abbrev pub RecoversBackup : Text → Input → List ℕ → ℕ → Type 0
+RecoversBackup passphrase input text status = (secret : List ℕ) → HoldsMnemonicsOf passphrase secret input
     → (set : List ShareFields) × IsReadAs input (Ok set) × RecoversOrRefuses set secret text status
+
+-- the words of a recovery write that
+abbrev pub RecoverWordsRecover : Type 0
+RecoverWordsRecover = (passphrase : Text) (words : List Text) (input : Input) (text : List ℕ) (status : ℕ)
+    → AreRecoverWords passphrase words → WordsWrite words input text status → RecoversBackup passphrase input text status
+
+-- the line of the secret that these digits write is written, and the exit status is 0
+abbrev pub GivesSecret : Text → List ℕ → ℕ → Type 0
+GivesSecret digits text status = (secret : List ℕ) × (decode_of digits ≡ Ok secret) × (text ≡ secret_line secret) × (status ≡ 0)
+
+-- What the words of a creation write with exit status 0 is an input of which the words of a recovery with the same passphrase
+-- write the secret.
+abbrev pub CreatedWordsRecover : Type 0
+CreatedWordsRecover = (plan secret passphrase : Text) (creating recovering : List Text) (random : Input) (text output : List ℕ) (status : ℕ)
+    → AreCreateWords plan secret passphrase creating → AreRecoverWords passphrase recovering
+    → WordsWrite creating random text 0 → WordsWrite recovering (whole text) output status
+    → GivesSecret secret output status

@@ -1,7 +1,18 @@
-//! Facts about the definitions, each the contract of a function that only calls other laws.
-ghost use Rattle.s39_cli.specs.Headline.{DrillWordsList, RecoverWordsRecover};
+//! Facts about the definitions, each the contract of a function that does nothing, or only calls other laws.
+ghost use Rattle.s39_cli.specs.Headline.{CreateWordsAreTaken, CreatedWordsRecover, DrillWordsAreTaken, DrillWordsList};
+ghost use Rattle.s39_cli.specs.Headline.{RecoverWordsAreTaken, RecoverWordsRecover};
 
-use s39_tool::laws::{created_backups_drill, created_backups_recover};
+use s39_tool::laws::{
+    created_backups_drill, created_backups_recover, one_recover_output, written_mnemonics_recover,
+};
+
+/// The definition of the command line takes the words of a drill, of a recovery and of a creation, whatever their texts,
+/// where the limit is a number in its range and the plan doesn't begin with a dash.
+pub fn words_are_taken()
+    ensures drill { DrillWordsAreTaken }
+    ensures recover { RecoverWordsAreTaken }
+    ensures create { CreateWordsAreTaken }
+{}
 
 /// The words of a drill, on mnemonics of a backup that was created with their passphrase: just the quorums after the given
 /// one are listed, each with the secret.
@@ -16,4 +27,13 @@ pub fn recover_words_recover()
     ensures { RecoverWordsRecover }
 {
     created_backups_recover();
+}
+
+/// What the words of a creation write, as the input of the words of a recovery with the same passphrase: the secret's
+/// digits are written.
+pub fn created_words_recover()
+    ensures { CreatedWordsRecover }
+{
+    written_mnemonics_recover();
+    one_recover_output();
 }

@@ -2,6 +2,7 @@
 //! exit status.
 #![tactic(auto)]
 
+pub mod by_words;
 mod command;
 mod delivery;
 pub mod laws;

@@ -5,7 +5,9 @@ ghost use Rattle.s39_kdf.specs.Limits.{shortest_secret, longest_secret, exponent
 ghost use Rattle.s39_kdf.specs.Passphrases.{PassphrasesHaveOneFirstUnprintable, PrintablePassphrasesHaveNone, PassphrasesArePrintableOrNot};
 ghost use Rattle.s39_kdf.specs.Hmac.{block_length, mac_length};
 ghost use Rattle.s39_kdf.specs.Pbkdf2.{longest_derived_key};
+ghost use Rattle.s39_kdf.specs.Fingerprint.{fingerprint_length};
 
+use crate::fingerprinting::FINGERPRINT_BYTES;
 use crate::key_derivation::MAX_DERIVED_BYTES;
 use crate::keyed_hash::{BLOCK_BYTES, MAC_BYTES};
 use crate::limits::{MAX_SECRET_BYTES, MIN_SECRET_BYTES};
@@ -19,6 +21,7 @@ pub fn numbers()
     ensures block { BLOCK_BYTES ≡ block_length }
     ensures mac { MAC_BYTES ≡ mac_length }
     ensures derived { MAX_DERIVED_BYTES ≡ longest_derived_key }
+    ensures fingerprint { FINGERPRINT_BYTES ≡ fingerprint_length }
 {}
 
 /// A text is the encryption of at most one secret under a passphrase and parameters.

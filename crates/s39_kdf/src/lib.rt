@@ -3,6 +3,7 @@
 #![tactic(auto)]
 
 mod cipher;
+mod fingerprinting;
 mod key_derivation;
 mod keyed_hash;
 pub mod laws;
@@ -10,6 +11,7 @@ mod limits;
 mod params;
 
 pub use cipher::{decrypt, encrypt};
+pub use fingerprinting::{FINGERPRINT_BYTES, fingerprint};
 pub use key_derivation::{MAX_DERIVED_BYTES, pbkdf2};
 pub use keyed_hash::{MAC_BYTES, hmac};
 pub use limits::{

@@ -317,3 +317,19 @@ fn secret_lengths(rt: HostRuntime) {
     }
     assert_eq!(rt; BadSecretLength { bytes: 14 }.code(), 42);
 }
+
+// As Python's hmac computes them.
+#[test]
+fn fingerprints(rt: HostRuntime) {
+    let cases: [(&[u8], &[u8; 4]); 3] = [
+        (
+            b"\xbb\x54\xaa\xc4\xb8\x9d\xc8\x68\xba\x37\xd9\xcc\x21\xb2\xce\xce",
+            b"\xdf\x41\xd8\xfe",
+        ),
+        (&[], b"\x8a\x2f\x50\x6b"),
+        (&[0; 128], b"\x08\xfe\x16\xb5"),
+    ];
+    for (secret, expected) in cases {
+        assert_eq!(rt; &fingerprint(secret), expected);
+    }
+}

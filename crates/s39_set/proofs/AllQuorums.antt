@@ -22,6 +22,7 @@ use Rattle.s39_set.proofs.Sublists.{IsSublist, none, keeps, leaves, nil-sublist,
 use Rattle.s39_set.proofs.Sublists.{Contains-filter, Contains-sublist, filter_kept, AllPairs-nil, AllPairs-head}
 use Rattle.s39_set.proofs.Sublists.{AllPairs-tail, AllPairs-append, AllPairs-sublist}
 use Rattle.s39_set.proofs.Ascending.{name_cmp_total, names-sublist}
+use Rattle.s39_set.proofs.NamesOrder.{first-less}
 use Rattle.s39_set.proofs.OptionTests.{same_from_option_eq, option_eq-same}
 use Rattle.s39_set.proofs.SetQuorums.{just_from_quorum, quorum_from_just, written_of_quorum}
 use Rattle.s39_set.proofs.AtHand.{Contains-map, one_of_map, AllPairs-map}
@@ -57,9 +58,6 @@ cons-less x xs ys h = rw (tied_itself name_cmp_total x) h
 
 nil-less : (x : ℕ × ℕ) (xs : List (ℕ × ℕ)) (part : List (ℕ × ℕ)) → BeginsIn xs part → names_cmp (x ∷ []) (x ∷ part) ≡ Less
 nil-less x xs part b = rw (tied_itself name_cmp_total x, b.part_is) refl
-
-first-less : (x y : ℕ × ℕ) (xs ys : List (ℕ × ℕ)) → name_cmp x y ≡ Less → names_cmp (x ∷ xs) (y ∷ ys) ≡ Less
-first-less x y xs ys h = rw h refl
 
 parts-ascending : (xs : List (ℕ × ℕ)) → IsAscending xs → AreInOrder (parts_of xs)
 parts-ascending [] ascending = AllPairs-nil (λ a b. names_cmp a b ≡ Less)

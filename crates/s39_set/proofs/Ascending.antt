@@ -12,6 +12,10 @@ use Rattle.s39_set.proofs.Sublists.{IsSublist, sublist_from_contains, same_from_
 pub name_cmp_total : IsTotalOrder name_cmp
 name_cmp_total = then_total (on_total (λ name. name.0) nat_cmp_total) (on_total (λ name. name.1) nat_cmp_total)
 
+-- one name comes before another
+abbrev pub Precedes : ℕ × ℕ → ℕ × ℕ → Type 0
+Precedes a b = name_cmp a b ≡ Less
+
 -- no two names come before each other
 pub name_cmp_one_way : (a b : ℕ × ℕ) → name_cmp a b ≡ Less → name_cmp b a ≡ Less → ⊥
 name_cmp_one_way a b before after = let back = name_cmp_total.antisymm a b in cc
@@ -31,3 +35,14 @@ same_names = same_from_elements (λ a b. name_cmp a b ≡ Less) name_cmp_one_way
 -- no fewer of them than there are, are all of them
 pub same_names_from_length : (xs ys : List (ℕ × ℕ)) → IsAscending xs → IsAscending ys → All (Contains xs) ys → length xs ≤ length ys → xs ≡ ys
 same_names_from_length = same_from_part (λ a b. name_cmp a b ≡ Less) name_cmp_one_way
+
+-- the order of names goes on
+pub less_than : (x y z : ℕ × ℕ) → name_cmp x y ≡ Less → name_cmp y z ≡ Less → name_cmp x z ≡ Less
+less_than = name_cmp_total.trans
+
+less_groups : (a b c d : ℕ) → name_cmp (a, b) (c, d) ≡ Less → a ≤ c
+less_groups a b c d h = grind (arith, nat_tests)
+
+-- of two names in order the groups are in order
+pub groups-in_order : (x y : ℕ × ℕ) → name_cmp x y ≡ Less → x.0 ≤ y.0
+groups-in_order x y h = less_groups x.0 x.1 y.0 y.1 h

@@ -1,7 +1,8 @@
 -- The decimal form of an index.
-use Rattle.std.proofs.Common.{◌≡◌, ℕ, zero, suc, ◌+◌, ◌-◌, ◌<◌, ◌≤◌, List, [], ◌∷◌, length, get_or, refl, sym, ap, ap₂, ◌∙◌, inl, inr, arith}
+use Rattle.std.proofs.Common.{◌≡◌, ℕ, ◌+◌, ◌-◌, ◌/◌, ◌%◌, ◌<◌, ◌≤◌, List, [], ◌∷◌, ◌++◌, length, get_or, sym, ap, ap₂, ◌∙◌, inl, inr, arith}
 use Rattle.std.proofs.lemmas.Bool.{cases_lt}
-use Rattle.std.specs.Fmt.{decimal, digits}
+use Rattle.std.proofs.lemmas.Fmt.{decimal_digit, decimal_step}
+use Rattle.std.specs.Fmt.{decimal}
 use Rattle.s39_set.specs.Names.{most_groups}
 
 -- the text of a number below ten is one digit, and of another below the number of groups a 1 and a digit
@@ -10,27 +11,13 @@ pub record IsIndexText (text : List ℕ) (n : ℕ) : Type 0 where
   pub two : 10 ≤ n → text ≡ 49 ∷ (38 + n) ∷ []
 
 pub decimal-index : (n : ℕ) → n < most_groups → IsIndexText (decimal n) n
-unfolding digits
-decimal-index zero low = record { one = λ _. refl; two = λ high. absurd (omega arith) }
-decimal-index (suc zero) low = record { one = λ _. refl; two = λ high. absurd (omega arith) }
-decimal-index (suc (suc zero)) low = record { one = λ _. refl; two = λ high. absurd (omega arith) }
-decimal-index (suc (suc (suc zero))) low = record { one = λ _. refl; two = λ high. absurd (omega arith) }
-decimal-index (suc (suc (suc (suc zero)))) low = record { one = λ _. refl; two = λ high. absurd (omega arith) }
-decimal-index (suc (suc (suc (suc (suc zero))))) low = record { one = λ _. refl; two = λ high. absurd (omega arith) }
-decimal-index (suc (suc (suc (suc (suc (suc zero)))))) low = record { one = λ _. refl; two = λ high. absurd (omega arith) }
-decimal-index (suc (suc (suc (suc (suc (suc (suc zero))))))) low = record { one = λ _. refl; two = λ high. absurd (omega arith) }
-decimal-index (suc (suc (suc (suc (suc (suc (suc (suc zero)))))))) low = record { one = λ _. refl; two = λ high. absurd (omega arith) }
-decimal-index (suc (suc (suc (suc (suc (suc (suc (suc (suc zero))))))))) low = record { one = λ _. refl; two = λ high. absurd (omega arith) }
-decimal-index (suc (suc (suc (suc (suc (suc (suc (suc (suc (suc zero)))))))))) low = record { one = λ below. absurd (omega arith); two = λ _. refl }
-decimal-index (suc (suc (suc (suc (suc (suc (suc (suc (suc (suc (suc zero))))))))))) low = record { one = λ below. absurd (omega arith); two = λ _. refl }
-decimal-index (suc (suc (suc (suc (suc (suc (suc (suc (suc (suc (suc (suc zero)))))))))))) low = record { one = λ below. absurd (omega arith); two = λ _. refl }
-decimal-index (suc (suc (suc (suc (suc (suc (suc (suc (suc (suc (suc (suc (suc zero))))))))))))) low =
-    record { one = λ below. absurd (omega arith); two = λ _. refl }
-decimal-index (suc (suc (suc (suc (suc (suc (suc (suc (suc (suc (suc (suc (suc (suc zero)))))))))))))) low =
-    record { one = λ below. absurd (omega arith); two = λ _. refl }
-decimal-index (suc (suc (suc (suc (suc (suc (suc (suc (suc (suc (suc (suc (suc (suc (suc zero))))))))))))))) low =
-    record { one = λ below. absurd (omega arith); two = λ _. refl }
-decimal-index (suc (suc (suc (suc (suc (suc (suc (suc (suc (suc (suc (suc (suc (suc (suc (suc n)))))))))))))))) low = absurd (omega arith)
+decimal-index n low = record {
+  one = λ below. decimal_digit n below;
+  two = λ high.
+      let tens : n / 10 ≡ 1 = omega arith in
+      let ones : 48 + n % 10 ≡ 38 + n = omega arith in
+      decimal_step n high (omega arith) ∙ ap₂ (λ t o. decimal t ++ o ∷ []) tens ones ∙ ap (λ t. t ++ (38 + n) ∷ []) (decimal_digit 1 (omega arith));
+}
 
 -- what a text of an index looks like, in its bytes
 pub record Looks (text : List ℕ) (n : ℕ) : Type 0 where
@@ -75,13 +62,3 @@ text_from_two (x ∷ y ∷ []) l first from below =
     let same : 38 + (10 + (y - 48)) ≡ y = omega arith in
     ap₂ (λ a b. a ∷ b ∷ []) first (sym same) ∙ sym ((decimal-index (10 + (y - 48)) (omega arith)).two (omega arith))
 text_from_two (x ∷ y ∷ z ∷ zs) l first from below = absurd (omega arith)
-
--- numbers with one decimal form are the same
-pub decimal-same : (m n : ℕ) → m < most_groups → n < most_groups → decimal m ≡ decimal n → m ≡ n
-decimal-same m n low_m low_n e =
-    let of_m = no_text (decimal m) m low_m refl in
-    let of_n = no_text (decimal m) n low_n e in
-    elim (cases_lt (length (decimal m)) 2) [
-      | inl short ↦ (let a = of_m.one short in let b = of_n.one short in omega arith)
-      | inr long ↦ (let a = of_m.two long in let b = of_n.two long in omega arith)
-    ]

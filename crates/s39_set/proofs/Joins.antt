@@ -4,15 +4,16 @@ use Rattle.std.specs.Prelude.{◌==◌, bytes_eq}
 use Rattle.std.specs.List.{list_any}
 use Rattle.std.specs.Cmp.Lexicographic.{bytes_decides}
 use Rattle.std.proofs.lemmas.Bool.{cases_Bool, false≢true, eqb-true, eq-eqb, not-false, not_from_true}
-use Rattle.std.proofs.lemmas.List.Elements.{All-contains, Contains-get_or, filter_passes}
+use Rattle.std.proofs.lemmas.List.Elements.{All-contains, Contains-get_or}
 use Rattle.std.proofs.lemmas.List.Folds.{list_any_none, list_any_at}
 use Rattle.s39_words.specs.declared.share.ShareFields.{ShareFields}
 use Rattle.s39_words.specs.Share.{flag_bit}
 use Rattle.s39_set.specs.ShareSet.{Agrees, IsShareSet, CanJoin, name_of, is_in_group, has_name, some_differs, refusal_of}
-use Rattle.s39_set.specs.Slots.{last_refusal_of}
-use Rattle.s39_set.proofs.Sublists.{Contains-filter}
-use Rattle.s39_set.proofs.Sets.{Contains-from_filter, agree, one_share}
-use Rattle.s39_set.proofs.Refusals.{from_none, from_failures, last_from_none, last_from_failures, has_name-is, has_name-own}
+use Rattle.s39_set.specs.declared.set_error.SetError.{SetError}
+use Rattle.s39_set.specs.declared.set_error.SetError.TheVariants.{OtherIdentifier}
+use Rattle.s39_set.proofs.Sublists.{each, of_filter, Contains-filter}
+use Rattle.s39_set.proofs.Sets.{agree, one_share}
+use Rattle.s39_set.proofs.Refusals.{causes_of, none_apply, has_name-is, has_name-own}
 
 -- where a test of some fails, it fails at each
 none_pass : {X : Type 0} (test : X → Bool) (xs : List X) → list_any test xs ≡ false → All (λ x. test x ≡ false) xs
@@ -116,35 +117,26 @@ module _ (shares : List ShareFields) (share : ShareFields) where
   -- a share that isn't refused can join
   pub joins_from_none : refusal_of shares share ≡ None → CanJoin shares share
   joins_from_none h =
-      let (fails, rest) =
-      from_none (some_differs (λ s. s.id) shares share) (some_differs (λ s. flag_bit s.extendable) shares share) (some_differs (λ s. s.exponent) shares share)
-      (some_differs (λ s. s.group_threshold) shares share) (some_differs (λ s. s.group_count) shares share)
-      (some_differs (λ s. length s.value.items) shares share)
-      (last_refusal_of shares share) h in
-      let last = last_from_none shares share rest in
+      let none : Bool × SetError = (false, OtherIdentifier) in
+      let fails = none_apply (causes_of shares share) h in
       record {
-        agrees = λ k d below.
-            let s = get_or shares k d in
-            let has_s = Contains-get_or shares k d below in
-            record {
-              id = none_differs (λ t. t.id) shares fails.first s has_s;
-              extendable = flag-from_bit s.extendable share.extendable (none_differs (λ t. flag_bit t.extendable) shares fails.second s has_s);
-              exponent = none_differs (λ t. t.exponent) shares fails.third s has_s;
-              group_threshold = none_differs (λ t. t.group_threshold) shares fails.fourth s has_s;
-              group_count = none_differs (λ t. t.group_count) shares fails.fifth s has_s;
-              value_length = none_differs (λ t. length t.value.items) shares fails.sixth s has_s;
-              member_threshold = λ group.
-                  none_differs (λ t. t.member_threshold) of_group last.0 s
-                  (Contains-filter (is_in_group share.group_index) shares s has_s (eq-eqb s.group_index share.group_index group));
-            };
-        same_value = λ k d below names.
-            let s = get_or shares k d in
+        agrees = each (λ s. Agrees s share) shares (λ s has_s. record {
+          id = none_differs (λ t. t.id) shares (fails 0 none (omega arith)) s has_s;
+          extendable = flag-from_bit s.extendable share.extendable (none_differs (λ t. flag_bit t.extendable) shares (fails 1 none (omega arith)) s has_s);
+          exponent = none_differs (λ t. t.exponent) shares (fails 2 none (omega arith)) s has_s;
+          group_threshold = none_differs (λ t. t.group_threshold) shares (fails 3 none (omega arith)) s has_s;
+          group_count = none_differs (λ t. t.group_count) shares (fails 4 none (omega arith)) s has_s;
+          value_length = none_differs (λ t. length t.value.items) shares (fails 5 none (omega arith)) s has_s;
+          member_threshold = λ group. none_differs (λ t. t.member_threshold) of_group (fails 6 none (omega arith)) s
+              (Contains-filter (is_in_group share.group_index) shares s has_s (eq-eqb s.group_index share.group_index group));
+        });
+        same_value = each (λ s. name_of s ≡ name_of share → s.value.items ≡ share.value.items) shares (λ s has_s names.
             let passes : has_name share.group_index share.member_index s ≡ true = subst (λ (n : ℕ × ℕ). has_name n.0 n.1 s ≡ true) names (has_name-own s) in
-            let among = Contains-filter (has_name share.group_index share.member_index) shares s (Contains-get_or shares k d below) passes in
+            let among = Contains-filter (has_name share.group_index share.member_index) shares s has_s passes in
             (bytes_decides s.value.items share.value.items).0
             (not-false (bytes_eq s.value.items share.value.items)
             (All-contains (λ t. not (bytes_eq t.value.items share.value.items) ≡ false) of_name s
-            (none_pass (λ t. not (bytes_eq t.value.items share.value.items)) of_name last.1) among));
+            (none_pass (λ t. not (bytes_eq t.value.items share.value.items)) of_name (fails 7 none (omega arith))) among)));
       }
 
   -- and a share that can join isn't refused
@@ -152,34 +144,29 @@ module _ (shares : List ShareFields) (share : ShareFields) where
   none_from_joins joins =
       let same : (number : ShareFields → ℕ) → ((s : ShareFields) → Agrees s share → number s ≡ number share) → some_differs number shares share ≡ false =
       λ number agrees. differs_none number shares (λ k d below. agrees (get_or shares k d) (joins.agrees k d below)) in
-      from_failures (some_differs (λ s. s.id) shares share) (some_differs (λ s. flag_bit s.extendable) shares share)
-      (some_differs (λ s. s.exponent) shares share)
-      (some_differs (λ s. s.group_threshold) shares share) (some_differs (λ s. s.group_count) shares share)
-      (some_differs (λ s. length s.value.items) shares share)
-      (last_refusal_of shares share)
-      (record {
-        first = same (λ s. s.id) (λ s agrees. agrees.id);
-        second = same (λ s. flag_bit s.extendable) (λ s agrees. ap flag_bit agrees.extendable);
-        third = same (λ s. s.exponent) (λ s agrees. agrees.exponent);
-        fourth = same (λ s. s.group_threshold) (λ s agrees. agrees.group_threshold);
-        fifth = same (λ s. s.group_count) (λ s agrees. agrees.group_count);
-        sixth = same (λ s. length s.value.items) (λ s agrees. agrees.value_length);
-      })
-      ∙ last_from_failures shares share
-      (differs_none (λ s. s.member_threshold) of_group
-      (λ k d below.
-      let s = get_or of_group k d in
-      let has_s = Contains-from_filter (is_in_group share.group_index) shares k d below in
-      (All-contains (λ t. Agrees t share) shares s joins.agrees has_s).member_threshold
-      (eqb-true s.group_index share.group_index (filter_passes (is_in_group share.group_index) shares k d below))))
-      (list_any_none (λ s. not (bytes_eq s.value.items share.value.items)) of_name
-      (λ k d below.
-      let s = get_or of_name k d in
-      let has_s = Contains-from_filter (has_name share.group_index share.member_index) shares k d below in
-      let names = has_name-is share.group_index share.member_index s (filter_passes (has_name share.group_index share.member_index) shares k d below) in
+      let thresholds : some_differs (λ s. s.member_threshold) of_group share ≡ false =
+      differs_none (λ s. s.member_threshold) of_group (each (λ s. s.member_threshold ≡ share.member_threshold) of_group (λ s among.
+      let (has_s, group) = of_filter (is_in_group share.group_index) shares s among in
+      (All-contains (λ t. Agrees t share) shares s joins.agrees has_s).member_threshold (eqb-true s.group_index share.group_index group))) in
+      let values : list_any (λ s. not (bytes_eq s.value.items share.value.items)) of_name ≡ false =
+      list_any_none (λ s. not (bytes_eq s.value.items share.value.items)) of_name
+      (each (λ s. not (bytes_eq s.value.items share.value.items) ≡ false) of_name (λ s among.
+      let (has_s, named) = of_filter (has_name share.group_index share.member_index) shares s among in
+      let names = has_name-is share.group_index share.member_index s named in
       not_from_true (bytes_eq s.value.items share.value.items)
       ((bytes_decides s.value.items share.value.items).1
-      (All-contains (λ t. name_of t ≡ name_of share → t.value.items ≡ share.value.items) shares s joins.same_value has_s names))))
+      (All-contains (λ t. name_of t ≡ name_of share → t.value.items ≡ share.value.items) shares s joins.same_value has_s names)))) in
+      rw (
+        same (λ s. s.id) (λ s agrees. agrees.id),
+        same (λ s. flag_bit s.extendable) (λ s agrees. ap flag_bit agrees.extendable),
+        same (λ s. s.exponent) (λ s agrees. agrees.exponent),
+        same (λ s. s.group_threshold) (λ s agrees. agrees.group_threshold),
+        same (λ s. s.group_count) (λ s agrees. agrees.group_count),
+        same (λ s. length s.value.items) (λ s agrees. agrees.value_length),
+        thresholds,
+        values,
+      )
+      refl
 
 -- a share of the set isn't refused
 pub not_refused : (shares : List ShareFields) → IsShareSet shares → (share : ShareFields) → Contains shares share → refusal_of shares share ≡ None

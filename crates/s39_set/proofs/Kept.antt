@@ -2,12 +2,11 @@
 use Rattle.std.proofs.Common.{◌≡◌, ◌≢◌, ◌⊎◌, ℕ, suc, ◌+◌, ◌<◌, ◌≤◌, Bool, true, false, List, [], ◌∷◌, ◌++◌, length}
 use Rattle.std.proofs.Common.{get_or, set, take, drop, find, map, All, Contains, Option, Some, None, inl, inr, ⊎_elim}
 use Rattle.std.proofs.Common.{refl, sym, ap, ap₂, ◌∙◌, subst, arith, add-one}
-use Rattle.std.specs.Prelude.{IfSome, ◌==◌, ◌&&◌, ◌||◌}
-use Rattle.std.specs.Option.{option_map, is_some}
+use Rattle.std.specs.Prelude.{IfSome, ◌==◌, ◌&&◌}
+use Rattle.std.specs.Option.{option_map}
 use Rattle.std.specs.declared.cmp.Ordering.TheVariants.{Less}
-use Rattle.std.proofs.lemmas.Bool.{cases_eq, false≢true, false_from_ne_true, eqb-true, eq-eqb, ne_eqb, and_parts, and_right}
+use Rattle.std.proofs.lemmas.Bool.{cases_eq, false≢true, ne_eqb, and_right}
 use Rattle.std.proofs.lemmas.Bool.Decides.{nat_tests}
-use Rattle.std.proofs.Math.Bool.{or-false, or-true}
 use Rattle.std.proofs.lemmas.List.{set_split, take-append-drop, drop_more, get_or-set_same, get_or-set_other, get_or_default}
 use Rattle.std.proofs.lemmas.List.Elements.{All-nil, All-head, All-tail, All-map, All-weaker, All-contains}
 use Rattle.std.proofs.lemmas.List.Elements.{Contains-get_or, Contains-append_left, Contains-append_right}
@@ -22,12 +21,15 @@ use Rattle.s39_set.specs.ShareSet.{Agrees, IsShareSet, CanJoin, HasOneMore, name
 use Rattle.s39_set.specs.Masks.{is_in, AddsName}
 use Rattle.s39_set.specs.Quorums.{member_threshold_of}
 use Rattle.s39_set.specs.Slots.{shares_at, slot_of, common_of, common_of_all, IsKept}
-use Rattle.s39_set.proofs.Finds.{IfSome-map, find-none, find-passes, Contains-find, none-passes, find-insert_other}
+use Rattle.s39_set.proofs.Finds.{IfSome-map, find-none, find-passes, Contains-find, find-insert_other}
 use Rattle.s39_set.proofs.Slots.{OwnSlots, slots-at_least, own_slots-tail, find-slot}
-use Rattle.s39_set.proofs.Sublists.{Contains-head, Contains-cases, Contains-nil, AllPairs-nil}
+use Rattle.s39_set.proofs.Sublists.{Contains-head, Contains-cons, Contains-cases, Contains-nil, AllPairs-nil}
+use Rattle.s39_set.proofs.AtHand.{Contains-map, one_of_map}
+use Rattle.s39_set.proofs.Inserted.{inserted_cases, inserted_old, inserted_this}
+use Rattle.s39_set.specs.Steps.{AreMasksOf}
 use Rattle.s39_set.proofs.Sets.{agree, threshold_is}
 use Rattle.s39_set.proofs.Joins.{joins_from_none, agrees-itself, agrees-back, same_from_joins}
-use Rattle.s39_set.proofs.Refusals.{has_name-is, has_name-own}
+use Rattle.s39_set.proofs.Refusals.{has_name-is}
 
 -- ---- names in the order of their slots
 
@@ -89,9 +91,17 @@ module _ (old : List ShareFields) (share : ShareFields) (new : List ShareFields)
       (Contains-cases share more.after s back))
       (Contains-append_cases more.before (share ∷ more.after) s (subst (λ l. Contains l s) more.new_is has_s))
 
-  Contains-more : Contains new share
+  pub Contains-more : Contains new share
   Contains-more =
       subst (λ l. Contains l share) (sym more.new_is) (Contains-append_right more.before (share ∷ more.after) share (Contains-head share more.after))
+
+  pub Contains-old : (s : ShareFields) → Contains old s → Contains new s
+  Contains-old s has_s =
+      subst (λ l. Contains l s) (sym more.new_is)
+      (⊎_elim
+      (λ (front : Contains more.before s). Contains-append_left more.before (share ∷ more.after) s front)
+      (λ (back : Contains more.after s). Contains-append_right more.before (share ∷ more.after) s (Contains-cons share more.after s back))
+      (Contains-append_cases more.before more.after s (subst (λ l. Contains l s) more.old_is has_s)))
 
   pub All-more : (P : ShareFields → Type 0) → All P old → P share → All P new
   All-more P each here k d below =
@@ -127,25 +137,8 @@ module _ (old : List ShareFields) (share : ShareFields) (new : List ShareFields)
       (find-insert_other (is_in_group group) more.before more.after share (ne_eqb share.group_index group apart))
       ∙ ap (λ l. member_threshold_of l group) (sym more.old_is)
 
-unfoldable common_fields : ℕ → Bool → ℕ → ℕ → ℕ → ℕ → Common
-common_fields id extendable exponent group_threshold group_count value_bytes = record {
-  id = id;
-  extendable = extendable;
-  exponent = exponent;
-  group_threshold = group_threshold;
-  group_count = group_count;
-  value_bytes = value_bytes;
-}
-
-common-fields_of : (s : ShareFields) → common_fields s.id s.extendable s.exponent s.group_threshold s.group_count (length s.value.items) ≡ common_of s
-unfolding common_fields
-common-fields_of s = refl
-
 common_of-agrees : (s t : ShareFields) → Agrees s t → common_of s ≡ common_of t
-common_of-agrees s t h =
-    let same : common_fields s.id s.extendable s.exponent s.group_threshold s.group_count
-    (length s.value.items) ≡ common_fields t.id t.extendable t.exponent t.group_threshold t.group_count (length t.value.items) = cc in
-    sym (common-fields_of s) ∙ same ∙ common-fields_of t
+common_of-agrees s t h = rw (h.id, h.extendable, h.exponent, h.group_threshold, h.group_count, h.value_length) refl
 
 common_of_all-is : (shares : List ShareFields) (share : ShareFields) → IsShareSet shares → Contains shares share → Some (common_of share) ≡ common_of_all shares
 common_of_all-is [] share is has_share = absurd (Contains-nil share has_share)
@@ -202,29 +195,30 @@ module _ (common : Option Common) (masks : Masks) (thresholds : List (Option ℕ
         (sym (get_or-set_other slots k j (Some share) None apart)) (kept.own_slot j))
         (cases_eq j k)
 
-    -- a mask with the share's name more says which slots have a share
-    at_hand_more : (masks' : Masks) → AddsName masks masks' (name_of share) → (group member : ℕ) → group < most_groups → member < most_members
-        → is_in masks' group member ≡ is_some (get_or (set slots k (Some share)) (slot_of (group, member)) None)
+    -- a mask with the share's name more has the names of these shares
+    at_hand_more : (masks' : Masks) → AddsName masks masks' (name_of share) → AreMasksOf masks' (map name_of (shares_at (set slots k (Some share))))
     at_hand_more masks' adds group member low also_low =
-        elim (cases_eq (slot_of (group, member)) k) [
-          | inl here ↦ (
-              let lower = is.member_index in
-              let same_group : (group == share.group_index) ≡ true = eq-eqb group share.group_index (omega arith) in
-              let same_member : (member == share.member_index) ≡ true = eq-eqb member share.member_index (omega arith) in
-              let there : get_or (set slots k (Some share)) (slot_of (group, member)) None ≡ Some share =
-              ap (λ n. get_or (set slots k (Some share)) n None) here ∙ get_or-set_same slots k (Some share) None below in
-              adds group member ∙ ap₂ (λ a b. is_in masks group member || (a && b)) same_group same_member
-              ∙ or-true (is_in masks group member) ∙ sym (ap is_some there))
-          | inr apart ↦ (
-              let there : get_or (set slots k (Some share)) (slot_of (group, member)) None ≡ get_or slots (slot_of (group, member)) None =
-              get_or-set_other slots k (slot_of (group, member)) (Some share) None apart in
-              let other : ((group == share.group_index) && (member == share.member_index)) ≡ false =
-              false_from_ne_true ((group == share.group_index) && (member == share.member_index))
-              (λ same. let parts = and_parts (group == share.group_index) (member == share.member_index) same in
-              apart (ap₂ (λ (g m : ℕ). slot_of (g, m)) (eqb-true group share.group_index parts.0) (eqb-true member share.member_index parts.1) ∙ sym at)) in
-              adds group member ∙ ap (λ b. is_in masks group member || b) other
-              ∙ or-false (is_in masks group member) ∙ kept.at_hand_are group member low also_low ∙ sym (ap is_some there))
-        ]
+        let old = shares_at slots in
+        let more = has_one_more slots k share below empty in
+        let names = map name_of (shares_at (set slots k (Some share))) in (
+          λ h. elim (inserted_cases masks masks' share.group_index share.member_index adds group member h) [
+            | inl was ↦
+                (let (s, has_s, same) = one_of_map name_of old (group, member) ((kept.at_hand_are group member low also_low).0 was) in
+                subst (Contains names) same (Contains-map name_of (shares_at (set slots k (Some share))) s (Contains-old old share _ more s has_s)))
+            | inr this ↦ subst (Contains names) (ap₂ (λ (g m : ℕ). (g, m)) (sym this.0) (sym this.1))
+                (Contains-map name_of (shares_at (set slots k (Some share))) share (Contains-more old share _ more))
+          ],
+          λ among.
+              let (s, has_s, same) = one_of_map name_of (shares_at (set slots k (Some share))) (group, member) among in
+              elim (Contains-more_cases old share _ more s has_s) [
+                | inl was ↦ inserted_old masks masks' share.group_index share.member_index adds group member
+                    ((kept.at_hand_are group member low also_low).1 (subst (Contains (map name_of old)) same (Contains-map name_of old s was)))
+                | inr this ↦
+                    (let names_are : name_of share ≡ (group, member) = ap name_of this ∙ same in
+                    inserted_this masks masks' share.group_index share.member_index adds group member
+                    (sym (ap (λ (n : ℕ × ℕ). n.0) names_are)) (sym (ap (λ (n : ℕ × ℕ). n.1) names_are)))
+              ],
+        )
 
     -- the fields after the share is put in its slot
     pub kept_more : (masks' : Masks) → AddsName masks masks' (name_of share)
@@ -263,40 +257,37 @@ module _ (common : Option Common) (masks : Masks) (thresholds : List (Option ℕ
         }
 
   module _ (share : ShareFields) (is : IsShare share) where
-    -- whether the masks have a share's name says whether a share stands in its slot
-    from_masks : (b : Bool) → is_in masks share.group_index share.member_index ≡ b → is_some (get_or slots (slot_of (name_of share)) None) ≡ b
-    from_masks b held = sym (kept.at_hand_are share.group_index share.member_index is.group_index is.member_index) ∙ held
-
-    -- where none stands there, the slot is empty
-    pub empty_slot : is_in masks share.group_index share.member_index ≡ false → get_or slots (slot_of (name_of share)) None ≡ None
-    empty_slot not_held = by (get_or slots (slot_of (name_of share)) None) (from_masks false not_held)
-      where
-        by : (o : Option ShareFields) → is_some o ≡ false → o ≡ None
-        by None h = refl
-        by (Some s) h = absurd (false≢true (sym h))
-
-    -- where one stands there, and the share isn't refused, it is that share
+    -- where the masks have its name and it isn't refused, it is one of the shares
     pub repeat_from_masks : refusal_of (shares_at slots) share ≡ None → is_in masks share.group_index share.member_index ≡ true
         → Contains (shares_at slots) share
-    repeat_from_masks allowed held = by (get_or slots (slot_of (name_of share)) None) refl (from_masks true held)
-      where
-        by : (o : Option ShareFields) → get_or slots (slot_of (name_of share)) None ≡ o → is_some o ≡ true → Contains (shares_at slots) share
-        by None e h = absurd (false≢true h)
-        by (Some other) e h =
-            let test = has_name share.group_index share.member_index in
-            let found : find test (shares_at slots) ≡ Some other = share_in_slot share.group_index share.member_index is.member_index ∙ e in
-            let has_other = Contains-find test (shares_at slots) other found in
-            let joins = joins_from_none (shares_at slots) share allowed in
-            let names = has_name-is share.group_index share.member_index other (find-passes test (shares_at slots) other found) in
-            subst (Contains (shares_at slots)) (same_from_joins (shares_at slots) other share joins has_other names) has_other
+    repeat_from_masks allowed held =
+        let shares = shares_at slots in
+        let among = (kept.at_hand_are share.group_index share.member_index is.group_index is.member_index).0 held in
+        let (s, has_s, names) = one_of_map name_of shares (name_of share) among in
+        subst (Contains shares) (same_from_joins shares s share (joins_from_none shares share allowed) has_s names) has_s
 
-    -- where none stands there, the set doesn't have it
+    -- where they haven't, no share has its name
+    no_name : is_in masks share.group_index share.member_index ≡ false → (s : ShareFields) → Contains (shares_at slots) s → name_of s ≡ name_of share → ⊥
+    no_name not_held s has_s names =
+        let held = (kept.at_hand_are share.group_index share.member_index is.group_index is.member_index).1
+        (subst (Contains (map name_of (shares_at slots))) names (Contains-map name_of (shares_at slots) s has_s)) in
+        false≢true (sym not_held ∙ held)
+
     pub new_from_masks : is_in masks share.group_index share.member_index ≡ false → Contains (shares_at slots) share → ⊥
-    new_from_masks not_held has_share =
-        let test = has_name share.group_index share.member_index in
-        let found : find test (shares_at slots) ≡ None = share_in_slot share.group_index share.member_index is.member_index ∙ empty_slot not_held in
-        false≢true (sym (All-contains (λ s. test s ≡ false) (shares_at slots) share (none-passes test (shares_at slots) found) has_share)
-        ∙ has_name-own share)
+    new_from_masks not_held has_share = no_name not_held share has_share refl
+
+    -- and its slot is empty
+    pub empty_slot : is_in masks share.group_index share.member_index ≡ false → get_or slots (slot_of (name_of share)) None ≡ None
+    empty_slot not_held = by (get_or slots (slot_of (name_of share)) None) (share_in_slot share.group_index share.member_index is.member_index)
+      where
+        test : ShareFields → Bool
+        test = has_name share.group_index share.member_index
+
+        by : (o : Option ShareFields) → find test (shares_at slots) ≡ o → o ≡ None
+        by None found = refl
+        by (Some s) found =
+            absurd (no_name not_held s (Contains-find test (shares_at slots) s found)
+            (has_name-is share.group_index share.member_index s (find-passes test (shares_at slots) s found)))
 
 -- ---- no share
 
@@ -322,6 +313,9 @@ kept-none masks thresholds slots no_name none no_threshold =
       is_set = subst IsShareSet (sym empty) is_set-none;
       own_slot = λ k. subst (λ (o : Option ShareFields). IfSome o (λ share. slot_of (name_of share) ≡ k)) (sym (none k)) tt;
       common_is = ap common_of_all (sym empty);
-      at_hand_are = λ g m low also_low. no_name g m ∙ ap is_some (sym (none (slot_of (g, m))));
+      at_hand_are = λ g m low also_low. (
+        λ h. absurd (false≢true (sym (no_name g m) ∙ h)),
+        λ among. absurd (Contains-nil (g, m) (subst (λ l. Contains (map name_of l) (g, m)) empty among)),
+      );
       thresholds_are = λ group low. no_threshold group low ∙ ap (λ l. member_threshold_of l group) (sym empty);
     }

@@ -2,6 +2,7 @@
 use Rattle.std.proofs.Common.{◌≡◌, ℕ, suc, ◌+◌, ◌-◌, ◌<◌, ◌≤◌, ◌==◌, Bool, true, false, List, [], ◌∷◌, ◌++◌, length}
 use Rattle.std.proofs.Common.{get_or, take, drop, All, Some, None, inl, inr, refl, sym, ap, ap₂, ◌∙◌, subst, arith}
 use Rattle.std.proofs.Common.{nat_lt, add-one, drop-cons, length-append}
+use Rattle.std.proofs.Math.Seq.{take-append_seam, drop-append-add}
 use Rattle.std.specs.List.{position, position_or_len}
 use Rattle.std.specs.Fmt.{decimal}
 use Rattle.std.proofs.lemmas.Bool.{cases_lt, ne_eqb, eqb-true, lt-ltb, cond-true}
@@ -20,14 +21,6 @@ position_or_len-first p (z ∷ xs) x ys fails passes =
     let first = All-head (λ y. p y ≡ false) z xs fails in
     let rest = position_or_len-first p xs x ys (All-tail (λ y. p y ≡ false) z xs fails) passes in
     rw (first, rest) (omega arith)
-
-take-front : {X : Type 0} (xs ys : List X) → take (length xs) (xs ++ ys) ≡ xs
-take-front [] ys = refl
-take-front (x ∷ xs) ys = ap (λ zs. x ∷ zs) (take-front xs ys)
-
-drop-front : {X : Type 0} (xs : List X) (x : X) (ys : List X) → drop (suc (length xs)) (xs ++ x ∷ ys) ≡ ys
-drop-front [] x ys = refl
-drop-front (z ∷ xs) x ys = drop-front xs x ys
 
 -- the test for a full stop
 abbrev pub is_stop : ℕ → Bool
@@ -77,8 +70,8 @@ parts_of_name text stop name is found =
     let both : Some stop ≡ Some (length (decimal name.0)) = found ∙ position-name text name is in
     let at : stop ≡ length (decimal name.0) = cc in
     record {
-      front = ap₂ take at is.text_is ∙ take-front (decimal name.0) (46 ∷ decimal name.1);
-      back = take_rest text (stop + 1) ∙ ap₂ drop (add-one stop ∙ ap suc at) is.text_is ∙ drop-front (decimal name.0) 46 (decimal name.1);
+      front = ap₂ take at is.text_is ∙ take-append_seam (decimal name.0) (46 ∷ decimal name.1);
+      back = take_rest text (stop + 1) ∙ ap₂ drop (ap (λ n. n + 1) at) is.text_is ∙ drop-append-add (decimal name.0) (46 ∷ decimal name.1) 1;
     }
 
 -- a text with those parts is the name's written form

@@ -8,6 +8,7 @@ use Rattle.std.proofs.lemmas.List.Quantifiers.{all_pairs_push}
 use Rattle.s39_set.specs.Names.{name_cmp, IsAscending, AreNames, most_groups, most_members}
 use Rattle.s39_set.specs.Slots.{slot_of}
 use Rattle.s39_set.proofs.Sublists.{AllPairs-head, AllPairs-tail}
+use Rattle.s39_set.proofs.Ascending.{less_than}
 
 less_slots : (a b c d : ℕ) → b < most_members → name_cmp (a, b) (c, d) ≡ Less → most_members * a + b < most_members * c + d
 less_slots a b c d low h = grind (arith, nat_tests)
@@ -46,13 +47,6 @@ AreNames-push names name are group member earlier = record {
   groups = All-push (λ x. x.0 < most_groups) names name are.groups group;
   members = All-push (λ x. x.1 < most_members) names name are.members member;
 }
-
-less_names : (a b c d e f : ℕ) → name_cmp (a, b) (c, d) ≡ Less → name_cmp (c, d) (e, f) ≡ Less → name_cmp (a, b) (e, f) ≡ Less
-less_names a b c d e f h k = grind (arith, nat_tests)
-
--- the order of names goes on
-pub less_than : (x y z : ℕ × ℕ) → name_cmp x y ≡ Less → name_cmp y z ≡ Less → name_cmp x z ≡ Less
-less_than x y z h k = less_names x.0 x.1 y.0 y.1 z.0 z.1 h k
 
 -- ascending names all come before a name where the last of them does
 pub all_before : (names : List (ℕ × ℕ)) (last name : ℕ × ℕ) → IsAscending names → 0 < length names → get_or names (length names - 1) last ≡ last

@@ -1,5 +1,5 @@
 -- The order of lists of names.
-use Rattle.std.proofs.Common.{◌≡◌, ◌≢◌, ℕ, List, [], ◌∷◌, Ordering, Less, Equal, Greater, ◌⊎◌, inl, inr, refl, sym, ap₂, subst, arith}
+use Rattle.std.proofs.Common.{◌≡◌, ◌≢◌, ℕ, List, [], ◌∷◌, ◌++◌, Ordering, Less, Equal, Greater, ◌⊎◌, inl, inr, refl, sym, ap₂, subst, arith}
 use Rattle.std.specs.Cmp.{IsTotalOrder}
 use Rattle.std.specs.Ordering.{ordering_then, ordering_reverse, nat_cmp}
 use Rattle.std.proofs.lemmas.Bool.Decides.{nat_tests}
@@ -70,3 +70,35 @@ both_not_greater Greater p e h k = absurd (h refl)
 -- lists neither of which comes after the other are the same
 pub same_from_both : (xs ys : List (ℕ × ℕ)) → names_cmp xs ys ≢ Greater → names_cmp ys xs ≢ Greater → xs ≡ ys
 same_from_both xs ys h k = names_cmp-equal xs ys (both_not_greater (names_cmp xs ys) (names_cmp ys xs) (names_order.antisymm ys xs) h k)
+
+-- ---- where two lists first differ
+
+-- lists that begin alike compare as their rests
+pub cmp-append : (front xs ys : List (ℕ × ℕ)) → names_cmp (front ++ xs) (front ++ ys) ≡ names_cmp xs ys
+cmp-append [] xs ys = refl
+cmp-append (f ∷ front) xs ys = rw (tied_itself name_cmp_total f) (cmp-append front xs ys)
+
+pub first-less : (x y : ℕ × ℕ) (xs ys : List (ℕ × ℕ)) → name_cmp x y ≡ Less → names_cmp (x ∷ xs) (y ∷ ys) ≡ Less
+first-less x y xs ys less = rw less refl
+
+-- the first list is the beginning of the second, or has an earlier name where they first differ
+pub data IsBefore : List (ℕ × ℕ) → List (ℕ × ℕ) → Type 0 where
+  ends : (front : List (ℕ × ℕ)) (y : ℕ × ℕ) (ys : List (ℕ × ℕ)) → IsBefore front (front ++ y ∷ ys)
+  differs : (front : List (ℕ × ℕ)) (x : ℕ × ℕ) (xs : List (ℕ × ℕ)) (y : ℕ × ℕ) (ys : List (ℕ × ℕ)) → name_cmp x y ≡ Less
+      → IsBefore (front ++ x ∷ xs) (front ++ y ∷ ys)
+
+one_longer : (z : ℕ × ℕ) {xs ys : List (ℕ × ℕ)} → IsBefore xs ys → IsBefore (z ∷ xs) (z ∷ ys)
+one_longer z (ends front y ys) = ends (z ∷ front) y ys
+one_longer z (differs front x xs y ys less) = differs (z ∷ front) x xs y ys less
+
+pub before : (xs ys : List (ℕ × ℕ)) → names_cmp xs ys ≡ Less → IsBefore xs ys
+before [] [] h = absurd (let bad : Equal ≡ Less = h in cc)
+before [] (y ∷ ys) h = ends [] y ys
+before (x ∷ xs) [] h = absurd (let bad : Greater ≡ Less = h in cc)
+before (x ∷ xs) (y ∷ ys) h = by (name_cmp x y) refl h (λ k. before xs ys k)
+  where
+    by : (o : Ordering) → name_cmp x y ≡ o → ordering_then o (names_cmp xs ys) ≡ Less → (names_cmp xs ys ≡ Less → IsBefore xs ys)
+        → IsBefore (x ∷ xs) (y ∷ ys)
+    by Less e k rest = differs [] x xs y ys e
+    by Equal e k rest = subst (λ z. IsBefore (x ∷ xs) (z ∷ ys)) (name_cmp-equal x y e) (one_longer x (rest k))
+    by Greater e k rest = absurd (let bad : Greater ≡ Less = k in cc)

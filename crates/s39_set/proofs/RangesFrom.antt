@@ -12,7 +12,7 @@ use Rattle.std.proofs.lemmas.List.Elements.{All-filter, All-take, All-map, All-w
 use Rattle.s39_set.specs.Names.{name_cmp}
 use Rattle.s39_set.proofs.AtHand.{member-less}
 use Rattle.s39_set.proofs.Ranges.{take_push_short, take_push_full}
-use Rattle.s39_set.proofs.Exact.{range-split}
+use Rattle.s39_set.proofs.CompleteGroups.{range-split}
 
 module _ (p : ℕ → Bool) (a j : ℕ) (from : a ≤ j) where
   filter-range_from : filter p (range_with_len a ((j + 1) - a)) ≡ filter p (range_with_len a (j - a)) ++ cond (p j) (j ∷ []) []

@@ -4,8 +4,8 @@ use Rattle.std.proofs.Common.{Some, None, not, refl, sym, ap, ap₂, ◌∙◌, 
 use Rattle.std.specs.Prelude.{◌==◌, bytes_eq, if◌then◌else◌}
 use Rattle.std.specs.List.{list_any}
 use Rattle.std.specs.Option.{option_map}
-use Rattle.std.proofs.lemmas.Bool.{false≢true, eqb-true, eq-eqb, ne_eqb, not_from_true, not_from_false, and_parts, and_from}
-use Rattle.std.proofs.lemmas.List.Elements.{All-head, filter_passes}
+use Rattle.std.proofs.lemmas.Bool.{eqb-true, eq-eqb, ne_eqb, not_from_true, not_from_false, and_parts, and_from}
+use Rattle.std.proofs.lemmas.List.Elements.{All-nil, All-cons, All-head, filter_passes}
 use Rattle.s39_words.specs.declared.share.ShareFields.{ShareFields}
 use Rattle.s39_words.specs.Share.{flag_bit}
 use Rattle.s39_set.specs.declared.common.Common.{Common}
@@ -17,89 +17,46 @@ use Rattle.s39_set.specs.ShareSet.{Agrees, IsShareSet, name_of, is_in_group, has
 use Rattle.s39_set.specs.Quorums.{member_threshold_of}
 use Rattle.s39_set.specs.Slots.{common_of, common_of_all, common_refusal_of, last_refusal_of}
 use Rattle.s39_set.proofs.Finds.{find-passes, Contains-find, none-passes}
-use Rattle.s39_set.proofs.Sublists.{filter-none, Contains-filter}
-use Rattle.s39_set.proofs.Sets.{list_any-same, Contains-from_filter, agree, one_share}
+use Rattle.s39_set.proofs.Sublists.{filter-none, Contains-filter, Contains-from_filter}
+use Rattle.s39_set.proofs.Sets.{list_any-same, agree, one_share}
 
--- the first of six causes, or else what remains
-abbrev pub first_of : Bool → Bool → Bool → Bool → Bool → Bool → Option SetError → Option SetError
-first_of a b c d e f rest =
-    if a then Some OtherIdentifier
-    else if b then Some OtherExtendable
-    else if c then Some OtherExponent
-    else if d then Some OtherGroupThreshold
-    else if e then Some OtherGroupCount
-    else if f then Some OtherLength
-    else rest
+-- the first cause that applies, or else what remains
+abbrev pub first_cause : List (Bool × SetError) → Option SetError → Option SetError
+first_cause [] rest = rest
+first_cause (cause ∷ causes) rest = if cause.0 then Some cause.1 else first_cause causes rest
 
-first_of-some : (a b c d e f : Bool) (rest : Option SetError) (error : SetError) → first_of a b c d e f None ≡ Some error
-    → first_of a b c d e f rest ≡ Some error
-first_of-some true b c d e f rest error h = h
-first_of-some false true c d e f rest error h = h
-first_of-some false false true d e f rest error h = h
-first_of-some false false false true e f rest error h = h
-first_of-some false false false false true f rest error h = h
-first_of-some false false false false false true rest error h = h
-first_of-some false false false false false false rest error h = absurd (let bad : None ≡ Some error = h in cc)
+first_cause-some : (causes : List (Bool × SetError)) (rest : Option SetError) (error : SetError) → first_cause causes None ≡ Some error
+    → first_cause causes rest ≡ Some error
+first_cause-some [] rest error h = absurd (let bad : None ≡ Some error = h in cc)
+first_cause-some ((true, e) ∷ causes) rest error h = h
+first_cause-some ((false, e) ∷ causes) rest error h = first_cause-some causes rest error h
 
-first_of-none : (a b c d e f : Bool) (rest : Option SetError) → first_of a b c d e f None ≡ None → first_of a b c d e f rest ≡ rest
-first_of-none true b c d e f rest h = absurd (let bad : Some OtherIdentifier ≡ None = h in cc)
-first_of-none false true c d e f rest h = absurd (let bad : Some OtherExtendable ≡ None = h in cc)
-first_of-none false false true d e f rest h = absurd (let bad : Some OtherExponent ≡ None = h in cc)
-first_of-none false false false true e f rest h = absurd (let bad : Some OtherGroupThreshold ≡ None = h in cc)
-first_of-none false false false false true f rest h = absurd (let bad : Some OtherGroupCount ≡ None = h in cc)
-first_of-none false false false false false true rest h = absurd (let bad : Some OtherLength ≡ None = h in cc)
-first_of-none false false false false false false rest h = refl
+first_cause-none : (causes : List (Bool × SetError)) (rest : Option SetError) → first_cause causes None ≡ None → first_cause causes rest ≡ rest
+first_cause-none [] rest h = refl
+first_cause-none ((true, e) ∷ causes) rest h = absurd (let bad : Some e ≡ None = h in cc)
+first_cause-none ((false, e) ∷ causes) rest h = first_cause-none causes rest h
 
--- all six tests fail
-pub record FailAll (a b c d e f : Bool) : Type 0 where
-  pub first : a ≡ false
-  pub second : b ≡ false
-  pub third : c ≡ false
-  pub fourth : d ≡ false
-  pub fifth : e ≡ false
-  pub sixth : f ≡ false
+-- where there is no cause, none applies
+pub none_apply : (causes : List (Bool × SetError)) → first_cause causes None ≡ None → All (λ cause. cause.0 ≡ false) causes
+none_apply [] h = All-nil (λ cause. cause.0 ≡ false)
+none_apply ((true, e) ∷ causes) h = absurd (let bad : Some e ≡ None = h in cc)
+none_apply ((false, e) ∷ causes) h = All-cons (λ (cause : Bool × SetError). cause.0 ≡ false) (false, e) causes refl (none_apply causes h)
 
--- where there is no cause, all tests fail, and none remains
-pub from_none : (a b c d e f : Bool) (rest : Option SetError) → first_of a b c d e f rest ≡ None → FailAll a b c d e f × (rest ≡ None)
-from_none true b c d e f rest h = absurd (let bad : Some OtherIdentifier ≡ None = h in cc)
-from_none false true c d e f rest h = absurd (let bad : Some OtherExtendable ≡ None = h in cc)
-from_none false false true d e f rest h = absurd (let bad : Some OtherExponent ≡ None = h in cc)
-from_none false false false true e f rest h = absurd (let bad : Some OtherGroupThreshold ≡ None = h in cc)
-from_none false false false false true f rest h = absurd (let bad : Some OtherGroupCount ≡ None = h in cc)
-from_none false false false false false true rest h = absurd (let bad : Some OtherLength ≡ None = h in cc)
-from_none false false false false false false rest h = (record { first = refl; second = refl; third = refl; fourth = refl; fifth = refl; sixth = refl }, h)
-
--- and where all tests fail, what remains decides
-pub from_failures : (a b c d e f : Bool) (rest : Option SetError) → FailAll a b c d e f → first_of a b c d e f rest ≡ rest
-from_failures true b c d e f rest h = absurd (false≢true (sym h.first))
-from_failures false true c d e f rest h = absurd (false≢true (sym h.second))
-from_failures false false true d e f rest h = absurd (false≢true (sym h.third))
-from_failures false false false true e f rest h = absurd (false≢true (sym h.fourth))
-from_failures false false false false true f rest h = absurd (false≢true (sym h.fifth))
-from_failures false false false false false true rest h = absurd (false≢true (sym h.sixth))
-from_failures false false false false false false rest h = refl
-
--- where neither applies, both tests fail
-pub last_from_none : (shares : List ShareFields) (share : ShareFields) → last_refusal_of shares share ≡ None
-    → (some_differs (λ s. s.member_threshold) (filter (is_in_group share.group_index) shares) share ≡ false)
-    × (list_any (λ s. not (bytes_eq s.value.items share.value.items)) (filter (has_name share.group_index share.member_index) shares) ≡ false)
-last_from_none shares share h =
-    by (some_differs (λ s. s.member_threshold) (filter (is_in_group share.group_index) shares) share)
-    (list_any (λ s. not (bytes_eq s.value.items share.value.items)) (filter (has_name share.group_index share.member_index) shares)) h
-  where
-    by : (a b : Bool)
-        → (if a then Some (OtherMemberThreshold share.group_index) else if b then Some (ConflictingShare share.group_index share.member_index) else None) ≡ None
-        → (a ≡ false) × (b ≡ false)
-    by true b h = absurd (let bad : Some (OtherMemberThreshold share.group_index) ≡ None = h in cc)
-    by false true h = absurd (let bad : Some (ConflictingShare share.group_index share.member_index) ≡ None = h in cc)
-    by false false h = (refl, refl)
-
--- and where both fail, there is no cause
-pub last_from_failures : (shares : List ShareFields) (share : ShareFields)
-    → some_differs (λ s. s.member_threshold) (filter (is_in_group share.group_index) shares) share ≡ false
-    → list_any (λ s. not (bytes_eq s.value.items share.value.items)) (filter (has_name share.group_index share.member_index) shares) ≡ false
-    → last_refusal_of shares share ≡ None
-last_from_failures shares share h k = rw (h, k)
+-- all causes for which shares refuse one
+abbrev pub causes_of : List ShareFields → ShareFields → List (Bool × SetError)
+causes_of shares share =
+    (some_differs (λ s. s.id) shares share, OtherIdentifier)
+    ∷ (some_differs (λ s. flag_bit s.extendable) shares share, OtherExtendable)
+    ∷ (some_differs (λ s. s.exponent) shares share, OtherExponent)
+    ∷ (some_differs (λ s. s.group_threshold) shares share, OtherGroupThreshold)
+    ∷ (some_differs (λ s. s.group_count) shares share, OtherGroupCount)
+    ∷ (some_differs (λ s. length s.value.items) shares share, OtherLength)
+    ∷ (some_differs (λ s. s.member_threshold) (filter (is_in_group share.group_index) shares) share, OtherMemberThreshold share.group_index)
+    ∷ (
+      list_any (λ s. not (bytes_eq s.value.items share.value.items)) (filter (has_name share.group_index share.member_index) shares),
+      ConflictingShare share.group_index share.member_index,
+    )
+    ∷ []
 
 module _ (first : ShareFields) (others : List ShareFields) (is : IsShareSet (first ∷ others)) (share : ShareFields) where
   one_number : (number : ShareFields → ℕ) → ((s : ShareFields) → Agrees first s → number first ≡ number s)
@@ -109,51 +66,36 @@ module _ (first : ShareFields) (others : List ShareFields) (is : IsShareSet (fir
       (λ k d below. ap (λ n. not (n == number share))
       (sym (same (get_or (first ∷ others) k d) (All-head (λ s. All (Agrees s) (first ∷ others)) first others is.agree k d below))))
 
-  -- against all shares as against the first
-  pub refusal-as_first_of : refusal_of (first ∷ others) share
-      ≡ first_of (not (first.id == share.id)) (not (flag_bit first.extendable == flag_bit share.extendable)) (not (first.exponent == share.exponent))
-      (not (first.group_threshold == share.group_threshold)) (not (first.group_count == share.group_count))
-      (not (length first.value.items == length share.value.items))
-      (last_refusal_of (first ∷ others) share)
-  refusal-as_first_of =
-      let rest = last_refusal_of (first ∷ others) share in
-      let differs : (ShareFields → ℕ) → Bool = λ number. some_differs number (first ∷ others) share in
-      let a = one_number (λ s. s.id) (λ s agrees. agrees.id) in
-      let b = one_number (λ s. flag_bit s.extendable) (λ s agrees. ap flag_bit agrees.extendable) in
-      let c = one_number (λ s. s.exponent) (λ s agrees. agrees.exponent) in
-      let d = one_number (λ s. s.group_threshold) (λ s agrees. agrees.group_threshold) in
-      let e = one_number (λ s. s.group_count) (λ s agrees. agrees.group_count) in
-      let f = one_number (λ s. length s.value.items) (λ s agrees. agrees.value_length) in
-      ap (λ t. first_of t (differs (λ s. flag_bit s.extendable)) (differs (λ s. s.exponent)) (differs (λ s. s.group_threshold)) (differs (λ s. s.group_count))
-      (differs (λ s. length s.value.items)) rest) a
-      ∙ ap (λ t. first_of (not (first.id == share.id)) t (differs (λ s. s.exponent)) (differs (λ s. s.group_threshold)) (differs (λ s. s.group_count))
-      (differs (λ s. length s.value.items)) rest) b
-      ∙ ap (λ t. first_of (not (first.id == share.id)) (not (flag_bit first.extendable == flag_bit share.extendable)) t (differs (λ s. s.group_threshold))
-      (differs (λ s. s.group_count)) (differs (λ s. length s.value.items)) rest) c
-      ∙ ap (λ t. first_of (not (first.id == share.id)) (not (flag_bit first.extendable == flag_bit share.extendable)) (not (first.exponent == share.exponent)) t
-      (differs (λ s. s.group_count)) (differs (λ s. length s.value.items)) rest) d
-      ∙ ap (λ t. first_of (not (first.id == share.id)) (not (flag_bit first.extendable == flag_bit share.extendable)) (not (first.exponent == share.exponent))
-      (not (first.group_threshold == share.group_threshold)) t (differs (λ s. length s.value.items)) rest) e
-      ∙ ap (λ t. first_of (not (first.id == share.id)) (not (flag_bit first.extendable == flag_bit share.extendable)) (not (first.exponent == share.exponent))
-      (not (first.group_threshold == share.group_threshold)) (not (first.group_count == share.group_count)) t rest) f
+  -- the causes in what all shares have in common, against the first of them
+  abbrev common_causes : List (Bool × SetError)
+  common_causes =
+      (not (first.id == share.id), OtherIdentifier)
+      ∷ (not (flag_bit first.extendable == flag_bit share.extendable), OtherExtendable)
+      ∷ (not (first.exponent == share.exponent), OtherExponent)
+      ∷ (not (first.group_threshold == share.group_threshold), OtherGroupThreshold)
+      ∷ (not (first.group_count == share.group_count), OtherGroupCount)
+      ∷ (not (length first.value.items == length share.value.items), OtherLength)
+      ∷ []
 
-  -- a cause in what all shares have in common comes first
+  against_first : refusal_of (first ∷ others) share ≡ first_cause common_causes (last_refusal_of (first ∷ others) share)
+  against_first =
+      rw (
+        one_number (λ s. s.id) (λ s agrees. agrees.id),
+        one_number (λ s. flag_bit s.extendable) (λ s agrees. ap flag_bit agrees.extendable),
+        one_number (λ s. s.exponent) (λ s agrees. agrees.exponent),
+        one_number (λ s. s.group_threshold) (λ s agrees. agrees.group_threshold),
+        one_number (λ s. s.group_count) (λ s agrees. agrees.group_count),
+        one_number (λ s. length s.value.items) (λ s agrees. agrees.value_length),
+      )
+      refl
+
+  -- one of them comes first
   pub refusal-common : (error : SetError) → common_refusal_of (common_of first) share ≡ Some error → refusal_of (first ∷ others) share ≡ Some error
-  refusal-common error h =
-      refusal-as_first_of
-      ∙ first_of-some (not (first.id == share.id)) (not (flag_bit first.extendable == flag_bit share.extendable)) (not (first.exponent == share.exponent))
-      (not (first.group_threshold == share.group_threshold)) (not (first.group_count == share.group_count))
-      (not (length first.value.items == length share.value.items))
-      (last_refusal_of (first ∷ others) share) error h
+  refusal-common error h = against_first ∙ first_cause-some common_causes (last_refusal_of (first ∷ others) share) error h
 
   -- where there is none, the last two causes remain
   pub refusal-last : common_refusal_of (common_of first) share ≡ None → refusal_of (first ∷ others) share ≡ last_refusal_of (first ∷ others) share
-  refusal-last h =
-      refusal-as_first_of
-      ∙ first_of-none (not (first.id == share.id)) (not (flag_bit first.extendable == flag_bit share.extendable)) (not (first.exponent == share.exponent))
-      (not (first.group_threshold == share.group_threshold)) (not (first.group_count == share.group_count))
-      (not (length first.value.items == length share.value.items))
-      (last_refusal_of (first ∷ others) share) h
+  refusal-last h = against_first ∙ first_cause-none common_causes (last_refusal_of (first ∷ others) share) h
 
 -- ---- the member threshold, and the value
 
@@ -284,3 +226,10 @@ module _ (shares : List ShareFields) (is : IsShareSet shares) (share : ShareFiel
 pub found_by_indices : (shares : List ShareFields) (share held : ShareFields) (group member : ℕ) → group ≡ share.group_index → member ≡ share.member_index
     → Some held ≡ find (has_name group member) shares → find (has_name share.group_index share.member_index) shares ≡ Some held
 found_by_indices shares share held group member g m e = ap₂ (λ (x y : ℕ). find (has_name x y) shares) (sym g) (sym m) ∙ sym e
+
+-- where neither applies, there is no cause
+pub last_from_failures : (shares : List ShareFields) (share : ShareFields)
+    → some_differs (λ s. s.member_threshold) (filter (is_in_group share.group_index) shares) share ≡ false
+    → list_any (λ s. not (bytes_eq s.value.items share.value.items)) (filter (has_name share.group_index share.member_index) shares) ≡ false
+    → last_refusal_of shares share ≡ None
+last_from_failures shares share h k = rw (h, k)

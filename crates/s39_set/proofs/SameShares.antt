@@ -1,19 +1,18 @@
 -- Lists with the same shares.
-use Rattle.std.proofs.Common.{◌≡◌, ◌⊎◌, ℕ, Bool, true, false, not, List, ◌∷◌, length, get_or, map, filter, All, AllPairs, Contains, Less, inl, inr}
+use Rattle.std.proofs.Common.{◌≡◌, ◌⊎◌, ℕ, Bool, true, false, not, List, length, get_or, map, filter, All, AllPairs, Contains, Less, inl, inr}
 use Rattle.std.proofs.Common.{refl, sym, ap, ◌∙◌, subst, subst₂, arith}
 use Rattle.std.specs.List.{list_any}
 use Rattle.std.specs.Prelude.{◌==◌, bytes_eq}
 use Rattle.std.proofs.lemmas.List.{length-map, get_or-map}
-use Rattle.std.proofs.lemmas.List.Elements.{All-contains, Contains-append_left, Contains-append_right, Contains-append_cases, filter_passes}
+use Rattle.std.proofs.lemmas.List.Elements.{All-contains, filter_passes}
 use Rattle.std.proofs.lemmas.List.Folds.{Any-from_list_any, list_any_at}
 use Rattle.s39_words.specs.declared.share.ShareFields.{ShareFields}
 use Rattle.s39_words.specs.Share.{flag_bit}
 use Rattle.s39_set.specs.Names.{name_cmp, IsAscending}
 use Rattle.s39_set.specs.ShareSet.{HasOneMore, name_of, is_in_group, has_name, some_differs, refusal_of}
-use Rattle.s39_set.proofs.Sublists.{Contains-filter, Contains-head, Contains-cons, same_from_elements}
-use Rattle.s39_set.proofs.Sets.{Contains-from_filter}
+use Rattle.s39_set.proofs.Sublists.{Contains-filter, Contains-from_filter, same_from_elements}
 use Rattle.s39_set.proofs.Ascending.{name_cmp_one_way}
-use Rattle.s39_set.proofs.Kept.{Contains-more_cases}
+use Rattle.s39_set.proofs.Kept.{Contains-more_cases, Contains-more, Contains-old}
 
 -- ---- tests of lists with the same elements
 
@@ -67,16 +66,8 @@ module _ (old : List ShareFields) (share : ShareFields) (new : List ShareFields)
   one_more_cases = Contains-more_cases old share new more s
 
   pub one_more_has : Contains old s ⊎ (share ≡ s) → Contains new s
-  one_more_has (inl has_s) =
-      let parts : Contains more.before s ⊎ Contains more.after s =
-      Contains-append_cases more.before more.after s (subst (λ l. Contains l s) more.old_is has_s) in
-      subst (λ l. Contains l s) (sym more.new_is) (elim parts [
-        | inl front ↦ Contains-append_left more.before (share ∷ more.after) s front
-        | inr back ↦ Contains-append_right more.before (share ∷ more.after) s (Contains-cons share more.after s back)
-      ])
-  one_more_has (inr same) =
-      subst (λ l. Contains l s) (sym more.new_is)
-      (Contains-append_right more.before (share ∷ more.after) s (subst (Contains (share ∷ more.after)) same (Contains-head share more.after)))
+  one_more_has (inl has_s) = Contains-old old share new more s has_s
+  one_more_has (inr same) = subst (Contains new) same (Contains-more old share new more)
 
 -- ---- shares in order
 

@@ -1,13 +1,14 @@
 -- The quorums of a share set.
-use Rattle.std.proofs.Common.{◌≡◌, ℕ, ◌<◌, ◌≤◌, List, length, get_or, find, map, take, All, Contains, Option, Some}
-use Rattle.std.proofs.Common.{None, [], ◌∷◌, ◌⊎◌, inl, inr, refl, sym, ap, subst, ◌∙◌, arith}
+use Rattle.std.proofs.Common.{◌≡◌, ℕ, ◌<◌, ◌≤◌, Bool, List, length, find, map, All, Contains, Option, Some, None, [], ◌∷◌, ◌⊎◌, inl, inr}
+use Rattle.std.proofs.Common.{refl, sym, ap, subst, ◌∙◌, arith, get_or}
 use Rattle.std.specs.Prelude.{IsSomeAnd}
 use Rattle.std.specs.Option.{option_map}
 use Rattle.std.proofs.lemmas.Bool.{cases_lt}
-use Rattle.std.proofs.lemmas.List.Elements.{All-map, All-weaker, All-contains}
+use Rattle.std.proofs.lemmas.List.Elements.{All-nil, All-map, All-weaker, All-contains}
 use Rattle.s39_words.specs.declared.share.ShareFields.{ShareFields}
 use Rattle.s39_words.specs.Share.{IsShare}
-use Rattle.s39_set.specs.Groups.{complete_groups, members_of}
+use Rattle.s39_set.specs.Names.{IsAscending, most_groups, most_members}
+use Rattle.s39_set.specs.Groups.{is_complete, complete_groups, first_members}
 use Rattle.s39_set.specs.ShareSet.{IsShareSet, name_of, is_in_group}
 use Rattle.s39_set.specs.Quorums.{group_threshold_of, member_threshold_of, MeetsThresholds, IsQuorum, IsFirstQuorumAfter, HasJustTheGroups}
 use Rattle.s39_set.specs.Written.{quorum_text, IsWrittenForm}
@@ -15,28 +16,12 @@ use Rattle.s39_set.specs.Lack.{IsLack, IsIncomplete}
 use Rattle.s39_set.specs.declared.set_lack.SetLack.{SetLack}
 use Rattle.s39_set.specs.declared.set_lack.SetLack.TheVariants.{NoShares, Incomplete}
 use Rattle.s39_set.proofs.Finds.{Contains-find}
-use Rattle.s39_set.proofs.Sublists.{Contains-head}
-use Rattle.s39_set.proofs.Thresholds.{Meets, HasJust}
-use Rattle.s39_set.proofs.Minimal.{just_from_minimal, minimal_from_just, meets_from_just, groups_at_hand, first_members_have_just}
-use Rattle.s39_set.proofs.FirstMembers.{none_complete, first_members_are_least}
-use Rattle.s39_set.specs.Names.{most_groups, most_members}
-
--- what meets the set's thresholds meets them as plain numbers
-pub meets_from_set : (set : List ShareFields) (names : List (ℕ × ℕ)) (required : ℕ) → group_threshold_of set ≡ Some required → MeetsThresholds set names
-    → Meets (member_threshold_of set) (map name_of set) required names
-meets_from_set set names required e meets = record {
-  ascending = meets.at_hand.ascending;
-  at_hand = meets.at_hand.at_hand;
-  groups = subst (λ o. IsSomeAnd o (λ threshold. threshold ≤ length (complete_groups (member_threshold_of set) names))) e meets.groups;
-}
-
--- and the other way round
-pub set_from_meets : (set : List ShareFields) (names : List (ℕ × ℕ)) (required : ℕ) → group_threshold_of set ≡ Some required
-    → Meets (member_threshold_of set) (map name_of set) required names → MeetsThresholds set names
-set_from_meets set names required e meets = record {
-  at_hand = record { ascending = meets.ascending; at_hand = meets.at_hand };
-  groups = subst (λ o. IsSomeAnd o (λ threshold. threshold ≤ length (complete_groups (member_threshold_of set) names))) (sym e) meets.groups;
-}
+use Rattle.s39_set.proofs.Sublists.{length-sublist, one_of, Contains-head, Contains-nil, AllPairs-nil}
+use Rattle.s39_set.proofs.Ascending.{Precedes, names-sublist, same_names_from_length}
+use Rattle.s39_set.proofs.Thresholds.{HasJust}
+use Rattle.s39_set.proofs.CompleteGroups.{complete_groups-sublist}
+use Rattle.s39_set.proofs.Just.{all_needed, one_complete}
+use Rattle.s39_set.proofs.Completion.{names_taken, groups_there, taken_just, taken_least}
 
 -- what just meets the set's thresholds just meets them as plain numbers
 pub just_from_set : (set : List ShareFields) (names : List (ℕ × ℕ)) (required : ℕ) → group_threshold_of set ≡ Some required → HasJustTheGroups set names
@@ -113,55 +98,88 @@ module _ (set : List ShareFields) (is : IsShareSet set) where
       All-map (λ name. name.1 < most_members) name_of set
       (All-weaker IsShare (λ share. share.member_index < most_members) (λ share valid. valid.member_index) set is.each)
 
-  -- a quorum has just the groups and members that the thresholds ask
+  module _ (required : ℕ) (e : group_threshold_of set ≡ Some required) where
+    abbrev T : ℕ → Option ℕ
+    T = member_threshold_of set
+
+    abbrev N : List (ℕ × ℕ)
+    N = map name_of set
+
+    -- names at hand that complete enough groups meet the thresholds
+    meets_from : (names : List (ℕ × ℕ)) → IsAscending names → All (Contains N) names → required ≤ length (complete_groups T names) → MeetsThresholds set names
+    meets_from names ascending at_hand enough = record {
+      at_hand = record { ascending = ascending; at_hand = at_hand };
+      groups = subst (λ o. IsSomeAnd o (λ threshold. threshold ≤ length (complete_groups T names))) (sym e) enough;
+    }
+
+    -- and all that meet them do
+    enough_from : (names : List (ℕ × ℕ)) → MeetsThresholds set names → required ≤ length (complete_groups T names)
+    enough_from names meets = subst (λ o. IsSomeAnd o (λ threshold. threshold ≤ length (complete_groups T names))) e meets.groups
+
+    -- a quorum has just the groups and members that the thresholds ask
+    pub just_of : (names : List (ℕ × ℕ)) → IsQuorum set names → HasJust T N required names
+    just_of names quorum =
+        let own = quorum.meets.at_hand in
+        let fewer = names_taken T names member_threshold-positive own.ascending (first_members T names) (is_complete T names) (λ g _. refl)
+        (λ g _. refl) 0 required in
+        let just : HasJust T names required fewer =
+        taken_just T names member_threshold-positive own.ascending (first_members T names) (is_complete T names) (λ g _. refl) (λ g _. refl) 0 required
+        (enough_from names quorum.meets) in
+        let at_hand : All (Contains N) fewer = λ k d below. All-contains (Contains N) names (get_or fewer k d) own.at_hand (just.at_hand k d below) in
+        let same : fewer ≡ names =
+        elim (cases_lt (length fewer) (length names)) [
+          | inl less ↦ absurd
+              (quorum.minimal fewer (just.at_hand, λ whole. let lengths : length fewer ≡ length names = ap length whole in absurd (omega arith))
+              (meets_from fewer just.ascending at_hand (let groups = just.groups in omega arith)))
+          | inr long ↦ sym (same_names_from_length names fewer own.ascending just.ascending just.at_hand long)
+        ] in
+        let whole : HasJust T names required names = subst (HasJust T names required) same just in
+        record { ascending = own.ascending; at_hand = own.at_hand; groups = whole.groups; members = whole.members }
+
+    -- and names at hand that have are a quorum
+    pub of_just : (names : List (ℕ × ℕ)) → HasJust T N required names → IsQuorum set names
+    of_just names just = record {
+      meets = meets_from names just.ascending just.at_hand (let groups = just.groups in omega arith);
+      minimal = λ fewer proper meets.
+          proper.1 (all_needed groups-below just fewer meets.at_hand.ascending proper.0 (enough_from fewer meets));
+    }
+
+    -- where enough groups are complete, the first members of the first of them are the least quorum
+    pub first_is : (M : ℕ → List (ℕ × ℕ)) (C : ℕ → Bool) (M_is : (g : ℕ) → g < most_groups → M g ≡ first_members T N g)
+        (C_is : (g : ℕ) → g < most_groups → C g ≡ is_complete T N g)
+        → required ≤ length (groups_there T N member_threshold-positive is.ascending M C M_is C_is 0)
+        → IsFirstQuorumAfter set None (names_taken T N member_threshold-positive is.ascending M C M_is C_is 0 required)
+    first_is M C M_is C_is enough =
+        let names = names_taken T N member_threshold-positive is.ascending M C M_is C_is 0 required in
+        let just = taken_just T N member_threshold-positive is.ascending M C M_is C_is 0 required enough in
+        record {
+          quorum = of_just names just;
+          after = tt;
+          least = λ other quorum _.
+              taken_least T N member_threshold-positive is.ascending M C M_is C_is required groups-below [] [] other 0 0 required (AllPairs-nil Precedes)
+              (All-nil (λ m. m.0 < 0)) just (just_of other quorum) (λ m none. absurd (Contains-nil m none)) (λ y _. inr (omega arith));
+        }
+
+    -- where too few groups are complete, that is what the set lacks
+    pub incomplete_from_fewer : length (complete_groups T N) < required → IsIncomplete set (length (complete_groups T N)) required
+    incomplete_from_fewer few = record {
+      complete_is = refl;
+      required_is = e;
+      none_meet = λ names meets.
+          let enough = enough_from names meets in
+          let part = names-sublist N names is.ascending meets.at_hand.ascending meets.at_hand.at_hand in
+          absurd (omega (arith, length-sublist (complete_groups-sublist T part)));
+    }
+
   pub just_from_quorum : (names : List (ℕ × ℕ)) → IsQuorum set names → HasJustTheGroups set names
   just_from_quorum names quorum =
       let (required, e) = group_threshold-from_meets set names quorum.meets in
-      set_from_just set names required e
-      (just_from_minimal (member_threshold_of set) member_threshold-positive (map name_of set) required names
-      (meets_from_set set names required e quorum.meets)
-      (λ fewer inside other meets. quorum.minimal fewer (inside, other) (set_from_meets set fewer required e meets)))
+      set_from_just set names required e (just_of required e names quorum)
 
-  -- names at hand with just the groups and members that the thresholds ask are a quorum
   pub quorum_from_just : (names : List (ℕ × ℕ)) → HasJustTheGroups set names → IsQuorum set names
   quorum_from_just names has =
       let required = length (complete_groups (member_threshold_of set) names) in
-      let e : group_threshold_of set ≡ Some required = has.just.groups in
-      let just : HasJust (member_threshold_of set) (map name_of set) required names = just_from_set set names required e has in
-      record {
-        meets = set_from_meets set names required e (meets_from_just (member_threshold_of set) (map name_of set) required names just);
-        minimal = λ fewer proper meets.
-            minimal_from_just (member_threshold_of set) (map name_of set) groups-below required names just fewer proper.0 proper.1
-            (meets_from_set set fewer required e meets);
-      }
-
-  -- where enough groups are complete, the first members of the first of them are the least quorum
-  pub first_members-least_quorum : (required : ℕ) → group_threshold_of set ≡ Some required
-      → required ≤ length (complete_groups (member_threshold_of set) (map name_of set))
-      → IsFirstQuorumAfter set None
-      (members_of (member_threshold_of set) (map name_of set) (take required (complete_groups (member_threshold_of set) (map name_of set))))
-  first_members-least_quorum required e enough =
-      let names = members_of (member_threshold_of set) (map name_of set) (take required (complete_groups (member_threshold_of set) (map name_of set))) in
-      let just = first_members_have_just (member_threshold_of set) member_threshold-positive (map name_of set) required is.ascending enough in
-      record {
-        quorum = quorum_from_just names (set_from_just set names required e just);
-        after = tt;
-        least = λ other quorum _.
-            first_members_are_least (member_threshold_of set) (map name_of set) required member_threshold-positive groups-below is.ascending other
-            (just_from_set set other required e (just_from_quorum other quorum));
-      }
-
-  -- where too few groups are complete, that is what the set lacks
-  pub incomplete_from_fewer : (required : ℕ) → group_threshold_of set ≡ Some required
-      → length (complete_groups (member_threshold_of set) (map name_of set)) < required
-      → IsIncomplete set (length (complete_groups (member_threshold_of set) (map name_of set))) required
-  incomplete_from_fewer required e few = record {
-    complete_is = refl;
-    required_is = e;
-    none_meet = λ names meets.
-        let enough = groups_at_hand (member_threshold_of set) (map name_of set) required names is.ascending (meets_from_set set names required e meets) in
-        absurd (omega arith);
-  }
+      of_just required has.just.groups names (just_from_set set names required has.just.groups has)
 
 -- a set has a first quorum or a lack
 pub first_or_lack : (set : List ShareFields) → IsShareSet set
@@ -173,11 +191,13 @@ first_or_lack (share ∷ shares) is =
     let complete = length (complete_groups (member_threshold_of set) (map name_of set)) in
     elim (cases_lt complete required) [
       | inl few ↦ inr (Incomplete complete required, incomplete_from_fewer set is required refl few)
-      | inr enough ↦ inl (
-        members_of (member_threshold_of set) (map name_of set)
-            (take required (complete_groups (member_threshold_of set) (map name_of set))),
-        first_members-least_quorum set is required refl enough,
-      )
+      | inr enough ↦
+          (let T = member_threshold_of set in
+          let N = map name_of set in
+          inl (
+            names_taken T N (member_threshold-positive set is) is.ascending (first_members T N) (is_complete T N) (λ g _. refl) (λ g _. refl) 0 required,
+            first_is set is required refl (first_members T N) (is_complete T N) (λ g _. refl) (λ g _. refl) enough,
+          ))
     ]
 
 -- the names of a quorum are names in order, and there are some
@@ -185,13 +205,11 @@ pub written_of_quorum : (set : List ShareFields) → IsShareSet set → (names :
 written_of_quorum set is names quorum = record {
   some = λ none.
       let (required, e) = group_threshold-from_meets set names quorum.meets in
-      let meets = meets_from_set set names required e quorum.meets in
       let some = group_threshold-positive set is required e in
-      let no_groups : length (complete_groups (member_threshold_of set) names) ≡ 0 =
-      ap (λ ns. length (complete_groups (member_threshold_of set) ns)) none
-      ∙ ap length (none_complete (member_threshold_of set) (map name_of set) (member_threshold-positive set is) 0 most_groups) in
-      let enough = meets.groups in
-      absurd (omega arith);
+      let groups = complete_groups (member_threshold_of set) names in
+      let (g, among) = one_of groups (let enough = enough_from set is required e names quorum.meets in omega arith) in
+      let (n, inside, _) = one_complete (member_threshold_of set) (member_threshold-positive set is) names g among in
+      Contains-nil n (subst (λ ns. Contains ns n) none inside);
   are_names = record {
     ascending = quorum.meets.at_hand.ascending;
     groups = λ k d below. All-contains (λ name. name.0 < most_groups) (map name_of set) (get_or names k d) (groups-below set is)

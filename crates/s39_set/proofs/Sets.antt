@@ -1,16 +1,16 @@
 -- Share sets: what their shares agree in, and one share of each name.
-use Rattle.std.proofs.Common.{◌≡◌, ℕ, suc, ◌<◌, Bool, true, false, List, [], ◌∷◌, length, get_or, find, filter, map}
-use Rattle.std.proofs.Common.{All, Contains, Option, Some, None, inl, inr, refl, sym, ap, ap₂, ◌∙◌, subst, arith}
-use Rattle.std.specs.Prelude.{◌==◌, ◌&&◌, ◌||◌, IsTrue}
+use Rattle.std.proofs.Common.{◌≡◌, ℕ, ◌<◌, Bool, true, false, List, [], ◌∷◌, length, get_or, find, map}
+use Rattle.std.proofs.Common.{All, Contains, Option, Some, None, inl, inr, refl, sym, ap, ◌∙◌, arith}
+use Rattle.std.specs.Prelude.{◌||◌}
 use Rattle.std.specs.List.{list_any}
-use Rattle.std.specs.Option.{option_map, is_some}
+use Rattle.std.specs.Option.{option_map}
 use Rattle.std.specs.declared.cmp.Ordering.TheVariants.{Less}
-use Rattle.std.proofs.lemmas.Bool.{cond-true, cond-false, cases_Bool, false≢true, eqb-true, eq-eqb, and_parts, and_from, cases_order}
+use Rattle.std.proofs.lemmas.Bool.{false≢true, eqb-true, eq-eqb, cases_order}
 use Rattle.std.proofs.lemmas.List.{get_or_default, get_or-map, length-map}
-use Rattle.std.proofs.lemmas.List.Elements.{All-nil, All-cons, All-head, All-tail, All-contains, All-map}
+use Rattle.std.proofs.lemmas.List.Elements.{All-head, All-tail, All-contains}
 use Rattle.s39_words.specs.declared.share.ShareFields.{ShareFields}
 use Rattle.s39_set.specs.Names.{name_cmp}
-use Rattle.s39_set.specs.ShareSet.{Agrees, IsShareSet, name_of, is_in_group, has_name}
+use Rattle.s39_set.specs.ShareSet.{Agrees, IsShareSet, name_of, is_in_group}
 use Rattle.s39_set.specs.Quorums.{member_threshold_of}
 use Rattle.s39_set.proofs.Finds.{find-passes, Contains-find, none-passes}
 
@@ -24,17 +24,6 @@ list_any-same test b (x ∷ y ∷ ys) some h =
     ap (λ t. t || list_any test (y ∷ ys)) (All-head (λ z. test z ≡ b) x (y ∷ ys) h)
     ∙ ap (λ t. b || t) (list_any-same test b (y ∷ ys) (omega arith) (All-tail (λ z. test z ≡ b) x (y ∷ ys) h))
     ∙ (elim b as (λ (t : Bool). (t || t) ≡ t) [ true ↦ refl | false ↦ refl ])
-
-pub Contains-from_filter : {X : Type 0} (test : X → Bool) (xs : List X) → All (Contains xs) (filter test xs)
-Contains-from_filter test [] = All-nil (Contains [])
-Contains-from_filter {X} test (y ∷ ys) =
-    let rest : All (Contains (y ∷ ys)) (filter test ys) =
-    λ k d below. (let found = Contains-from_filter test ys k d below in (suc found.0, omega arith, found.2)) in
-    elim (cases_Bool (test y)) [
-      | inl yes' ↦ subst (All (Contains (y ∷ ys))) (sym (cond-true (test y) (y ∷ filter test ys) (filter test ys) yes'))
-          (All-cons (Contains (y ∷ ys)) y (filter test ys) (0, omega arith, refl) rest)
-      | inr no' ↦ subst (All (Contains (y ∷ ys))) (sym (cond-false (test y) (y ∷ filter test ys) (filter test ys) no')) rest
-    ]
 
 -- ---- shares of a set
 
@@ -74,29 +63,3 @@ module _ (shares : List ShareFields) (is : IsShareSet shares) where
               (is.ascending j i (name_of s) after (omega (arith, length-map shares name_of))))
         ]
       ]
-
--- whether a name's share is found says whether the set has the name
-pub name_from_find : (shares : List ShareFields) (group member : ℕ) (b : Bool) → b ≡ is_some (find (has_name group member) shares)
-    → (IsTrue b → Contains (map name_of shares) (group, member)) × (Contains (map name_of shares) (group, member) → IsTrue b)
-name_from_find shares group member b e = by (find (has_name group member) shares) refl
-  where
-    by : (found : Option ShareFields) → find (has_name group member) shares ≡ found
-        → (IsTrue b → Contains (map name_of shares) (group, member)) × (Contains (map name_of shares) (group, member) → IsTrue b)
-    by None f =
-        let no_b : b ≡ false = e ∙ ap is_some f in (
-          λ h. absurd (false≢true (sym no_b ∙ h)),
-          λ h. absurd (false≢true (sym (All-contains (λ n. (n.0 == group) && (n.1 == member) ≡ false) (map name_of shares) (group, member)
-              (All-map (λ n. (n.0 == group) && (n.1 == member) ≡ false) name_of shares (none-passes (has_name group member) shares f)) h)
-              ∙ and_from (group == group) (member == member) (eq-eqb group group refl) (eq-eqb member member refl))),
-        )
-    by (Some s) f =
-        let has_s = Contains-find (has_name group member) shares s f in
-        let passes = and_parts (s.group_index == group) (s.member_index == member) (find-passes (has_name group member) shares s f) in (
-          λ h. (
-            has_s.0,
-            omega (arith, length-map shares name_of),
-            get_or-map name_of shares has_s.0 s (group, member) has_s.1 ∙ ap name_of has_s.2
-                ∙ ap₂ (λ (x y : ℕ). (x, y)) (eqb-true s.group_index group passes.0) (eqb-true s.member_index member passes.1),
-          ),
-          λ h. e ∙ ap is_some f,
-        )

@@ -1,25 +1,13 @@
 -- What a step adds to the looks, by its answer.
-use Rattle.std.proofs.Common.{◌≡◌, ℕ, suc, ◌+◌, ◌-◌, ◌<◌, ◌≤◌, ◌==◌, ◌&&◌, ◌++◌, true, false, List, [], ◌∷◌, length}
-use Rattle.std.proofs.Common.{get_or, filter, take, drop, sum_by, All, Some, Ok, Less, unwrap_or, refl, sym, ap, ◌∙◌, arith, drop-cons}
-use Rattle.std.specs.List.{range_with_len, flat_map}
+use Rattle.std.proofs.Common.{◌≡◌, ℕ, suc, ◌+◌, ◌<◌, ◌==◌, ◌&&◌, ◌++◌, true, false, List, [], ◌∷◌, length}
+use Rattle.std.proofs.Common.{get_or, take, drop, sum_by, All, Some, Ok, Less, refl, sym, ap, ◌∙◌, arith, drop-cons}
 use Rattle.std.proofs.lemmas.Bool.{cond-true, cond-false}
 use Rattle.std.proofs.lemmas.Bool.Decides.{nat_tests}
 use Rattle.std.proofs.lemmas.List.{length-take-le, take-append-drop}
-use Rattle.std.proofs.lemmas.List.Elements.{All-nil, All-head, All-tail, All-append, All-map, All-take, All-filter}
+use Rattle.std.proofs.lemmas.List.Elements.{All-head}
 use Rattle.std.proofs.lemmas.List.Sums.{sum_by-cons}
-use Rattle.s39_words.specs.declared.share.ShareFields.{ShareFields}
-use Rattle.s39_set.specs.declared.masks.Masks.{Masks}
-use Rattle.s39_set.specs.declared.next.Choice.{Choice}
-use Rattle.s39_set.specs.declared.next.Tail.{Tail}
-use Rattle.s39_set.specs.declared.next.Tail.TheVariants.{Group, LaterGroups}
-use Rattle.s39_set.specs.Names.{name_cmp, most_groups, most_members}
-use Rattle.s39_set.specs.Masks.{is_in}
-use Rattle.s39_set.specs.Quorums.{member_threshold_of}
+use Rattle.s39_set.specs.Names.{name_cmp}
 use Rattle.s39_set.specs.Looks.{test_looks, choice_looks, place_looks, completion_looks, common_names, step_looks}
-use Rattle.s39_set.specs.Steps.{members_from, members_taken, groups_from, groups_taken, groups_used, tail_names}
-use Rattle.s39_set.proofs.AtHand.{member-less}
-use Rattle.s39_set.proofs.Ascending.{name_cmp_groups}
-use Rattle.s39_set.proofs.CompleteGroups.{range_from-bounds}
 
 same_name : (g m : ℕ) → ((g == g) && (m == m)) ≡ true
 same_name g m = grind (arith, nat_tests)
@@ -54,42 +42,3 @@ step_looks-next Q next R i below next_is later =
     ap (sum_by place_looks) (drop-cons Q i (0, 0) below) ∙ sum_by-cons place_looks x S in
     ap (λ k. test_looks Q + choice_looks Q + sum_by place_looks (drop k Q) + completion_looks k (get_or Q k (0, 0))) place
     ∙ ap (λ n. test_looks Q + choice_looks Q + n + completion_looks i x) sums
-
-All-flat_map : (P : ℕ × ℕ → Type 0) (f : ℕ → List (ℕ × ℕ)) (xs : List ℕ) → All (λ x. All P (f x)) xs → All P (flat_map f xs)
-All-flat_map P f [] h = All-nil P
-All-flat_map P f (x ∷ xs) h =
-    All-append P (f x) (flat_map f xs) (All-head (λ y. All P (f y)) x xs h) (All-flat_map P f xs (All-tail (λ y. All P (f y)) x xs h))
-
-module _ (x : ℕ × ℕ) where
-  abbrev IsLater : ℕ × ℕ → Type 0
-  IsLater n = name_cmp x n ≡ Less
-
-  members-later : (masks : Masks) (g a many : ℕ) → ((m : ℕ) → a ≤ m → IsLater (g, m)) → All IsLater (take many (members_from masks g a))
-  members-later masks g a many later =
-      let numbers = range_with_len a (most_members - a) in
-      All-take IsLater many (members_from masks g a)
-      (All-map IsLater (λ m. (g, m)) (filter (is_in masks g) numbers)
-      (All-filter (is_in masks g) (λ m. IsLater (g, m)) numbers
-      (λ k d within. later (get_or numbers k d) (range_from-bounds a (most_members - a) k d within).0)))
-
-  groups-later : (set : List ShareFields) (choice : Choice) (a wanted : ℕ) → x.0 < a → All IsLater (groups_taken set choice a wanted)
-  groups-later set choice a wanted above =
-      let numbers = range_with_len a (most_groups - a) in
-      let of_group = λ (g : ℕ). All IsLater (members_taken set choice.at_hand g) in
-      All-flat_map IsLater (members_taken set choice.at_hand) (take wanted (groups_from choice.complete a))
-      (All-take of_group wanted (groups_from choice.complete a)
-      (All-filter (λ g. get_or choice.complete g false) of_group numbers
-      (λ k d within.
-      let g = get_or numbers k d in
-      let from = (range_from-bounds a (most_groups - a) k d within).0 in
-      members-later choice.at_hand g 0 (unwrap_or (member_threshold_of set g) 0) (λ m _. name_cmp_groups x (g, m) (omega arith)))))
-
-  -- what stands in a name's place, and behind it, comes after it
-  pub tail_names-later : (set : List ShareFields) (choice : Choice) (tail : Tail) → All IsLater (tail_names set choice x tail)
-  tail_names-later set choice Group =
-      let chosen = take (length (members_from choice.chosen x.0 (x.1 + 1)) + 1) (members_from choice.at_hand x.0 (x.1 + 1)) in
-      All-append IsLater chosen (groups_taken set choice (x.0 + 1) (groups_used choice.members x.0))
-      (members-later choice.at_hand x.0 (x.1 + 1) (length (members_from choice.chosen x.0 (x.1 + 1)) + 1)
-      (λ m from. member-less x.0 x.1 m (omega arith)))
-      (groups-later set choice (x.0 + 1) (groups_used choice.members x.0) (omega arith))
-  tail_names-later set choice LaterGroups = groups-later set choice (x.0 + 1) (groups_used choice.members x.0 + 1) (omega arith)

@@ -1,9 +1,9 @@
 -- Some of the elements of a list, in its order.
-use Rattle.std.proofs.Common.{◌≡◌, ℕ, zero, suc, ◌≤◌, Bool, true, false, cond, List, [], ◌∷◌, ◌++◌, length, get_or}
+use Rattle.std.proofs.Common.{◌≡◌, ℕ, zero, suc, ◌<◌, ◌≤◌, Bool, true, false, cond, List, [], ◌∷◌, ◌++◌, length, get_or}
 use Rattle.std.proofs.Common.{take, refl, sym, ap, subst, ◌∙◌, ◌⊎◌, inl, inr, ⊎_elim, arith}
 use Rattle.std.specs.List.{All, AllPairs, Contains, filter}
-use Rattle.std.proofs.lemmas.Bool.{cases_Bool, cond-true, cond-false, false≢true}
-use Rattle.std.proofs.lemmas.List.Elements.{All-nil, All-cons, All-append, All-head, All-tail, All-contains}
+use Rattle.std.proofs.lemmas.Bool.{cases_Bool, cases_lt, cond-true, cond-false, false≢true}
+use Rattle.std.proofs.lemmas.List.Elements.{All-nil, All-cons, All-append, All-head, All-tail, All-contains, Contains-get_or, filter_passes}
 use Rattle.std.proofs.lemmas.List.Kept.{AllPairs-cons}
 
 -- ---- membership
@@ -24,6 +24,15 @@ Contains-cases x xs y (suc k, below, here) = inr (k, (omega arith), here)
 -- nothing is an element of the empty list
 pub Contains-nil : {X : Type 0} (y : X) → Contains [] y → ⊥
 Contains-nil y (k, below, here) = absurd (omega arith)
+
+-- a fact of each element, by membership
+pub each : {X : Type 0} (P : X → Type 0) (xs : List X) → ((x : X) → Contains xs x → P x) → All P xs
+each P xs h k d below = h (get_or xs k d) (Contains-get_or xs k d below)
+
+-- a list with some elements has one
+pub one_of : {X : Type 0} (xs : List X) → 1 ≤ length xs → (x : X) × Contains xs x
+one_of [] some = absurd (omega arith)
+one_of (x ∷ xs) some = (x, Contains-head x xs)
 
 -- an element that passes the test is among those that do
 pub Contains-filter : {X : Type 0} (p : X → Bool) (xs : List X) (y : X) → Contains xs y → p y ≡ true → Contains (filter p xs) y
@@ -66,6 +75,18 @@ Contains-sublist (keeps {x} {ys} {xs} s) =
     All-cons (Contains (x ∷ xs)) x ys (Contains-head x xs)
     (λ k d below. Contains-cons x xs (get_or ys k d) (Contains-sublist s k d below))
 Contains-sublist (leaves {x} {ys} {xs} s) = λ k d below. Contains-cons x xs (get_or ys k d) (Contains-sublist s k d below)
+
+-- by membership
+pub in_whole : {X : Type 0} {ys xs : List X} → IsSublist ys xs → (x : X) → Contains ys x → Contains xs x
+in_whole {X} {ys} {xs} s x among = All-contains (Contains xs) ys x (Contains-sublist s) among
+
+-- a part without an element of the list has fewer
+pub length_less : {X : Type 0} {ys xs : List X} → IsSublist ys xs → (x : X) → Contains xs x → (Contains ys x → ⊥) → length ys < length xs
+length_less {X} {ys} {xs} s x among apart =
+    elim (cases_lt (length ys) (length xs)) [
+      | inl less ↦ less
+      | inr few ↦ absurd (apart (subst (λ l. Contains l x) (sym (same_from_length s few)) among))
+    ]
 
 -- what holds of each element of a list holds of each of the part
 pub All-sublist : {X : Type 0} (P : X → Type 0) (ys xs : List X) → IsSublist ys xs → All P xs → All P ys
@@ -140,6 +161,13 @@ cond-kept x false s = leaves s
 pub filter_kept : {X : Type 0} (p : X → Bool) (xs : List X) → IsSublist (filter p xs) xs
 filter_kept p [] = none
 filter_kept p (x ∷ xs) = cond-kept x (p x) (filter_kept p xs)
+
+pub Contains-from_filter : {X : Type 0} (p : X → Bool) (xs : List X) → All (Contains xs) (filter p xs)
+Contains-from_filter p xs = Contains-sublist (filter_kept p xs)
+
+-- an element that is left is one of the list's, and passes
+pub of_filter : {X : Type 0} (p : X → Bool) (xs : List X) (x : X) → Contains (filter p xs) x → Contains xs x × (p x ≡ true)
+of_filter p xs x among = (in_whole (filter_kept p xs) x among, All-contains (λ y. p y ≡ true) (filter p xs) x (filter_passes p xs) among)
 
 -- where each element passes, so does the list
 pub filter-all : {X : Type 0} (p : X → Bool) (xs : List X) → All (λ x. p x ≡ true) xs → filter p xs ≡ xs

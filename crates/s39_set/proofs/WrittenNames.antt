@@ -3,12 +3,13 @@ use Rattle.std.proofs.Common.{◌≡◌, ◌≢◌, ℕ, suc, ◌<◌, ◌==◌,
 use Rattle.std.proofs.Common.{Less, refl, sym, ap, ap₂, ◌∙◌, subst, arith}
 use Rattle.std.specs.List.{slice_split, join_with_byte}
 use Rattle.std.specs.Fmt.{decimal}
-use Rattle.std.proofs.lemmas.List.{length-map, take-map, get_or-map, length-take-le, get_or-take, get_or_default}
+use Rattle.std.proofs.lemmas.Fmt.{decimal_injective}
+use Rattle.std.proofs.lemmas.List.{length-map, take-map, get_or-map}
 use Rattle.std.proofs.lemmas.List.Elements.{All-cons, All-head, All-tail, All-append, All-take}
 use Rattle.std.proofs.lemmas.List.Splits.{slice_split_none, slice_split_at, length-slice_split, join_with_byte-slice_split}
 use Rattle.s39_set.specs.Names.{name_cmp, AreNames, most_groups, most_members}
 use Rattle.s39_set.specs.Written.{name_text, quorum_text, IsNameText, IsWrittenForm}
-use Rattle.s39_set.proofs.IndexText.{decimal-same}
+use Rattle.s39_set.proofs.Fronts.{front-before}
 use Rattle.s39_set.proofs.NameText.{decimal-without, parts_of_name, stop_of_text}
 
 -- the test for a plus sign
@@ -32,8 +33,11 @@ same_name text a b of_a of_b =
     let parts_a = parts_of_name text stop a of_a found in
     let parts_b = parts_of_name text stop b of_b found in
     ap₂ (λ (x y : ℕ). (x, y))
-    (decimal-same a.0 b.0 of_a.group of_b.group (sym parts_a.front ∙ parts_b.front))
-    (decimal-same a.1 b.1 of_a.member of_b.member (sym parts_a.back ∙ parts_b.back))
+    (same_index a.0 b.0 of_a.group of_b.group (sym parts_a.front ∙ parts_b.front))
+    (same_index a.1 b.1 of_a.member of_b.member (sym parts_a.back ∙ parts_b.back))
+  where
+    same_index : (m n : ℕ) → m < most_groups → n < most_groups → decimal m ≡ decimal n → m ≡ n
+    same_index m n low also e = decimal_injective m n (omega arith) (omega arith) e
 
 -- names with one written form each are the same
 same_texts : (names others : List (ℕ × ℕ)) → All InRange names → All InRange others → map name_text names ≡ map name_text others → names ≡ others
@@ -111,9 +115,5 @@ next_name text part before names k is are so_far inside here =
         text_is = here ∙ ap (λ ps. get_or ps k part) parts ∙ get_or-map name_text names k (0, 0) part below;
       };
       later = subst (All (λ earlier. name_cmp earlier name ≡ Less)) (sym same)
-          (λ i d within.
-          let short : length (take k names) ≡ k = length-take-le k names (omega arith) in
-          let at : get_or (take k names) i d ≡ get_or names i d = get_or-take k names i d (omega arith) in
-          subst (λ earlier. name_cmp earlier name ≡ Less) (sym at)
-          (subst (λ n. name_cmp (get_or names i d) n ≡ Less) (get_or_default names k d (0, 0) below) (is.are_names.ascending i k d (omega arith) below)));
+          (front-before names k is.are_names.ascending below);
     }

@@ -1,6 +1,6 @@
 -- Groups of which enough members are there.
 use Rattle.std.specs.Prelude.{ℕ, ◌+◌, ◌-◌, List, length, filter, take, Option, Bool, false, nat_le, unwrap_or}
-use Rattle.std.specs.List.{range_with_len, flat_map}
+use Rattle.std.specs.List.{range_with_len}
 use Rattle.std.specs.Option.{option_map_or}
 use Rattle.s39_set.specs.Names.{most_groups, names_in_group}
 
@@ -19,10 +19,6 @@ complete_groups member_threshold names = filter (is_complete member_threshold na
 abbrev pub first_members : (ℕ → Option ℕ) → List (ℕ × ℕ) → ℕ → List (ℕ × ℕ)
 first_members member_threshold names group =
     take (unwrap_or (member_threshold group) 0) (names_in_group group names)
-
--- the first members of each of these groups
-abbrev pub members_of : (ℕ → Option ℕ) → List (ℕ × ℕ) → List ℕ → List (ℕ × ℕ)
-members_of member_threshold names groups = flat_map (first_members member_threshold names) groups
 
 -- the groups above one
 abbrev pub groups_above : ℕ → List ℕ

@@ -1,8 +1,7 @@
 -- How a set keeps its shares. No public contract cites this.
-use Rattle.std.specs.Prelude.{◌≡◌, ℕ, ◌+◌, ◌*◌, ◌<◌, List, [], ◌∷◌, length, filter, filter_map, Option, Some, None, not}
+use Rattle.std.specs.Prelude.{◌≡◌, ℕ, ◌+◌, ◌*◌, ◌<◌, List, [], ◌∷◌, length, map, filter, filter_map, Option, Some, None, not}
 use Rattle.std.specs.Prelude.{◌==◌, bytes_eq, IfSome, slice_index_or, if◌then◌else◌}
 use Rattle.std.specs.List.{list_any}
-use Rattle.std.specs.Option.{is_some}
 use Rattle.s39_words.specs.declared.share.ShareFields.{ShareFields}
 use Rattle.s39_words.specs.Share.{flag_bit}
 use Rattle.s39_set.specs.declared.common.Common.{Common}
@@ -12,7 +11,7 @@ use Rattle.s39_set.specs.declared.set_error.SetError.TheVariants.{OtherIdentifie
 use Rattle.s39_set.specs.declared.set_error.SetError.TheVariants.{OtherGroupThreshold, OtherGroupCount, OtherLength}
 use Rattle.s39_set.specs.declared.set_error.SetError.TheVariants.{OtherMemberThreshold, ConflictingShare}
 use Rattle.s39_set.specs.Names.{most_groups, most_members}
-use Rattle.s39_set.specs.Masks.{is_in}
+use Rattle.s39_set.specs.Steps.{AreMasksOf}
 use Rattle.s39_set.specs.ShareSet.{IsShareSet, name_of, is_in_group, has_name, some_differs}
 use Rattle.s39_set.specs.Quorums.{member_threshold_of}
 
@@ -64,7 +63,6 @@ pub record IsKept (common : Option Common) (at_hand : Masks) (member_thresholds 
   pub is_set : IsShareSet (shares_at slots)
   pub own_slot : (k : ℕ) → IfSome (slice_index_or slots k None) (λ share. slot_of (name_of share) ≡ k)
   pub common_is : common ≡ common_of_all (shares_at slots)
-  pub at_hand_are : (group member : ℕ) → group < most_groups → member < most_members
-      → is_in at_hand group member ≡ is_some (slice_index_or slots (slot_of (group, member)) None)
+  pub at_hand_are : AreMasksOf at_hand (map name_of (shares_at slots))
   pub thresholds_are : (group : ℕ) → group < most_groups
       → slice_index_or member_thresholds group None ≡ member_threshold_of (shares_at slots) group

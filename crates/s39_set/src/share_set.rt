@@ -1,10 +1,10 @@
 //! Share sets.
-ghost use Rattle.std.specs.Prelude.{◌≡◌, ◌<◌, ◌↔◌, [], find, Contains, Some, None, Ok, OnOk, OnErr, IfErr};
-ghost use Rattle.std.specs.Option.{is_some, option_copied};
+ghost use Rattle.std.specs.Prelude.{◌≡◌, ◌<◌, ◌↔◌, [], find, map, Contains, IsTrue, Some, None, Ok, OnOk, OnErr, IfErr};
+ghost use Rattle.std.specs.Option.{option_copied};
 ghost use Rattle.s39_set.specs.Names.{most_groups, most_members, most_names};
 ghost use Rattle.s39_set.specs.Slots.{slot_of, last_refusal_of};
 ghost use Rattle.s39_set.specs.Quorums.{group_threshold_of, member_threshold_of};
-ghost use Rattle.s39_set.specs.ShareSet.{IsShareSet, HasOneMore, refusal_of, has_name};
+ghost use Rattle.s39_set.specs.ShareSet.{IsShareSet, HasOneMore, refusal_of, name_of, has_name};
 
 use crate::common::Common;
 use crate::limits::{GROUPS, MAX_GROUPS, MAX_MEMBERS, MAX_NAMES};
@@ -118,7 +118,7 @@ impl ShareSet {
 
     /// Whether the set has the share of this group and member index, `false` for an index over 15.
     pub(crate) fn is_at_hand(&self, group: u8, member: u8) -> bool
-        ensures { result ≡ is_some (find (has_name group member) self.now) }
+        ensures { IsTrue result ↔ Contains (map name_of self.now) (group, member) }
     {
         if group < MAX_GROUPS && member < MAX_MEMBERS {
             self.at_hand.has(group, member)

@@ -3,10 +3,8 @@ pub mod Names
 pub mod Memos
 pub mod Drilling
 pub mod Filling
-pub mod Output
 pub mod Complete
 pub mod OneDrill
 pub mod OneListing
-pub mod OneOutput
-pub mod SomeOutput
+pub mod Outputs
 pub mod OneCreated

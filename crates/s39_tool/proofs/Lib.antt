@@ -1,3 +1,4 @@
+pub mod Steps
 pub mod Taking
 pub mod Sets
 pub mod Texts

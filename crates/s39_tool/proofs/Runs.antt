@@ -4,8 +4,6 @@ pub mod Writing
 pub mod ShowOutput
 pub mod Shown
 pub mod Recovering
-pub mod OneRecover
-pub mod SomeRecover
 pub mod Creating
 pub mod OneCreate
 pub mod Causes

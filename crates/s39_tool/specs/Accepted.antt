@@ -1,15 +1,21 @@
 -- The set of the shares that an input holds, or why it is refused.
 use Rattle.std.specs.Prelude.{◌≡◌, ◌⊎◌, ℕ, List, map, filter_map, take, All, Contains, Option, Some, None, Result, Ok, Err}
 use Rattle.std.specs.List.{AllZip, slice_get}
+use Rattle.s39_kdf.specs.declared.limits.BadPassphrase.{BadPassphrase}
+use Rattle.s39_kdf.specs.Limits.{IsPrintable, IsFirstUnprintable}
 use Rattle.s39_words.specs.declared.ShareFields.{ShareFields}
 use Rattle.s39_set.specs.Names.{IsAscending}
-use Rattle.s39_set.specs.ShareSet.{name_of, refusal_of}
+use Rattle.s39_set.specs.ShareSet.{IsShareSet, name_of, refusal_of}
 use Rattle.s39_set.specs.declared.set_error.SetError.{SetError}
 use Rattle.s39_tool.specs.declared.fault.LineRefusal.{LineRefusal}
 use Rattle.s39_tool.specs.declared.fault.LineRefusal.TheVariants.{Set}
 use Rattle.s39_tool.specs.declared.fault.Stop.{Stop}
+use Rattle.s39_tool.specs.declared.fault.Refusal.TheVariants.{Passphrase}
+use Rattle.s39_tool.specs.declared.fault.Fault.{Fault}
+use Rattle.s39_tool.specs.Fault.{fault_of, fault_of_stop}
 use Rattle.s39_tool.specs.Input.{Input}
 use Rattle.s39_tool.specs.Lines.{Holds, IsRefusedBy, LeadTo}
+use Rattle.s39_tool.specs.Steps.{Then}
 
 -- the shares among what lines hold, in the order of the lines
 abbrev pub shares_in : List (Option ShareFields) → List ShareFields
@@ -46,3 +52,23 @@ HoldShares = LeadTo HoldTogether IsRefusedAmong
 abbrev pub IsReadAs : Input → Result (List ShareFields) (Stop LineRefusal) → Type 0
 IsReadAs input (Ok set) = (shares : List ShareFields) × HoldShares input shares (Ok tt) × IsSetOf shares set
 IsReadAs input (Err stop) = (shares : List ShareFields) × HoldShares input shares (Err stop)
+
+-- the passphrase is printable, or refused for its first byte that isn't
+abbrev pub IsJudged : List ℕ → Result (Unit {0}) BadPassphrase → Type 0
+IsJudged passphrase (Ok _) = All IsPrintable passphrase
+IsJudged passphrase (Err bad) = IsFirstUnprintable passphrase bad.position
+
+-- The passphrase is judged first, and then the lines of the input: the set of their shares, or the fault.
+abbrev pub IsCheckedSet : List ℕ → Input → Result (List ShareFields) Fault → Type 0
+IsCheckedSet passphrase input =
+    Then (IsJudged passphrase) (λ bad. Err (fault_of (Passphrase bad))) (λ _.
+    Then (IsReadAs input) (λ stop. Err (fault_of_stop stop)) (λ set result. result ≡ Ok set))
+
+-- Within a law; no public contract cites this.
+
+-- what is known of checked sets: there is one, or one fault, and it is a share set
+pub record CheckedSetLaws : Type 0 where
+  pub once : (passphrase : List ℕ) (input : Input) (result other : Result (List ShareFields) Fault)
+      → IsCheckedSet passphrase input result → IsCheckedSet passphrase input other → result ≡ other
+  pub exists : (passphrase : List ℕ) (input : Input) → (result : Result (List ShareFields) Fault) × IsCheckedSet passphrase input result
+  pub is_set : (passphrase : List ℕ) (input : Input) (set : List ShareFields) → IsCheckedSet passphrase input (Ok set) → IsShareSet set

@@ -1,10 +1,9 @@
 -- The output of `drill`.
-use Rattle.std.specs.Prelude.{◌≡◌, ◌↔◌, ◌⊎◌, ℕ, suc, List, [], ◌∷◌, ◌++◌, All, codes, map, filter, length, is_err, Option, Some, None, IfSome, Result, Ok, Err}
+use Rattle.std.specs.Prelude.{◌≡◌, ◌↔◌, ℕ, suc, List, [], ◌∷◌, ◌++◌, All, codes, map, filter, length, is_err, Option, Some, None, IfSome, Result, Ok, Err}
 use Rattle.std.specs.Fmt.{decimal}
 use Rattle.std.specs.List.{flat_map}
 use Rattle.arrayvec.specs.ArrayVec.{ArrayVec}
 use Rattle.hex.specs.Hex.{encode_lower}
-use Rattle.s39_kdf.specs.Limits.{IsPrintable}
 use Rattle.s39_words.specs.declared.ShareFields.{ShareFields}
 use Rattle.s39_set.specs.declared.set_lack.SetLack.{SetLack}
 use Rattle.s39_set.specs.Quorums.{IsQuorum, IsFirstQuorumAfter, HasNoQuorumAfter}
@@ -16,8 +15,6 @@ use Rattle.s39_backup.specs.declared.combination.Mismatch.{Mismatch}
 use Rattle.s39_backup.specs.declared.combination.Mismatch.TheVariants.{InGroup, OfGroups}
 use Rattle.s39_backup.specs.Outcome.{IsOutcome}
 use Rattle.s39_tool.specs.declared.fault.Refusal.TheVariants.{Lack as LackRefusal, NotAQuorum as CursorRefusal}
-use Rattle.s39_tool.specs.declared.fault.LineRefusal.{LineRefusal}
-use Rattle.s39_tool.specs.declared.fault.Stop.{Stop}
 use Rattle.s39_tool.specs.declared.fault.Fault.{Fault}
 use Rattle.s39_tool.specs.declared.drill.Done.{Done}
 use Rattle.s39_tool.specs.declared.drill.Undrilled.{Undrilled}
@@ -25,10 +22,10 @@ use Rattle.s39_tool.specs.declared.drill.Undrilled.TheVariants.{Lack, NotAQuorum
 use Rattle.s39_tool.specs.Device.{Counted}
 use Rattle.s39_tool.specs.Output.{WritesWhole, WritesPart}
 use Rattle.s39_tool.specs.Input.{Input, ended_line}
-use Rattle.s39_tool.specs.Fault.{fault_of, fault_of_stop}
-use Rattle.s39_tool.specs.Accepted.{IsReadAs}
-use Rattle.s39_tool.specs.Recover.{RefusesPassphrase}
+use Rattle.s39_tool.specs.Fault.{fault_of}
+use Rattle.s39_tool.specs.Accepted.{IsReadAs, IsCheckedSet}
 use Rattle.s39_tool.specs.OfBackup.{HoldsMnemonicsOf}
+use Rattle.s39_tool.specs.Steps.{Then, nothing_for}
 
 -- a quorum that is listed, and its outcome
 abbrev pub Listed : Type 0
@@ -86,38 +83,27 @@ abbrev pub fault_of_undrilled : Undrilled → Fault
 fault_of_undrilled (Lack lack) = fault_of (LackRefusal lack)
 fault_of_undrilled NotAQuorum = fault_of CursorRefusal
 
--- the set of the input's shares isn't drilled
-pub record RefusesDrill (passphrase : List ℕ) (after : Option (List (ℕ × ℕ))) (input : Input) (fault : Fault) : Type 0 where
-  pub set : List ShareFields
-  pub cause : Undrilled
-  pub printable : All IsPrintable passphrase
-  pub read : IsReadAs input (Ok set)
-  pub refused : IsUndrilled set after cause
-  pub fault_is : fault ≡ fault_of_undrilled cause
+-- the set has a quorum, and what is given is one of its quorums; or why the set isn't drilled
+abbrev pub IsDrillable : List ShareFields → Option (List (ℕ × ℕ)) → Result (Unit {0}) Undrilled → Type 0
+IsDrillable set after (Ok _) = ((lack : SetLack) → ¬ IsLack set lack) × IfSome after (IsQuorum set)
+IsDrillable set after (Err cause) = IsUndrilled set after cause
 
--- the set of the input's shares is drilled: it has a quorum, what is given is one, and the text is that of the lines
--- of its drill and of the last line
-pub record DrillsSet (passphrase : List ℕ) (after : Option (List (ℕ × ℕ))) (limit : ℕ) (input : Input) (text : List ℕ)
-    (mismatches : ℕ) : Type 0 where
-  pub set : List ShareFields
-  pub lines : List ℕ
-  pub more : Option (List (ℕ × ℕ))
-  pub printable : All IsPrintable passphrase
-  pub read : IsReadAs input (Ok set)
-  pub no_lack : (lack : SetLack) → ¬ IsLack set lack
-  pub cursor : IfSome after (IsQuorum set)
-  pub drill : IsDrill set passphrase after limit lines more mismatches
-  pub text_is : text ≡ lines ++ last_line more
+-- the lines of the drill of a set are written, and the last line, and its mismatches are answered
+abbrev pub WritesLines : List ShareFields → List ℕ → Option (List (ℕ × ℕ)) → ℕ → List ℕ × Result Done Fault → Type 0
+WritesLines set passphrase after limit written =
+    (lines : List ℕ) × (more : Option (List (ℕ × ℕ))) × (mismatches : ℕ) × IsDrill set passphrase after limit lines more mismatches
+    × (written ≡ (lines ++ last_line more, Ok (record { mismatches = mismatches })))
+
+-- the set is drilled; or nothing is written, and the answer is why it isn't
+abbrev pub WritesDrillOf : List ℕ → Option (List (ℕ × ℕ)) → ℕ → List ShareFields → List ℕ × Result Done Fault → Type 0
+WritesDrillOf passphrase after limit set =
+    Then (IsDrillable set after) (λ cause. nothing_for (fault_of_undrilled cause)) (λ _. WritesLines set passphrase after limit)
 
 -- `drill` writes this text for the passphrase, the quorum after which it starts, the limit and the input, and answers
 -- so: the passphrase is judged first, then the lines of the input, and then the set of their shares
 abbrev pub IsDrillOutput : List ℕ → Option (List (ℕ × ℕ)) → ℕ → Input → List ℕ → Result Done Fault → Type 0
-IsDrillOutput passphrase after limit input text (Ok done) = DrillsSet passphrase after limit input text done.mismatches
-IsDrillOutput passphrase after limit input text (Err fault) =
-    (text ≡ [])
-    × (RefusesPassphrase passphrase fault
-    ⊎ ((stop : Stop LineRefusal) × All IsPrintable passphrase × IsReadAs input (Err stop) × (fault ≡ fault_of_stop stop))
-    ⊎ RefusesDrill passphrase after input fault)
+IsDrillOutput passphrase after limit input text answer =
+    Then (IsCheckedSet passphrase input) nothing_for (WritesDrillOf passphrase after limit) (text, answer)
 
 -- The drill of a set whose quorums all give this secret: those after a given one, or all, each once, in order, at most
 -- as many as the limit, each with that secret; and then the last line.

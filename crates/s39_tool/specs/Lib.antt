@@ -2,12 +2,14 @@ pub mod Device
 pub mod Input
 pub mod Fault
 pub mod Lines
+pub mod Steps
 pub mod Runs
 pub mod Midway
 pub mod Output
 pub mod Show
 pub mod Accepted
 pub mod Collecting
+pub mod Exponent
 pub mod Recover
 pub mod Create
 pub mod OfBackup

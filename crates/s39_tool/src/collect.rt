@@ -1,14 +1,16 @@
-//! The set of the shares of an input.
-ghost use Rattle.std.specs.Prelude.{◌≡◌, ◌+◌, ◌<◌, IfOk};
+//! The set of the shares of an input, with a passphrase.
+ghost use Rattle.std.specs.Prelude.{◌≡◌, ◌+◌, ◌<◌, Err, IfOk};
+ghost use Rattle.s39_kdf.specs.declared.limits.BadPassphrase.{BadPassphrase};
 ghost use Rattle.s39_set.specs.ShareSet.{IsShareSet};
-ghost use Rattle.s39_tool.specs.Accepted.{IsReadAs};
-ghost use Rattle.s39_tool.specs.Fault.{stop_failures};
+ghost use Rattle.s39_tool.specs.Accepted.{IsCheckedSet, IsReadAs};
+ghost use Rattle.s39_tool.specs.Fault.{fault_of, read_failures, write_failures};
 ghost use Rattle.s39_tool.specs.Input.{whole};
 ghost use Rattle.s39_tool.specs.Runs.{OfInput};
 
 use crate::device::Counting;
-use crate::fault::{LineRefusal, Stop};
+use crate::fault::{Fault, LineRefusal, Refusal, Stop};
 use crate::lines::{TakeLine, share_in, take_lines, take_lines_of};
+use s39_kdf::check_passphrase;
 use s39_set::ShareSet;
 use s39_set::laws::{one_more_is_added, same_shares_refuse_the_same};
 use std::io::Read;
@@ -41,26 +43,48 @@ impl TakeLine for ShareSet {
     ghost refuses_long = { λ set line long. inl long };
 }
 
-/// The set of the shares of an input, each once.
+/// The set of the shares of an input, each once, where the passphrase is printable; that is judged before anything is
+/// read.
 ///
 /// A line with no byte but separators, or whose first other byte is `#`, is skipped. The first line that is refused
 /// ends the run, and the answer is its number with the cause: a word error, `TooLong` (more than 1,024 bytes), or
-/// `Set` where its share can't join those of the lines before it. Where a read fails, the answer is `ReadFailed`.
+/// `Set` where its share can't join those of the lines before it. Where a read fails, the answer says so.
 /// The caller keeps `failures()` below `u64::MAX`.
-pub(crate) fn set_of<R: Read>(input: &mut Counting<R>) -> Result<ShareSet, Stop<LineRefusal>>
+pub(crate) fn checked_set<R: Read>(
+    passphrase: &[u8],
+    input: &mut Counting<R>,
+) -> Result<ShareSet, Fault>
     requires { input.old.failures < u64.MAX }
-    ensures read { OfInput R.remaining input.old input.new (λ input. IsReadAs input result) }
-    ensures failures { input.new.failures ≡ input.old.failures + stop_failures result }
+    ensures checked { OfInput R.remaining input.old input.new
+        (λ input. IsCheckedSet passphrase.now input result) }
     ensures is_set { IfOk result IsShareSet }
+    ensures read_failures { input.new.failures ≡ input.old.failures + read_failures result }
+    ensures write_failures { write_failures result ≡ 0 }
+    ensures unread { (bad : BadPassphrase)
+        → result ≡ Err (fault_of (Refusal.Passphrase bad)) → input.new ≡ input.old }
 {
     same_shares_refuse_the_same();
     one_more_is_added();
+    check_passphrase(passphrase)?;
     let mut set = ShareSet::new();
     take_lines(input, &mut set)?;
     Ok(set)
 }
 
-/// The set of the shares of lines in memory, as `set_of` gives it of an input that ends after them.
+/// The set of the shares of lines in memory, as `checked_set` gives it of an input that ends after them.
+pub(crate) fn checked_set_in(passphrase: &[u8], lines: &[u8]) -> Result<ShareSet, Fault>
+    ensures checked { IsCheckedSet passphrase.now (whole lines.now) result }
+    ensures is_set { IfOk result IsShareSet }
+{
+    same_shares_refuse_the_same();
+    one_more_is_added();
+    check_passphrase(passphrase)?;
+    let mut shares = ShareSet::new();
+    take_lines_of(lines, &mut shares)?;
+    Ok(shares)
+}
+
+/// The set of the shares of lines in memory.
 pub(crate) fn set_in(bytes: &[u8]) -> Result<ShareSet, Stop<LineRefusal>>
     ensures read { IsReadAs (whole bytes.now) result }
     ensures is_set { IfOk result IsShareSet }

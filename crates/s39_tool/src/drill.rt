@@ -13,13 +13,13 @@ ghost use Rattle.s39_tool.specs.declared.output.TheConstants.{LINE_BYTES};
 ghost use Rattle.s39_tool.specs.Fault.{fault_of};
 ghost use Rattle.s39_tool.specs.Runs.{Runs};
 
-use crate::collect::set_of;
+use crate::collect::checked_set;
 use crate::device::Counting;
 use crate::fault::{DeviceFailure, Fault, Refusal};
 use crate::laws::{created_backups_drill, drill_laws};
 use crate::output::{Line, WriteFailed, push_field, push_hex, push_names, push_text, write_text};
 use s39_backup::{Memo, Mismatch, combine_quorum, params_of};
-use s39_kdf::{Bytes, check_passphrase};
+use s39_kdf::Bytes;
 use s39_set::laws::listings_join;
 use s39_set::{Looks, NotAQuorum, Quorum, SetLack, ShareSet, first, next_after};
 use std::io::{Read, Write};
@@ -105,32 +105,8 @@ pub fn run_drill<R: Read, W: Write>(
         → result ≡ Err (fault_of (Refusal.Passphrase bad)) → input.new ≡ input.old }
 {
     created_backups_drill();
-    drill(passphrase, after, limit, input, output)
-}
-
-/// The drill of an input, as `run_drill` gives it.
-fn drill<R: Read, W: Write>(
-    passphrase: &[u8],
-    after: Option<&Quorum>,
-    limit: u32,
-    input: &mut Counting<R>,
-    output: &mut Counting<W>,
-) -> Result<Done, Fault>
-    requires some { 1 ≤ limit }
-    requires readable { input.old.failures < u64.MAX }
-    requires writable { output.old.failures < u64.MAX }
-    ensures runs { Runs R.remaining W.contents
-        (IsDrillOutput passphrase.now (option_copied after.entry) limit)
-        input.old input.new output.old output.new result }
-    // Of any devices.
-    ensures untouched { IfErr result (λ fault.
-        fault.refusal ≢ Refusal.Device DeviceFailure.Write → output.new ≡ output.old) }
-    ensures unread { (bad : BadPassphrase)
-        → result ≡ Err (fault_of (Refusal.Passphrase bad)) → input.new ≡ input.old }
-{
     listings_join();
-    check_passphrase(passphrase)?;
-    let set = set_of(input)?;
+    let set = checked_set(passphrase, input)?;
     let mut looks = Looks::new();
     let Some(start) = start_of(&set, after, &mut looks)? else {
         write_text(output, last_line(None).as_slice())?;

@@ -176,6 +176,28 @@ impl From<BadSecretLength> for Fault {
     }
 }
 
+impl From<SetLack> for Fault {
+    ghost use Rattle.s39_tool.specs.Fault.{fault_of};
+    ghost use Rattle.s39_tool.specs.declared.fault.Refusal.TheVariants.{Lack};
+
+    ghost from_gives = { λ lack fault. fault ≡ fault_of (Lack lack) };
+
+    fn from(lack: SetLack) -> Fault {
+        Fault::from(Refusal::Lack(lack))
+    }
+}
+
+impl From<Mismatch> for Fault {
+    ghost use Rattle.s39_tool.specs.Fault.{fault_of};
+    ghost use Rattle.s39_tool.specs.declared.fault.Refusal.TheVariants.{DigestMismatch};
+
+    ghost from_gives = { λ mismatch fault. fault ≡ fault_of (DigestMismatch mismatch) };
+
+    fn from(mismatch: Mismatch) -> Fault {
+        Fault::from(Refusal::DigestMismatch(mismatch))
+    }
+}
+
 impl From<CreateError> for Fault {
     ghost use Rattle.s39_tool.specs.Create.{fault_of_creation};
 

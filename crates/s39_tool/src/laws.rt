@@ -15,7 +15,7 @@ ghost use Rattle.s39_tool.specs.declared.fault.Stop.{Stop};
 ghost use Rattle.s39_tool.specs.declared.creating.TheConstants.{MAX_BACKUP_RANDOM_BYTES};
 ghost use Rattle.s39_tool.specs.declared.lines.TheConstants.{MAX_LINE_BYTES};
 ghost use Rattle.s39_tool.specs.Input.{Input, longest_line};
-ghost use Rattle.s39_tool.specs.Accepted.{IsReadAs};
+ghost use Rattle.s39_tool.specs.Accepted.{IsReadAs, CheckedSetLaws};
 ghost use Rattle.s39_kdf.specs.Bytes.{AreBytes};
 ghost use Rattle.s39_backup.specs.Plan.{IsPlan};
 ghost use Rattle.s39_tool.specs.Create.{Asked, IsCreateOutput};
@@ -29,6 +29,7 @@ ghost use Rattle.s39_tool.specs.Fitting.{Lists, Puts};
 ghost use Rattle.s39_tool.specs.OfBackup.{HoldsMnemonicsOf, RecoversCreated};
 ghost use Rattle.s39_backup.specs.Created.{AreOfBackup, most_random};
 
+pub use crate::exponent::{every_exponent_is_at_most_15, one_exponent, some_exponent};
 pub use crate::round_trips::{
     every_backup_is_written, one_output_of_a_backup, written_mnemonics_are_of_the_backup,
     written_mnemonics_drill, written_mnemonics_recover,
@@ -138,11 +139,9 @@ pub fn one_recover_output()
         → IsRecoverOutput passphrase input other another
         → (text ≡ other) × (answer ≡ another) }
 {
-    passphrases_are_printable_or_not();
+    one_checked_set();
     one_lack();
     one_first_quorum();
-    accepted_inputs_are_share_sets();
-    one_set();
     one_outcome();
 }
 
@@ -152,8 +151,7 @@ pub fn some_recover_output()
         → (text : List ℕ) × (answer : Result (Unit {0}) Fault)
         × IsRecoverOutput passphrase input text answer }
 {
-    passphrases_are_printable_or_not();
-    every_input_is_read();
+    one_checked_set();
     quorum_or_lack();
     every_quorum_has_an_outcome();
 }
@@ -178,6 +176,16 @@ pub fn accepted_inputs_are_share_sets()
     one_set();
 }
 
+/// A passphrase and an input give one set, which is a share set, or one fault.
+pub(crate) fn one_checked_set()
+    ensures { CheckedSetLaws }
+{
+    passphrases_are_printable_or_not();
+    every_input_is_read();
+    one_set();
+    accepted_inputs_are_share_sets();
+}
+
 /// Mnemonics of a created backup, in any order and with repeats, are read as the set of their shares.
 pub fn mnemonics_of_a_backup_are_a_set()
     ensures { (passphrase secret : List ℕ) (input : Input)
@@ -197,12 +205,9 @@ pub fn created_backups_recover()
         → IsRecoverOutput passphrase input text answer
         → RecoversCreated passphrase input text answer }
 {
-    passphrases_are_printable_or_not();
-    one_lack();
-    one_first_quorum();
     accepted_inputs_are_share_sets();
-    one_set();
-    one_outcome();
+    one_recover_output();
+    quorum_or_lack();
     every_quorum_recovers();
     mnemonics_of_a_backup_are_a_set();
 }
@@ -258,10 +263,8 @@ pub fn one_drill_output()
         → IsDrillOutput passphrase after limit input other another
         → (text ≡ other) × (answer ≡ another) }
 {
-    passphrases_are_printable_or_not();
+    one_checked_set();
     one_lack();
-    accepted_inputs_are_share_sets();
-    one_set();
     one_listing();
     one_outcome();
 }
@@ -283,10 +286,8 @@ pub fn some_drill_output()
         → (text : List ℕ) × (answer : Result Done Fault)
         × IsDrillOutput passphrase after (suc limit) input text answer }
 {
-    passphrases_are_printable_or_not();
+    one_checked_set();
     one_lack();
-    accepted_inputs_are_share_sets();
-    every_input_is_read();
     quorum_or_lack();
     drill_laws();
 }
@@ -299,9 +300,8 @@ pub fn created_backups_drill()
         → IsDrillOutput passphrase after limit input text answer
         → DrillsCreated passphrase after limit input text answer }
 {
-    passphrases_are_printable_or_not();
+    one_checked_set();
     accepted_inputs_are_share_sets();
-    one_set();
     one_outcome();
     every_quorum_recovers();
     mnemonics_of_a_backup_are_a_set();

@@ -6,6 +6,7 @@ mod collect;
 mod creating;
 mod device;
 mod drill;
+mod exponent;
 mod fault;
 pub mod laws;
 mod lines;
@@ -20,10 +21,11 @@ mod slices;
 pub use creating::run_create;
 pub use device::Counting;
 pub use drill::{Done, Undrilled, run_drill};
+pub use exponent::exponent_in;
 pub use fault::{DeviceFailure, Fault, LineRefusal, Refusal, RefusedLine, Stop};
 pub use listing::{Listing, drill_lines};
 pub use memory::{TooShort, Unwritten, create_lines, recover_secret};
-pub use recover::{Unrecovered, run_recover};
+pub use recover::run_recover;
 pub use s39_backup::{
     CreateError, Created, Members, Memo, Mismatch, Options, Plan, PlanError, RecoverError, create,
     recover_by, refit,

@@ -6,12 +6,12 @@ ghost use Rattle.s39_set.specs.Looks.{most_step_looks};
 ghost use Rattle.s39_set.specs.Quorums.{IsQuorum, IsFirstQuorumAfter};
 ghost use Rattle.s39_set.specs.ShareSet.{IsShareSet};
 ghost use Rattle.s39_backup.specs.Outcome.{AreParams};
-ghost use Rattle.s39_tool.specs.Accepted.{IsReadAs};
+ghost use Rattle.s39_tool.specs.Accepted.{IsCheckedSet};
 ghost use Rattle.s39_tool.specs.Input.{whole};
 ghost use Rattle.s39_tool.specs.Drill.{IsDrillOutput, StartsAt, last_line};
 ghost use Rattle.s39_tool.specs.Fitting.{IsInFront, Lists, IsTried, Fills};
 
-use crate::collect::set_in;
+use crate::collect::checked_set_in;
 use crate::drill::{following, last_line, mismatch_in, outcome_of, quorum_line, start_of};
 use crate::fault::Fault;
 use crate::laws::drill_laws;
@@ -19,7 +19,6 @@ use crate::memory::{TooShort, Unwritten};
 use crate::output::Line;
 use crate::slices::put;
 use s39_backup::{Memo, params_of};
-use s39_kdf::check_passphrase;
 use s39_set::laws::listings_join;
 use s39_set::{Looks, Quorum, ShareSet};
 
@@ -76,8 +75,8 @@ fn start_in(
     looks: &mut Looks,
 ) -> Result<(ShareSet, Option<Quorum>), Fault>
     requires looks { looks.old ≤ u64.MAX - most_step_looks }
-    ensures printable { IsOk result → All IsPrintable passphrase.now }
-    ensures read { IfOk result (λ found. IsReadAs (whole lines.now) (Ok found.0)) }
+    ensures checked { IfOk result (λ found.
+        IsCheckedSet passphrase.now (whole lines.now) (Ok found.0)) }
     ensures is_set { IfOk result (λ found. IsShareSet found.0) }
     ensures starts { IfOk result (λ found.
         StartsAt found.0 (option_copied after.entry) found.1) }
@@ -86,8 +85,7 @@ fn start_in(
         [] (Err fault)) }
     ensures looks { looks.new ≤ looks.old + most_step_looks }
 {
-    check_passphrase(passphrase)?;
-    let set = set_in(lines)?;
+    let set = checked_set_in(passphrase, lines)?;
     let start = start_of(&set, after, looks)?;
     Ok((set, start))
 }

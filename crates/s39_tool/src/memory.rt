@@ -7,13 +7,13 @@ ghost use Rattle.s39_tool.specs.Fitting.{IsInFront, Puts};
 ghost use Rattle.s39_tool.specs.Input.{whole};
 ghost use Rattle.s39_tool.specs.Recover.{IsRecoverOutput, secret_line};
 
-use crate::collect::set_in;
+use crate::collect::checked_set_in;
 use crate::creating::mnemonic_line;
 use crate::fault::Fault;
 use crate::recover::secret_of;
 use crate::slices::put;
 use s39_backup::{Created, Options, Plan, create};
-use s39_kdf::{Bytes, check_passphrase};
+use s39_kdf::Bytes;
 use s39_words::Share;
 use s39_words::laws::{every_share_has_a_printed_form, one_printed_form};
 
@@ -71,10 +71,8 @@ pub fn recover_secret(passphrase: &[u8], lines: &[u8]) -> Result<Bytes, Fault>
     ensures refused { IfErr result (λ fault.
         IsRecoverOutput passphrase.now (whole lines.now) [] (Err fault)) }
 {
-    check_passphrase(passphrase)?;
-    let set = set_in(lines)?;
-    let secret = secret_of(&set, passphrase)?;
-    Ok(secret)
+    let set = checked_set_in(passphrase, lines)?;
+    secret_of(&set, passphrase)
 }
 
 /// Creates a backup of a secret, and puts the text that `run_create` writes for these random bytes to the front of `text`:

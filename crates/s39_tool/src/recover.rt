@@ -2,41 +2,19 @@
 ghost use Rattle.std.specs.Prelude.{◌≡◌, ◌≢◌, ◌<◌, Ok, Err, IfOk, IfErr};
 ghost use Rattle.s39_kdf.specs.declared.limits.BadPassphrase.{BadPassphrase};
 ghost use Rattle.s39_tool.specs.Fault.{fault_of};
-ghost use Rattle.s39_tool.specs.Recover.{HasOutcome, IsUnrecovered, IsRecoverOutput, secret_line};
+ghost use Rattle.s39_tool.specs.Recover.{IsRecovered, IsRecoverOutput, secret_line};
 ghost use Rattle.s39_tool.specs.OfBackup.{RecoversCreated};
 ghost use Rattle.s39_tool.specs.Runs.{Runs};
 
-use crate::collect::set_of;
+use crate::collect::checked_set;
 use crate::device::Counting;
 use crate::fault::{DeviceFailure, Fault, Refusal};
 use crate::laws::created_backups_recover;
 use crate::output::{Line, push_hex, write_text};
-use s39_backup::{Mismatch, recover_quorum};
-use s39_kdf::{Bytes, check_passphrase};
-use s39_set::{SetLack, ShareSet, first};
+use s39_backup::recover_quorum;
+use s39_kdf::Bytes;
+use s39_set::{ShareSet, first};
 use std::io::{Read, Write};
-
-/// Why a set gives no secret.
-#[derive(Clone, Copy, Debug, PartialEq, Eq)]
-pub enum Unrecovered {
-    /// The set has no quorum.
-    Lack(SetLack),
-    /// The digests of its least quorum don't match.
-    DigestMismatch(Mismatch),
-}
-
-impl From<Unrecovered> for Fault {
-    ghost use Rattle.s39_tool.specs.Recover.{fault_of_unrecovered};
-
-    ghost from_gives = { λ cause fault. fault ≡ fault_of_unrecovered cause };
-
-    fn from(cause: Unrecovered) -> Fault {
-        match cause {
-            Unrecovered::Lack(lack) => Fault::from(Refusal::Lack(lack)),
-            Unrecovered::DigestMismatch(mismatch) => Fault::from(Refusal::DigestMismatch(mismatch)),
-        }
-    }
-}
 
 /// Writes the secret that the least quorum of the input's shares recovers with the passphrase, in lower-case
 /// hexadecimal, one line. Shares beyond that quorum are accepted, and repeats change nothing. A line with no byte but
@@ -73,20 +51,19 @@ pub fn run_recover<R: Read, W: Write>(
         → result ≡ Err (fault_of (Refusal.Passphrase bad)) → input.new ≡ input.old }
 {
     created_backups_recover();
-    check_passphrase(passphrase)?;
-    let set = set_of(input)?;
+    let set = checked_set(passphrase, input)?;
     let secret = secret_of(&set, passphrase)?;
     write_text(output, secret_line(&secret).as_slice())?;
     Ok(())
 }
 
 /// The secret that the least quorum of a set recovers.
-pub(crate) fn secret_of(set: &ShareSet, passphrase: &[u8]) -> Result<Bytes, Unrecovered>
-    ensures secret { IfOk result (λ secret. HasOutcome set.now passphrase.now (Ok secret.items)) }
-    ensures refused { IfErr result (IsUnrecovered set.now passphrase.now) }
+pub(crate) fn secret_of(set: &ShareSet, passphrase: &[u8]) -> Result<Bytes, Fault>
+    ensures secret { IfOk result (λ secret. IsRecovered passphrase.now set.now (Ok secret.items)) }
+    ensures refused { IfErr result (λ fault. IsRecovered passphrase.now set.now (Err fault)) }
 {
-    let quorum = first(set).map_err(Unrecovered::Lack)?;
-    recover_quorum(set, &quorum, passphrase).map_err(Unrecovered::DigestMismatch)
+    let quorum = first(set)?;
+    Ok(recover_quorum(set, &quorum, passphrase)?)
 }
 
 /// The line that shows a secret.

@@ -1,13 +1,9 @@
 -- A drill of mnemonics of a created backup.
-use Rattle.std.proofs.Common.{◌≡◌, ℕ, List, [], ◌∷◌, ◌++◌, map, All, refl, sym, ap, ap₂, ◌∙◌, subst, inl, inr, Option, IfSome, Result, Ok, Err}
+use Rattle.std.proofs.Common.{◌≡◌, ℕ, List, [], ◌∷◌, ◌++◌, map, All, refl, sym, ap, ap₂, ◌∙◌, subst, Option, Result, Ok, Err}
 use Rattle.std.specs.List.{flat_map}
 use Rattle.std.proofs.lemmas.List.Elements.{All-head, All-tail, All-take, All-contains_itself}
-use Rattle.s39_kdf.specs.Limits.{IsPrintable}
-use Rattle.s39_kdf.specs.Passphrases.{PrintablePassphrasesHaveNone}
 use Rattle.s39_words.specs.declared.ShareFields.{ShareFields}
 use Rattle.s39_set.specs.ShareSet.{IsShareSet}
-use Rattle.s39_set.specs.declared.set_lack.SetLack.{SetLack}
-use Rattle.s39_set.specs.Lack.{IsLack}
 use Rattle.s39_set.specs.Quorums.{IsQuorum}
 use Rattle.s39_set.specs.Listing.{IsListing}
 use Rattle.s39_backup.specs.declared.combination.Mismatch.{Mismatch}
@@ -16,12 +12,14 @@ use Rattle.s39_backup.specs.Created.{AreOfBackup}
 use Rattle.s39_tool.specs.declared.fault.Fault.{Fault}
 use Rattle.s39_tool.specs.declared.drill.Done.{Done}
 use Rattle.s39_tool.specs.Input.{Input}
-use Rattle.s39_tool.specs.Accepted.{IsReadAs}
+use Rattle.s39_tool.specs.Steps.{gives, refuses, nothing_for}
+use Rattle.s39_tool.specs.Accepted.{IsReadAs, IsCheckedSet, CheckedSetLaws}
 use Rattle.s39_tool.specs.OfBackup.{HoldsMnemonicsOf}
-use Rattle.s39_tool.specs.Drill.{Listed, quorum_line, last_line, mismatches_in, IsDrill, IsUndrilled, IsDrillOutput}
+use Rattle.s39_tool.specs.Drill.{Listed, quorum_line, last_line, mismatches_in, IsDrill, fault_of_undrilled, WritesDrillOf, IsDrillOutput}
 use Rattle.s39_tool.specs.Drill.{ListsSecret, ListsSecretOrCause, DrillsCreated}
+use Rattle.s39_tool.proofs.Steps.{then_next}
+use Rattle.s39_tool.proofs.Sets.Checked.{of_writing}
 use Rattle.s39_tool.proofs.Drills.Drilling.{Names}
-use Rattle.s39_tool.proofs.Sets.OneSet.{InputsAreReadOnce, AcceptedAreShareSets, same_set, not_accepted_and_refused}
 
 -- listed names are quorums
 pub listed_quorums : (set : List ShareFields) (after : Option Names) (limit : ℕ) (listed : List Names) → IsListing set after limit listed
@@ -43,9 +41,7 @@ no_mismatches : (secret : List ℕ) (listed : List Names) → mismatches_in (wit
 no_mismatches secret [] = refl
 no_mismatches secret (names ∷ listed) = no_mismatches secret listed
 
-module _ (none_unprintable : PrintablePassphrasesHaveNone)
-    (accepted_is_share_set : AcceptedAreShareSets) (one_set : InputsAreReadOnce)
-    (one_outcome : (set : List ShareFields) (names : Names) (passphrase : List ℕ) (outcome other : Result (List ℕ) Mismatch) → IsShareSet set
+module _ (one_outcome : (set : List ShareFields) (names : Names) (passphrase : List ℕ) (outcome other : Result (List ℕ) Mismatch) → IsShareSet set
     → IsQuorum set names
     → IsOutcome set names passphrase outcome → IsOutcome set names passphrase other → outcome ≡ other)
     (every_quorum_recovers : (set : List ShareFields) (names : Names) (passphrase secret : List ℕ) → IsShareSet set → IsQuorum set names
@@ -64,10 +60,9 @@ module _ (none_unprintable : PrintablePassphrasesHaveNone)
         (All-tail (λ (line : Listed). IsOutcome set line.0 passphrase line.1) (names, outcome) lines outcomes))
 
     -- a drill of shares of a created backup lists its secret
-    lists_secret : (after : Option Names) (limit : ℕ) (text lines : List ℕ) (more : Option Names) (mismatches : ℕ)
-        → IsDrill set passphrase after limit lines more mismatches
-        → text ≡ lines ++ last_line more → ListsSecret set secret after limit text × (mismatches ≡ 0)
-    lists_secret after limit text lines more mismatches d is_text =
+    lists_secret : (after : Option Names) (limit : ℕ) (lines : List ℕ) (more : Option Names) (mismatches : ℕ)
+        → IsDrill set passphrase after limit lines more mismatches → ListsSecret set secret after limit (lines ++ last_line more) × (mismatches ≡ 0)
+    lists_secret after limit lines more mismatches d =
         let listed = map (λ line. line.0) d.lines in
         let same = lines_have_secret d.lines (listed_quorums set after limit listed d.listing) d.outcomes in (
           record {
@@ -75,34 +70,28 @@ module _ (none_unprintable : PrintablePassphrasesHaveNone)
             more = more;
             listing = d.listing;
             goes_on = d.goes_on;
-            text_is = is_text ∙ ap (λ t. t ++ last_line more) (d.text_is ∙ ap (flat_map quorum_line) same ∙ secret_text secret listed);
+            text_is = ap (λ t. t ++ last_line more) (d.text_is ∙ ap (flat_map quorum_line) same ∙ secret_text secret listed);
           },
           d.mismatches_are ∙ ap mismatches_in same ∙ no_mismatches secret listed,
         )
 
-  module _ (passphrase secret : List ℕ) (after : Option Names) (limit : ℕ) (input : Input) (set : List ShareFields) (text : List ℕ)
-      (printable : All IsPrintable passphrase) (read : IsReadAs input (Ok set)) (backup : AreOfBackup set passphrase secret) where
-    complete : (answer : Result Done Fault) → IsDrillOutput passphrase after limit input text answer → ListsSecretOrCause set secret after limit text answer
-    complete (Ok done) p =
-        let same = same_set one_set input set p.set read p.read in
-        let drill = subst (λ s. IsDrill s passphrase after limit p.lines p.more done.mismatches) same p.drill in
-        let (lists, none) = lists_secret set passphrase secret
-        (accepted_is_share_set input set read) backup after limit text p.lines p.more done.mismatches drill p.text_is in (
-          subst (λ s. (lack : SetLack) → ¬ IsLack s lack) same p.no_lack,
-          subst (λ s. IfSome after (IsQuorum s)) same p.cursor,
-          lists,
-          none,
-        )
-    complete (Err fault) (nothing, inl q) = absurd (none_unprintable passphrase q.bad.position printable q.first)
-    complete (Err fault) (nothing, inr (inl (stop, printable', q, is))) = absurd (not_accepted_and_refused one_set input set stop read q)
-    complete (Err fault) (nothing, inr (inr q)) =
-        (nothing, (q.cause, subst (λ s. IsUndrilled s after q.cause) (same_set one_set input set q.set read q.read) q.refused, q.fault_is))
+    -- what is written of a drill of them
+    complete : (after : Option Names) (limit : ℕ) (text : List ℕ) (answer : Result Done Fault) → WritesDrillOf passphrase after limit set (text, answer)
+        → ListsSecretOrCause set secret after limit text answer
+    complete after limit text answer (gives _ (no_lack, cursor) (lines, more, m, d, written)) =
+        of_writing text (lines ++ last_line more) answer (Ok (record { mismatches = m })) written (ListsSecretOrCause set secret after limit)
+        (let (lists, none) = lists_secret after limit lines more m d in (no_lack, cursor, lists, none))
+    complete after limit text answer (refuses cause refused written) =
+        of_writing text [] answer (Err (fault_of_undrilled cause)) written (ListsSecretOrCause set secret after limit) (refl, (cause, refused, refl))
 
   -- what `drill` gives of mnemonics of a created backup
-  pub drills_created : ((passphrase secret : List ℕ) (input : Input) → HoldsMnemonicsOf passphrase secret input
+  pub drills_created : CheckedSetLaws → ((passphrase secret : List ℕ) (input : Input) → HoldsMnemonicsOf passphrase secret input
       → (set : List ShareFields) × IsReadAs input (Ok set) × AreOfBackup set passphrase secret)
       → (passphrase : List ℕ) (after : Option Names) (limit : ℕ) (input : Input) (text : List ℕ) (answer : Result Done Fault)
       → IsDrillOutput passphrase after limit input text answer → DrillsCreated passphrase after limit input text answer
-  drills_created are_a_set passphrase after limit input text answer output secret mnemonics =
+  drills_created laws are_a_set passphrase after limit input text answer output secret mnemonics =
       let (set, read, backup) = are_a_set passphrase secret input mnemonics in
-      (set, read, complete passphrase secret after limit input set text mnemonics.created.0 read backup answer output)
+      let checked : IsCheckedSet passphrase input (Ok set) = gives tt mnemonics.created.0 (gives set read refl) in
+      let drills = then_next (IsCheckedSet passphrase input) nothing_for (WritesDrillOf passphrase after limit) (laws.once passphrase input) set checked
+      (text, answer) output in
+      (set, read, complete set passphrase secret (laws.is_set passphrase input set checked) backup after limit text answer drills)

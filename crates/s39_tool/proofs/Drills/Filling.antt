@@ -1,12 +1,11 @@
 -- A drill in a slice, a line at a time.
 use Rattle.std.proofs.Common.{◌≡◌, ℕ, suc, ◌+◌, ◌-◌, ◌<◌, ◌≤◌, List, [], ◌++◌, length, take, drop, is_some, false, ◌⊎◌}
 use Rattle.std.proofs.Common.{inl, inr, refl, sym, ap, ◌∙◌, subst, append_assoc, append-nil, arith}
-use Rattle.std.proofs.Common.{Option, Some, None, All, Result, Ok, Err, IfOk, IfErr}
+use Rattle.std.proofs.Common.{Option, Some, None, Result, Ok, Err, IfOk, IfErr}
 use Rattle.std.proofs.lemmas.Bool.{cases_lt}
 use Rattle.std.proofs.lemmas.List.{length-append}
 use Rattle.std.proofs.lemmas.Slice.{drop-append-drop}
 use Rattle.std.proofs.Math.Seq.{take-append_seam}
-use Rattle.s39_kdf.specs.Limits.{IsPrintable}
 use Rattle.s39_words.specs.declared.ShareFields.{ShareFields}
 use Rattle.s39_set.specs.ShareSet.{IsShareSet}
 use Rattle.s39_set.specs.Quorums.{IsFirstQuorumAfter, HasNoQuorumAfter}
@@ -16,11 +15,11 @@ use Rattle.s39_tool.specs.declared.memory.TooShort.{TooShort}
 use Rattle.s39_tool.specs.declared.memory.Unwritten.{Unwritten}
 use Rattle.s39_tool.specs.declared.memory.Unwritten.TheVariants.{TooShort as SliceTooShort}
 use Rattle.s39_tool.specs.Input.{Input}
-use Rattle.s39_tool.specs.Accepted.{IsReadAs}
+use Rattle.s39_tool.specs.Accepted.{IsCheckedSet}
+use Rattle.s39_tool.specs.Steps.{gives}
 use Rattle.s39_tool.specs.Drill.{DrillLaws, last_line, IsDrill, IsDrillOutput, IsNext, StartsAt}
 use Rattle.s39_tool.specs.Fitting.{IsInFront, Lists, more_after, IsTried, DrillFits, FillsSlice, Fills, IsFilling}
 use Rattle.s39_tool.proofs.Drills.Drilling.{Names, drill_ends, drill_step, drill_over}
-use Rattle.s39_tool.proofs.Drills.Output.{drilled}
 
 -- bytes that are put behind those at the front of a slice
 pub put_next : (text line old : List ℕ)
@@ -234,11 +233,11 @@ answered (Ok listing) = Ok listing
 answered (Err short) = Err (SliceTooShort short)
 
 module _ (none : (set : List ShareFields) (given : Option Names) (limit : ℕ) → HasNoQuorumAfter set given → IsListing set given limit [])
-    (passphrase : List ℕ) (after : Option Names) (printable : All IsPrintable passphrase) (input : Input) (set : List ShareFields)
-    (read : IsReadAs input (Ok set)) (next : Option Names) (starts : StartsAt set after next) (limit : ℕ) (old new : List ℕ) where
+    (passphrase : List ℕ) (after : Option Names) (input : Input) (set : List ShareFields) (checked : IsCheckedSet passphrase input (Ok set))
+    (next : Option Names) (starts : StartsAt set after next) (limit : ℕ) (old new : List ℕ) where
   output : (listed : ℕ) (lines : List ℕ) (more : Option Names) (m : ℕ) → IsDrill set passphrase after listed lines more m
       → IsDrillOutput passphrase after listed input (lines ++ last_line more) (Ok (record { mismatches = m }))
-  output listed lines more m d = drilled passphrase after listed printable input set lines more m read starts.no_lack starts.cursor d
+  output listed lines more m d = gives set checked (gives tt (starts.no_lack, starts.cursor) (lines, more, m, d, refl))
 
   lists : (result : Result Listing TooShort) → Fills set passphrase after limit old new result
       → Lists (λ n. IsDrillOutput passphrase after n input) limit old new (answered result)

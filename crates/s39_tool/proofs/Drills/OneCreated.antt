@@ -14,7 +14,7 @@ use Rattle.s39_tool.specs.OfBackup.{HoldsMnemonicsOf, IsSecretOrLack, RecoversCr
 use Rattle.s39_tool.specs.Drill.{quorum_line, last_line, last_reached, GoesOn, fault_of_undrilled, ListsSecret, ListsSecretOrCause, DrillsCreated}
 use Rattle.s39_tool.proofs.Drills.Drilling.{Names}
 use Rattle.s39_tool.proofs.Drills.OneDrill.{goes_on_once}
-use Rattle.s39_tool.proofs.Drills.OneOutput.{undrilled_once, drilled_or_not}
+use Rattle.s39_tool.proofs.Drills.Outputs.{undrilled_once, drilled_or_not}
 use Rattle.s39_tool.proofs.Sets.OneSet.{InputsAreReadOnce, same_set}
 
 -- ---- of `recover`

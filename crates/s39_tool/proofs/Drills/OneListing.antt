@@ -10,6 +10,7 @@ use Rattle.s39_tool.specs.declared.memory.Unwritten.TheVariants.{Refused, TooSho
 use Rattle.s39_tool.specs.Input.{Input}
 use Rattle.s39_tool.specs.Drill.{IsDrillOutput}
 use Rattle.s39_tool.specs.Fitting.{ListsWhatFits, Lists}
+use Rattle.s39_tool.proofs.Drills.Outputs.{refused_with}
 
 abbrev mismatches_of : Result Done Fault → ℕ
 mismatches_of (Ok done) = done.mismatches
@@ -38,7 +39,8 @@ module _ (one_drill_output : (passphrase : List ℕ) (after : Option (List (ℕ 
   not_refused : (n : ℕ) (text : List ℕ) (mismatches : ℕ) (fault : Fault) → Writes n text mismatches
       → IsDrillOutput passphrase after limit input [] (Err fault) → ⊥
   not_refused n text mismatches fault writes refused =
-      let same = one_drill_output passphrase after n input text [] (Ok (record { mismatches = mismatches })) (Err fault) writes refused in
+      let same = one_drill_output passphrase after n input text [] (Ok (record { mismatches = mismatches })) (Err fault) writes
+      (refused_with passphrase after limit n input [] fault refused) in
       let differ = same.1 in
       absurd (cc)
 

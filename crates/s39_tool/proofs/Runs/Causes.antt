@@ -1,5 +1,5 @@
 -- Whose answer a run gives, and why a passphrase and a secret are refused.
-use Rattle.std.proofs.Common.{◌≡◌, ℕ, Bool, true, false, List, length, ap, refl, sym, ◌∙◌, subst, inl, inr, arith, Option, Result, Err}
+use Rattle.std.proofs.Common.{◌≡◌, ℕ, Bool, true, false, List, [], ◌++◌, length, ap, refl, sym, ◌∙◌, subst, inl, inr, arith, Option, Result, Ok, Err}
 use Rattle.s39_kdf.specs.declared.limits.BadPassphrase.{BadPassphrase}
 use Rattle.s39_kdf.specs.declared.limits.BadSecretLength.{BadSecretLength}
 use Rattle.s39_kdf.specs.Limits.{IsFirstUnprintable, IsSecretLength}
@@ -12,16 +12,19 @@ use Rattle.s39_tool.specs.declared.fault.Refusal.TheVariants.{Passphrase, Secret
 use Rattle.s39_tool.specs.declared.fault.Fault.{Fault}
 use Rattle.s39_tool.specs.declared.drill.Undrilled.{Undrilled}
 use Rattle.s39_tool.specs.declared.drill.Undrilled.TheVariants.{Lack, NotAQuorum}
-use Rattle.s39_tool.specs.declared.recover.Unrecovered.{Unrecovered}
-use Rattle.s39_tool.specs.declared.recover.Unrecovered.TheVariants.{Lack as LacksQuorum, DigestMismatch}
+use Rattle.s39_tool.specs.declared.drill.Done.{Done}
 use Rattle.s39_tool.specs.Device.{Counted}
 use Rattle.s39_tool.specs.Input.{Input}
 use Rattle.s39_tool.specs.Fault.{fault_of, fault_of_stop, write_failures}
-use Rattle.s39_tool.specs.Recover.{IsRecoverOutput, fault_of_unrecovered}
-use Rattle.s39_tool.specs.Drill.{IsDrillOutput, fault_of_undrilled}
+use Rattle.s39_tool.specs.Steps.{gives, refuses}
+use Rattle.s39_tool.specs.Accepted.{IsCheckedSet}
+use Rattle.s39_tool.specs.Recover.{secret_line, IsRecoverOutput}
+use Rattle.s39_tool.specs.Drill.{last_line, IsDrillOutput, fault_of_undrilled}
 use Rattle.s39_tool.specs.Create.{Asked, IsCreateOutput, fault_of_creation}
 use Rattle.s39_tool.specs.Runs.{Writes, Runs}
+use Rattle.s39_tool.proofs.Sets.Checked.{writing, same_writing}
 use Rattle.s39_tool.proofs.Runs.Devices.{some_input}
+use Rattle.s39_tool.proofs.Runs.Recovering.{recovered_fault}
 
 -- where no write failed, the answer is that of an output of some input
 pub of_some : {R W T : Type 0} (remaining : R → Option (List ℕ)) (contents : W → Option (List ℕ)) (IsOutput : Input → List ℕ → Result T Fault → Type 0)
@@ -33,7 +36,7 @@ of_some remaining contents IsOutput reader read_to writer written_to answer none
     let same : written_to.failures ≡ writer.failures = omega arith in
     (input, w.text, subst (λ a. IsOutput input w.text a) (sym (w.whole same).1) w.output)
 
-abbrev is_passphrase : Refusal → Bool
+abbrev pub is_passphrase : Refusal → Bool
 is_passphrase (Passphrase bad) = true
 is_passphrase _ = false
 
@@ -53,12 +56,8 @@ undrilled_elsewhere : (cause : Undrilled) → is_passphrase (fault_of_undrilled 
 undrilled_elsewhere (Lack lack) = refl
 undrilled_elsewhere NotAQuorum = refl
 
-unrecovered_elsewhere : (cause : Unrecovered) → is_passphrase (fault_of_unrecovered cause).refusal ≡ false
-unrecovered_elsewhere (LacksQuorum lack) = refl
-unrecovered_elsewhere (DigestMismatch mismatch) = refl
-
 -- a fault of the passphrase is none of another kind, nor is one of the secret
-not_of_passphrase : (bad : BadPassphrase) (fault : Fault) → fault_of (Passphrase bad) ≡ fault → is_passphrase fault.refusal ≡ false → ⊥
+pub not_of_passphrase : (bad : BadPassphrase) (fault : Fault) → fault_of (Passphrase bad) ≡ fault → is_passphrase fault.refusal ≡ false → ⊥
 not_of_passphrase bad fault is other = let both : true ≡ false = ap (λ (f : Fault). is_passphrase f.refusal) is ∙ other in absurd (cc)
 
 not_of_secret : (bad : BadSecretLength) (fault : Fault) → fault_of (SecretLength bad) ≡ fault → is_secret fault.refusal ≡ false → ⊥
@@ -70,21 +69,41 @@ place_is : (passphrase : List ℕ) (bad other : BadPassphrase) → fault_of (Pas
 place_is passphrase bad other is first = subst (IsFirstUnprintable passphrase) (sym (ap (λ (f : Fault). place_in f.refusal) is)) first
 
 -- a passphrase is refused for its first byte that isn't printable
+checked_cause : (passphrase : List ℕ) (input : Input) (bad : BadPassphrase) (fault : Fault) → IsCheckedSet passphrase input (Err fault)
+    → fault_of (Passphrase bad) ≡ fault → IsFirstUnprintable passphrase bad.position
+checked_cause passphrase input bad fault (refuses other first is) same =
+    let faults : fault ≡ fault_of (Passphrase other) = cc in place_is passphrase bad other (same ∙ faults) first
+checked_cause passphrase input bad fault (gives _ printable (refuses stop read is)) same =
+    let faults : fault ≡ fault_of_stop stop = cc in absurd (not_of_passphrase bad (fault_of_stop stop) (same ∙ faults) (stops_elsewhere stop))
+checked_cause passphrase input bad fault (gives _ printable (gives set read is)) same = absurd (cc)
+
+-- what is answered is the fault
+fault_is : {T : Type 0} (text other : List ℕ) (fault another : Fault) → writing {T = T} (Err fault) text ≡ writing (Err another) other → fault ≡ another
+fault_is {T} text other fault another same = let answers = (same_writing {T = T} text other (Err fault) (Err another) same).1 in cc
+
+-- a refusal isn't what is answered of all that was asked for
+not_done : {T : Type 0} (text other : List ℕ) (fault : Fault) (done : T) → writing (Err fault) text ≡ writing (Ok done) other → ⊥
+not_done {T} text other fault done same = let answers = (same_writing {T = T} text other (Err fault) (Ok done) same).1 in absurd (cc)
+
 pub recover_cause : (passphrase : List ℕ) (input : Input) (text : List ℕ) (bad : BadPassphrase)
     → IsRecoverOutput passphrase input text (Err (fault_of (Passphrase bad))) → IsFirstUnprintable passphrase bad.position
-recover_cause passphrase input text bad (none, inl p) = place_is passphrase bad p.bad p.fault_is p.first
-recover_cause passphrase input text bad (none, inr (inl (stop, printable, read, is))) =
-    absurd (not_of_passphrase bad (fault_of_stop stop) is (stops_elsewhere stop))
-recover_cause passphrase input text bad (none, inr (inr p)) =
-    absurd (not_of_passphrase bad (fault_of_unrecovered p.cause) p.fault_is (unrecovered_elsewhere p.cause))
+recover_cause passphrase input text bad (refuses fault checked is) =
+    checked_cause passphrase input bad fault checked (fault_is {T = Unit {0}} text [] (fault_of (Passphrase bad)) fault is)
+recover_cause passphrase input text bad (gives set checked (gives secret so is)) =
+    absurd (not_done {T = Unit {0}} text (secret_line secret) (fault_of (Passphrase bad)) tt is)
+recover_cause passphrase input text bad (gives set checked (refuses fault so is)) =
+    absurd (not_of_passphrase bad fault (fault_is {T = Unit {0}} text [] (fault_of (Passphrase bad)) fault is)
+    (recovered_fault (λ f. is_passphrase f.refusal ≡ false) (λ lack. refl) (λ mismatch. refl) passphrase set fault so))
 
 pub drill_cause : (passphrase : List ℕ) (after : Option (List (ℕ × ℕ))) (limit : ℕ) (input : Input) (text : List ℕ) (bad : BadPassphrase)
     → IsDrillOutput passphrase after limit input text (Err (fault_of (Passphrase bad))) → IsFirstUnprintable passphrase bad.position
-drill_cause passphrase after limit input text bad (none, inl p) = place_is passphrase bad p.bad p.fault_is p.first
-drill_cause passphrase after limit input text bad (none, inr (inl (stop, printable, read, is))) =
-    absurd (not_of_passphrase bad (fault_of_stop stop) is (stops_elsewhere stop))
-drill_cause passphrase after limit input text bad (none, inr (inr p)) =
-    absurd (not_of_passphrase bad (fault_of_undrilled p.cause) p.fault_is (undrilled_elsewhere p.cause))
+drill_cause passphrase after limit input text bad (refuses fault checked is) =
+    checked_cause passphrase input bad fault checked (fault_is {T = Done} text [] (fault_of (Passphrase bad)) fault is)
+drill_cause passphrase after limit input text bad (gives set checked (gives _ so (lines, more, m, drill, is))) =
+    absurd (not_done {T = Done} text (lines ++ last_line more) (fault_of (Passphrase bad)) (record { mismatches = m }) is)
+drill_cause passphrase after limit input text bad (gives set checked (refuses cause so is)) =
+    absurd (not_of_passphrase bad (fault_of_undrilled cause)
+    (fault_is {T = Done} text [] (fault_of (Passphrase bad)) (fault_of_undrilled cause) is) (undrilled_elsewhere cause))
 
 pub create_cause : (asked : Asked) (input : Input) (text : List ℕ) (bad : BadPassphrase)
     → IsCreateOutput asked input text (Err (fault_of (Passphrase bad))) → IsFirstUnprintable asked.passphrase bad.position

@@ -58,9 +58,9 @@ of_nothing remaining reader Is is =
     (λ rest ended. is (record { bytes = rest; ended = ended }))
 
 -- what follows from what holds of the input
-pub OfInput-map : {R : Type 0} (remaining : R → Option (List ℕ)) (first reader : Counted R) (Is Is' : Input → Type 0) → OfInput remaining first reader Is
+pub OfInput-map : {R : Type 0} {remaining : R → Option (List ℕ)} {first reader : Counted R} {Is Is' : Input → Type 0} → OfInput remaining first reader Is
     → ((input : Input) → Is input → Is' input) → OfInput remaining first reader Is'
-OfInput-map remaining first reader Is Is' of then = record {
+OfInput-map of then = record {
   came = of.came;
   consumed = of.consumed;
   so = elim of.so [
@@ -134,18 +134,3 @@ of_cut_off remaining first reader Is of other = elim of.so [
   | inr (inl e) ↦ absurd (other e.no_failure)
   | inr (inr f) ↦ (of.came, of.consumed, f.of_beginning)
 ]
-
-reads_within : (a b : Option (List ℕ)) (came : List ℕ) (n m : ℕ) → Consumes a b came → n ≤ m + length came + 1 → IfSome a (λ bytes. n ≤ m + length bytes + 1)
-reads_within None b came n m p few = tt
-reads_within (Some x) None came n m p few = absurd p
-reads_within (Some x) (Some y) came n m p few = rw (p, length-append) (omega arith)
-
-pub few_of_known : {R : Type 0} (remaining : R → Option (List ℕ)) (first reader : Counted R) (Is : Input → Type 0) → OfInput remaining first reader Is
-    → IfSome (remaining first.device) (λ bytes. reader.reads ≤ first.reads + length bytes + 1)
-few_of_known remaining first reader Is of =
-    let few : reader.reads ≤ first.reads + length of.came + 1 = elim of.so [
-      | inl d ↦ (let few = d.few_reads in omega arith)
-      | inr (inl e) ↦ e.few_reads
-      | inr (inr f) ↦ f.few_reads
-    ] in
-    reads_within (remaining first.device) (remaining reader.device) of.came reader.reads first.reads of.consumed few

@@ -1,43 +1,96 @@
--- A run that recovers a secret.
-use Rattle.std.proofs.Common.{◌≡◌, ℕ, List, [], inl, inr, refl, All, Ok, Err}
-use Rattle.s39_kdf.specs.Limits.{IsPrintable}
+-- What is recovered from a set is one thing, and something.
+use Rattle.std.proofs.Common.{◌≡◌, ◌⊎◌, ℕ, List, [], refl, sym, ap, ◌∙◌, subst, subst₂, inl, inr}
+use Rattle.std.proofs.Common.{None, Option, Result, Ok, Err}
 use Rattle.s39_words.specs.declared.ShareFields.{ShareFields}
-use Rattle.s39_tool.specs.declared.fault.LineRefusal.{LineRefusal}
-use Rattle.s39_tool.specs.declared.fault.Stop.{Stop}
-use Rattle.s39_tool.specs.declared.fault.Stop.TheVariants.{AtLine, ReadFailed}
-use Rattle.s39_tool.specs.declared.recover.Unrecovered.{Unrecovered}
-use Rattle.s39_tool.specs.declared.recover.Unrecovered.TheVariants.{Lack, DigestMismatch}
+use Rattle.s39_set.specs.declared.set_lack.SetLack.{SetLack}
+use Rattle.s39_set.specs.ShareSet.{IsShareSet}
+use Rattle.s39_set.specs.Quorums.{IsQuorum, IsFirstQuorumAfter}
+use Rattle.s39_set.specs.Lack.{IsLack}
+use Rattle.s39_set.specs.SetFacts.{SetsHaveOneLack, SetsWithQuorumsHaveNone}
+use Rattle.s39_backup.specs.declared.combination.Mismatch.{Mismatch}
+use Rattle.s39_backup.specs.Outcome.{IsOutcome}
+use Rattle.s39_backup.specs.Created.{AreOfBackup}
+use Rattle.s39_tool.specs.declared.fault.Refusal.TheVariants.{Lack, DigestMismatch}
+use Rattle.s39_tool.specs.declared.fault.Fault.{Fault}
 use Rattle.s39_tool.specs.Input.{Input}
-use Rattle.s39_tool.specs.Fault.{fault_of_stop, read_failures_in, write_failures_in, stop_failures}
-use Rattle.s39_tool.specs.Accepted.{IsReadAs}
-use Rattle.s39_tool.specs.Recover.{secret_line, HasOutcome, IsUnrecovered, fault_of_unrecovered, IsRecoverOutput}
+use Rattle.s39_tool.specs.Fault.{fault_of}
+use Rattle.s39_tool.specs.Steps.{gives, refuses, nothing_for}
+use Rattle.s39_tool.specs.Accepted.{IsReadAs, IsCheckedSet}
+use Rattle.s39_tool.specs.OfBackup.{HoldsMnemonicsOf, IsSecretOrLack, RecoversCreated}
+use Rattle.s39_tool.specs.Recover.{secret_line, IsLeastOrLack, IsRecovered, WritesSecret, IsRecoverOutput}
+use Rattle.s39_tool.proofs.Steps.{AtMostOne, AtLeastOne, then_once, then_some}
+use Rattle.s39_tool.proofs.Sets.OneSet.{AcceptedAreShareSets}
 
--- which failures a fault says
-pub stop_reads : (stop : Stop LineRefusal) → read_failures_in (fault_of_stop stop).refusal ≡ stop_failures {T = Unit {0}} (Err stop)
-stop_reads (AtLine refused) = refl
-stop_reads ReadFailed = refl
+-- what is so of the faults of a lack and of a mismatch is so of the fault of a set that gives no secret
+pub recovered_fault : (P : Fault → Type 0) → ((lack : SetLack) → P (fault_of (Lack lack))) → ((mismatch : Mismatch) → P (fault_of (DigestMismatch mismatch)))
+    → (passphrase : List ℕ) (set : List ShareFields) (fault : Fault) → IsRecovered passphrase set (Err fault) → P fault
+recovered_fault P lacks mismatches passphrase set fault (refuses lack is_lack is) =
+    let same : fault_of (Lack lack) ≡ fault = cc in subst P same (lacks lack)
+recovered_fault P lacks mismatches passphrase set fault (gives names least (refuses mismatch outcome is)) =
+    let same : fault_of (DigestMismatch mismatch) ≡ fault = cc in subst P same (mismatches mismatch)
+recovered_fault P lacks mismatches passphrase set fault (gives names least (gives secret outcome is)) = absurd (cc)
 
-pub stop_writes : (stop : Stop LineRefusal) → write_failures_in (fault_of_stop stop).refusal ≡ 0
-stop_writes (AtLine refused) = refl
-stop_writes ReadFailed = refl
+-- each set has one least quorum or one lack, and each quorum one outcome
+module _ (one_lack : SetsHaveOneLack) (no_lack : SetsWithQuorumsHaveNone)
+    (one_first_quorum : (set : List ShareFields) (given : Option (List (ℕ × ℕ))) (names others : List (ℕ × ℕ))
+    → IsFirstQuorumAfter set given names → IsFirstQuorumAfter set given others → names ≡ others)
+    (one_outcome : (set : List ShareFields) (names : List (ℕ × ℕ)) (passphrase : List ℕ) (outcome other : Result (List ℕ) Mismatch) → IsShareSet set
+    → IsQuorum set names
+    → IsOutcome set names passphrase outcome → IsOutcome set names passphrase other → outcome ≡ other) where
+  least_once : (set : List ShareFields) → AtMostOne (IsLeastOrLack set)
+  least_once set (Ok names) (Ok others) p q = ap Ok (one_first_quorum set None names others p q)
+  least_once set (Ok names) (Err lack) p q = absurd (no_lack set names lack p.quorum q)
+  least_once set (Err lack) (Ok names) p q = absurd (no_lack set names lack q.quorum p)
+  least_once set (Err lack) (Err other) p q = ap Err (one_lack set lack other p q)
 
-pub unrecovered_reads : (cause : Unrecovered) → read_failures_in (fault_of_unrecovered cause).refusal ≡ 0
-unrecovered_reads (Lack lack) = refl
-unrecovered_reads (DigestMismatch mismatch) = refl
+  pub secret_once : (passphrase : List ℕ) (set : List ShareFields) → IsShareSet set → AtMostOne (WritesSecret passphrase set)
+  secret_once passphrase set is =
+      then_once (IsRecovered passphrase set) nothing_for _
+      (then_once (IsLeastOrLack set) _ _ (least_once set) (λ names least.
+      then_once (IsOutcome set names passphrase) _ _ (λ o p. one_outcome set names passphrase o p is least.quorum) (λ secret _ r s p q. p ∙ sym q)))
+      (λ secret _ r s p q. p ∙ sym q)
 
-pub unrecovered_writes : (cause : Unrecovered) → write_failures_in (fault_of_unrecovered cause).refusal ≡ 0
-unrecovered_writes (Lack lack) = refl
-unrecovered_writes (DigestMismatch mismatch) = refl
+-- every set has a least quorum or a lack
+module _ (quorum_or_lack : (set : List ShareFields) → IsShareSet set
+    → ((names : List (ℕ × ℕ)) × IsFirstQuorumAfter set None names) ⊎ ((lack : SetLack) × IsLack set lack)) where
+  -- and every quorum an outcome
+  pub some_secret : ((set : List ShareFields) (names : List (ℕ × ℕ)) (passphrase : List ℕ) → IsShareSet set → IsQuorum set names
+      → (outcome : Result (List ℕ) Mismatch) × IsOutcome set names passphrase outcome)
+      → (passphrase : List ℕ) (set : List ShareFields) → IsShareSet set → AtLeastOne (WritesSecret passphrase set)
+  some_secret every_outcome passphrase set is =
+      let least : AtLeastOne (IsLeastOrLack set) = elim (quorum_or_lack set is) [
+        | inl (names, least) ↦ (Ok names, least)
+        | inr (lack, lacks) ↦ (Err lack, lacks)
+      ] in
+      then_some (IsRecovered passphrase set) nothing_for _
+      (then_some (IsLeastOrLack set) _ _ least (λ names first.
+      then_some (IsOutcome set names passphrase) _ _ (every_outcome set names passphrase is first.quorum) (λ secret _. (Ok secret, refl))))
+      (λ secret _. ((secret_line secret, Ok tt), refl))
 
-module _ (passphrase : List ℕ) (printable : All IsPrintable passphrase) (input : Input) where
-  pub refused_input : (stop : Stop LineRefusal) → IsReadAs input (Err stop) → IsRecoverOutput passphrase input [] (Err (fault_of_stop stop))
-  refused_input stop read = (refl, inr (inl (stop, printable, read, refl)))
-
-  pub refused_set : (set : List ShareFields) (cause : Unrecovered) → IsReadAs input (Ok set) → IsUnrecovered set passphrase cause
-      → IsRecoverOutput passphrase input [] (Err (fault_of_unrecovered cause))
-  refused_set set cause read refused =
-      (refl, inr (inr (record { set = set; cause = cause; printable = printable; read = read; refused = refused; fault_is = refl })))
-
-  pub recovered : (set : List ShareFields) (secret text : List ℕ) → IsReadAs input (Ok set) → HasOutcome set passphrase (Ok secret) → text ≡ secret_line secret
-      → IsRecoverOutput passphrase input text (Ok tt)
-  recovered set secret text read outcome is = record { set = set; secret = secret; printable = printable; read = read; outcome = outcome; text_is = is }
+  -- of mnemonics of a created backup there is the output with its secret, or with a lack, and no other
+  pub recovers_created : AcceptedAreShareSets
+      → ((passphrase : List ℕ) (input : Input) (text other : List ℕ) (answer another : Result (Unit {0}) Fault)
+      → IsRecoverOutput passphrase input text answer → IsRecoverOutput passphrase input other another → (text ≡ other) × (answer ≡ another))
+      → ((set : List ShareFields) (names : List (ℕ × ℕ)) (passphrase secret : List ℕ) → IsShareSet set → IsQuorum set names
+      → AreOfBackup set passphrase secret → IsOutcome set names passphrase (Ok secret))
+      → ((passphrase secret : List ℕ) (input : Input) → HoldsMnemonicsOf passphrase secret input
+      → (set : List ShareFields) × IsReadAs input (Ok set) × AreOfBackup set passphrase secret)
+      → (passphrase : List ℕ) (input : Input) (text : List ℕ) (answer : Result (Unit {0}) Fault)
+      → IsRecoverOutput passphrase input text answer → RecoversCreated passphrase input text answer
+  recovers_created are_share_sets once every_quorum_recovers are_a_set passphrase input text answer output secret mnemonics =
+      let (set, read, backup) = are_a_set passphrase secret input mnemonics in
+      let is = are_share_sets input set read in
+      let checked : IsCheckedSet passphrase input (Ok set) = gives tt mnemonics.created.0 (gives set read refl) in
+      let so : IsSecretOrLack set secret text answer = elim (quorum_or_lack set is) [
+        | inl (names, least) ↦
+            let recovered : IsRecovered passphrase set (Ok secret) =
+            gives names least (gives secret (every_quorum_recovers set names passphrase secret is least.quorum backup) refl) in
+            let same = once passphrase input text (secret_line secret) answer (Ok tt) output (gives set checked (gives secret recovered refl)) in
+            subst₂ (λ (t : List ℕ) (a : Result (Unit {0}) Fault). IsSecretOrLack set secret t a) (sym same.0) (sym same.1) ((names, least.quorum), refl)
+        | inr (lack, lacks) ↦
+            let fault = fault_of (Lack lack) in
+            let refused : IsRecovered passphrase set (Err fault) = refuses lack lacks refl in
+            let same = once passphrase input text [] answer (Err fault) output (gives set checked (refuses fault refused refl)) in
+            subst₂ (λ (t : List ℕ) (a : Result (Unit {0}) Fault). IsSecretOrLack set secret t a) (sym same.0) (sym same.1) (refl, (lack, lacks, refl))
+      ] in
+      (set, read, so)

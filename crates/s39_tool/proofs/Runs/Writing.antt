@@ -65,33 +65,35 @@ module _ {W : Type 0} (contents : W → Option (List ℕ)) where
     }
 
 -- Of a run that writes one text at its end.
-module _ {R W T : Type 0} (remaining : R → Option (List ℕ)) (contents : W → Option (List ℕ)) (IsOutput : Input → List ℕ → Result T Fault → Type 0)
-    (reader read_to : Counted R) (writer written_to : Counted W) (text : List ℕ) (answer : Result T Fault)
-    (output : OfInput remaining reader read_to (λ input. IsOutput input text answer)) where
-  pub run_whole : WritesWhole contents writer text written_to → read_to.failures ≡ reader.failures + read_failures answer → write_failures answer ≡ 0
+module _ {R W T : Type 0} {remaining : R → Option (List ℕ)} {contents : W → Option (List ℕ)} {IsOutput : Input → List ℕ → Result T Fault → Type 0}
+    {reader read_to : Counted R} {writer written_to : Counted W} {text : List ℕ} where
+  pub run_whole : {answer : Result T Fault} → WritesWhole contents writer text written_to
+      → OfInput remaining reader read_to (λ input. IsOutput input text answer)
+      → read_to.failures ≡ reader.failures + read_failures answer → write_failures answer ≡ 0
       → Runs remaining contents IsOutput reader read_to writer written_to answer
-  run_whole written reads writes = record {
-    output = OfInput-map remaining reader read_to _ _ output (λ input is. writes_whole contents (IsOutput input) writer written_to text answer written is);
+  run_whole {answer} written output reads writes = record {
+    output = OfInput-map output (λ input is. writes_whole contents (IsOutput input) writer written_to text answer written is);
     read_failures_are = reads;
     write_failures_are = let same = written.no_failure in omega arith;
   }
 
-  pub run_part : WritesPart contents writer text written_to → read_to.failures ≡ reader.failures
-      → Runs remaining contents IsOutput reader read_to writer written_to (Err (fault_of (Device Write)))
-  run_part part reads = record {
-    output = OfInput-map remaining reader read_to _ _ output (λ input is. writes_part contents (IsOutput input) writer written_to text answer part is);
+  pub run_part : (answer : Result T Fault) → WritesPart contents writer text written_to
+      → OfInput remaining reader read_to (λ input. IsOutput input text answer)
+      → read_to.failures ≡ reader.failures → Runs remaining contents IsOutput reader read_to writer written_to (Err (fault_of (Device Write)))
+  run_part answer part output reads = record {
+    output = OfInput-map output (λ input is. writes_part contents (IsOutput input) writer written_to text answer part is);
     read_failures_are = omega arith;
     write_failures_are = part.failure;
   }
 
 -- what follows from what is written and answered
-pub Runs-map : {R W T : Type 0} (remaining : R → Option (List ℕ)) (contents : W → Option (List ℕ))
-    (IsOutput Follows : Input → List ℕ → Result T Fault → Type 0) (reader read_to : Counted R) (writer written_to : Counted W) (answer : Result T Fault)
+pub Runs-map : {R W T : Type 0} {remaining : R → Option (List ℕ)} {contents : W → Option (List ℕ)}
+    {IsOutput Follows : Input → List ℕ → Result T Fault → Type 0} {reader read_to : Counted R} {writer written_to : Counted W} {answer : Result T Fault}
     → Runs remaining contents IsOutput reader read_to writer written_to answer
     → ((input : Input) (text : List ℕ) (full : Result T Fault) → IsOutput input text full → Follows input text full)
     → Runs remaining contents Follows reader read_to writer written_to answer
-Runs-map remaining contents IsOutput Follows reader read_to writer written_to answer runs then = record {
-  output = OfInput-map remaining reader read_to _ _ runs.output (λ input w. record {
+Runs-map runs then = record {
+  output = OfInput-map runs.output (λ input w. record {
     text = w.text;
     full_answer = w.full_answer;
     output = then input w.text w.full_answer w.output;

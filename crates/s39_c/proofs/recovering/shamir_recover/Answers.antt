@@ -1,21 +1,8 @@
-use Rattle.std.proofs.Common.{inl, inr, Ok, Err, refl, subst}
-use Rattle.s39_tool.specs.Input.{whole}
-use Rattle.s39_c.specs.Answers.{Gives}
+use Rattle.std.proofs.Common.{refl, inr}
 use Rattle.s39_c.proofs.recovering.shamir_recover.Goals as goal
 
-pub returns-in-Ok-clause-created : goal.returns-in-Ok-clause-created
-returns-in-Ok-clause-created c =
-    inl (
-      c.in-Ok.recovered.items,
-      c.created_backups_recover.ensures c.args.passphrase.now (whole c.args.lines.now) _ (Ok tt) c.in-Ok.ensures.secret,
-      subst (λ bytes. Gives bytes c.args.secret.now c.give.new.out c.give.result) c.as_slice.ensures.value c.give.ensures,
-    )
+pub returns-in-None-clause-recovers : goal.returns-in-None-clause-recovers
+returns-in-None-clause-recovers c = inr (c.in-None.ensures.none refl, c.recover.ensures.recovers)
 
-pub returns-in-Err-clause-created : goal.returns-in-Err-clause-created
-returns-in-Err-clause-created c =
-    inr (
-      c.in-Err.fault,
-      c.created_backups_recover.ensures c.args.passphrase.now (whole c.args.lines.now) _ (Err c.in-Err.fault) c.in-Err.ensures.refused,
-      refl,
-      c.from.ensures,
-    )
+pub returns-in-None-clause-created : goal.returns-in-None-clause-created
+returns-in-None-clause-created c = inr (c.in-None.ensures.none refl, c.recover.ensures.created)

@@ -1,7 +1,7 @@
-use Rattle.std.proofs.Common.{◌≡◌, ◌<◌, ◌++◌, ℕ, length, map, take, Some, None, Err, Less, sym, ap, subst, ◌∙◌, arith}
+use Rattle.std.proofs.Common.{◌≡◌, ◌<◌, ◌++◌, ℕ, length, map, Some, None, Err, Less, sym, ap, subst, ◌∙◌, arith}
 use Rattle.std.proofs.lemmas.List.Elements.{All-nil}
 use Rattle.s39_set.specs.Names.{name_cmp, most_groups, most_members}
-use Rattle.s39_set.specs.Groups.{complete_groups, members_of}
+use Rattle.s39_set.specs.Groups.{complete_groups}
 use Rattle.s39_set.specs.ShareSet.{name_of}
 use Rattle.s39_set.specs.Quorums.{group_threshold_of, member_threshold_of, IsFirstQuorumAfter}
 use Rattle.s39_set.specs.Lack.{IsIncomplete}
@@ -9,8 +9,8 @@ use Rattle.s39_set.specs.Steps.{groups_taken}
 use Rattle.s39_set.specs.declared.set_lack.SetLack.TheVariants.{Incomplete}
 use Rattle.s39_set.proofs.OneLack.{lack_once}
 use Rattle.s39_set.proofs.Sublists.{AllPairs-nil}
-use Rattle.s39_set.proofs.Completion.{groups_from-complete, groups_taken-members}
-use Rattle.s39_set.proofs.SetQuorums.{first_members-least_quorum, incomplete_from_fewer, no_lack-from_meets}
+use Rattle.s39_set.proofs.StepOf.{groups_from-complete, least_first}
+use Rattle.s39_set.proofs.SetQuorums.{incomplete_from_fewer, no_lack-from_meets}
 use Rattle.s39_set.proofs.least.first.Goals as goal
 
 pub of-choice-requires-clause-names : goal.of-choice-requires-clause-names
@@ -25,10 +25,9 @@ module _ (c : goal.Then-complete-required) where
   lacks =
       let set = c.args.set.now in
       let required = c.in_ok-required.required in
-      let knows = c.of-choice.ensures.knows in
       let threshold : group_threshold_of set ≡ Some required = sym c.group_threshold.ensures ∙ c.in_ok-required.ensures.ok_part in
       let complete : c.count_groups-complete.result ≡ length (complete_groups (member_threshold_of set) (map name_of set)) =
-      c.count_groups-complete.ensures ∙ ap length (groups_from-complete set c.are_a_share_set.ensures c.of-choice.result knows.complete knows.at_hand 0) in
+      c.count_groups-complete.ensures ∙ ap length (groups_from-complete set c.are_a_share_set.ensures c.of-choice.result c.of-choice.ensures.knows.complete) in
       subst (λ (n : ℕ). IsIncomplete set n required) (sym complete) (incomplete_from_fewer set c.are_a_share_set.ensures required threshold (omega arith))
 
 pub returns-then-complete-required-clause-lack : goal.returns-then-complete-required-clause-lack
@@ -42,18 +41,12 @@ least : (c : goal.After-push_groups) → IsFirstQuorumAfter c.args.set.now None 
 least c =
     let set = c.args.set.now in
     let required = c.in_ok-required.required in
-    let choice = c.of-choice.result in
     let knows = c.of-choice.ensures.knows in
-    let threshold : group_threshold_of set ≡ Some required = sym c.group_threshold.ensures ∙ c.in_ok-required.ensures.ok_part in
-    let complete : c.count_groups-complete.result ≡ length (complete_groups (member_threshold_of set) (map name_of set)) =
-    c.count_groups-complete.ensures ∙ ap length (groups_from-complete set c.are_a_share_set.ensures choice knows.complete knows.at_hand 0) in
-    let names : c.push_groups.new.quorum
-    ≡ members_of (member_threshold_of set) (map name_of set) (take required (complete_groups (member_threshold_of set) (map name_of set))) =
-    c.push_groups.ensures.names
-    ∙ ap (λ q. q ++ groups_taken set choice 0 required) c.new-quorum.ensures
-    ∙ groups_taken-members set c.are_a_share_set.ensures choice knows.complete knows.at_hand 0 required in
+    let names : c.push_groups.new.quorum ≡ groups_taken set c.of-choice.result 0 required =
+    c.push_groups.ensures.names ∙ ap (λ q. q ++ groups_taken set c.of-choice.result 0 required) c.new-quorum.ensures in
     subst (IsFirstQuorumAfter set None) (sym names)
-    (first_members-least_quorum set c.are_a_share_set.ensures required threshold (omega arith))
+    (least_first set c.are_a_share_set.ensures c.of-choice.result knows.complete knows.at_hand required
+    (sym c.group_threshold.ensures ∙ c.in_ok-required.ensures.ok_part) (omega arith))
 
 pub returns-clause-first : goal.returns-clause-first
 returns-clause-first c = least c

@@ -4,7 +4,8 @@ use Rattle.std.proofs.lemmas.List.{get_or-set_other}
 use Rattle.s39_set.specs.Groups.{is_complete}
 use Rattle.s39_set.specs.Quorums.{member_threshold_of}
 use Rattle.s39_set.specs.ShareSet.{name_of}
-use Rattle.s39_set.proofs.CompleteAtHand.{complete_test, set_more, no_threshold}
+use Rattle.s39_set.proofs.FromMasks.{complete_test, set_more, no_threshold}
+use Rattle.s39_set.proofs.SetQuorums.{members-below}
 use Rattle.s39_set.proofs.next.groups_complete.Goals as goal
 use Rattle.s39_set.proofs.next.groups_complete.Goals.{in-Some, in_default}
 
@@ -19,8 +20,8 @@ loop-group-preserved c =
       | in-Some w ↦ (
           let value : Bool = nat_le w.in-Some.threshold c.count_members-members.result in
           let threshold =
-          complete_test shares c.requires.is_set c.args.at_hand.now c.requires.at_hand group w.in-Some.threshold c.loop-group-test.true
-          (sym w.in-Some.ensures) in
+          complete_test (member_threshold_of shares) (map name_of shares) c.args.at_hand.now c.requires.at_hand (members-below shares c.requires.is_set)
+          c.requires.is_set.ascending group w.in-Some.threshold c.loop-group-test.true (sym w.in-Some.ensures) in
           let here : value ≡ test group = ap (λ n. nat_le w.in-Some.threshold n) c.count_members-members.ensures.members ∙ sym threshold in
           let new : c.match-member_threshold.complete ≡ set old group value = w.complete-is ∙ ap (λ k. set old k value) w.from.ensures in
           let lengths : length (set old group value) ≡ length old = length-set old group value in
@@ -33,7 +34,7 @@ loop-group-preserved c =
             looks_are = omega arith;
           })
       | in_default w ↦ (
-          let none = no_threshold shares group (sym w.in_default.ensures) in
+          let none = no_threshold (member_threshold_of shares) (map name_of shares) group (sym w.in_default.ensures) in
           let new : c.match-member_threshold.complete ≡ old = w.complete-is in
           record {
             complete_are = λ g below.

@@ -3,6 +3,4 @@ use Rattle.s39_tool.proofs.laws.created_backups_drill.Goals as goal
 
 pub returns : goal.returns
 returns c =
-    drills_created c.passphrases_are_printable_or_not.ensures.none c.accepted_inputs_are_share_sets.ensures c.one_set.ensures c.one_outcome.ensures
-    c.every_quorum_recovers.ensures
-    c.mnemonics_of_a_backup_are_a_set.ensures
+    drills_created c.one_outcome.ensures c.every_quorum_recovers.ensures c.one_checked_set.ensures c.mnemonics_of_a_backup_are_a_set.ensures

@@ -1,7 +1,10 @@
-use Rattle.s39_tool.proofs.Drills.SomeOutput.{some_drill_output}
+use Rattle.std.proofs.Common.{suc}
+use Rattle.s39_tool.specs.Drill.{WritesDrillOf}
+use Rattle.s39_tool.proofs.Sets.Checked.{output_some}
+use Rattle.s39_tool.proofs.Drills.Outputs.{some_drill_of_set}
 use Rattle.s39_tool.proofs.laws.some_drill_output.Goals as goal
 
 pub returns : goal.returns
 returns c = λ passphrase after limit input.
-    some_drill_output c.drill_laws.ensures c.passphrases_are_printable_or_not.ensures.some c.one_lack.ensures.none
-    c.accepted_inputs_are_share_sets.ensures c.every_input_is_read.ensures c.quorum_or_lack.ensures passphrase limit input after
+    output_some c.one_checked_set.ensures (WritesDrillOf passphrase after (suc limit)) passphrase input
+    (λ set is. some_drill_of_set c.drill_laws.ensures c.one_lack.ensures.none c.quorum_or_lack.ensures set is passphrase after limit)

@@ -1,7 +1,9 @@
-use Rattle.s39_tool.proofs.Runs.SomeRecover.{some_output}
+use Rattle.s39_tool.specs.Recover.{WritesSecret}
+use Rattle.s39_tool.proofs.Sets.Checked.{output_some}
+use Rattle.s39_tool.proofs.Runs.Recovering.{some_secret}
 use Rattle.s39_tool.proofs.laws.some_recover_output.Goals as goal
 
 pub returns : goal.returns
-returns c =
-    some_output c.passphrases_are_printable_or_not.ensures.some c.every_input_is_read.ensures c.quorum_or_lack.ensures
-    c.every_quorum_has_an_outcome.ensures
+returns c = λ passphrase input.
+    output_some c.one_checked_set.ensures (WritesSecret passphrase) passphrase input
+    (some_secret c.quorum_or_lack.ensures c.every_quorum_has_an_outcome.ensures passphrase)

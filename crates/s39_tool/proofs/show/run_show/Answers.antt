@@ -12,7 +12,7 @@ returns g c =
     let (input, over) = some_input g.R.Read.remaining c.args.input.now c.take_lines.new.input _ run.runs in
     subst (Runs g.R.Read.remaining g.W.Write.contents IsShowOutput c.args.input.now c.take_lines.new.input c.args.output.now c.take_lines.new.taker)
     (sym (answered c.take_lines.result c.map_err.result c.map_err.ensures.cases)) (record {
-      output = OfInput-map g.R.Read.remaining c.args.input.now c.take_lines.new.input _ _ run.runs
+      output = OfInput-map run.runs
           (λ input. runs_shown g.W.Write.contents every input c.args.output.now c.take_lines.new.taker c.take_lines.result);
       read_failures_are = run.failures ∙ ap (λ n. c.args.input.now.failures + n) (sym (answers_read_failures c.take_lines.result));
       write_failures_are = shown_failures g.W.Write.contents every input c.args.output.now c.take_lines.new.taker

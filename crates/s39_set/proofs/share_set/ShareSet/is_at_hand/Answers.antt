@@ -1,22 +1,29 @@
-use Rattle.std.proofs.Common.{find, ap, sym, inl, inr, ⊎_elim, ◌∙◌}
-use Rattle.std.specs.Option.{is_some}
-use Rattle.s39_set.specs.ShareSet.{has_name}
-use Rattle.s39_set.proofs.Kept.{share_in_slot, no_share_past}
+use Rattle.std.proofs.Common.{◌<◌, ℕ, List, map, Contains, ⊎_elim, sym, subst, ◌∙◌, arith}
+use Rattle.std.proofs.lemmas.Bool.{false≢true}
+use Rattle.std.proofs.lemmas.List.Elements.{All-contains}
+use Rattle.s39_words.specs.declared.share.ShareFields.{ShareFields}
+use Rattle.s39_set.specs.Names.{most_groups, most_members}
+use Rattle.s39_set.specs.ShareSet.{name_of}
+use Rattle.s39_set.specs.Slots.{shares_at}
+use Rattle.s39_set.proofs.SetQuorums.{groups-below, members-below}
 use Rattle.s39_set.proofs.share_set.ShareSet.is_at_hand.Goals as goal
 
 pub returns-then-member-lt-MAX_MEMBERS : goal.returns-then-member-lt-MAX_MEMBERS
 returns-then-member-lt-MAX_MEMBERS c =
-    let inside = c.self.inside in
-    c.has.ensures
-    ∙ c.self.invariant.at_hand_are c.args.group c.args.member c.if-group-lt-MAX_GROUPS.true c.if-member-lt-MAX_MEMBERS.true
-    ∙ ap is_some
-    (sym (share_in_slot inside.common inside.at_hand inside.member_thresholds inside.slots c.self.invariant c.args.group c.args.member
-    c.if-member-lt-MAX_MEMBERS.true))
-    ∙ ap (λ shares. is_some (find (has_name c.args.group c.args.member) shares)) c.self.view_is
+    let at = c.self.invariant.at_hand_are c.args.group c.args.member c.if-group-lt-MAX_GROUPS.true c.if-member-lt-MAX_MEMBERS.true in
+    let has : List ShareFields → Type 0 = λ shares. Contains (map name_of shares) (c.args.group, c.args.member) in (
+      λ h. subst has c.self.view_is (at.0 (sym c.has.ensures ∙ h)),
+      λ among. c.has.ensures ∙ at.1 (subst has (sym c.self.view_is) among),
+    )
 
 pub returns-else-group-lt-MAX_GROUPS : goal.returns-else-group-lt-MAX_GROUPS
-returns-else-group-lt-MAX_GROUPS c =
-    let inside = c.self.inside in
-    ap is_some (sym (no_share_past inside.common inside.at_hand inside.member_thresholds inside.slots c.self.invariant c.args.group c.args.member
-    (⊎_elim (λ h. inr h.1) (λ h. inl h) c.else-group-lt-MAX_GROUPS.either)))
-    ∙ ap (λ shares. is_some (find (has_name c.args.group c.args.member) shares)) c.self.view_is
+returns-else-group-lt-MAX_GROUPS c = (
+  λ h. absurd (false≢true h),
+  λ among.
+      let names = map name_of (shares_at c.self.inside.slots) in
+      let name : ℕ × ℕ = (c.args.group, c.args.member) in
+      let here = subst (λ (shares : List ShareFields). Contains (map name_of shares) name) (sym c.self.view_is) among in
+      let group : c.args.group < most_groups = All-contains (λ n. n.0 < most_groups) names name (groups-below _ c.self.invariant.is_set) here in
+      let member : c.args.member < most_members = All-contains (λ n. n.1 < most_members) names name (members-below _ c.self.invariant.is_set) here in
+      absurd (⊎_elim (λ h. let past = h.1 in omega arith) (λ h. omega arith) c.else-group-lt-MAX_GROUPS.either),
+)

@@ -1,0 +1,159 @@
+-- The shares of a plan that those at hand determine: which they are, and which they determine.
+use Rattle.std.specs.Prelude.{◌≡◌, ◌⊎◌, ℕ, ◌+◌, ◌<◌, ◌≤◌, ◌==◌, ◌&&◌, not, nat_le, Bool, List, ◌∷◌, ◌++◌, length, map, filter, take, All, Contains}
+use Rattle.std.specs.Prelude.{Option, Some, None, Result, Ok, Err, IsSomeAnd}
+use Rattle.std.specs.List.{AllZip, enumerate_from, slice_get}
+use Rattle.s39_split.specs.Sharing.{secret_place}
+use Rattle.s39_split.specs.Recovery.{Combines}
+use Rattle.s39_split.specs.Completion.{Completes}
+use Rattle.s39_words.specs.declared.share.ShareFields.{ShareFields}
+use Rattle.s39_set.specs.ShareSet.{name_of, is_in_group}
+use Rattle.s39_backup.specs.declared.plan.Members.{Members}
+use Rattle.s39_backup.specs.declared.combination.Mismatch.{Mismatch}
+use Rattle.s39_backup.specs.declared.combination.Mismatch.TheVariants.{InGroup, OfGroups}
+use Rattle.s39_backup.specs.declared.reissue_error.ReissueError.{ReissueError}
+use Rattle.s39_backup.specs.declared.reissue_error.ReissueError.TheVariants.{Undetermined, DigestMismatch}
+
+-- ---- shares of a plan
+
+-- a share that a backup of this plan may have
+pub record IsOfPlan (group_threshold : ℕ) (groups : List Members) (share : ShareFields) : Type 0 where
+  pub threshold_is : share.group_threshold ≡ group_threshold
+  pub count_is : share.group_count ≡ length groups
+  pub member_is : IsSomeAnd (slice_get groups share.group_index)
+      (λ members. (share.member_index < members.count) × (share.member_threshold ≡ members.threshold))
+
+-- all of these are shares that a backup of this plan may have
+abbrev pub AreOfPlan : ℕ → List Members → List ShareFields → Type 0
+AreOfPlan group_threshold groups set = All (IsOfPlan group_threshold groups) set
+
+-- ---- what is at hand
+
+-- the members of a group that are at hand, each its member index and its value, in order
+abbrev pub members_at_hand : List ShareFields → ℕ → List (ℕ × List ℕ)
+members_at_hand set group = map (λ share. (share.member_index, share.value.items)) (filter (is_in_group group) set)
+
+-- the least of them, as many as the group needs; a group is its index and its members in the plan
+abbrev pub least_members : List ShareFields → ℕ × Members → List (ℕ × List ℕ)
+least_members set group = take group.1.threshold (members_at_hand set group.0)
+
+-- at least as many as a group needs are at hand
+abbrev pub is_at_hand : List ShareFields → ℕ × Members → Bool
+is_at_hand set group = nat_le group.1.threshold (length (members_at_hand set group.0))
+
+-- the groups of a plan of which that is so, without one
+abbrev pub other_groups : List ShareFields → List Members → ℕ → List (ℕ × Members)
+other_groups set groups group = filter (λ other. not (other.0 == group) && is_at_hand set other) (enumerate_from 0 groups)
+
+-- ---- the share of a group, from other groups
+
+-- the least members of a group combine to its share, or are refused, which is None
+abbrev pub LeastCombine : List ShareFields → ℕ × Members → Option (List ℕ) → Type 0
+LeastCombine set group outcome = Combines group.1.threshold (least_members set group) outcome
+
+-- those of each of these groups combine to its share, which stands here with its group index
+abbrev pub EachCombines : List ShareFields → List (ℕ × Members) → List (ℕ × List ℕ) → Type 0
+EachCombines set groups shares = AllZip (λ group share. (share.0 ≡ group.0) × LeastCombine set group (Some share.1)) groups shares
+
+-- each of these groups combines, and their shares to the share of a group, or are refused
+pub record TellGroup (set : List ShareFields) (others : List (ℕ × Members)) (group : ℕ) (outcome : Option (List ℕ)) : Type 0 where
+  pub shares : List (ℕ × List ℕ)
+  pub combine : EachCombines set others shares
+  pub complete : Completes (length others) shares group outcome
+
+-- this is the first of these groups whose members are refused
+pub record IsRefusedFirst (set : List ShareFields) (groups : List (ℕ × Members)) (group : ℕ) : Type 0 where
+  pub before : List (ℕ × Members)
+  pub members : Members
+  pub after : List (ℕ × Members)
+  pub shares : List (ℕ × List ℕ)
+  pub parts : groups ≡ before ++ (group, members) ∷ after
+  pub earlier : EachCombines set before shares
+  pub refused : LeastCombine set (group, members) None
+
+-- what other groups say that the share of a group is, or the mismatch of their digests: of the first of them that is
+-- refused, or else of the groups
+abbrev pub IsGroupShare : List ShareFields → List (ℕ × Members) → ℕ → Result (List ℕ) Mismatch → Type 0
+IsGroupShare set others group (Ok share) = TellGroup set others group (Some share)
+IsGroupShare set others group (Err (InGroup other)) = IsRefusedFirst set others other
+IsGroupShare set others group (Err OfGroups) = TellGroup set others group None
+
+-- ---- the value of a member
+
+module _ (set : List ShareFields) (group_threshold : ℕ) (groups : List Members) (group : ℕ) (members : Members) (member : ℕ) where
+  -- how many members of the group are at hand
+  abbrev pub count_at_hand : ℕ
+  count_at_hand = length (members_at_hand set group)
+
+  -- one member is missing, and there are as many other groups as are needed
+  abbrev pub IsOneShort : Type 0
+  IsOneShort = (count_at_hand + 1 ≡ members.threshold) × (group_threshold ≤ length (other_groups set groups group))
+
+  -- the members and the share of the group, which the least other groups say, or their mismatch
+  abbrev pub AreByOthers : Result (List (ℕ × List ℕ)) ReissueError → Type 0
+  AreByOthers (Ok points) =
+      (share : List ℕ) × IsGroupShare set (take group_threshold (other_groups set groups group)) group (Ok share)
+      × (points ≡ (secret_place, share) ∷ members_at_hand set group)
+  AreByOthers (Err (DigestMismatch mismatch)) =
+      IsGroupShare set (take group_threshold (other_groups set groups group)) group (Err mismatch)
+  AreByOthers (Err (Undetermined _)) = ⊥
+
+  -- The points that determine the group's members, as many as it needs: its least members; where it is one short, its
+  -- members and its share; else none, with both counts.
+  pub record ArePoints (points : Result (List (ℕ × List ℕ)) ReissueError) : Type 0 where
+    pub enough : members.threshold ≤ count_at_hand → points ≡ Ok (least_members set (group, members))
+    pub one_short : IsOneShort → AreByOthers points
+    pub too_few : count_at_hand < members.threshold → ¬ IsOneShort → points ≡ Err (Undetermined (record {
+      group = group;
+      member = member;
+      members = count_at_hand;
+      threshold = members.threshold;
+      others = length (other_groups set groups group);
+      required = group_threshold;
+    }))
+
+  -- the value of a member at which these points are completed, or the mismatch of their digest
+  abbrev pub IsValue : Result (List ℕ) ReissueError → Type 0
+  IsValue (Ok value) =
+      (points : List (ℕ × List ℕ)) × ArePoints (Ok points) × Completes members.threshold points member (Some value)
+  IsValue (Err error) =
+      ArePoints (Err error)
+      ⊎ ((error ≡ DigestMismatch (InGroup group))
+      × ((points : List (ℕ × List ℕ)) × ArePoints (Ok points) × Completes members.threshold points member None))
+
+-- ---- the share of a name
+
+-- a share like this one, with another name, member threshold and value
+abbrev pub share_like : ShareFields → ℕ × ℕ → ℕ → List ℕ → ShareFields
+share_like share name threshold value = record share {
+  group_index = name.0;
+  member_index = name.1;
+  member_threshold = threshold;
+  value = record { items = value };
+}
+
+-- a share that isn't at hand, or why those at hand don't determine it: its other fields are those of the set
+abbrev pub IsMissing : List ShareFields → ℕ → List Members → ℕ × ℕ → Members → Result ShareFields ReissueError → Type 0
+IsMissing set group_threshold groups name members (Ok share) =
+    (value : List ℕ) × IsValue set group_threshold groups name.0 members name.1 (Ok value)
+    × ((like : ShareFields) × Contains set like × (share ≡ share_like like name members.threshold value))
+IsMissing set group_threshold groups name members (Err error) =
+    IsValue set group_threshold groups name.0 members name.1 (Err error)
+
+-- The share of a name of a plan, as the shares at hand determine it: the one that they have, or the one that follows
+-- from them; or why they don't.
+pub record IsReissue (set : List ShareFields) (group_threshold : ℕ) (groups : List Members) (name : ℕ × ℕ)
+    (result : Result ShareFields ReissueError) : Type 0 where
+  pub at_hand : (share : ShareFields) → Contains set share → name_of share ≡ name → result ≡ Ok share
+  pub missing : ¬ Contains (map name_of set) name
+      → (members : Members) × (slice_get groups name.0 ≡ Some members) × IsMissing set group_threshold groups name members result
+
+-- of a backup with these shares: its share of the name, or that the shares at hand don't determine it, and no mismatch
+abbrev pub IsRightFor : List ShareFields → ℕ × ℕ → Result ShareFields ReissueError → Type 0
+IsRightFor shares name (Ok share) = Contains shares share × (name_of share ≡ name)
+IsRightFor shares name (Err (Undetermined _)) = Unit {0}
+IsRightFor shares name (Err (DigestMismatch _)) = ⊥
+
+-- the code of a cause
+abbrev pub reissue_code_of : ReissueError → ℕ
+reissue_code_of (Undetermined _) = 66
+reissue_code_of (DigestMismatch _) = 51

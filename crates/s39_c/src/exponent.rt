@@ -1,0 +1,25 @@
+//! The most exponent of a call.
+ghost use Rattle.std.specs.Prelude.{◌≡◌, ℕ, ◌<◌, ◌≤◌, None, IfSome};
+ghost use Rattle.s39_tool.specs.Exponent.{HasExponent};
+ghost use Rattle.s39_tool.specs.Input.{whole};
+
+use s39_tool::exponent_in;
+use s39_tool::laws::one_exponent;
+
+/// The exponent of the lines' shares, where they have a quorum and it is above the most that is allowed.
+pub(crate) fn exponent_above(most: u32, lines: &[u8]) -> Option<u8>
+    ensures some { IfSome result (λ exponent.
+        HasExponent (whole lines.now) exponent × (most < exponent)) }
+    ensures none { result ≡ None → (exponent : ℕ) → HasExponent (whole lines.now) exponent
+        → exponent ≤ most }
+{
+    one_exponent();
+    let Some(exponent) = exponent_in(lines) else {
+        return None;
+    };
+    let said = u32::from(exponent);
+    if most < said {
+        return Some(exponent);
+    }
+    None
+}

@@ -1,0 +1,70 @@
+//! The most exponent, with a published vector of exponent 2.
+use super::*;
+
+/// Two mnemonics that are both needed.
+const TWO: &[u8] =
+    b"shadow pistol academic always adequate wildlife fancy gross oasis cylinder mustang wrist rescue view short owner flip making coding armed\nshadow pistol academic acid actress prayer class unknown daughter sweater depict flip twice unkind craft early superior advocate guest smoking\n";
+
+/// The first of them.
+const ONE_BYTES: usize = 137;
+
+const SECRET: [u8; 16] = *b"\xb4\x3c\xeb\x7e\x57\xa0\xea\x87\x66\x22\x16\x24\xd0\x1b\x08\x64";
+
+/// An answer by its code, its first and second detail, and the bytes that are written.
+const fn answer(code: u32, first: u64, second: u64, written: u64) -> ShamirAnswer {
+    ShamirAnswer {
+        code,
+        mismatches: 0,
+        line: 0,
+        first,
+        second,
+        written,
+    }
+}
+
+#[test]
+fn recovers_up_to_the_most_exponent(rt: HostRuntime) {
+    for (most, passphrase) in [(0, b"TREZOR"), (1, b"TREZOR"), (1, b"TREZ\x07R")] {
+        let mut secret = [7; 16];
+        let refused = shamir_recover(TWO, passphrase, most, &mut secret);
+        assert_eq!(rt; refused, answer(3, 2, 0, 0));
+        assert_eq!(rt; secret, [7; 16]);
+    }
+    for most in [2, 15, u32::MAX] {
+        let mut secret = [7; 16];
+        let done = shamir_recover(TWO, b"TREZOR", most, &mut secret);
+        assert_eq!(rt; done, answer(0, 0, 0, 16));
+        assert_eq!(rt; secret, SECRET);
+    }
+}
+
+#[test]
+fn drills_up_to_the_most_exponent(rt: HostRuntime) {
+    let mut text = [7; 45];
+    let refused = shamir_drill(TWO, b"a\x07", 1, b"0.1+", 0, &mut text);
+    assert_eq!(rt; refused, answer(3, 2, 0, 0));
+    assert_eq!(rt; text, [7; 45]);
+    let done = shamir_drill(TWO, b"TREZOR", 2, b"", 1, &mut text);
+    assert_eq!(rt; done, answer(0, 0, 0, 45));
+    assert_eq!(rt; text, *b"0.0+0.2 b43ceb7e57a0ea8766221624d01b0864\nend\n");
+}
+
+#[test]
+fn looks_at_the_exponent_of_a_quorum_alone(rt: HostRuntime) {
+    let mut secret = [7; 16];
+    let one = &TWO[..ONE_BYTES];
+    let incomplete = shamir_recover(one, b"TREZOR", 0, &mut secret);
+    assert_eq!(rt; incomplete, answer(30, 0, 1, 0));
+    let none = shamir_recover(b"", b"", 0, &mut secret);
+    assert_eq!(rt; none, answer(29, 0, 0, 0));
+}
+
+#[test]
+fn tells_its_version(rt: HostRuntime) {
+    let mut text = [7; 6];
+    let done = shamir_version(&mut text);
+    assert_eq!(rt; done, answer(0, 0, 0, 5));
+    assert_eq!(rt; text, *b"1.0.0\x07");
+    let short = shamir_version(&mut text[..4]);
+    assert_eq!(rt; short, answer(1, 5, 0, 0));
+}

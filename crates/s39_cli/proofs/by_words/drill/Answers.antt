@@ -1,0 +1,8 @@
+use Rattle.std.proofs.Common.{ℕ, Bor, List, map}
+use Rattle.s39_cli.proofs.ByWords.{drills}
+use Rattle.s39_cli.proofs.by_words.drill.Goals as goal
+
+pub returns : goal.returns
+returns g c passphrase after limit names are form is_limit =
+    drills g.R.Read.remaining g.W.Write.contents (map (λ (word : Bor (List ℕ)). word.now) c.args.words.now) c.args.input c.args.output
+    c.drill_words_list.ensures passphrase after limit names c.program.result are form is_limit c.program.ensures.ends

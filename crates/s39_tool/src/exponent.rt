@@ -1,0 +1,53 @@
+//! The iteration exponent of lines in memory.
+ghost use Rattle.std.specs.Prelude.{◌≡◌, ℕ, ◌≤◌, List, None, IfSome, Ok};
+ghost use Rattle.s39_words.specs.declared.ShareFields.{ShareFields};
+ghost use Rattle.s39_set.specs.Quorums.{IsQuorum};
+ghost use Rattle.s39_tool.specs.Accepted.{IsReadAs};
+ghost use Rattle.s39_tool.specs.Exponent.{HasExponent};
+ghost use Rattle.s39_tool.specs.Input.{Input, whole};
+
+use crate::collect::set_in;
+use crate::laws::{accepted_inputs_are_share_sets, one_set};
+use s39_backup::params_of;
+use s39_set::first;
+use s39_set::laws::one_lack;
+
+/// The iteration exponent in which the lines' shares agree, where they have a quorum: `recover_secret` takes
+/// 10,000 * 2^exponent iterations for them, and this none. `None` where a line is refused, or the shares have no quorum.
+pub fn exponent_in(lines: &[u8]) -> Option<u8>
+    ensures some { IfSome result (HasExponent (whole lines.now)) }
+    ensures none { result ≡ None → (exponent : ℕ) → ¬ HasExponent (whole lines.now) exponent }
+{
+    one_set();
+    one_lack();
+    let Ok(set) = set_in(lines) else {
+        return None;
+    };
+    let Ok(quorum) = first(&set) else {
+        return None;
+    };
+    Some(params_of(&set, &quorum).exponent)
+}
+
+/// Shares that are accepted and have a quorum have an iteration exponent.
+pub fn some_exponent()
+    ensures { (input : Input) (set : List ShareFields) (names : List (ℕ × ℕ)) → IsReadAs input (Ok set)
+        → IsQuorum set names → (exponent : ℕ) × HasExponent input exponent }
+{
+    accepted_inputs_are_share_sets();
+}
+
+/// Shares have one iteration exponent.
+pub fn one_exponent()
+    ensures { (input : Input) (exponent other : ℕ) → HasExponent input exponent
+        → HasExponent input other → exponent ≡ other }
+{
+    one_set();
+}
+
+/// Shares have no iteration exponent above 15.
+pub fn every_exponent_is_at_most_15()
+    ensures { (input : Input) (exponent : ℕ) → HasExponent input exponent → exponent ≤ 15 }
+{
+    accepted_inputs_are_share_sets();
+}
