@@ -5,10 +5,11 @@ use Rattle.std.proofs.lemmas.List.Elements.{All-contains}
 use Rattle.std.proofs.lemmas.Option.{slice_get_within, get_or_from_slice_get}
 use Rattle.s39_split.specs.Sharing.{SharesAreAsLong}
 use Rattle.s39_words.specs.declared.share.ShareFields.{ShareFields}
+use Rattle.s39_set.specs.Names.{Name}
 use Rattle.s39_set.specs.ShareSet.{Agrees, CanJoin, name_of}
 use Rattle.s39_backup.specs.declared.plan.Members.{Members}
-use Rattle.s39_backup.specs.Created.{IsCreatedFrom, AreOfBackup}
-use Rattle.s39_backup.proofs.Images.{some_same}
+use Rattle.s39_backup.specs.Created.{IsCreatedFrom, AreOfBackup, asked_for}
+use Rattle.s39_lists.proofs.Finds.{some_same}
 use Rattle.s39_backup.proofs.Promise.{IsCreatedShare, in_created_groups, split_at_place}
 
 -- what holds of each element holds of the one at a place
@@ -16,7 +17,7 @@ pub All-at : {X : Type 0} (P : X → Type 0) (xs : List X) (k : ℕ) (x : X) →
 All-at P xs k x all at = subst P (get_or_from_slice_get xs k x x at) (all k x (slice_get_within xs k x at))
 
 module _ (set : List ShareFields) (passphrase secret : List ℕ) (backup : AreOfBackup set passphrase secret) (as_long : SharesAreAsLong) where
-  abbrev created : IsCreatedFrom secret passphrase backup.group_threshold backup.groups backup.options backup.random backup.shares
+  abbrev created : IsCreatedFrom (asked_for secret passphrase backup.group_threshold backup.groups backup.options) backup.random backup.shares
   created = backup.created
 
   abbrev IsOne : ShareFields → Type 0
@@ -64,9 +65,9 @@ module _ (set : List ShareFields) (passphrase secret : List ℕ) (backup : AreOf
 
   one_value : (s t : ShareFields) → IsOne s → IsOne t → name_of s ≡ name_of t → s.value.items ≡ t.value.items
   one_value s t is it names =
-      let places = same_place s t is it (ap (λ (n : ℕ × ℕ). n.0) names) in
+      let places = same_place s t is it (ap (λ (n : Name). n.0) names) in
       let members : is.member ≡ it.member =
-      sym (ap (λ (x : ShareFields). x.member_index) is.share_is) ∙ ap (λ (n : ℕ × ℕ). n.1) names ∙ ap (λ (x : ShareFields). x.member_index) it.share_is in
+      sym (ap (λ (x : ShareFields). x.member_index) is.share_is) ∙ ap (λ (n : Name). n.1) names ∙ ap (λ (x : ShareFields). x.member_index) it.share_is in
       let others : is.others ≡ it.others = some_same is.others it.others (sym is.values_are ∙ ap (slice_get created.values) places ∙ it.values_are) in
       let values : Some is.value ≡ Some it.value = sym is.value_is ∙ ap (λ vs. slice_get vs is.member) others ∙ ap (slice_get it.others) members
       ∙ it.value_is in

@@ -5,11 +5,9 @@ use Rattle.std.proofs.lemmas.Bool.{cases_lt}
 use Rattle.s39_kdf.specs.Limits.{IsSecretLength}
 use Rattle.s39_kdf.specs.Passphrases.{PassphrasesHaveOneFirstUnprintable, PrintablePassphrasesHaveNone, PassphrasesArePrintableOrNot}
 use Rattle.s39_words.specs.declared.share.ShareFields.{ShareFields}
-use Rattle.s39_backup.specs.declared.plan.Members.{Members}
-use Rattle.s39_backup.specs.declared.options.Options.{Options}
 use Rattle.s39_backup.specs.declared.create_error.CreateError.{CreateError}
 use Rattle.s39_backup.specs.declared.create_error.CreateError.TheVariants.{Passphrase, SecretLength, BadRandomLength}
-use Rattle.s39_backup.specs.Created.{random_needed, IsCreatedFrom, IsCreation}
+use Rattle.s39_backup.specs.Created.{Asked, needed_by, IsCreatedFrom, IsCreation}
 
 -- ---- the lengths
 
@@ -38,19 +36,18 @@ same_or_not m n =
 
 -- ---- what a creation gives
 
-module _ (secret passphrase : List ℕ) (group_threshold : ℕ) (groups : List Members) (options : Options) (random : List ℕ) where
+module _ (asked : Asked) (random : List ℕ) where
   pub creation_exists : PassphrasesArePrintableOrNot
-      → (IsSecretLength (length secret) → length random ≡ random_needed group_threshold groups (length secret)
-      → (shares : List ShareFields) × IsCreatedFrom secret passphrase group_threshold groups options random shares)
-      → (result : Result (List ShareFields) CreateError) × IsCreation secret passphrase group_threshold groups options random result
+      → (IsSecretLength (length asked.secret) → length random ≡ needed_by asked
+      → (shares : List ShareFields) × IsCreatedFrom asked random shares)
+      → (result : Result (List ShareFields) CreateError) × IsCreation asked random result
   creation_exists printable_or_not exists =
-      let needed = random_needed group_threshold groups (length secret) in
-      elim (printable_or_not passphrase) [
+      elim (printable_or_not asked.passphrase) [
         | inr bad ↦ (Err (Passphrase (record { position = bad.0 })), bad.1)
-        | inl printable ↦ elim (secret_length_or_not (length secret)) [
-          | inr other ↦ (Err (SecretLength (record { bytes = length secret })), (printable, other, refl))
-          | inl is_length ↦ elim (same_or_not (length random) needed) [
-            | inr other ↦ (Err (BadRandomLength needed), (printable, is_length, refl, other))
+        | inl printable ↦ elim (secret_length_or_not (length asked.secret)) [
+          | inr other ↦ (Err (SecretLength (record { bytes = length asked.secret })), (printable, other, refl))
+          | inl is_length ↦ elim (same_or_not (length random) (needed_by asked)) [
+            | inr other ↦ (Err (BadRandomLength (needed_by asked)), (printable, is_length, refl, other))
             | inl same ↦ (
                 let (shares, is) = exists is_length same in
                 (Ok shares, (printable, is_length, same, is)))
@@ -59,28 +56,28 @@ module _ (secret passphrase : List ℕ) (group_threshold : ℕ) (groups : List M
       ]
 
   module _ (one_position : PassphrasesHaveOneFirstUnprintable) (no_position : PrintablePassphrasesHaveNone)
-      (once : (shares other : List ShareFields) → IsCreatedFrom secret passphrase group_threshold groups options random shares
-      → IsCreatedFrom secret passphrase group_threshold groups options random other → shares ≡ other) where
-    refused_once : (shares : List ShareFields) (error : CreateError) → IsCreation secret passphrase group_threshold groups options random (Ok shares)
-        → IsCreation secret passphrase group_threshold groups options random (Err error) → ⊥
-    refused_once shares (Passphrase bad) r s = no_position passphrase bad.position r.0 s
+      (once : (shares other : List ShareFields) → IsCreatedFrom asked random shares
+      → IsCreatedFrom asked random other → shares ≡ other) where
+    refused_once : (shares : List ShareFields) (error : CreateError) → IsCreation asked random (Ok shares)
+        → IsCreation asked random (Err error) → ⊥
+    refused_once shares (Passphrase bad) r s = no_position asked.passphrase bad.position r.0 s
     refused_once shares (SecretLength bad) r s = s.1 r.1
     refused_once shares (BadRandomLength needed) r s = s.3 (r.2 ∙ sym s.2)
 
-    cause_once : (error other : CreateError) → IsCreation secret passphrase group_threshold groups options random (Err error)
-        → IsCreation secret passphrase group_threshold groups options random (Err other) → error ≡ other
-    cause_once (Passphrase a) (Passphrase b) r s = ap (λ (p : ℕ). Passphrase (record { position = p })) (one_position passphrase a.position b.position r s)
-    cause_once (Passphrase a) (SecretLength b) r s = absurd (no_position passphrase a.position s.0 r)
-    cause_once (Passphrase a) (BadRandomLength n) r s = absurd (no_position passphrase a.position s.0 r)
-    cause_once (SecretLength a) (Passphrase b) r s = absurd (no_position passphrase b.position r.0 s)
+    cause_once : (error other : CreateError) → IsCreation asked random (Err error)
+        → IsCreation asked random (Err other) → error ≡ other
+    cause_once (Passphrase a) (Passphrase b) r s = ap (λ (p : ℕ). Passphrase (record { position = p })) (one_position asked.passphrase a.position b.position r s)
+    cause_once (Passphrase a) (SecretLength b) r s = absurd (no_position asked.passphrase a.position s.0 r)
+    cause_once (Passphrase a) (BadRandomLength n) r s = absurd (no_position asked.passphrase a.position s.0 r)
+    cause_once (SecretLength a) (Passphrase b) r s = absurd (no_position asked.passphrase b.position r.0 s)
     cause_once (SecretLength a) (SecretLength b) r s = ap (λ (n : ℕ). SecretLength (record { bytes = n })) (r.2 ∙ sym s.2)
     cause_once (SecretLength a) (BadRandomLength n) r s = absurd (r.1 s.1)
-    cause_once (BadRandomLength m) (Passphrase b) r s = absurd (no_position passphrase b.position r.0 s)
+    cause_once (BadRandomLength m) (Passphrase b) r s = absurd (no_position asked.passphrase b.position r.0 s)
     cause_once (BadRandomLength m) (SecretLength b) r s = absurd (s.1 r.1)
     cause_once (BadRandomLength m) (BadRandomLength n) r s = ap (λ (k : ℕ). BadRandomLength k) (r.2 ∙ sym s.2)
 
-    pub creation_once : (result other : Result (List ShareFields) CreateError) → IsCreation secret passphrase group_threshold groups options random result
-        → IsCreation secret passphrase group_threshold groups options random other → result ≡ other
+    pub creation_once : (result other : Result (List ShareFields) CreateError) → IsCreation asked random result
+        → IsCreation asked random other → result ≡ other
     creation_once (Ok shares) (Ok other) r s = ap (λ (xs : List ShareFields). Ok xs) (once shares other r.3 s.3)
     creation_once (Ok shares) (Err error) r s = absurd (refused_once shares error r s)
     creation_once (Err error) (Ok shares) r s = absurd (refused_once shares error s r)

@@ -9,9 +9,8 @@ use Rattle.std.proofs.lemmas.List.Elements.{All-nil, All-push, All-map, All-cont
 use Rattle.std.proofs.lemmas.List.Quantifiers.{all_pairs_push}
 use Rattle.std.proofs.lemmas.Option.{slice_get-get_or}
 use Rattle.s39_split.specs.Shares.{AreDistinct}
-use Rattle.s39_split.proofs.Lists.{All-from_map}
-use Rattle.s39_set.proofs.AtHand.{AllPairs-map}
-use Rattle.s39_set.proofs.Sublists.{AllPairs-nil, Contains-nil}
+use Rattle.s39_lists.proofs.Pairs.{All-from_map, AllPairs-map, AllPairs-nil}
+use Rattle.s39_lists.proofs.Sublists.{Contains-nil}
 use Rattle.s39_backup.specs.Refitting.{AreSameAt, StayTheSame}
 
 -- Of the indices below one, these were taken: all that are kept, and others, of which so many are left to take.

@@ -8,12 +8,12 @@ use Rattle.std.proofs.lemmas.List.{length-map, map_push}
 use Rattle.std.proofs.lemmas.Bool.Decides.{nat_tests}
 use Rattle.arrayvec.specs.ArrayVec.{ArrayVec}
 use Rattle.s39_words.specs.declared.share.ShareFields.{ShareFields}
-use Rattle.s39_set.specs.Names.{names_in_group}
+use Rattle.s39_set.specs.Names.{Names, names_in_group}
 use Rattle.s39_set.specs.ShareSet.{has_name}
 use Rattle.s39_split.specs.Recovery.{Combines}
 use Rattle.s39_backup.specs.Combination.{member_shares, GroupCombines}
 use Rattle.s39_backup.specs.GroupShares.{indexed_group_shares, value_bytes_of, groups_below, IsExactQuorum, AreOfOneLevel, AreGroupShares}
-use Rattle.s39_set.proofs.Finds.{Contains-find}
+use Rattle.s39_lists.proofs.Finds.{Contains-find}
 use Rattle.s39_backup.proofs.Values.{HasShare}
 use Rattle.s39_backup.proofs.Levels.{length-member_shares, members_of_one_level, group_combines, some_group, few_group_shares, group_shares_more}
 
@@ -30,14 +30,14 @@ found_some None group member set has is = let found = has.found in cc
 found_some (Some share) group member set has is = refl
 
 -- a quorum has a name
-pub some_name : (set : List ShareFields) (names : List (ℕ × ℕ)) → IsExactQuorum set names → 0 < length names
+pub some_name : (set : List ShareFields) (names : Names) → IsExactQuorum set names → 0 < length names
 some_name set [] quorum = let some = some_group set [] quorum in omega arith
 some_name set (n ∷ ns) quorum = omega arith
 
 pub length-indexed_group_shares : (items : List (ℕ × ArrayVec ℕ)) → length (indexed_group_shares items) ≡ length items
 length-indexed_group_shares items = length-map items (λ share. (share.0, share.1.items))
 
-module _ (set : List ShareFields) (names : List (ℕ × ℕ)) (quorum : IsExactQuorum set names) (group : ℕ) where
+module _ (set : List ShareFields) (names : Names) (quorum : IsExactQuorum set names) (group : ℕ) where
   module _ (members : List (ℕ × List ℕ)) (is : members ≡ member_shares set names group) where
     pub length-members : length members ≡ length (names_in_group group names)
     length-members = ap length is ∙ length-member_shares set names group

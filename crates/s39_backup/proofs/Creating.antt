@@ -2,14 +2,14 @@
 use Rattle.std.proofs.Common.{◌≡◌, ℕ, suc, ◌+◌, ◌*◌, ◌<◌, ◌≤◌, List, [], ◌∷◌, ◌++◌, length, get_or, take, drop, map, sum_by, All, refl, sym, ap, subst, ◌∙◌}
 use Rattle.std.proofs.Common.{arith}
 use Rattle.std.specs.List.{concat, enumerate_from}
-use Rattle.std.proofs.lemmas.List.{length-map, length-take-le, length-append, take_more, map_push, append_assoc, append-nil}
+use Rattle.std.proofs.lemmas.List.{length-map, length-take-le, length-append, take_more, map_push, append_assoc, append-nil, nil_from_length}
 use Rattle.std.proofs.lemmas.List.Sums.{sum_by-cons}
 use Rattle.std.proofs.Math.Seq.{drop-cons, take-length, drop-length}
 use Rattle.arrayvec.specs.ArrayVec.{ArrayVec}
 use Rattle.s39_kdf.specs.declared.params.Params.{Params}
 use Rattle.s39_split.specs.Shares.{bytes_of}
 use Rattle.s39_split.specs.Sharing.{random_needed, IsSplit}
-use Rattle.s39_split.proofs.Lists.{enumerate_from-push, concat-push}
+use Rattle.s39_lists.proofs.Pushes.{enumerate_from-push, concat-push}
 use Rattle.s39_words.specs.declared.share.ShareFields.{ShareFields}
 use Rattle.s39_set.specs.Names.{most_members}
 use Rattle.s39_backup.specs.declared.plan.Members.{Members}
@@ -75,11 +75,6 @@ two_bytes [] e = absurd (omega arith)
 two_bytes (x ∷ []) e = absurd (omega arith)
 two_bytes (x ∷ y ∷ []) e = refl
 two_bytes (x ∷ y ∷ z ∷ zs) e = absurd (omega arith)
-
--- no bytes
-pub no_bytes : (xs : List ℕ) → length xs ≡ 0 → xs ≡ []
-no_bytes [] e = refl
-no_bytes (x ∷ xs) e = absurd (omega arith)
 
 module _ (params : Params) (group_threshold group_count : ℕ) (groups : List Members) (group_shares : List (List ℕ)) (random : List ℕ) where
   -- no group's shares
@@ -159,7 +154,7 @@ module _ (params : Params) (group_threshold group_count : ℕ) (groups : List Me
       record {
         pieces = before.pieces;
         values = before.values;
-        consumed = before.consumed ∙ ap (λ xs. concat before.pieces ++ xs) (no_bytes rest none) ∙ append-nil (concat before.pieces);
+        consumed = before.consumed ∙ ap (λ xs. concat before.pieces ++ xs) (nil_from_length rest none) ∙ append-nil (concat before.pieces);
         split = subst (λ gs. AreSplitAmong gs group_shares before.pieces before.values) whole
             (subst (λ ss. AreSplitAmong (take group groups) ss before.pieces before.values) whole_shares before.split);
         shares_are = before.shares_are ∙ ap (λ gs. created_groups params group_threshold group_count 0 gs before.values) whole;

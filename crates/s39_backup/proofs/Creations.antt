@@ -3,7 +3,7 @@ use Rattle.std.proofs.Common.{◌≡◌, ℕ, ◌+◌, ◌%◌, ◌^◌, ◌<◌
 use Rattle.std.proofs.Common.{length-append, length-drop}
 use Rattle.std.specs.List.{concat}
 use Rattle.std.proofs.Math.Seq.{take-append_seam, drop-append_seam}
-use Rattle.std.proofs.lemmas.List.{length-take-le, take-append-drop}
+use Rattle.std.proofs.lemmas.List.{length-take-le, take-append-drop, nil_from_length}
 use Rattle.std.proofs.lemmas.List.Elements.{All-drop, All-head, All-tail, All-take}
 use Rattle.std.proofs.lemmas.List.Sums.{sum_by-cons}
 use Rattle.s39_kdf.specs.declared.params.Params.{Params}
@@ -14,10 +14,8 @@ use Rattle.s39_split.specs.Sharing.{digest_length, random_needed as level_random
 use Rattle.s39_split.specs.Sharing.{HaveASplit, HaveOneSplit}
 use Rattle.s39_words.specs.declared.share.ShareFields.{ShareFields}
 use Rattle.s39_backup.specs.declared.plan.Members.{Members}
-use Rattle.s39_backup.specs.declared.options.Options.{Options}
 use Rattle.s39_backup.specs.Plan.{IsPlan, IsGroup}
-use Rattle.s39_backup.specs.Created.{identifier_of, random_needed, AreSplitAmong, created_groups, IsCreatedFrom}
-use Rattle.s39_backup.proofs.Creating.{no_bytes}
+use Rattle.s39_backup.specs.Created.{Asked, identifier_of, needed_by, AreSplitAmong, created_groups, IsCreatedFrom}
 use Rattle.s39_backup.proofs.OneRecovery.{of_fields, same_params}
 
 -- ---- lists
@@ -27,7 +25,8 @@ pub record AreSameParts {X : Type 0} (front other back rest : List X) : Type 0 w
   pub front_is : front ≡ other
   pub back_is : back ≡ rest
 
-pub same_front : {X : Type 0} (front other back rest : List X) → front ++ back ≡ other ++ rest → length front ≡ length other → AreSameParts front other back rest
+pub same_front : {X : Type 0} (front other back rest : List X) → front ++ back ≡ other ++ rest → length front ≡ length other
+    → AreSameParts front other back rest
 same_front front other back rest whole as_long = record {
   front_is = sym (take-append_seam front back) ∙ ap₂ take as_long whole ∙ take-append_seam other rest;
   back_is = sym (drop-append_seam front back) ∙ ap₂ drop as_long whole ∙ drop-append_seam other rest;
@@ -50,10 +49,14 @@ module _ (takes : SplitsTakeTheBytesNeeded) (as_long : SharesAreAsLong) (split_o
   members_once (g ∷ gs) (s ∷ ss) (p ∷ ps) others (v ∷ vs) more is also whole = absurd also
   members_once groups shares pieces others values more is also whole = absurd is
 
-  module _ (encrypts_once : SecretsHaveOneEncryption) (secret passphrase : List ℕ) (group_threshold : ℕ) (groups : List Members)
-      (options : Options) (random : List ℕ) where
-    pub backup_once : (shares other : List ShareFields) → IsCreatedFrom secret passphrase group_threshold groups options random shares
-        → IsCreatedFrom secret passphrase group_threshold groups options random other → shares ≡ other
+  module _ (encrypts_once : SecretsHaveOneEncryption) (asked : Asked) (random : List ℕ) where
+    abbrev groups : List Members
+    groups = asked.groups
+
+    abbrev group_threshold : ℕ
+    group_threshold = asked.group_threshold
+
+    pub backup_once : (shares other : List ShareFields) → IsCreatedFrom asked random shares → IsCreatedFrom asked random other → shares ≡ other
     backup_once shares other is also =
         let consumed : is.high ∷ is.low ∷ (is.group_piece ++ concat is.pieces) ≡ also.high ∷ also.low ∷ (also.group_piece ++ concat also.pieces) =
         sym is.consumed ∙ also.consumed in
@@ -64,11 +67,11 @@ module _ (takes : SplitsTakeTheBytesNeeded) (as_long : SharesAreAsLong) (split_o
         (is.params_are.id ∙ ap₂ identifier_of high low ∙ sym also.params_are.id)
         (is.params_are.extendable ∙ sym also.params_are.extendable) (is.params_are.exponent ∙ sym also.params_are.exponent) in
         let encryption = is.encryption in
-        let even : length secret % 2 ≡ 0 = even_from (length secret) (length encryption.h0) (length encryption.h1)
+        let even : length asked.secret % 2 ≡ 0 = even_from (length asked.secret) (length encryption.h0) (length encryption.h1)
         (ap length encryption.halves ∙ length-append encryption.h0 encryption.h1) encryption.same_length in
-        let (result, of_result, only) = encrypts_once passphrase is.params secret even in
+        let (result, of_result, only) = encrypts_once asked.passphrase is.params asked.secret even in
         let encrypted : also.encrypted ≡ is.encrypted =
-        only also.encrypted (subst (λ (p : Params). IsEncryption secret passphrase p also.encrypted) (sym params) also.encryption)
+        only also.encrypted (subst (λ (p : Params). IsEncryption asked.secret asked.passphrase p also.encrypted) (sym params) also.encryption)
         ∙ sym (only is.encrypted is.encryption) in
         let split : IsSplit group_threshold (length groups) is.encrypted also.group_piece also.group_shares =
         subst (λ e. IsSplit group_threshold (length groups) e also.group_piece also.group_shares) encrypted also.groups_split in
@@ -103,7 +106,7 @@ module _ (have_split : HaveASplit) where
         → All (λ share. length share ≡ n) shares → All AreBytes shares → AreBytes random
         → length random ≡ sum_by (λ members. level_random_needed members.threshold n) groups → HaveSplits groups shares random
     members_split [] [] random each as_many lengths bytes random_bytes needed =
-        record { pieces = []; values = []; consumed = no_bytes random needed; split = tt }
+        record { pieces = []; values = []; consumed = nil_from_length random needed; split = tt }
     members_split [] (s ∷ ss) random each as_many lengths bytes random_bytes needed = absurd (omega arith)
     members_split (g ∷ gs) [] random each as_many lengths bytes random_bytes needed = absurd (omega arith)
     members_split (g ∷ gs) (s ∷ ss) random each as_many lengths bytes random_bytes needed =
@@ -126,20 +129,26 @@ module _ (have_split : HaveASplit) where
         }
 
   module _ (as_long : SharesAreAsLong) (are_bytes : SharesAreBytes) (encrypts_once : SecretsHaveOneEncryption) (keeps : EncryptionKeepsLengthAndBytes)
-      (secret passphrase : List ℕ) (group_threshold : ℕ) (groups : List Members) (options : Options) where
-    pub backup_exists : (random : List ℕ) → IsPlan group_threshold groups → IsSecretLength (length secret) → AreBytes secret → AreBytes random
-        → length random ≡ random_needed group_threshold groups (length secret)
-        → (shares : List ShareFields) × IsCreatedFrom secret passphrase group_threshold groups options random shares
+      (asked : Asked) where
+    abbrev asked_groups : List Members
+    asked_groups = asked.groups
+
+    abbrev threshold : ℕ
+    threshold = asked.group_threshold
+
+    pub backup_exists : (random : List ℕ) → IsPlan asked.group_threshold asked.groups → IsSecretLength (length asked.secret)
+        → AreBytes asked.secret → AreBytes random → length random ≡ needed_by asked
+        → (shares : List ShareFields) × IsCreatedFrom asked random shares
     backup_exists [] plan is_length bytes random_bytes needed = absurd (omega arith)
     backup_exists (high ∷ []) plan is_length bytes random_bytes needed = absurd (omega arith)
     backup_exists (high ∷ low ∷ levels) plan is_length bytes random_bytes needed =
-        let n = length secret in
-        let k = level_random_needed group_threshold n in
-        let others = sum_by (λ members. level_random_needed members.threshold n) groups in
+        let n = length asked.secret in
+        let k = level_random_needed threshold n in
+        let others = sum_by (λ members. level_random_needed members.threshold n) asked_groups in
         let small : identifier_of high low < 2 ^ id_bits = omega arith in
-        let params : Params = of_fields (identifier_of high low) options.extendable options.exponent small options.exponent_in_range in
-        let (encrypted, encryption, only) = encrypts_once passphrase params secret is_length.0 in
-        let kept = keeps passphrase params secret encrypted encryption in
+        let params : Params = of_fields (identifier_of high low) asked.options.extendable asked.options.exponent small asked.options.exponent_in_range in
+        let (encrypted, encryption, only) = encrypts_once asked.passphrase params asked.secret is_length.0 in
+        let kept = keeps asked.passphrase params asked.secret encrypted encryption in
         let encrypted_bytes : AreBytes encrypted = kept.1 bytes in
         let encrypted_long : length encrypted ≡ n = kept.0 in
         let at_least = is_length.1 in
@@ -149,15 +158,15 @@ module _ (have_split : HaveASplit) where
         let piece_bytes : AreBytes (take k levels) = All-take (λ b. b < 256) k levels levels_bytes in
         let left : length (drop k levels) ≡ others = length-drop k levels ∙ omega arith in
         let (group_shares, split) =
-        have_split group_threshold (length groups) encrypted (take k levels) plan.positive plan.enough.enough plan.enough.few (omega arith)
-        encrypted_bytes piece_bytes (piece ∙ ap (level_random_needed group_threshold) (sym encrypted_long)) in
+        have_split threshold (length asked_groups) encrypted (take k levels) plan.positive plan.enough.enough plan.enough.few (omega arith)
+        encrypted_bytes piece_bytes (piece ∙ ap (level_random_needed threshold) (sym encrypted_long)) in
         let lengths : All (λ share. length share ≡ n) group_shares =
-        λ i d within. as_long group_threshold (length groups) encrypted (take k levels) group_shares split i d within ∙ encrypted_long in
+        λ i d within. as_long threshold (length asked_groups) encrypted (take k levels) group_shares split i d within ∙ encrypted_long in
         let share_bytes : All AreBytes group_shares =
-        are_bytes group_threshold (length groups) encrypted (take k levels) group_shares split encrypted_bytes piece_bytes in
-        let members = members_split n (omega arith) groups group_shares (drop k levels) plan.each split.number lengths share_bytes
+        are_bytes threshold (length asked_groups) encrypted (take k levels) group_shares split encrypted_bytes piece_bytes in
+        let members = members_split n (omega arith) asked_groups group_shares (drop k levels) plan.each split.number lengths share_bytes
         (All-drop (λ b. b < 256) k levels levels_bytes) left in (
-          created_groups params group_threshold (length groups) 0 groups members.values,
+          created_groups params threshold (length asked_groups) 0 asked_groups members.values,
           record {
             high = high;
             low = low;

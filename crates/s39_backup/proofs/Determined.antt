@@ -1,20 +1,18 @@
 -- Which points determine a member, and the share of a name that a set has or hasn't.
-use Rattle.std.proofs.Common.{◌≡◌, ◌≢◌, ℕ, ◌+◌, ◌*◌, ◌/◌, ◌%◌, ◌<◌, ◌≤◌, ◌==◌, true, false, List, [], ◌∷◌, length, get_or, take, find, map, All, Contains, Option, Some, None}
+use Rattle.std.proofs.Common.{◌≡◌, ℕ, ◌+◌, ◌*◌, ◌/◌, ◌%◌, ◌<◌, ◌≤◌, ◌==◌, false, List, [], ◌∷◌, length, get_or, take, find, map, All, Contains, Option, Some, None}
 use Rattle.std.proofs.Common.{Result, Ok, Err, inl, inr, ◌⊎◌, refl, sym, ap, subst, ◌∙◌, arith}
 use Rattle.std.specs.Prelude.{IfSome}
-use Rattle.std.specs.Borrow.{Bor}
 use Rattle.std.specs.List.{slice_get}
-use Rattle.std.specs.Option.{option_copied}
 use Rattle.std.proofs.lemmas.Bool.{and_parts, and_from, eqb-true, eq-eqb, false≢true}
 use Rattle.std.proofs.lemmas.List.Elements.{All-contains, Contains-get_or}
 use Rattle.s39_split.specs.Sharing.{secret_place}
 use Rattle.s39_split.specs.Completion.{Completes}
 use Rattle.s39_words.specs.declared.share.ShareFields.{ShareFields}
 use Rattle.s39_words.specs.Share.{IsShare}
-use Rattle.s39_set.specs.Names.{most_groups, most_members, most_names}
+use Rattle.s39_set.specs.Names.{Name, most_groups, most_members, most_names}
 use Rattle.s39_set.specs.ShareSet.{IsShareSet, name_of, has_name}
-use Rattle.s39_set.proofs.AtHand.{Contains-map, one_of_map}
-use Rattle.s39_set.proofs.Finds.{find-passes, Contains-find, none-passes}
+use Rattle.s39_lists.proofs.Images.{Contains-map, one_of_map}
+use Rattle.s39_lists.proofs.Finds.{find-passes, Contains-find, none-passes}
 use Rattle.s39_set.proofs.Sets.{one_share}
 use Rattle.s39_backup.specs.declared.plan.Members.{Members}
 use Rattle.s39_backup.specs.declared.combination.Mismatch.TheVariants.{InGroup}
@@ -127,11 +125,11 @@ module _ (set : List ShareFields) (is : IsShareSet set) where
           ap Some (one_share set is other share (Contains-find (has_name share.group_index share.member_index) set other here) among names)
 
   -- and of another name none
-  pub found_by : (share : ShareFields) (name : ℕ × ℕ) → Contains set share → name_of share ≡ name → find (has_name name.0 name.1) set ≡ Some share
+  pub found_by : (share : ShareFields) (name : Name) → Contains set share → name_of share ≡ name → find (has_name name.0 name.1) set ≡ Some share
   found_by share name among is_name =
-      subst (λ (n : ℕ × ℕ). find (has_name n.0 n.1) set ≡ Some share) is_name (found_itself share among)
+      subst (λ (n : Name). find (has_name n.0 n.1) set ≡ Some share) is_name (found_itself share among)
 
-  pub not_found : (name : ℕ × ℕ) → find (has_name name.0 name.1) set ≡ None → Contains (map name_of set) name → ⊥
+  pub not_found : (name : Name) → find (has_name name.0 name.1) set ≡ None → Contains (map name_of set) name → ⊥
   not_found name none among =
       let (share, in_set, is_name) = one_of_map name_of set name among in
       let found = found_by share name in_set is_name in
@@ -188,12 +186,6 @@ module _ (set : List ShareFields) (is : IsShareSet set) where
         let at = at_its_place share (Contains-get_or set k d within) in
         subst (λ found. IfSome found P) at.2 (each at.0 at.1)
 
-  -- a share that is found at a place is one of the set
-  pub among_found : (group member : ℕ) (found : Option (Bor ShareFields)) (share : Bor ShareFields) → found ≡ Some share
-      → option_copied found ≡ find (has_name group member) set → Contains set share.now
-  among_found group member found share here e =
-      Contains-find (has_name group member) set share.now (sym (ap option_copied (sym here) ∙ e))
-
   -- a set with no share at any place is empty
   pub none_at_places : ((place : ℕ) → place < most_names → find (has_name (place / most_members) (place % most_members)) set ≡ None) → set ≡ []
   none_at_places none = by set refl
@@ -211,10 +203,10 @@ module _ (set : List ShareFields) (is : IsShareSet set) where
     is_share = All-contains IsShare set share is.each (Contains-find (has_name group member) set share found)
 
     pub low_group : group < most_groups
-    low_group = let low = is_share.group_index in omega (arith, ap (λ (n : ℕ × ℕ). n.0) (found_name group member set share found))
+    low_group = let low = is_share.group_index in omega (arith, ap (λ (n : Name). n.0) (found_name group member set share found))
 
     pub low_member : member < most_members
-    low_member = let low = is_share.member_index in omega (arith, ap (λ (n : ℕ × ℕ). n.1) (found_name group member set share found))
+    low_member = let low = is_share.member_index in omega (arith, ap (λ (n : Name). n.1) (found_name group member set share found))
 
     pub like_itself : share_like share (group, member) share.member_threshold share.value.items ≡ share
-    like_itself = ap (λ (n : ℕ × ℕ). share_like share n share.member_threshold share.value.items) (sym (found_name group member set share found))
+    like_itself = ap (λ (n : Name). share_like share n share.member_threshold share.value.items) (sym (found_name group member set share found))

@@ -11,7 +11,7 @@ use Rattle.s39_kdf.specs.declared.params.Params.{Params}
 use Rattle.s39_words.specs.declared.share.ShareFields.{ShareFields}
 use Rattle.s39_words.specs.Share.{IsShare}
 use Rattle.s39_split.specs.Recovery.{Combines, SharesCombine, SecretsAreLikeTheirShares}
-use Rattle.s39_set.specs.Names.{most_groups, names_in_group}
+use Rattle.s39_set.specs.Names.{Names, most_groups, names_in_group}
 use Rattle.s39_set.specs.ShareSet.{IsShareSet}
 use Rattle.s39_backup.specs.declared.combination.Mismatch.{Mismatch}
 use Rattle.s39_backup.specs.declared.combination.Mismatch.TheVariants.{InGroup, OfGroups}
@@ -31,7 +31,7 @@ params_of_share (s ∷ ss) share is among =
     (of_fields s.id s.extendable s.exponent valid.id valid.exponent, (refl, refl, refl))
 
 -- The first of these groups that is refused, and the shares of those before it.
-record IsRefusedFirst (set : List ShareFields) (names : List (ℕ × ℕ)) (groups : List ℕ) : Type 0 where
+record IsRefusedFirst (set : List ShareFields) (names : Names) (groups : List ℕ) : Type 0 where
   pub before : List ℕ
   pub group : ℕ
   pub after : List ℕ
@@ -41,18 +41,18 @@ record IsRefusedFirst (set : List ShareFields) (names : List (ℕ × ℕ)) (grou
   pub refused : GroupCombines set names group None
 
 -- The shares of these groups.
-record HaveGroupShares (set : List ShareFields) (names : List (ℕ × ℕ)) (groups : List ℕ) : Type 0 where
+record HaveGroupShares (set : List ShareFields) (names : Names) (groups : List ℕ) : Type 0 where
   pub shares : List (ℕ × List ℕ)
   pub are_shares : AreGroupShares set names groups shares
   pub bytes : All (λ share. AreBytes share.1) shares
 
 -- What a quorum combines to, as long as the values of the set.
-record HasCombination (set : List ShareFields) (names : List (ℕ × ℕ)) : Type 0 where
+record HasCombination (set : List ShareFields) (names : Names) : Type 0 where
   pub combination : Result (List ℕ) Mismatch
   pub is_combination : IsCombination set names combination
   pub as_long : IfOk combination (λ encrypted. length encrypted ≡ value_bytes_of set)
 
-module _ (set : List ShareFields) (names : List (ℕ × ℕ)) (quorum : IsExactQuorum set names) (combine : SharesCombine) (like : SecretsAreLikeTheirShares) where
+module _ (set : List ShareFields) (names : Names) (quorum : IsExactQuorum set names) (combine : SharesCombine) (like : SecretsAreLikeTheirShares) where
   module _ (group : ℕ) (some : 0 < length (names_in_group group names)) where
     member_bytes : All (λ share. AreBytes share.1) (member_shares set names group)
     member_bytes =

@@ -5,15 +5,19 @@ use Rattle.std.specs.Prelude.{IfOk, IsSomeAnd}
 use Rattle.std.specs.List.{slice_get}
 use Rattle.std.proofs.lemmas.Bool.{cases_eq, cases_lt, leb-true}
 use Rattle.std.proofs.lemmas.List.{length-take-le}
-use Rattle.std.proofs.lemmas.List.Elements.{All-nil, All-cons, All-head, All-tail, All-take}
+use Rattle.std.proofs.lemmas.List.Elements.{All-nil, All-cons, All-head, All-tail, All-take, All-contains}
 use Rattle.s39_kdf.specs.Bytes.{AreBytes}
-use Rattle.s39_kdf.specs.Limits.{shortest_secret}
+use Rattle.s39_kdf.specs.Limits.{shortest_secret, IsSecretLength}
 use Rattle.s39_split.specs.Sharing.{secret_place}
 use Rattle.s39_split.specs.Recovery.{SharesCombine, SecretsAreLikeTheirShares}
 use Rattle.s39_split.specs.Completion.{Completes, PointsComplete}
 use Rattle.s39_split.proofs.SplitLaws.{AreBytes-interpolated}
 use Rattle.s39_words.specs.declared.share.ShareFields.{ShareFields}
-use Rattle.s39_set.specs.ShareSet.{IsShareSet, has_name}
+use Rattle.s39_words.specs.Share.{IsShare}
+use Rattle.s39_set.specs.Names.{Name, most_groups, most_members}
+use Rattle.s39_set.specs.ShareSet.{IsShareSet, Agrees, has_name}
+use Rattle.s39_lists.proofs.Finds.{Contains-find}
+use Rattle.s39_lists.proofs.Sublists.{Contains-nil}
 use Rattle.s39_backup.specs.declared.plan.Members.{Members}
 use Rattle.s39_backup.specs.declared.combination.Mismatch.{Mismatch}
 use Rattle.s39_backup.specs.declared.combination.Mismatch.TheVariants.{InGroup, OfGroups}
@@ -29,6 +33,11 @@ use Rattle.s39_backup.proofs.MembersAtHand.{members-bytes, share_level, level-po
 use Rattle.s39_backup.proofs.OtherGroups.{others_complete, groups_level, groups_long, group_level, tell}
 use Rattle.s39_backup.proofs.MissingValues.{low_name, some_at_hand}
 use Rattle.s39_backup.proofs.Determined.{points_enough, points_short, at_hand_is, missing_is}
+
+-- the values of a set are of one length
+values_as_long : (set : List ShareFields) → IsShareSet set → (s : ShareFields) → Contains set s → length s.value.items ≡ value_bytes_of set
+values_as_long [] is s among = absurd (Contains-nil s among)
+values_as_long (t ∷ ts) is s among = (All-contains (Agrees s) (t ∷ ts) t (All-contains (λ x. All (Agrees x) (t ∷ ts)) (t ∷ ts) s is.agree among) (0, omega arith, refl)).value_length
 
 -- points of bytes, at least one, each at a place of its own and all of one length, complete to something
 module _ (complete : PointsComplete) (bytes : ℕ) (points : List (ℕ × List ℕ)) (level : ArePointsOfOneLevel bytes points)
@@ -157,7 +166,7 @@ module _ (combine : SharesCombine) (complete : PointsComplete) (like : SecretsAr
   -- ---- a member that isn't at hand
 
   module _ (group_threshold : ℕ) (groups : List Members) (plan : IsPlan group_threshold groups) (group : ℕ) (members : Members)
-      (is_group : IsGroup members) (low : group < 256) (member : ℕ) where
+      (is_group : IsGroup members) (low_group : group < most_groups) (member : ℕ) (low_member : member < most_members) where
     abbrev at_hand : List (ℕ × List ℕ)
     at_hand = members_at_hand set group
 
@@ -203,7 +212,7 @@ module _ (combine : SharesCombine) (complete : PointsComplete) (like : SecretsAr
         let complete_others = others_complete set group groups plan.each few group_threshold short.1 (omega arith) in
         let number = length-take-le group_threshold all_others short.1 in
         let some : 0 < length others = omega arith in
-        let share = group_share others group complete_others some low in
+        let share = group_share others group complete_others some (omega arith) in
         of share.result share.is share.as_long share.bytes (groups_long set others is_set complete_others some)
       where
         of : (result : Result (List ℕ) Mismatch) → IsGroupShare set (take group_threshold all_others) group result
@@ -257,51 +266,110 @@ module _ (combine : SharesCombine) (complete : PointsComplete) (like : SecretsAr
       | inr enough ↦ by_members enough
     ]
 
-    has_value : (result : Result (List ℕ) ReissueError) × IsValue set group_threshold groups group members member result
+    -- a value of the length of the others, of bytes
+    abbrev IsLike : List ℕ → Type 0
+    IsLike value = (length value ≡ value_bytes_of set) × AreBytes value
+
+    record HasValue : Type 0 where
+      value : Result (List ℕ) ReissueError
+      is : IsValue set group_threshold groups group members member value
+      like_others : IfOk value IsLike
+
+    has_value : HasValue
     has_value = from has_points.points has_points.are has_points.good
       where
         completed : (points : List (ℕ × List ℕ)) → ArePoints set group_threshold groups group members member (Ok points)
-            → (outcome : Option (List ℕ)) → Completes members.threshold points member outcome
-            → (result : Result (List ℕ) ReissueError) × IsValue set group_threshold groups group members member result
-        completed points are None is = (Err (DigestMismatch (InGroup group)), inr (refl, (points, are, is)))
-        completed points are (Some value) is = (Ok value, (points, are, is))
+            → ArePointsOfOneLevel (value_bytes_of set) points → All (λ p. AreBytes p.1) points → length points ≡ members.threshold
+            → (outcome : Option (List ℕ)) → Completes (length points) points member outcome → HasValue
+        completed points are level bytes number None is = record {
+          value = Err (DigestMismatch (InGroup group));
+          is = inr (refl, (points, are, subst (λ (n : ℕ). Completes n points member None) number is));
+          like_others = tt;
+        }
+        completed points are level bytes number (Some value) is = record {
+          value = Ok value;
+          is = (points, are, subst (λ (n : ℕ). Completes n points member (Some value)) number is);
+          like_others = completed_like complete (value_bytes_of set) points level bytes member value (omega arith) is;
+        }
 
         from : (points : Result (List (ℕ × List ℕ)) ReissueError) → ArePoints set group_threshold groups group members member points
             → IfOk points (λ ps. ArePointsOfOneLevel (value_bytes_of set) ps × All (λ p. AreBytes p.1) ps × (length ps ≡ members.threshold))
-            → (result : Result (List ℕ) ReissueError) × IsValue set group_threshold groups group members member result
-        from (Err error) are good = (Err error, inl are)
+            → HasValue
+        from (Err error) are good = record { value = Err error; is = inl are; like_others = tt }
         from (Ok points) are (level, bytes, number) =
             let (outcome, is) = completion complete (value_bytes_of set) points level bytes member in
-            completed points are outcome (subst (λ (n : ℕ). Completes n points member outcome) number is)
+            completed points are level bytes number outcome is
 
-    has_missing : (result : Result ShareFields ReissueError) × IsMissing set group_threshold groups (group, member) members result
-    has_missing = from has_value.0 has_value.1
+    -- a share of this name with such a value can be printed
+    printable : (s : ShareFields) → Contains set s → (value : List ℕ) → IsLike value → IsShare (share_like s (group, member) members.threshold value)
+    printable s among value (as_long, bytes) =
+        let is = All-contains IsShare set s is_set.each among in
+        let positive = is_group.positive in
+        let few = is_group.enough.few in
+        let enough = is_group.enough.enough in
+        let same : length value ≡ length s.value.items = as_long ∙ sym (values_as_long set is_set s among) in
+        record {
+          id = is.id;
+          exponent = is.exponent;
+          group_index = low_group;
+          group_threshold = is.group_threshold;
+          threshold_in_count = is.threshold_in_count;
+          group_count = is.group_count;
+          member_index = low_member;
+          member_threshold = positive;
+          member_threshold_in_range = omega arith;
+          value = record { bytes = bytes; count = subst IsSecretLength (sym same) is.value.count };
+        }
+
+    record HasMissing : Type 0 where
+      share : Result ShareFields ReissueError
+      is : IsMissing set group_threshold groups (group, member) members share
+      can_be_printed : IfOk share IsShare
+
+    has_missing : HasMissing
+    has_missing = from has_value.value has_value.is has_value.like_others
       where
         like_first : (xs : List ShareFields) → set ≡ xs → (value : List ℕ)
-            → IsValue set group_threshold groups group members member (Ok value)
-            → (result : Result ShareFields ReissueError) × IsMissing set group_threshold groups (group, member) members result
-        like_first [] none value is =
+            → IsValue set group_threshold groups group members member (Ok value) → IsLike value → HasMissing
+        like_first [] none value is as_others =
             absurd (some_at_hand set group_threshold groups (group, members) member is_set plan is_group value is none)
-        like_first (s ∷ ss) first value is =
+        like_first (s ∷ ss) first value is as_others =
             let among = subst (λ xs. Contains xs s) (sym first) (0, omega arith, refl) in
-            (Ok (share_like s (group, member) members.threshold value), (value, is, (s, among, refl)))
+            record {
+              share = Ok (share_like s (group, member) members.threshold value);
+              is = (value, is, (s, among, refl));
+              can_be_printed = printable s among value as_others;
+            }
 
-        from : (value : Result (List ℕ) ReissueError) → IsValue set group_threshold groups group members member value
-            → (result : Result ShareFields ReissueError) × IsMissing set group_threshold groups (group, member) members result
-        from (Ok value) is = like_first set refl value is
-        from (Err error) is = (Err error, is)
+        from : (value : Result (List ℕ) ReissueError) → IsValue set group_threshold groups group members member value → IfOk value IsLike → HasMissing
+        from (Ok value) is as_others = like_first set refl value is as_others
+        from (Err error) is as_others = record { share = Err error; is = is; can_be_printed = tt }
 
   -- ---- a share
 
-  pub reissue_exists : (group_threshold : ℕ) (groups : List Members) (name : ℕ × ℕ) → IsPlan group_threshold groups → IsNameOfPlan groups name
-      → (result : Result ShareFields ReissueError) × IsReissue set group_threshold groups name result
+  -- there is one, which can be printed, or it is missing
+  pub record HasReissue (group_threshold : ℕ) (groups : List Members) (name : Name) : Type 0 where
+    pub share : Result ShareFields ReissueError
+    pub is : IsReissue set group_threshold groups name share
+    pub can_be_printed : IfOk share IsShare
+
+  pub reissue_exists : (group_threshold : ℕ) (groups : List Members) (name : Name) → IsPlan group_threshold groups → IsNameOfPlan groups name
+      → HasReissue group_threshold groups name
   reissue_exists group_threshold groups name plan named = by (find (has_name name.0 name.1) set) refl (slice_get groups name.0) refl
     where
       by : (found : Option ShareFields) → find (has_name name.0 name.1) set ≡ found → (at : Option Members) → slice_get groups name.0 ≡ at
-          → (result : Result ShareFields ReissueError) × IsReissue set group_threshold groups name result
-      by (Some share) here at group_is = (Ok share, at_hand_is set is_set group_threshold groups name.0 name.1 share (sym here))
+          → HasReissue group_threshold groups name
+      by (Some share) here at group_is = record {
+        share = Ok share;
+        is = at_hand_is set is_set group_threshold groups name.0 name.1 share (sym here);
+        can_be_printed = All-contains IsShare set share is_set.each (Contains-find (has_name name.0 name.1) set share here);
+      }
       by None here None group_is = absurd (subst (λ o. IsSomeAnd o (λ m. name.1 < m.count)) group_is named)
       by None here (Some members) group_is =
           let (low, low_member, is_group) = low_name group_threshold groups name.0 name.1 members plan group_is named in
-          let (result, missing) = has_missing group_threshold groups plan name.0 members is_group (omega arith) name.1 in
-          (result, missing_is set is_set group_threshold groups name.0 name.1 members result (sym here) group_is missing)
+          let has = has_missing group_threshold groups plan name.0 members is_group low name.1 low_member in
+          record {
+            share = has.share;
+            is = missing_is set is_set group_threshold groups name.0 name.1 members has.share (sym here) group_is has.is;
+            can_be_printed = has.can_be_printed;
+          }

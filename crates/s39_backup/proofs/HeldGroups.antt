@@ -12,16 +12,17 @@ use Rattle.std.proofs.lemmas.Option.{slice_get-get_or}
 use Rattle.std.proofs.lemmas.Bool.{eq-eqb}
 use Rattle.std.proofs.lemmas.Bool.Decides.{nat_tests}
 use Rattle.std.proofs.lemmas.List.Sums.{length-filter, count_by_more_yes, sum_by-take-le}
-use Rattle.s39_split.proofs.Lists.{enumerate_from-push}
-use Rattle.s39_set.specs.Names.{name_cmp, IsAscending, names_in_group}
-use Rattle.s39_set.proofs.AtHand.{AllPairs-map, Contains-map}
+use Rattle.s39_lists.proofs.Pushes.{enumerate_from-push}
+use Rattle.s39_set.specs.Names.{Name, Names, name_cmp, IsAscending, names_in_group}
+use Rattle.s39_lists.proofs.Pairs.{AllPairs-map}
+use Rattle.s39_lists.proofs.Images.{Contains-map}
 use Rattle.s39_set.proofs.MembersOf.{names_in_group-group}
-use Rattle.s39_set.proofs.Sublists.{AllPairs-sublist, filter_kept, Contains-filter}
+use Rattle.s39_lists.proofs.Sublists.{AllPairs-sublist, filter_kept, Contains-filter}
 use Rattle.s39_backup.specs.declared.plan.Members.{Members}
 use Rattle.s39_backup.specs.TwoShort.{is_held, held_groups, IsNameOfPlan}
 
 -- one group more
-held_more : (names : List (ℕ × ℕ)) (groups : List Members) (i : ℕ) (d : Members) → i < length groups
+held_more : (names : Names) (groups : List Members) (i : ℕ) (d : Members) → i < length groups
     → held_groups names (take (i + 1) groups) ≡ held_groups names (take i groups)
     ++ map (λ g. g.0) (filter (is_held names) ((i, get_or groups i d) ∷ []))
 held_more names groups i d within =
@@ -34,16 +35,16 @@ held_more names groups i d within =
     ∙ ap (map (λ g. g.0)) (filter-append (is_held names) (enumerate_from 0 first) ((i, members) ∷ []))
     ∙ map-append (λ g. g.0) (filter (is_held names) (enumerate_from 0 first)) (filter (is_held names) ((i, members) ∷ []))
 
-pub held-with : (names : List (ℕ × ℕ)) (groups : List Members) (i : ℕ) (d : Members) → i < length groups → is_held names (i, get_or groups i d) ≡ true
+pub held-with : (names : Names) (groups : List Members) (i : ℕ) (d : Members) → i < length groups → is_held names (i, get_or groups i d) ≡ true
     → held_groups names (take (i + 1) groups) ≡ held_groups names (take i groups) ++ i ∷ []
 held-with names groups i d within is = rw is at (held_more names groups i d within)
 
-pub held-without : (names : List (ℕ × ℕ)) (groups : List Members) (i : ℕ) (d : Members) → i < length groups → is_held names (i, get_or groups i d) ≡ false
+pub held-without : (names : Names) (groups : List Members) (i : ℕ) (d : Members) → i < length groups → is_held names (i, get_or groups i d) ≡ false
     → held_groups names (take (i + 1) groups) ≡ held_groups names (take i groups)
 held-without names groups i d within is = rw is at (held_more names groups i d within) ∙ append-nil (held_groups names (take i groups))
 
 -- the members of a group stand in order
-pub members-ascending : (names : List (ℕ × ℕ)) (group : ℕ) → IsAscending names → AllPairs (λ a b. a < b) (map (λ name. name.1) (names_in_group group names))
+pub members-ascending : (names : Names) (group : ℕ) → IsAscending names → AllPairs (λ a b. a < b) (map (λ name. name.1) (names_in_group group names))
 members-ascending names group ascending =
     AllPairs-map (λ a b. a < b) (λ name. name.1) (names_in_group group names)
     (λ i j d before within.
@@ -51,11 +52,11 @@ members-ascending names group ascending =
     (names_in_group-group group names i d (omega arith) ∙ sym (names_in_group-group group names j d within))
     (AllPairs-sublist (λ a b. name_cmp a b ≡ Less) (filter_kept (λ name. name.0 == group) names) ascending i j d before within))
   where
-    later : (a b : ℕ × ℕ) → a.0 ≡ b.0 → name_cmp a b ≡ Less → a.1 < b.1
+    later : (a b : Name) → a.0 ≡ b.0 → name_cmp a b ≡ Less → a.1 < b.1
     later a b same less = grind (arith, nat_tests)
 
 -- those of the names before one of the group's are fewer
-pub few_before : (names : List (ℕ × ℕ)) (group i : ℕ) → i < length names → (get_or names i (0, 0)).0 ≡ group
+pub few_before : (names : Names) (group i : ℕ) → i < length names → (get_or names i (0, 0)).0 ≡ group
     → length (names_in_group group (take i names)) < length (names_in_group group names)
 few_before names group i within here =
     let count : length (names_in_group group (take (i + 1) names)) ≡ length (names_in_group group (take i names)) + 1 =
@@ -80,7 +81,7 @@ places-ascending groups i j d before within =
     rw (get_or-enumerate_from 0 groups i d (omega arith), get_or-enumerate_from 0 groups j d (omega arith)) (omega arith)
 
 -- and so do the indices of the groups that are held
-pub held-ascending : (names : List (ℕ × ℕ)) (groups : List Members) → AllPairs (λ a b. a < b) (held_groups names groups)
+pub held-ascending : (names : Names) (groups : List Members) → AllPairs (λ a b. a < b) (held_groups names groups)
 held-ascending names groups =
     AllPairs-map (λ a b. a < b) (λ group. group.0) (filter (is_held names) (enumerate_from 0 groups))
     (AllPairs-filter (λ a b. a.0 < b.0) (is_held names) (enumerate_from 0 groups) (places-ascending groups))
@@ -90,13 +91,13 @@ places-below groups k d within =
     let number = length-enumerate_from 0 groups in
     rw (get_or-enumerate_from 0 groups k d (omega arith)) (omega arith)
 
-pub held-below : (names : List (ℕ × ℕ)) (groups : List Members) → All (λ i. i < length groups) (held_groups names groups)
+pub held-below : (names : Names) (groups : List Members) → All (λ i. i < length groups) (held_groups names groups)
 held-below names groups =
     All-map (λ i. i < length groups) (λ group. group.0) (filter (is_held names) (enumerate_from 0 groups))
     (All-filter (is_held names) (λ group. group.0 < length groups) (enumerate_from 0 groups) (places-below groups))
 
 -- a group that is held is among them
-pub held-among : (names : List (ℕ × ℕ)) (groups : List Members) (i : ℕ) (d : Members) → i < length groups
+pub held-among : (names : Names) (groups : List Members) (i : ℕ) (d : Members) → i < length groups
     → is_held names (0 + i, get_or groups i d) ≡ true → Contains (held_groups names groups) (0 + i)
 held-among names groups i d within is =
     let number = length-enumerate_from 0 groups in
@@ -106,21 +107,21 @@ held-among names groups i d within is =
     (Contains-get_or (enumerate_from 0 groups) i (0, d) (omega arith))) is)
 
 -- a name of a plan is one of a member of its group
-pub member-below : (groups : List Members) (name : ℕ × ℕ) (i : ℕ) (d : Members) → IsNameOfPlan groups name → name.0 ≡ i → i < length groups
+pub member-below : (groups : List Members) (name : Name) (i : ℕ) (d : Members) → IsNameOfPlan groups name → name.0 ≡ i → i < length groups
     → name.1 < (get_or groups i d).count
 member-below groups name i d of_plan here within =
     subst (λ group. IsSomeAnd group (λ members. name.1 < members.count)) (ap (slice_get groups) here ∙ slice_get-get_or groups i d within) of_plan
 
 -- the members of its group
-pub record HasMembers (groups : List Members) (name : ℕ × ℕ) : Type 0 where
+pub record HasMembers (groups : List Members) (name : Name) : Type 0 where
   pub members : Members
   pub at : slice_get groups name.0 ≡ Some members
   pub below : name.1 < members.count
 
-members_at : (groups : List Members) (name : ℕ × ℕ) (group : Option Members) → slice_get groups name.0 ≡ group
+members_at : (groups : List Members) (name : Name) (group : Option Members) → slice_get groups name.0 ≡ group
     → IsSomeAnd group (λ members. name.1 < members.count) → HasMembers groups name
 members_at groups name (Some members) is below = record { members = members; at = is; below = below }
 members_at groups name None is below = absurd below
 
-pub has_members : (groups : List Members) (name : ℕ × ℕ) → IsNameOfPlan groups name → HasMembers groups name
+pub has_members : (groups : List Members) (name : Name) → IsNameOfPlan groups name → HasMembers groups name
 has_members groups name of_plan = members_at groups name (slice_get groups name.0) refl of_plan

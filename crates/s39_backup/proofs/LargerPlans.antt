@@ -10,12 +10,11 @@ use Rattle.s39_split.specs.Sharing.{random_needed as level_random_needed, IsSpli
 use Rattle.s39_words.specs.declared.share.ShareFields.{ShareFields}
 use Rattle.s39_set.specs.ShareSet.{name_of}
 use Rattle.s39_backup.specs.declared.plan.Members.{Members}
-use Rattle.s39_backup.specs.declared.options.Options.{Options}
 use Rattle.s39_backup.specs.Plan.{IsGroup}
 use Rattle.s39_backup.specs.TwoShort.{IsNameOfPlan}
 use Rattle.s39_backup.specs.LargerPlan.{HaveMoreMembers, ArePartOf}
-use Rattle.s39_backup.specs.Created.{AreSplitAmong, created_share, created_groups, IsCreatedFrom, identifier_length, random_needed}
-use Rattle.s39_backup.proofs.Images.{some_same}
+use Rattle.s39_backup.specs.Created.{Asked, AreSplitAmong, created_share, created_groups, IsCreatedFrom, identifier_length, random_needed}
+use Rattle.s39_lists.proofs.Finds.{some_same}
 use Rattle.s39_backup.proofs.Promise.{IsCreatedShare, in_created_groups}
 use Rattle.s39_backup.proofs.WholeBackups.{contains_created, values_at}
 
@@ -95,12 +94,16 @@ to_take n k v value enough low at =
     let count = length-take-le n v enough in
     slice_get-get_or (take n v) k [] (omega arith) ∙ ap Some (get_or-take n v k [] low ∙ get_or_from_slice_get v k value [] at)
 
-module _ (first : FirstSharesAreASplit) (secret passphrase : List ℕ) (group_threshold : ℕ) (groups larger : List Members)
-    (options : Options) (random : List ℕ) (shares others : List ShareFields) (plan : All IsGroup groups) (more : HaveMoreMembers groups larger)
-    (created : IsCreatedFrom secret passphrase group_threshold groups options random shares)
-    (also : IsCreatedFrom secret passphrase group_threshold larger options random others)
-    (once : (a b : List ShareFields) → IsCreatedFrom secret passphrase group_threshold groups options random a
-    → IsCreatedFrom secret passphrase group_threshold groups options random b → a ≡ b) where
+module _ (first : FirstSharesAreASplit) (asked : Asked) (larger : List Members) (random : List ℕ) (shares others : List ShareFields)
+    (plan : All IsGroup asked.groups) (more : HaveMoreMembers asked.groups larger)
+    (created : IsCreatedFrom asked random shares) (also : IsCreatedFrom (record asked { groups = larger }) random others)
+    (once : (a b : List ShareFields) → IsCreatedFrom asked random a → IsCreatedFrom asked random b → a ≡ b) where
+  abbrev group_threshold : ℕ
+  group_threshold = asked.group_threshold
+
+  abbrev groups : List Members
+  groups = asked.groups
+
   as_many : length groups ≡ length larger
   as_many = length_all_zip (λ members more. (members.threshold ≡ more.threshold) × (members.count ≤ more.count)) groups larger more
 
@@ -111,7 +114,7 @@ module _ (first : FirstSharesAreASplit) (secret passphrase : List ℕ) (group_th
   first_shares = created_groups also.params group_threshold (length groups) 0 groups cut
 
   -- the first members of the larger backup are a backup of the plan
-  is_backup : IsCreatedFrom secret passphrase group_threshold groups options random first_shares
+  is_backup : IsCreatedFrom asked random first_shares
   is_backup = record {
     high = also.high;
     low = also.low;
@@ -138,7 +141,8 @@ module _ (first : FirstSharesAreASplit) (secret passphrase : List ℕ) (group_th
       ≡ created_share also.params group_threshold (length larger) (0 + place) bigger member value
   same_share place members bigger member value threshold =
       ap (λ (n : ℕ). created_share also.params group_threshold n (0 + place) members member value) as_many
-      ∙ ap (λ (t : ℕ). created_share also.params group_threshold (length larger) (0 + place) (record { threshold = t; count = bigger.count }) member value) threshold
+      ∙ ap (λ (t : ℕ). created_share also.params group_threshold (length larger) (0 + place)
+      (record { threshold = t; count = bigger.count }) member value) threshold
 
   to_larger : (share : ShareFields) → IsCreatedShare also.params group_threshold (length groups) groups cut 0 share
       → Contains others share × IsNameOfPlan groups (name_of share)

@@ -13,7 +13,7 @@ use Rattle.std.proofs.lemmas.List.FromFn.{length-range_with_len}
 use Rattle.std.proofs.lemmas.List.Kept.{AllPairs-filter}
 use Rattle.s39_words.specs.declared.share.ShareFields.{ShareFields}
 use Rattle.s39_words.specs.Share.{IsShare}
-use Rattle.s39_set.specs.Names.{most_groups, most_members, name_cmp, names_in_group}
+use Rattle.s39_set.specs.Names.{Name, Names, most_groups, most_members, name_cmp, names_in_group}
 use Rattle.s39_set.specs.Groups.{is_complete}
 use Rattle.s39_set.specs.ShareSet.{name_of}
 use Rattle.s39_set.specs.Quorums.{group_threshold_of, member_threshold_of}
@@ -23,12 +23,10 @@ use Rattle.s39_split.specs.Sharing.{most_shares}
 use Rattle.s39_split.specs.Recovery.{Combines}
 use Rattle.s39_backup.specs.Combination.{value_of, member_shares, groups_of, GroupCombines, AllCombine, GroupsCombine, MismatchesInGroup}
 use Rattle.s39_backup.specs.GroupShares.{value_bytes_of, groups_below, IsExactQuorum, AreOfOneLevel, AreGroupShares}
-use Rattle.s39_split.proofs.Lists.{All-from_map, AllPairs-from_map}
-use Rattle.s39_backup.proofs.Images.{filter_same, zip-parts, AllZip-parts}
-use Rattle.s39_set.proofs.AtHand.{AllPairs-map}
-use Rattle.s39_set.proofs.CompleteGroups.{range-below}
-use Rattle.s39_set.proofs.Ranges.{filter-range_more_yes, filter-range_more_no}
-use Rattle.s39_backup.proofs.Ranges.{range-distinct, filter-range_parts}
+use Rattle.s39_lists.proofs.Pairs.{All-from_map, AllPairs-from_map, AllPairs-map}
+use Rattle.s39_backup.proofs.Images.{zip-parts, AllZip-parts}
+use Rattle.s39_lists.proofs.Images.{filter_alike}
+use Rattle.s39_lists.proofs.Ranges.{range-below, filter-range_more_yes, filter-range_more_no, range-distinct, filter-range_parts}
 use Rattle.s39_backup.proofs.Values.{has_share, values_agree, value_bytes-long, length-value_of, member_threshold-positive, group_threshold-positive}
 
 -- a set with a group threshold has a share
@@ -37,7 +35,7 @@ some_share [] threshold e = absurd (let none : None ≡ Some threshold = e in cc
 some_share (s ∷ ss) threshold e = (s, (0, omega arith, refl))
 
 -- a name of a group is among these
-abbrev has_name_in : List (ℕ × ℕ) → ℕ → Bool
+abbrev has_name_in : Names → ℕ → Bool
 has_name_in names group = nat_lt 0 (length (names_in_group group names))
 
 -- shares of one level have one length, which is long enough
@@ -53,15 +51,15 @@ module _ (bytes : ℕ) (shares : List (ℕ × List ℕ)) (level : AreOfOneLevel 
 
 -- ---- the shares of a group
 
-same_group : (a b : ℕ × ℕ) (group : ℕ) → a.0 ≡ group → b.0 ≡ group → name_cmp a b ≡ Less → a.1 ≢ b.1
+same_group : (a b : Name) (group : ℕ) → a.0 ≡ group → b.0 ≡ group → name_cmp a b ≡ Less → a.1 ≢ b.1
 same_group a b group first second less same = grind (arith, nat_tests)
 
 -- a group has a share for each of its names
-pub length-member_shares : (set : List ShareFields) (names : List (ℕ × ℕ)) (group : ℕ)
+pub length-member_shares : (set : List ShareFields) (names : Names) (group : ℕ)
     → length (member_shares set names group) ≡ length (names_in_group group names)
 length-member_shares set names group = length-map (names_in_group group names) (λ name. (name.1, value_of set name))
 
-module _ (set : List ShareFields) (names : List (ℕ × ℕ)) (quorum : IsExactQuorum set names) where
+module _ (set : List ShareFields) (names : Names) (quorum : IsExactQuorum set names) where
   module _ (group : ℕ) where
     pub in_group : All (λ name. name.0 ≡ group) (names_in_group group names)
     in_group k d within = eqb-true (get_or (names_in_group group names) k d).0 group (filter_passes (λ name. name.0 == group) names k d within)
@@ -154,8 +152,8 @@ module _ (set : List ShareFields) (names : List (ℕ × ℕ)) (quorum : IsExactQ
   group_threshold_is =
       quorum.exact.just.groups
       ∙ ap (λ groups. Some (length groups))
-      (filter_same (is_complete (member_threshold_of set) names) (λ group. nat_lt 0 (length (names_in_group group names)))
-      (range_with_len 0 most_groups) complete_here)
+      (filter_alike (is_complete (member_threshold_of set) names) (λ group. nat_lt 0 (length (names_in_group group names)))
+      (range_with_len 0 most_groups) (λ k d within. complete_here (get_or (range_with_len 0 most_groups) k d)))
 
   -- the values have an even length
   pub value_bytes-even : value_bytes_of set % 2 ≡ 0

@@ -1,5 +1,4 @@
 pub mod Images
-pub mod Ranges
 pub mod Values
 pub mod Levels
 pub mod Combined
@@ -11,7 +10,6 @@ pub mod Plans
 pub mod Promise
 pub mod EveryOutcome
 pub mod Agreeing
-pub mod PlanNumbers
 pub mod PlanTexts
 pub mod PlanReadings
 pub mod Creations
@@ -31,3 +29,4 @@ pub mod LargerPlans
 pub mod OneReissue
 pub mod MissingValues
 pub mod EveryReissue
+pub mod DeterminedNames

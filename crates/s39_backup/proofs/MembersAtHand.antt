@@ -1,24 +1,24 @@
 -- The members of a group that are at hand.
 use Rattle.std.proofs.Common.{◌≡◌, ◌≢◌, ℕ, ◌+◌, ◌-◌, ◌<◌, ◌≤◌, ◌==◌, ◌&&◌, Bool, true, false, nat_lt, nat_le, List, [], ◌∷◌, ◌++◌, length, get_or}
-use Rattle.std.proofs.Common.{take, filter, find, map, cond, All, AllPairs, Contains, Option, Some, None, Less, ◌⊎◌, inl, inr, refl, sym, ap, subst, ◌∙◌, arith}
+use Rattle.std.proofs.Common.{take, filter, find, map, All, AllPairs, Contains, Option, Some, None, Less, ◌⊎◌, inl, inr, refl, sym, ap, subst, ◌∙◌, arith}
 use Rattle.std.specs.Option.{option_map_or}
 use Rattle.std.proofs.lemmas.Bool.{cases_Bool, cases_lt, cond-true, cond-false, and_parts, and_from, and_left, and_right, eqb-true, eq-eqb}
 use Rattle.std.proofs.lemmas.Bool.{lt-ltb, le-ltb}
 use Rattle.std.proofs.lemmas.Bool.Decides.{nat_tests}
 use Rattle.std.proofs.lemmas.List.{length-map, length-take-le, length-append, take_all, take-append-le, append-nil, append_assoc}
-use Rattle.std.proofs.lemmas.List.Elements.{All-cons, All-head, All-tail, All-map, All-filter, All-take, filter_passes}
+use Rattle.std.proofs.lemmas.List.Elements.{All-cons, All-map, All-filter, All-take, filter_passes}
 use Rattle.std.proofs.lemmas.List.Kept.{AllPairs-cons, AllPairs-filter}
 use Rattle.s39_kdf.specs.Bytes.{AreBytes}
 use Rattle.s39_kdf.specs.Limits.{shortest_secret}
 use Rattle.s39_split.specs.Sharing.{most_shares, secret_place}
 use Rattle.s39_split.specs.Shares.{HaveOneLength}
-use Rattle.s39_split.proofs.Lists.{AllPairs-from_map}
+use Rattle.s39_lists.proofs.Images.{filter_alike}
+use Rattle.s39_lists.proofs.Pairs.{AllPairs-from_map, AllPairs-map, AllPairs-head, AllPairs-tail}
 use Rattle.s39_words.specs.declared.share.ShareFields.{ShareFields}
 use Rattle.s39_words.specs.Share.{IsShare}
 use Rattle.s39_set.specs.Names.{most_members, name_cmp}
 use Rattle.s39_set.specs.ShareSet.{IsShareSet, name_of, is_in_group, has_name}
-use Rattle.s39_set.proofs.AtHand.{AllPairs-map}
-use Rattle.s39_set.proofs.Sublists.{AllPairs-head, AllPairs-tail, AllPairs-sublist, take-sublist, filter-none}
+use Rattle.s39_lists.proofs.Sublists.{AllPairs-sublist, take-sublist, filter-none}
 use Rattle.s39_backup.specs.GroupShares.{value_bytes_of, AreOfOneLevel}
 use Rattle.s39_backup.specs.Reissue.{members_at_hand}
 use Rattle.s39_backup.specs.Reissuing.{members_below, ArePointsOfOneLevel}
@@ -28,13 +28,6 @@ abbrev pub point_of : ShareFields → ℕ × List ℕ
 point_of share = (share.member_index, share.value.items)
 
 -- ---- tests of a list's elements
-
-filter_alike : {X : Type 0} (p q : X → Bool) (xs : List X) → All (λ x. p x ≡ q x) xs → filter p xs ≡ filter q xs
-filter_alike p q [] same = refl
-filter_alike p q (x ∷ xs) same =
-    let here : p x ≡ q x = All-head (λ y. p y ≡ q y) x xs same in
-    let rest : filter p xs ≡ filter q xs = filter_alike p q xs (All-tail (λ y. p y ≡ q y) x xs same) in
-    ap (λ b. cond b (x ∷ filter p xs) (filter p xs)) here ∙ ap (λ ys. cond (q x) (x ∷ ys) ys) rest
 
 -- ---- in the order of their indices
 

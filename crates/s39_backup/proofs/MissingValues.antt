@@ -1,5 +1,5 @@
 -- The value of a member that isn't at hand, as the code computes it.
-use Rattle.std.proofs.Common.{◌≡◌, ◌≢◌, ℕ, ◌+◌, ◌<◌, ◌≤◌, List, [], length, take, Option, Some, None, Result, Ok, Err, ◌⊎◌, inl, inr, refl, sym, ap, subst, ◌∙◌, arith}
+use Rattle.std.proofs.Common.{◌≡◌, ◌≢◌, ℕ, ◌+◌, ◌<◌, ◌≤◌, List, [], length, take, Option, Some, None, Result, Ok, Err, inl, inr, sym, ap, subst, ◌∙◌, arith}
 use Rattle.std.specs.Prelude.{IfOk, IfErr, IsSomeAnd}
 use Rattle.std.specs.List.{slice_get}
 use Rattle.std.proofs.lemmas.Bool.{cases_eq, cases_lt}
@@ -15,16 +15,16 @@ use Rattle.s39_set.specs.ShareSet.{IsShareSet}
 use Rattle.s39_backup.specs.declared.plan.Members.{Members}
 use Rattle.s39_backup.specs.declared.combination.Mismatch.TheVariants.{InGroup}
 use Rattle.s39_backup.specs.declared.reissue_error.ReissueError.{ReissueError}
-use Rattle.s39_backup.specs.declared.reissue_error.ReissueError.TheVariants.{Undetermined, DigestMismatch}
+use Rattle.s39_backup.specs.declared.reissue_error.ReissueError.TheVariants.{DigestMismatch}
 use Rattle.s39_backup.specs.Plan.{IsPlan, IsGroup}
 use Rattle.s39_backup.specs.TwoShort.{IsNameOfPlan}
 use Rattle.s39_backup.specs.GroupShares.{value_bytes_of}
 use Rattle.s39_backup.specs.Reissue.{members_at_hand, least_members, other_groups, ArePoints, IsValue}
-use Rattle.s39_backup.specs.Reissuing.{ArePointsOfOneLevel, AreComplete, IsValueBy}
+use Rattle.s39_backup.specs.Reissuing.{ArePointsOfOneLevel, AreComplete}
 use Rattle.s39_backup.proofs.Agreeing.{All-at}
 use Rattle.s39_backup.proofs.MembersAtHand.{level-points}
 use Rattle.s39_backup.proofs.OtherGroups.{group_level, groups_long, others_complete}
-use Rattle.s39_backup.proofs.Determined.{value_enough, refused_enough, by_others, too_few}
+use Rattle.s39_backup.proofs.Determined.{value_enough, refused_enough}
 
 -- a name of a plan
 pub low_name : (group_threshold : ℕ) (groups : List Members) (group member : ℕ) (members : Members) → IsPlan group_threshold groups
@@ -113,34 +113,6 @@ module _ (set : List ShareFields) (group_threshold : ℕ) (groups : List Members
     ]
 
   module _ (all : List (ℕ × Members)) (same : all ≡ other_groups set groups group.0) where
-    pub too_few_of : (at_hand number : ℕ) → at_hand ≡ count → number ≡ length all → at_hand < group.1.threshold
-        → (at_hand + 1 < group.1.threshold) ⊎ (number < group_threshold)
-        → IsItsValue (Err (Undetermined (record {
-          group = group.0;
-          member = member;
-          members = at_hand;
-          threshold = group.1.threshold;
-          others = number;
-          required = group_threshold;
-        })))
-    too_few_of at_hand number count_is number_is few lack =
-        let number_of : number ≡ length (other_groups set groups group.0) = number_is ∙ ap length same in
-        too_few set group_threshold groups group.0 group.1 member
-        (Undetermined (record {
-          group = group.0;
-          member = member;
-          members = at_hand;
-          threshold = group.1.threshold;
-          others = number;
-          required = group_threshold;
-        }))
-        (omega arith)
-        (elim lack [
-          | inl fewer ↦ inl (omega arith)
-          | inr fewer ↦ inr (omega arith)
-        ])
-        (rw (count_is, number_of) refl)
-
     module _ (enough : group_threshold ≤ length all) where
       pub least_complete : IsPlan group_threshold groups → AreComplete set (take group_threshold all)
       least_complete plan =
@@ -148,21 +120,3 @@ module _ (set : List ShareFields) (group_threshold : ℕ) (groups : List Members
           let most = plan.enough.enough in
           subst (λ gs. AreComplete set (take group_threshold gs)) (sym same)
           (others_complete set group.0 groups plan.each few group_threshold (omega (arith, ap length same)) (omega arith))
-
-      module _ (one : count + 1 ≡ group.1.threshold) where
-        turned : (result : Result (List ℕ) ReissueError) → IsValueBy set (take group_threshold all) group member result → IsItsValue result
-        turned result is =
-            by_others set group_threshold groups group.0 group.1 member one (omega (arith, ap length same)) result
-            (subst (λ gs. IsValueBy set (take group_threshold gs) group member result) same is)
-
-        pub by_others_ok : (r : Result (ArrayVec ℕ) ReissueError) → IfOk r (λ v. IsValueBy set (take group_threshold all) group member (Ok v.items))
-            → IfOk r (λ v. IsItsValue (Ok v.items))
-        by_others_ok r h =
-            IfOk-weaker r (λ v. IsValueBy set (take group_threshold all) group member (Ok v.items)) (λ v. IsItsValue (Ok v.items))
-            (λ v is. turned (Ok v.items) is) h
-
-        pub by_others_err : (r : Result (ArrayVec ℕ) ReissueError) → IfErr r (λ e. IsValueBy set (take group_threshold all) group member (Err e))
-            → IfErr r (λ e. IsItsValue (Err e))
-        by_others_err r h =
-            IfErr-weaker r (λ e. IsValueBy set (take group_threshold all) group member (Err e)) (λ e. IsItsValue (Err e))
-            (λ e is. turned (Err e) is) h

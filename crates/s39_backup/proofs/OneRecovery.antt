@@ -14,16 +14,15 @@ use Rattle.s39_kdf.specs.declared.params.Params.{Params}
 use Rattle.s39_kdf.specs.Limits.{id_bits, exponent_bits}
 use Rattle.s39_kdf.specs.Cipher.{IsEncryption, EncryptsOneSecret}
 use Rattle.s39_words.specs.declared.share.ShareFields.{ShareFields}
-use Rattle.s39_set.specs.Names.{most_groups, names_in_group}
+use Rattle.s39_set.specs.Names.{Names, most_groups, names_in_group}
 use Rattle.s39_split.specs.Recovery.{Combines, SharesCombineOnce}
 use Rattle.s39_backup.specs.declared.combination.Mismatch.{Mismatch}
 use Rattle.s39_backup.specs.declared.combination.Mismatch.TheVariants.{InGroup, OfGroups}
 use Rattle.s39_backup.specs.Combination.{member_shares, groups_of, GroupCombines, AllCombine, GroupsCombine, MismatchesInGroup, IsCombination}
 use Rattle.s39_backup.specs.Outcome.{AreParams, Recovers, IsOutcome}
 use Rattle.s39_backup.specs.GroupShares.{IsExactQuorum}
-use Rattle.s39_split.proofs.Lists.{All-from_map, AllPairs-from_map}
-use Rattle.s39_set.proofs.CompleteGroups.{range-below}
-use Rattle.s39_backup.proofs.Ranges.{range-distinct}
+use Rattle.s39_lists.proofs.Pairs.{All-from_map, AllPairs-from_map}
+use Rattle.s39_lists.proofs.Ranges.{range-below, range-distinct}
 use Rattle.s39_backup.proofs.Levels.{member_threshold_is, members_of_one_level, group_threshold_is, some_group}
 
 -- ---- parameters
@@ -55,7 +54,7 @@ one_params : (set : List ShareFields) (p q : Params) → AreParams set p → Are
 one_params [] p q a b = absurd a
 one_params (s ∷ ss) p q a b = same_params p q (a.0 ∙ sym b.0) (a.1 ∙ sym b.1) (a.2 ∙ sym b.2)
 
-module _ (set : List ShareFields) (names : List (ℕ × ℕ)) (quorum : IsExactQuorum set names) (combine_once : SharesCombineOnce) where
+module _ (set : List ShareFields) (names : Names) (quorum : IsExactQuorum set names) (combine_once : SharesCombineOnce) where
   -- a group with names has one outcome
   group_once : (group : ℕ) (outcome other : Option (List ℕ)) → 0 < length (names_in_group group names)
       → GroupCombines set names group outcome → GroupCombines set names group other → outcome ≡ other
@@ -190,7 +189,7 @@ module _ (set : List ShareFields) (names : List (ℕ × ℕ)) (quorum : IsExactQ
   combination_once (Err OfGroups) (Err OfGroups) r s = refl
 
 -- a quorum that combines to one thing has one outcome
-module _ (set : List ShareFields) (names : List (ℕ × ℕ))
+module _ (set : List ShareFields) (names : Names)
     (once : (combination other : Result (List ℕ) Mismatch) → IsCombination set names combination → IsCombination set names other → combination ≡ other)
     (encrypts_once : EncryptsOneSecret) (passphrase : List ℕ) where
   secret_once : (secret other : List ℕ) → Recovers set names passphrase secret → Recovers set names passphrase other → secret ≡ other
@@ -212,7 +211,7 @@ module _ (set : List ShareFields) (names : List (ℕ × ℕ))
       ap (λ (m : Mismatch). Err m) same
 
 -- what is combined is the one thing that the quorum combines to
-pub only_combination : (set : List ShareFields) (names : List (ℕ × ℕ))
+pub only_combination : (set : List ShareFields) (names : Names)
     → ((combination other : Result (List ℕ) Mismatch) → IsCombination set names combination → IsCombination set names other → combination ≡ other)
     → (encrypted : List ℕ) → IsCombination set names (Ok encrypted)
     → (result : Result (ArrayVec ℕ) Mismatch) → IfOk result (λ e. IsCombination set names (Ok e.items)) → IfErr result (λ m. IsCombination set names (Err m))
@@ -225,7 +224,7 @@ only_combination set names once encrypted is (Err m) combined refused =
     absurd (cc)
 
 -- what is recovered is the one outcome of the quorum
-pub only_outcome : (set : List ShareFields) (names : List (ℕ × ℕ)) (passphrase : List ℕ)
+pub only_outcome : (set : List ShareFields) (names : Names) (passphrase : List ℕ)
     → ((outcome other : Result (List ℕ) Mismatch) → IsOutcome set names passphrase outcome → IsOutcome set names passphrase other → outcome ≡ other)
     → (secret : List ℕ) → IsOutcome set names passphrase (Ok secret)
     → (result : Result (ArrayVec ℕ) Mismatch) → IfOk result (λ s. IsOutcome set names passphrase (Ok s.items))

@@ -9,13 +9,13 @@ use Rattle.std.proofs.lemmas.List.Kept.{AllPairs-cons}
 use Rattle.s39_split.specs.Sharing.{secret_place}
 use Rattle.s39_split.specs.Recovery.{SharesCombineOnce}
 use Rattle.s39_split.specs.Completion.{Completes, PointsCompleteOnce}
-use Rattle.s39_split.proofs.Lists.{All-from_map, AllPairs-from_map}
+use Rattle.s39_lists.proofs.Pairs.{All-from_map, AllPairs-from_map, AllPairs-map}
 use Rattle.s39_words.specs.declared.share.ShareFields.{ShareFields}
+use Rattle.s39_set.specs.Names.{Name}
 use Rattle.s39_set.specs.ShareSet.{IsShareSet, has_name}
-use Rattle.s39_set.proofs.AtHand.{AllPairs-map}
-use Rattle.s39_set.proofs.Finds.{Contains-find}
+use Rattle.s39_lists.proofs.Finds.{Contains-find, some_same}
 use Rattle.s39_set.proofs.Sets.{agree}
-use Rattle.s39_set.proofs.Sublists.{Contains-head}
+use Rattle.s39_lists.proofs.Sublists.{Contains-head}
 use Rattle.s39_backup.specs.declared.plan.Members.{Members}
 use Rattle.s39_backup.specs.declared.combination.Mismatch.{Mismatch}
 use Rattle.s39_backup.specs.declared.combination.Mismatch.TheVariants.{InGroup, OfGroups}
@@ -27,7 +27,6 @@ use Rattle.s39_backup.specs.Reissue.{IsOneShort, AreByOthers, ArePoints, IsValue
 use Rattle.s39_backup.specs.Reissuing.{AreComplete}
 use Rattle.s39_backup.specs.GroupShares.{AreOfOneLevel}
 use Rattle.s39_backup.proofs.Agreeing.{All-at}
-use Rattle.s39_backup.proofs.Images.{some_same}
 use Rattle.s39_backup.proofs.MembersAtHand.{members-distinct, members-low, least_level}
 use Rattle.s39_backup.proofs.OtherGroups.{others_complete, each_firsts, each_length}
 use Rattle.s39_backup.proofs.Determined.{found_name, not_found}
@@ -278,7 +277,7 @@ module _ (combine_once : SharesCombineOnce) (complete_once : PointsCompleteOnce)
 
   -- ---- a share
 
-  pub reissue_once : (group_threshold : ℕ) (groups : List Members) (name : ℕ × ℕ) (a b : Result ShareFields ReissueError)
+  pub reissue_once : (group_threshold : ℕ) (groups : List Members) (name : Name) (a b : Result ShareFields ReissueError)
       → IsPlan group_threshold groups → IsReissue set group_threshold groups name a → IsReissue set group_threshold groups name b → a ≡ b
   reissue_once group_threshold groups name a b plan is it = by (find (has_name name.0 name.1) set) refl
     where

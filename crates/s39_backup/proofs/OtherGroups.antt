@@ -14,11 +14,11 @@ use Rattle.s39_split.specs.Recovery.{Combines}
 use Rattle.s39_split.specs.Completion.{Completes}
 use Rattle.s39_split.specs.Sharing.{most_shares, secret_place}
 use Rattle.s39_kdf.specs.Limits.{shortest_secret}
-use Rattle.s39_split.proofs.Lists.{enumerate_from-push, All-from_map, AllPairs-from_map}
+use Rattle.s39_lists.proofs.Pushes.{enumerate_from-push}
+use Rattle.s39_lists.proofs.Pairs.{All-from_map, AllPairs-from_map, AllPairs-map}
 use Rattle.s39_words.specs.declared.share.ShareFields.{ShareFields}
 use Rattle.s39_set.specs.Names.{most_groups}
-use Rattle.s39_set.proofs.AtHand.{AllPairs-map}
-use Rattle.s39_set.proofs.Sublists.{AllPairs-sublist, take-sublist}
+use Rattle.s39_lists.proofs.Sublists.{AllPairs-sublist, take-sublist}
 use Rattle.s39_backup.specs.declared.plan.Members.{Members}
 use Rattle.s39_backup.specs.Plan.{IsGroup}
 use Rattle.s39_set.specs.ShareSet.{IsShareSet}

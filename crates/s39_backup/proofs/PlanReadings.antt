@@ -4,7 +4,8 @@ use Rattle.std.proofs.lemmas.List.Elements.{All-head, All-tail, All-same}
 use Rattle.s39_backup.specs.declared.plan.Members.{Members}
 use Rattle.s39_backup.specs.declared.plan_error.PlanError.{PlanError}
 use Rattle.s39_backup.specs.declared.plan_error.PlanError.TheVariants.{BadPlan, PlanGroups, PlanMembers, OneOfMany}
-use Rattle.s39_backup.specs.Plan.{HasEnoughMembers, IsOneOfMany, IsGroup, HasEnoughGroups, IsPlan, IsFirstRefusedGroup, HasPlanForm, PlanForm, IsPlanReading}
+use Rattle.s39_backup.specs.Plan.{HasEnoughMembers, IsOneOfMany, IsGroup, HasEnoughGroups, IsPlan, IsFirstRefusedGroup}
+use Rattle.s39_backup.specs.Plan.{HasPlanForm, PlanForm, IsPlanReading, IsOnlyReading}
 use Rattle.s39_backup.specs.PlanText.{RefusesAGroup}
 use Rattle.s39_backup.proofs.PlanTexts.{form_once}
 
@@ -169,3 +170,6 @@ reading_once text reading other is also =
             (subst (λ (t : ℕ). IsReadAs t read.plan.groups reading) same.threshold read.read_as)) read'.read_as)
       ]
     ]
+
+pub only_reading : (text : List ℕ) (answer : Result (ℕ × List Members) PlanError) → IsPlanReading text answer → IsOnlyReading text answer
+only_reading text answer is = record { reading = is; only = λ other also. reading_once text other answer also is }

@@ -1,214 +1,118 @@
--- The groups of a plan's text, read from the front.
-use Rattle.std.proofs.Common.{◌≡◌, ◌≢◌, ℕ, ◌+◌, ◌<◌, ◌≤◌, Bool, true, false, List, [], ◌∷◌, ◌++◌, length, get_or, take, min, Option, Some, None, ◌⊎◌, inl}
-use Rattle.std.proofs.Common.{inr, refl, sym, ap, ap₂, subst, ◌∙◌, arith}
-use Rattle.std.specs.Prelude.{IfSome, ◌==◌}
-use Rattle.std.specs.Bool.{then_some}
+-- The parts of a plan's text.
+use Rattle.std.proofs.Common.{◌≡◌, ◌≢◌, ℕ, ◌+◌, ◌<◌, ◌≤◌, ◌==◌, List, [], ◌∷◌, ◌++◌, length, get_or, take, min, All, false, inl, inr, refl}
+use Rattle.std.proofs.Common.{sym, ap, ap₂, ◌∙◌, arith, subst}
+use Rattle.std.specs.List.{slice_split}
 use Rattle.std.specs.Fmt.{decimal}
-use Rattle.std.proofs.lemmas.Bool.{eqb-true, eq-eqb}
-use Rattle.std.proofs.lemmas.List.{append_assoc, append-nil, length-append, length-take, take-append-le, take_all}
-use Rattle.std.proofs.lemmas.List.Elements.{All-cons, All-head, All-tail}
+use Rattle.std.proofs.lemmas.Bool.{ne_eqb}
+use Rattle.std.proofs.lemmas.Fmt.{decimal_injective}
+use Rattle.std.proofs.lemmas.List.{length-append, length-take, take-append-le, take_all}
+use Rattle.std.proofs.lemmas.List.Elements.{All-nil, All-cons, All-append}
+use Rattle.s39_lists.proofs.Splits.{IsWithout, not_without, joined-without, joined-from_parts, joined_once, part_is}
 use Rattle.s39_set.specs.Names.{most_groups}
+use Rattle.s39_set.specs.Texts.{IsCut}
+use Rattle.s39_set.proofs.NameText.{same_cut}
+use Rattle.s39_set.proofs.NumberText.{decimal-without}
 use Rattle.s39_backup.specs.declared.plan.Members.{Members}
 use Rattle.s39_backup.specs.declared.plan_text.GroupList.{GroupList}
 use Rattle.s39_backup.specs.Plan.{IsPlanNumber, members_text, groups_text, HasPlanForm, PlanForm}
-use Rattle.s39_backup.specs.PlanText.{BeginsWithNumber, BeginsWithMembers, BeginsWithGroupThreshold, IsGroupsText, AreReadBefore, IsListOf, ListsGroupsOf}
-use Rattle.s39_backup.specs.PlanText.{ListsPlanOf}
-use Rattle.s39_backup.proofs.PlanNumbers.{AreSame, number_once}
+use Rattle.s39_backup.specs.PlanText.{HasPlanNumbers, IsMembersText, IsGroupsText, AreListed, IsListOf, ListsGroupsOf}
 
--- ---- the group threshold
+-- ---- numbers
 
-pub threshold-number : (text : List ℕ) (n : ℕ) (rest : List ℕ) → BeginsWithGroupThreshold text n rest → BeginsWithNumber text n (47 ∷ rest)
-threshold-number text n rest is = record { number = is.number; text_is = is.text_is; ends = λ digit. let low = digit.0 in omega arith }
+-- a number's text has digits alone
+number-without : (n byte : ℕ) → IsPlanNumber n → ((digit : ℕ) → 48 ≤ digit → digit < 58 → digit ≢ byte) → IsWithout byte (decimal n)
+number-without n byte is other = decimal-without n byte is.short other
 
-pub threshold_once : (text : List ℕ) (m n : ℕ) (rest others : List ℕ) → BeginsWithGroupThreshold text m rest → BeginsWithGroupThreshold text n others
-    → AreSame m n rest others
-threshold_once text m n rest others is also =
-    let same = number_once text m n (47 ∷ rest) (47 ∷ others) (threshold-number text m rest is) (threshold-number text n others also) in
-    let behind = same.rest_is in
-    record { number = same.number; rest_is = cc }
+same_number : (m n : ℕ) → IsPlanNumber m → IsPlanNumber n → decimal m ≡ decimal n → m ≡ n
+same_number m n is also e =
+    let low = is.short in
+    let low' = also.short in
+    decimal_injective m n (omega arith) (omega arith) e
 
 -- ---- the members of a group
 
--- the rest of the text behind the threshold
-abbrev pub behind_threshold : Members → List ℕ → List ℕ
-behind_threshold members rest = 111 ∷ 102 ∷ (decimal members.count ++ rest)
-
-pub members-threshold : (text : List ℕ) (members : Members) (rest : List ℕ) → BeginsWithMembers text members rest
-    → BeginsWithNumber text members.threshold (behind_threshold members rest)
-members-threshold text members rest is = record {
-  number = is.threshold;
-  text_is = is.text_is ∙ append_assoc (decimal members.threshold) (111 ∷ 102 ∷ decimal members.count) rest;
-  ends = λ digit. let low = digit.1 in omega arith;
+-- a group's text is cut at its letters
+pub cut_of_members : (text : List ℕ) (members : Members) → IsMembersText text members → IsCut text 111 (decimal members.threshold) (102 ∷ decimal members.count)
+cut_of_members text members is = record {
+  first = number-without members.threshold 111 is.numbers.0 (λ digit from below e. omega arith);
+  text_is = is.text_is;
 }
 
-pub members-count : (text : List ℕ) (members : Members) (rest : List ℕ) → BeginsWithMembers text members rest
-    → BeginsWithNumber (decimal members.count ++ rest) members.count rest
-members-count text members rest is = record { number = is.count; text_is = refl; ends = is.ends }
+-- and what stands behind the first of them at the other, which stands right there
+pub rest_of_members : (text front rest : List ℕ) → IsCut text 111 front rest → (members : Members) → IsMembersText text members
+    → IsCut rest 102 [] (decimal members.count)
+rest_of_members text front rest cut members is = record {
+  first = All-nil (λ b. (b == 102) ≡ false);
+  text_is = (same_cut text 111 front rest (decimal members.threshold) (102 ∷ decimal members.count) cut (cut_of_members text members is)).1;
+}
 
--- members are known by their numbers
-same_members : (members other : Members) → members.threshold ≡ other.threshold → members.count ≡ other.count → members ≡ other
-same_members members other threshold count = ap₂ (λ (t n : ℕ). the_members t n) threshold count
+-- so the parts of a text that is cut at both are those of the members that it is the text of
+pub parts_of_members : (text front rest between back : List ℕ) → IsCut text 111 front rest → IsCut rest 102 between back → (members : Members)
+    → IsMembersText text members → (front ≡ decimal members.threshold) × (between ≡ []) × (back ≡ decimal members.count)
+parts_of_members text front rest between back cut next members is =
+    let parts = same_cut text 111 front rest (decimal members.threshold) (102 ∷ decimal members.count) cut (cut_of_members text members is) in
+    let others = same_cut rest 102 between back [] (decimal members.count) next (rest_of_members text front rest cut members is) in
+    (parts.0, others.0, others.1)
+
+-- a group's text has no other separator
+members-without : (byte : ℕ) → byte < 48 → (members : Members) → HasPlanNumbers members → IsWithout byte (members_text members)
+members-without byte low members numbers =
+    let other : (digit : ℕ) → 48 ≤ digit → digit < 58 → digit ≢ byte = λ digit from below e. omega arith in
+    All-append (λ b. (b == byte) ≡ false) (decimal members.threshold) (111 ∷ 102 ∷ decimal members.count)
+    (number-without members.threshold byte numbers.0 other)
+    (All-cons (λ b. (b == byte) ≡ false) 111 (102 ∷ decimal members.count) (ne_eqb 111 byte (λ e. omega arith))
+    (All-cons (λ b. (b == byte) ≡ false) 102 (decimal members.count) (ne_eqb 102 byte (λ e. omega arith))
+    (number-without members.count byte numbers.1 other)))
+
+commaless : (members : Members) → HasPlanNumbers members → IsWithout 44 (members_text members)
+commaless = members-without 44 (omega arith)
+
+-- and is that of one group
+members_once : (a b : Members) → HasPlanNumbers a → HasPlanNumbers b → members_text a ≡ members_text b → a ≡ b
+members_once a b is also e =
+    let parts = same_cut (members_text a) 111 (decimal a.threshold) (102 ∷ decimal a.count) (decimal b.threshold) (102 ∷ decimal b.count)
+    (cut_of_members (members_text a) a (record { numbers = is; text_is = refl }))
+    (cut_of_members (members_text a) b (record { numbers = also; text_is = e })) in
+    let behind = parts.1 in
+    let counts : decimal a.count ≡ decimal b.count = cc in
+    ap₂ the_members (same_number a.threshold b.threshold is.0 also.0 parts.0) (same_number a.count b.count is.1 also.1 counts)
   where
     the_members : ℕ → ℕ → Members
     the_members t n = record { threshold = t; count = n }
 
--- the members with which a text begins, and what follows, are known
-pub record AreSameMembers (members other : Members) (rest others : List ℕ) : Type 0 where
-  pub members_are : members ≡ other
-  pub rest_is : rest ≡ others
-
-pub members_once : (text : List ℕ) (members other : Members) (rest others : List ℕ) → BeginsWithMembers text members rest → BeginsWithMembers text other others
-    → AreSameMembers members other rest others
-members_once text members other rest others is also =
-    let first = number_once text members.threshold other.threshold (behind_threshold members rest) (behind_threshold other others)
-    (members-threshold text members rest is) (members-threshold text other others also) in
-    let tails = first.rest_is in
-    let counts : decimal members.count ++ rest ≡ decimal other.count ++ others = cc in
-    let second = number_once (decimal members.count ++ rest) members.count other.count rest others (members-count text members rest is)
-    (subst (λ xs. BeginsWithNumber xs other.count others) (sym counts) (members-count text other others also)) in
-    record { members_are = same_members members other first.number second.number; rest_is = second.rest_is }
-
 -- ---- the groups
 
--- one group
-pub record IsOneGroup (text : List ℕ) (groups : List Members) : Type 0 where
-  pub members : Members
-  pub groups_are : groups ≡ members ∷ []
-  pub begins : BeginsWithMembers text members []
-
--- a group and others
-pub record IsGroupAndMore (text : List ℕ) (groups : List Members) : Type 0 where
-  pub members : Members
-  pub others : List Members
-  pub next : List ℕ
-  pub groups_are : groups ≡ members ∷ others
-  pub begins : BeginsWithMembers text members (44 ∷ next)
-  pub is_text : IsGroupsText next others
-
--- the text of a group and others
-groups_text-more : (members : Members) (others : List Members) → others ≢ [] → groups_text (members ∷ others) ≡ members_text members ++ 44 ∷ groups_text others
-groups_text-more members [] some = absurd (some refl)
-groups_text-more members (next ∷ more) some = refl
-
-pub more_groups : (text : List ℕ) (members : Members) (others : List Members) (next : List ℕ) → BeginsWithMembers text members (44 ∷ next)
-    → IsGroupsText next others → IsGroupsText text (members ∷ others)
-more_groups text members others next is rest = record {
-  some = λ none. let l : length (members ∷ others) ≡ 0 = ap length none in omega arith;
-  thresholds = All-cons (λ m. IsPlanNumber m.threshold) members others is.threshold rest.thresholds;
-  counts = All-cons (λ m. IsPlanNumber m.count) members others is.count rest.counts;
-  text_is = is.text_is ∙ ap (λ xs. members_text members ++ 44 ∷ xs) rest.text_is ∙ sym (groups_text-more members others rest.some);
-}
-
-pub groups_cases : (text : List ℕ) (groups : List Members) → IsGroupsText text groups → IsOneGroup text groups ⊎ IsGroupAndMore text groups
-groups_cases text [] is = absurd (is.some refl)
-groups_cases text (m ∷ []) is =
-    inl (record {
-      members = m;
-      groups_are = refl;
-      begins = record {
-        threshold = All-head (λ g. IsPlanNumber g.threshold) m [] is.thresholds;
-        count = All-head (λ g. IsPlanNumber g.count) m [] is.counts;
-        text_is = is.text_is ∙ sym (append-nil (members_text m));
-        ends = tt;
-      };
-    })
-groups_cases text (m ∷ n ∷ more) is =
-    inr (record {
-      members = m;
-      others = n ∷ more;
-      next = groups_text (n ∷ more);
-      groups_are = refl;
-      begins = record {
-        threshold = All-head (λ g. IsPlanNumber g.threshold) m (n ∷ more) is.thresholds;
-        count = All-head (λ g. IsPlanNumber g.count) m (n ∷ more) is.counts;
-        text_is = is.text_is;
-        ends = λ digit. let low = digit.0 in omega arith;
-      };
-      is_text = record {
-        some = λ none. let l : length (n ∷ more) ≡ 0 = ap length none in omega arith;
-        thresholds = All-tail (λ g. IsPlanNumber g.threshold) m (n ∷ more) is.thresholds;
-        counts = All-tail (λ g. IsPlanNumber g.count) m (n ∷ more) is.counts;
-        text_is = refl;
-      };
-    })
+numbers_of : (text : List ℕ) (groups : List Members) → IsGroupsText text groups → All HasPlanNumbers groups
+numbers_of text groups is k d below = (is.thresholds k d below, is.counts k d below)
 
 -- a text is that of one list of groups
 pub groups_once : (text : List ℕ) (groups others : List Members) → IsGroupsText text groups → IsGroupsText text others → groups ≡ others
-groups_once text [] others is also = absurd (is.some refl)
-groups_once text (g ∷ gs) others is also =
-    elim (groups_cases text (g ∷ gs) is) [
-      | inl one ↦ elim (groups_cases text others also) [
-        | inl one' ↦ (
-            let same = (members_once text one.members one'.members [] [] one.begins one'.begins).members_are in
-            one.groups_are ∙ ap (λ (m : Members). m ∷ []) same ∙ sym one'.groups_are)
-        | inr more' ↦ (
-            let behind = (members_once text one.members more'.members [] (44 ∷ more'.next) one.begins more'.begins).rest_is in
-            let l : 0 ≡ length (44 ∷ more'.next) = ap length behind in
-            absurd (omega arith))
-      ]
-      | inr more ↦ elim (groups_cases text others also) [
-        | inl one' ↦ (
-            let behind = (members_once text more.members one'.members (44 ∷ more.next) [] more.begins one'.begins).rest_is in
-            let l : length (44 ∷ more.next) ≡ 0 = ap length behind in
-            absurd (omega arith))
-        | inr more' ↦ (
-            let same = members_once text more.members more'.members (44 ∷ more.next) (44 ∷ more'.next) more.begins more'.begins in
-            let behind = same.rest_is in
-            let next : more.next ≡ more'.next = cc in
-            let here = more.groups_are in
-            let tail : gs ≡ more.others = cc in
-            let rest : gs ≡ more'.others = groups_once more.next gs more'.others (subst (IsGroupsText more.next) (sym tail) more.is_text)
-            (subst (λ t. IsGroupsText t more'.others) (sym next) more'.is_text) in
-            more.groups_are ∙ ap (λ (m : Members). m ∷ more.others) same.members_are
-            ∙ ap (λ gs. more'.members ∷ gs) (sym tail ∙ rest) ∙ sym more'.groups_are)
-      ]
-    ]
+groups_once text groups others is also =
+    joined_once 44 members_text HasPlanNumbers commaless members_once groups others is.some also.some
+    (numbers_of text groups is) (numbers_of text others also) (sym is.text_is ∙ also.text_is)
 
-module _ (text rest : List ℕ) (done : List Members) (before : AreReadBefore text rest done) where
-  -- a text of groups goes on with members
-  pub no_groups-members : ((members : Members) (after : List ℕ) → BeginsWithMembers rest members after → ⊥)
-      → (groups : List Members) → IsGroupsText text groups → ⊥
-  no_groups-members none groups is =
-      let (others, parts, left) = before.leaves_others groups is in
-      elim (groups_cases rest others left) [
-        | inl one ↦ none one.members [] one.begins
-        | inr more ↦ none more.members (44 ∷ more.next) more.begins
-      ]
+-- each part of it is the text of a group
+pub part_of_groups : (text part : List ℕ) (groups : List Members) (k : ℕ) → IsGroupsText text groups → k < length (slice_split (λ b. b == 44) text)
+    → part ≡ get_or (slice_split (λ b. b == 44) text) k part → (members : Members) × IsMembersText part members
+part_of_groups text part groups k is within here =
+    let blank : Members = record { threshold = 0; count = 0 } in
+    let numbers = numbers_of text groups is in
+    let (below, part_text) = part_is 44 members_text HasPlanNumbers commaless text part groups k blank is.some numbers is.text_is within here in
+    (get_or groups k blank, record { numbers = numbers k blank below; text_is = part_text })
 
-  module _ (members : Members) where
-    -- behind which it ends, or has a comma
-    pub no_groups-behind : (after : List ℕ) → BeginsWithMembers rest members after → after ≢ [] → ((next : List ℕ) → after ≢ 44 ∷ next)
-        → (groups : List Members) → IsGroupsText text groups → ⊥
-    no_groups-behind after begins some no_comma groups is =
-        let (others, parts, left) = before.leaves_others groups is in
-        elim (groups_cases rest others left) [
-          | inl one ↦ some (members_once rest members one.members after [] begins one.begins).rest_is
-          | inr more ↦ no_comma more.next (members_once rest members more.members after (44 ∷ more.next) begins more.begins).rest_is
-        ]
-
-    -- one group more was read
-    pub read-more : (next : List ℕ) → BeginsWithMembers rest members (44 ∷ next) → AreReadBefore text next (done ++ members ∷ [])
-    read-more next begins = record {
-      with_others = λ others is.
-          subst (IsGroupsText text) (sym (append_assoc done (members ∷ []) others))
-          (before.with_others (members ∷ others) (more_groups rest members others next begins is));
-      leaves_others = λ groups is.
-          let (others, parts, left) = before.leaves_others groups is in
-          elim (groups_cases rest others left) [
-            | inl one ↦ (
-                let behind = (members_once rest members one.members (44 ∷ next) [] begins one.begins).rest_is in
-                let l : length (44 ∷ next) ≡ 0 = ap length behind in
-                absurd (omega arith))
-            | inr more ↦ (
-                let same = members_once rest members more.members (44 ∷ next) (44 ∷ more.next) begins more.begins in
-                let behind = same.rest_is in
-                let here : next ≡ more.next = cc in (
-                  more.others,
-                  parts ∙ ap (λ gs. done ++ gs) (more.groups_are ∙ ap (λ (m : Members). m ∷ more.others) (sym same.members_are))
-                      ∙ sym (append_assoc done (members ∷ []) more.others),
-                  subst (λ t. IsGroupsText t more.others) (sym here) more.is_text,
-                ))
-          ];
+-- and the texts of groups are its parts
+pub groups_of_parts : (text : List ℕ) (list : GroupList) → AreListed (slice_split (λ b. b == 44) text) list → ListsGroupsOf text list
+groups_of_parts text list listed =
+    let joined = joined-from_parts 44 members_text text listed.groups listed.parts_are in
+    record {
+      groups = listed.groups;
+      is_text = record {
+        some = joined.0;
+        thresholds = λ k d below. (listed.numbers k d below).0;
+        counts = λ k d below. (listed.numbers k d below).1;
+        text_is = joined.1;
+      };
+      is_list = listed.is_list;
     }
 
 -- ---- the list of the groups
@@ -232,75 +136,49 @@ list-few list groups is few = let count = is.count in is.first ∙ take_all most
 
 -- ---- the form of a plan
 
--- a text that begins with a group threshold is none of groups
-pub no_groups-threshold : (text : List ℕ) (n : ℕ) (rest : List ℕ) (groups : List Members) → BeginsWithGroupThreshold text n rest → IsGroupsText text groups → ⊥
-no_groups-threshold text n rest groups threshold is =
-    elim (groups_cases text groups is) [
-      | inl one ↦ by one.members [] one.begins
-      | inr more ↦ by more.members (44 ∷ more.next) more.begins
-    ]
-  where
-    by : (members : Members) (after : List ℕ) → BeginsWithMembers text members after → ⊥
-    by members after begins =
-        let behind = (number_once text n members.threshold (47 ∷ rest) (behind_threshold members after)
-        (threshold-number text n rest threshold) (members-threshold text members after begins)).rest_is in
-        let same : get_or (47 ∷ rest) 0 0 ≡ get_or (behind_threshold members after) 0 0 = ap (λ xs. get_or xs 0 0) behind in
-        omega arith
-
--- the parts of a text of the form of a plan: with a group threshold, or one group
-pub record IsWithThreshold (text : List ℕ) (group_threshold : ℕ) (groups : List Members) : Type 0 where
-  pub rest : List ℕ
-  pub begins : BeginsWithGroupThreshold text group_threshold rest
-  pub is_text : IsGroupsText rest groups
-
-pub record IsOneGroupAlone (text : List ℕ) (group_threshold : ℕ) (groups : List Members) : Type 0 where
-  pub threshold : group_threshold ≡ 1
-  pub number : length groups ≡ 1
-  pub is_text : IsGroupsText text groups
-
-pub form_cases : (text : List ℕ) (group_threshold : ℕ) (groups : List Members) → HasPlanForm text group_threshold groups
-    → IsWithThreshold text group_threshold groups ⊎ IsOneGroupAlone text group_threshold groups
-form_cases text group_threshold groups form =
-    elim form.written [
-      | inl with_threshold ↦ inl (record {
-        rest = groups_text groups;
-        begins = record { number = form.threshold_number; text_is = with_threshold };
-        is_text = record { some = form.some; thresholds = form.thresholds; counts = form.counts; text_is = refl };
-      })
-      | inr one ↦ inr (record {
-        threshold = one.0;
-        number = one.1;
-        is_text = record { some = form.some; thresholds = form.thresholds; counts = form.counts; text_is = one.2 };
-      })
-    ]
-
-pub form_of_one : (text : List ℕ) (groups : List Members) → IsGroupsText text groups → length groups ≡ 1 → HasPlanForm text 1 groups
-form_of_one text groups is one = record {
-  some = is.some;
-  threshold_number = record { positive = omega arith; short = omega arith };
-  thresholds = is.thresholds;
-  counts = is.counts;
-  written = inr (refl, one, is.text_is);
+cut_of_threshold : (group_threshold : ℕ) (rest : List ℕ) → IsPlanNumber group_threshold
+    → IsCut (decimal group_threshold ++ 47 ∷ rest) 47 (decimal group_threshold) rest
+cut_of_threshold group_threshold rest is = record {
+  first = number-without group_threshold 47 is (λ digit from below e. omega arith);
+  text_is = refl;
 }
 
--- a text with a group threshold has the form of a plan where the rest is one of groups
-pub no_form-threshold : (text : List ℕ) (n : ℕ) (rest : List ℕ) → BeginsWithGroupThreshold text n rest
-    → ((groups : List Members) → IsGroupsText rest groups → ⊥) → PlanForm text → ⊥
-no_form-threshold text n rest begins none plan =
-    elim (form_cases text plan.group_threshold plan.groups plan.form) [
-      | inl with ↦ none plan.groups
-          (subst (λ t. IsGroupsText t plan.groups) (threshold_once text plan.group_threshold n with.rest rest with.begins begins).rest_is with.is_text)
-      | inr alone ↦ no_groups-threshold text n rest plan.groups begins alone.is_text
-    ]
+-- the text of groups has no slash
+slashless : (text : List ℕ) (groups : List Members) → IsGroupsText text groups → IsWithout 47 text
+slashless text groups is =
+    subst (IsWithout 47) (sym is.text_is)
+    (joined-without 44 47 members_text (λ e. omega arith) groups
+    (λ k d below. members-without 47 (omega arith) (get_or groups k d) (numbers_of text groups is k d below)))
 
--- and without where it is one group
-pub no_form-alone : (text : List ℕ) → ((n : ℕ) (rest : List ℕ) → BeginsWithGroupThreshold text n rest → ⊥)
-    → ((groups : List Members) → IsGroupsText text groups → length groups ≡ 1 → ⊥) → PlanForm text → ⊥
-no_form-alone text no_threshold none plan =
-    elim (form_cases text plan.group_threshold plan.groups plan.form) [
-      | inl with ↦ no_threshold plan.group_threshold with.rest with.begins
-      | inr alone ↦ none plan.groups alone.is_text alone.number
-    ]
+module _ (text : List ℕ) (plan : PlanForm text) where
+  abbrev form : HasPlanForm text plan.group_threshold plan.groups
+  form = plan.form
+
+  groups_of : (part : List ℕ) → part ≡ groups_text plan.groups → IsGroupsText part plan.groups
+  groups_of part e = record { some = form.some; thresholds = form.thresholds; counts = form.counts; text_is = e }
+
+  -- a text that is cut at a slash has the group threshold before it, and the groups behind it
+  pub with_slash : (front back : List ℕ) → IsCut text 47 front back → (front ≡ decimal plan.group_threshold) × IsGroupsText back plan.groups
+  with_slash front back cut =
+      elim form.written [
+        | inl with ↦ (
+            let own = cut_of_threshold plan.group_threshold (groups_text plan.groups) form.threshold_number in
+            let parts = same_cut text 47 front back (decimal plan.group_threshold) (groups_text plan.groups) cut
+            (record { first = own.first; text_is = with }) in
+            (parts.0, groups_of back parts.1))
+        | inr one ↦ absurd (not_without 47 front back (subst (IsWithout 47) cut.text_is (slashless text plan.groups (groups_of text one.2))))
+      ]
+
+  -- another one is one group
+  pub without_slash : ((front back : List ℕ) → IsCut text 47 front back → ⊥)
+      → (plan.group_threshold ≡ 1) × (length plan.groups ≡ 1) × IsGroupsText text plan.groups
+  without_slash none =
+      elim form.written [
+        | inl with ↦ (
+            let own = cut_of_threshold plan.group_threshold (groups_text plan.groups) form.threshold_number in
+            absurd (none (decimal plan.group_threshold) (groups_text plan.groups) (record { first = own.first; text_is = with })))
+        | inr one ↦ (one.0, one.1, groups_of text one.2)
+      ]
 
 -- a text is of one plan's form
 pub record AreSamePlan (m n : ℕ) (groups others : List Members) : Type 0 where
@@ -309,45 +187,23 @@ pub record AreSamePlan (m n : ℕ) (groups others : List Members) : Type 0 where
 
 pub form_once : (text : List ℕ) (m n : ℕ) (groups others : List Members) → HasPlanForm text m groups → HasPlanForm text n others → AreSamePlan m n groups others
 form_once text m n groups others is also =
-    elim (form_cases text m groups is) [
-      | inl with ↦ elim (form_cases text n others also) [
-        | inl with' ↦ (
-            let same = threshold_once text m n with.rest with'.rest with.begins with'.begins in
-            record {
-              threshold = same.number;
-              groups_are = groups_once with'.rest groups others (subst (λ t. IsGroupsText t groups) same.rest_is with.is_text) with'.is_text;
-            })
-        | inr alone' ↦ absurd (no_groups-threshold text m with.rest others with.begins alone'.is_text)
-      ]
-      | inr alone ↦ elim (form_cases text n others also) [
-        | inl with' ↦ absurd (no_groups-threshold text n with'.rest groups with'.begins alone.is_text)
-        | inr alone' ↦ record {
-          threshold = alone.threshold ∙ sym alone'.threshold;
-          groups_are = groups_once text groups others alone.is_text alone'.is_text;
-        }
-      ]
-    ]
-
--- the one plan of a list of groups that is alone
-module _ (text : List ℕ) (list : GroupList) (found : Option (ℕ × GroupList)) (listed : ListsGroupsOf text list) where
-  pub alone-found : found ≡ then_some (list.count == 1) (1, list) → IfSome found (ListsPlanOf text)
-  alone-found is = by (list.count == 1) refl is
-    where
-      by : (alone : Bool) → (list.count == 1) ≡ alone → found ≡ then_some alone (1, list) → IfSome found (ListsPlanOf text)
-      by false other e = subst (λ f. IfSome f (ListsPlanOf text)) (sym e) tt
-      by true one e =
-          subst (λ f. IfSome f (ListsPlanOf text)) (sym e)
-          (record {
-            groups = listed.groups;
-            has_form = form_of_one text listed.groups listed.is_text (sym listed.is_list.count ∙ eqb-true list.count 1 one);
-            is_list = listed.is_list;
+    elim is.written [
+      | inl with ↦ (
+          let own = cut_of_threshold m (groups_text groups) is.threshold_number in
+          let parts = with_slash text (record { group_threshold = n; groups = others; form = also }) (decimal m) (groups_text groups)
+          (record { first = own.first; text_is = with }) in
+          let one = with_slash text (record { group_threshold = m; groups = groups; form = is }) (decimal m) (groups_text groups)
+          (record { first = own.first; text_is = with }) in
+          record {
+            threshold = same_number m n is.threshold_number also.threshold_number parts.0;
+            groups_are = groups_once (groups_text groups) groups others one.1 parts.1;
           })
-
-  pub alone-none : found ≡ then_some (list.count == 1) (1, list) → found ≡ None → ((n : ℕ) (rest : List ℕ) → BeginsWithGroupThreshold text n rest → ⊥)
-      → PlanForm text → ⊥
-  alone-none is none no_threshold =
-      no_form-alone text no_threshold
-      (λ groups is_text one.
-      let count : list.count ≡ 1 = listed.is_list.count ∙ ap length (groups_once text listed.groups groups listed.is_text is_text) ∙ one in
-      let some : None ≡ Some (1, list) = sym none ∙ is ∙ ap (λ alone. then_some alone (1, list)) (eq-eqb list.count 1 count) in
-      cc)
+      | inr one ↦ (
+          let none = slashless text groups (groups_of text (record { group_threshold = m; groups = groups; form = is }) text one.2) in
+          let parts = without_slash text (record { group_threshold = n; groups = others; form = also })
+          (λ front back cut. not_without 47 front back (subst (IsWithout 47) cut.text_is none)) in
+          record {
+            threshold = one.0 ∙ sym parts.0;
+            groups_are = groups_once text groups others (groups_of text (record { group_threshold = m; groups = groups; form = is }) text one.2) parts.2;
+          })
+    ]

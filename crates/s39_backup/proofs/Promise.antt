@@ -13,18 +13,17 @@ use Rattle.s39_kdf.specs.declared.params.Params.{Params}
 use Rattle.s39_split.specs.Sharing.{IsSplit}
 use Rattle.s39_split.specs.Recovery.{Combines, AnySharesCombine}
 use Rattle.s39_words.specs.declared.share.ShareFields.{ShareFields}
-use Rattle.s39_set.specs.Names.{most_groups, names_in_group}
+use Rattle.s39_set.specs.Names.{Name, Names, most_groups, names_in_group}
 use Rattle.s39_set.specs.ShareSet.{name_of, is_in_group, has_name}
 use Rattle.s39_set.specs.Quorums.{group_threshold_of, member_threshold_of}
-use Rattle.s39_set.proofs.Finds.{find-passes, Contains-find}
+use Rattle.s39_lists.proofs.Finds.{find-passes, Contains-find, some_same}
 use Rattle.s39_backup.specs.declared.plan.Members.{Members}
-use Rattle.s39_backup.specs.Created.{AreSplitAmong, created_share, created_group, created_groups, IsCreatedFrom, AreOfBackup}
+use Rattle.s39_backup.specs.Created.{AreSplitAmong, created_share, created_group, created_groups, IsCreatedFrom, AreOfBackup, asked_for}
 use Rattle.s39_backup.specs.Combination.{value_of, member_shares, groups_of, GroupCombines, CombinesTo}
 use Rattle.s39_backup.specs.Outcome.{AreParams, Recovers}
 use Rattle.s39_backup.specs.GroupShares.{IsExactQuorum}
-use Rattle.s39_split.proofs.Lists.{AllPairs-from_map}
-use Rattle.s39_backup.proofs.Ranges.{range-distinct}
-use Rattle.s39_backup.proofs.Images.{some_same}
+use Rattle.s39_lists.proofs.Pairs.{AllPairs-from_map}
+use Rattle.s39_lists.proofs.Ranges.{range-distinct}
 use Rattle.s39_backup.proofs.Values.{has_share}
 use Rattle.s39_backup.proofs.Levels.{in_group, group_at_hand, length-member_shares, members_of_one_level, member_threshold_is, group_threshold_is}
 
@@ -142,9 +141,9 @@ zip_map_all P f (x ∷ xs) all =
 
 -- ---- the shares of a backup that are at hand
 
-module _ (set : List ShareFields) (names : List (ℕ × ℕ)) (quorum : IsExactQuorum set names) (passphrase secret : List ℕ)
+module _ (set : List ShareFields) (names : Names) (quorum : IsExactQuorum set names) (passphrase secret : List ℕ)
     (backup : AreOfBackup set passphrase secret) (any : AnySharesCombine) where
-  abbrev created : IsCreatedFrom secret passphrase backup.group_threshold backup.groups backup.options backup.random backup.shares
+  abbrev created : IsCreatedFrom (asked_for secret passphrase backup.group_threshold backup.groups backup.options) backup.random backup.shares
   created = backup.created
 
   -- each is one of the created shares
@@ -155,14 +154,14 @@ module _ (set : List ShareFields) (names : List (ℕ × ℕ)) (quorum : IsExactQ
       (subst (λ xs. Contains xs share) created.shares_are (All-contains (Contains backup.shares) set share backup.belong among))
 
   -- the group and the value of a name's share
-  record IsNamed (group : ℕ) (name : ℕ × ℕ) : Type 0 where
+  record IsNamed (group : ℕ) (name : Name) : Type 0 where
     members : Members
     others : List (List ℕ)
     group_is : slice_get backup.groups group ≡ Some members
     values_are : slice_get created.values group ≡ Some others
     value_is : slice_get others name.1 ≡ Some (value_of set name)
 
-  named : (group : ℕ) (name : ℕ × ℕ) → name.0 ≡ group → Contains (map name_of set) name → IsNamed group name
+  named : (group : ℕ) (name : Name) → name.0 ≡ group → Contains (map name_of set) name → IsNamed group name
   named group name of_group at_hand =
       let has = has_share set name at_hand in
       let share = has.share in

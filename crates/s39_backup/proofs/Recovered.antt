@@ -3,11 +3,12 @@ use Rattle.std.proofs.Common.{ℕ, List, length, map, Some, None}
 use Rattle.arrayvec.specs.ArrayVec.{ArrayVec}
 use Rattle.s39_words.specs.declared.share.ShareFields.{ShareFields}
 use Rattle.s39_split.specs.Recovery.{Combines}
+use Rattle.s39_set.specs.Names.{Names}
 use Rattle.s39_backup.specs.Combination.{groups_of, CombinesTo, MismatchesOfGroups}
 use Rattle.s39_backup.specs.GroupShares.{indexed_group_shares, value_bytes_of, IsExactQuorum, AreOfOneLevel, AreGroupShares}
 use Rattle.s39_backup.proofs.Levels.{groups_of_one_level, all_combine, groups_combine}
 
-module _ (set : List ShareFields) (names : List (ℕ × ℕ)) (quorum : IsExactQuorum set names) (items : List (ℕ × ArrayVec ℕ))
+module _ (set : List ShareFields) (names : Names) (quorum : IsExactQuorum set names) (items : List (ℕ × ArrayVec ℕ))
     (is : AreGroupShares set names (groups_of names) (indexed_group_shares items)) where
   pub shares_can : AreOfOneLevel (value_bytes_of set) (indexed_group_shares items)
   shares_can = groups_of_one_level set names quorum (indexed_group_shares items) is

@@ -2,7 +2,7 @@
 use Rattle.std.proofs.Common.{◌≡◌, ℕ, ◌+◌, ◌-◌, ◌%◌, ◌<◌, ◌≤◌, List, [], ◌∷◌, ◌++◌, length, get_or, take, All, Contains, Some}
 use Rattle.std.proofs.Common.{◌⊎◌, inl, inr, refl, sym, ap, ap₂, subst, ◌∙◌, arith}
 use Rattle.std.specs.List.{concat, slice_get}
-use Rattle.std.proofs.lemmas.Bool.{cases_lt, cases_Bool}
+use Rattle.std.proofs.lemmas.Bool.{cases_eq, cases_lt, cases_Bool}
 use Rattle.std.proofs.lemmas.List.{length-map, take_at}
 use Rattle.std.proofs.lemmas.List.Elements.{All-nil, All-cons, All-head, All-tail, All-map, All-contains, Contains-get_or}
 use Rattle.std.proofs.lemmas.Option.{slice_get-get_or}
@@ -13,10 +13,11 @@ use Rattle.s39_split.specs.Shares.{AreDistinct}
 use Rattle.s39_split.specs.Sharing.{digest_length, IsSplit, SplitsTakeTheBytesNeeded, SharesAreAsLong, HaveOneSplit}
 use Rattle.s39_split.specs.Recovery.{AreSharesOf}
 use Rattle.s39_split.proofs.FittedPoints.{AreKnown, one_split_by_known}
-use Rattle.s39_set.proofs.Sublists.{Contains-head, Contains-cons, Contains-cases, Contains-nil, same_from_part}
+use Rattle.s39_set.specs.Names.{Names}
+use Rattle.s39_lists.proofs.Decided.{among_or_not}
+use Rattle.s39_lists.proofs.Sublists.{Contains-head, Contains-cons, same_from_part}
 use Rattle.s39_backup.specs.declared.plan.Members.{Members}
-use Rattle.s39_backup.specs.declared.options.Options.{Options}
-use Rattle.s39_backup.specs.Created.{identifier_of}
+use Rattle.s39_backup.specs.Created.{Asked, identifier_of}
 use Rattle.s39_backup.specs.TwoShort.{is_held, held_groups}
 use Rattle.s39_backup.specs.Refitting.{AreSameAt, AreStaying, StayTheSame, AreLevels, IsRefittedGroup, EachIsRefitted, AreRefittedGroups, IsRefitting}
 use Rattle.s39_backup.proofs.OneRecovery.{same_params}
@@ -25,25 +26,10 @@ use Rattle.s39_backup.proofs.Chosen.{lent, lent-distinct, lent-indices, lent-len
 
 -- ---- the indices that stay
 
-contains_cases : (xs : List ℕ) (x : ℕ) → Contains xs x ⊎ (Contains xs x → ⊥)
-contains_cases [] x = inr (Contains-nil x)
-contains_cases (y ∷ ys) x = elim (contains_cases ys x) [
-  | inl among ↦ inl (Contains-cons y ys x among)
-  | inr not ↦ elim (cases_lt y x) [
-    | inl less ↦ inr (λ among. elim (Contains-cases y ys x among) [ inl same ↦ absurd (omega (arith, less, same)) | inr later ↦ not later ])
-    | inr above ↦ elim (cases_lt x y) [
-      | inl more ↦ inr (λ among. elim (Contains-cases y ys x among) [ inl same ↦ absurd (omega (arith, more, same)) | inr later ↦ not later ])
-      | inr below ↦
-          let same : y ≡ x = omega (arith, above, below) in
-          inl (subst (Contains (y ∷ ys)) same (Contains-head y ys))
-    ]
-  ]
-]
-
 -- all of these are among those, or one isn't
 all_or_one : (xs ys : List ℕ) → All (Contains xs) ys ⊎ ((j : ℕ) × Contains ys j × (Contains xs j → ⊥))
 all_or_one xs [] = inl (All-nil (Contains xs))
-all_or_one xs (y ∷ ys) = elim (contains_cases xs y) [
+all_or_one xs (y ∷ ys) = elim (among_or_not cases_eq xs y) [
   | inr not ↦ inr (y, Contains-head y ys, not)
   | inl among ↦ elim (all_or_one xs ys) [
     | inl all ↦ inl (All-cons (Contains xs) y ys among all)
@@ -63,7 +49,7 @@ module _ (threshold : ℕ) (kept indices others : List ℕ) (a : AreStaying thre
       elim (cases_lt i j) [
         | inl less ↦ a.lowest i j less among (λ is_kept. not (All-contains (Contains others) kept j b.among is_kept))
         | inr above ↦ elim (cases_lt j i) [
-          | inl more ↦ elim (contains_cases kept i) [
+          | inl more ↦ elim (among_or_not cases_eq kept i) [
             | inl is_kept ↦ All-contains (Contains indices) kept i a.among is_kept
             | inr free ↦ absurd (not (b.lowest j i more of_others free))
           ]
@@ -154,7 +140,7 @@ module _ (takes : SplitsTakeTheBytesNeeded) (as_long : SharesAreAsLong) (split_o
 
   -- ---- the groups
 
-  module _ (names : List (ℕ × ℕ)) (n : ℕ) (long : digest_length ≤ n) where
+  module _ (names : Names) (n : ℕ) (long : digest_length ≤ n) where
     group_back : (group : ℕ) (members : Members) (share other random fitted back : List ℕ) → length share ≡ n → length other ≡ n
         → IsRefittedGroup names group members share other random fitted → IsRefittedGroup names group members other share fitted back → random ≡ back
     group_back group members share other random fitted back share_long other_long there home =
@@ -194,11 +180,22 @@ module _ (takes : SplitsTakeTheBytesNeeded) (as_long : SharesAreAsLong) (split_o
       only encrypted encryption
       ∙ sym (only other (subst (λ (p : Params). IsEncryption secret passphrase p other) (sym is) also))
 
-  module _ (encrypts_once : SecretsHaveOneEncryption) (keeps : EncryptionKeepsLengthAndBytes) (names : List (ℕ × ℕ)) (group_threshold : ℕ)
-      (groups : List Members) (options : Options) (passphrase secret other random fitted back : List ℕ) where
-    pub bytes_back : IsSecretLength (length secret) → length other ≡ length secret
-        → IsRefitting names group_threshold groups options passphrase secret other random fitted
-        → IsRefitting names group_threshold groups options passphrase other secret fitted back → back ≡ random
+  module _ (encrypts_once : SecretsHaveOneEncryption) (keeps : EncryptionKeepsLengthAndBytes) (names : Names) (asked : Asked)
+      (other random fitted back : List ℕ) where
+    abbrev secret : List ℕ
+    secret = asked.secret
+
+    abbrev passphrase : List ℕ
+    passphrase = asked.passphrase
+
+    abbrev group_threshold : ℕ
+    group_threshold = asked.group_threshold
+
+    abbrev groups : List Members
+    groups = asked.groups
+
+    pub bytes_back : IsSecretLength (length secret) → length other ≡ length secret → IsRefitting names asked other random fitted
+        → IsRefitting names (record asked { secret = other }) secret fitted back → back ≡ random
     bytes_back is_length one_length there home =
         let n = length secret in
         let count = length groups in

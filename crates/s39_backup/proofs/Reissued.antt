@@ -13,12 +13,12 @@ use Rattle.s39_kdf.specs.Bytes.{AreBytes}
 use Rattle.s39_split.specs.Sharing.{secret_place}
 use Rattle.s39_split.specs.Recovery.{AreSharesOf, AnySharesCombine, SecretsAreLikeTheirShares}
 use Rattle.s39_split.specs.Completion.{Completes, ArePointsOf, AnyPointsComplete, SharesArePoints}
-use Rattle.s39_split.proofs.Lists.{AllPairs-from_map}
+use Rattle.s39_lists.proofs.Pairs.{AllPairs-from_map, AllPairs-map}
 use Rattle.s39_split.proofs.SplitLaws.{AreBytes-interpolated}
 use Rattle.s39_words.specs.declared.share.ShareFields.{ShareFields}
+use Rattle.s39_set.specs.Names.{Name}
 use Rattle.s39_set.specs.ShareSet.{IsShareSet, name_of, is_in_group, has_name}
-use Rattle.s39_set.proofs.AtHand.{AllPairs-map}
-use Rattle.s39_set.proofs.Sublists.{AllPairs-sublist, take-sublist, Contains-head}
+use Rattle.s39_lists.proofs.Sublists.{AllPairs-sublist, take-sublist, Contains-head}
 use Rattle.s39_backup.specs.declared.plan.Members.{Members}
 use Rattle.s39_backup.specs.declared.combination.Mismatch.{Mismatch}
 use Rattle.s39_backup.specs.declared.combination.Mismatch.TheVariants.{InGroup, OfGroups}
@@ -26,20 +26,19 @@ use Rattle.s39_backup.specs.declared.reissue_error.ReissueError.{ReissueError}
 use Rattle.s39_backup.specs.declared.reissue_error.ReissueError.TheVariants.{Undetermined, DigestMismatch}
 use Rattle.s39_backup.specs.Plan.{IsGroup}
 use Rattle.s39_backup.specs.TwoShort.{IsNameOfPlan}
-use Rattle.s39_backup.specs.Created.{created_share, created_groups, IsCreatedFrom, AreOfBackup}
+use Rattle.s39_backup.specs.Created.{created_share, created_groups, IsCreatedFrom, AreOfBackup, asked_for}
 use Rattle.s39_backup.specs.GroupShares.{value_bytes_of}
 use Rattle.s39_backup.specs.Reissue.{IsOfPlan, AreOfPlan, members_at_hand, least_members, is_at_hand, other_groups, LeastCombine, EachCombines, TellGroup}
 use Rattle.s39_backup.specs.Reissue.{IsGroupShare, ArePoints, IsOneShort, IsValue, IsMissing, IsReissue, IsRightFor, share_like}
-use Rattle.s39_backup.proofs.Images.{some_same}
+use Rattle.s39_lists.proofs.Finds.{some_same, Contains-find}
 use Rattle.s39_backup.proofs.Promise.{IsCreatedShare, in_created_groups, IsSplitAt, split_at_place}
 use Rattle.s39_backup.proofs.WholeBackups.{contains_created, HasValues, values_at}
 use Rattle.s39_backup.proofs.MembersAtHand.{point_of, members-distinct, members-long, members-bytes}
 use Rattle.s39_backup.proofs.Determined.{found_name, not_found}
-use Rattle.s39_set.proofs.Finds.{Contains-find}
 use Rattle.s39_backup.proofs.OtherGroups.{each_firsts, each_length, others_complete}
 
 module _ (set : List ShareFields) (is_set : IsShareSet set) (passphrase secret : List ℕ) (backup : AreOfBackup set passphrase secret) where
-  abbrev created : IsCreatedFrom secret passphrase backup.group_threshold backup.groups backup.options backup.random backup.shares
+  abbrev created : IsCreatedFrom (asked_for secret passphrase backup.group_threshold backup.groups backup.options) backup.random backup.shares
   created = backup.created
 
   abbrev group_count : ℕ
@@ -357,7 +356,7 @@ module _ (set : List ShareFields) (is_set : IsShareSet set) (passphrase secret :
 
     -- ---- a share
 
-    pub right : AnyPointsComplete → SharesArePoints → (name : ℕ × ℕ) (result : Result ShareFields ReissueError) → IsNameOfPlan backup.groups name
+    pub right : AnyPointsComplete → SharesArePoints → (name : Name) (result : Result ShareFields ReissueError) → IsNameOfPlan backup.groups name
         → IsReissue set backup.group_threshold backup.groups name result → IsRightFor backup.shares name result
     right complete as_points name result of_plan is = by (find (has_name name.0 name.1) set) refl
       where

@@ -7,18 +7,13 @@ use Rattle.std.proofs.lemmas.Bool.{eq-eqb}
 use Rattle.std.proofs.lemmas.List.Elements.{Contains-append_left, Contains-append_right, All-contains}
 use Rattle.std.proofs.lemmas.Option.{slice_get-get_or}
 use Rattle.s39_kdf.specs.declared.params.Params.{Params}
-use Rattle.s39_set.specs.Names.{names_in_group}
-use Rattle.s39_set.proofs.Sublists.{Contains-head, Contains-cons, Contains-filter}
+use Rattle.s39_set.specs.Names.{Name, Names, names_in_group}
+use Rattle.s39_lists.proofs.Finds.{some_same}
+use Rattle.s39_lists.proofs.Sublists.{Contains-head, Contains-cons, Contains-filter}
 use Rattle.s39_backup.specs.declared.plan.Members.{Members}
 use Rattle.s39_backup.specs.Created.{AreSplitAmong, created_share, created_group, created_groups}
 use Rattle.s39_backup.specs.TwoShort.{HaveTheShare}
 use Rattle.s39_backup.specs.Refitting.{AreSameAmong, IsRefittedGroup, AreRefittedGroups}
-
-some_same : (x y : List ℕ) → Some x ≡ Some y → x ≡ y
-some_same x y e = cc
-
-group_same : (x y : Members) → Some x ≡ Some y → x ≡ y
-group_same x y e = cc
 
 module _ (params : Params) (group_threshold group_count : ℕ) where
   -- a group has the share of each of its members
@@ -42,8 +37,8 @@ module _ (params : Params) (group_threshold group_count : ℕ) where
       (created_share params group_threshold group_count group members ((first + 1) + k) v)
       (contains_member group members (first + 1) xs k v at))
 
-  pub have_share : (names : List (ℕ × ℕ)) (groups : List Members) (shares others pieces fitted : List (List ℕ))
-      (values other_values : List (List (List ℕ))) (start place : ℕ) (name : ℕ × ℕ) (members : Members)
+  pub have_share : (names : Names) (groups : List Members) (shares others pieces fitted : List (List ℕ))
+      (values other_values : List (List (List ℕ))) (start place : ℕ) (name : Name) (members : Members)
       → AreSplitAmong groups shares pieces values → AreSplitAmong groups others fitted other_values → AreSameAmong names start values other_values
       → Contains names name → name.0 ≡ start + place → slice_get groups place ≡ Some members → name.1 < members.count
       → HaveTheShare (created_groups params group_threshold group_count start groups values)
@@ -51,7 +46,7 @@ module _ (params : Params) (group_threshold group_count : ℕ) where
   have_share names (g ∷ gs) (s ∷ ss) (o ∷ os) (p ∷ ps) (f ∷ fs) (v ∷ vs) (w ∷ ws) start zero name members split refitted same among here at within =
       let group_is : name.0 ≡ start = omega arith in
       let number = split.0.number in
-      let count : g.count ≡ members.count = ap (λ (m : Members). m.count) (group_same g members at) in
+      let count : g.count ≡ members.count = ap (λ (m : Members). m.count) (some_same g members at) in
       let value = get_or v name.1 [] in
       let is : slice_get v name.1 ≡ Some value = slice_get-get_or v name.1 [] (omega arith) in
       let other : slice_get w name.1 ≡ Some value =
@@ -84,7 +79,7 @@ module _ (params : Params) (group_threshold group_count : ℕ) where
   have_share names gs ss os ps fs vs ws start place name members split refitted same among here at within = absurd split
 
 -- no groups
-pub refitted-none : (names : List (ℕ × ℕ)) (group : ℕ) → AreRefittedGroups names group [] [] [] [] []
+pub refitted-none : (names : Names) (group : ℕ) → AreRefittedGroups names group [] [] [] [] []
 refitted-none names group = record {
   pieces = [];
   fitted_pieces = [];
@@ -98,7 +93,7 @@ refitted-none names group = record {
   each = tt;
 }
 
-pub refitted-empty : (names : List (ℕ × ℕ)) (group : ℕ) (groups : List Members) (shares others : List (List ℕ)) (random : List ℕ) → length groups ≡ 0
+pub refitted-empty : (names : Names) (group : ℕ) (groups : List Members) (shares others : List (List ℕ)) (random : List ℕ) → length groups ≡ 0
     → length shares ≡ 0 → length others ≡ 0 → length random ≡ 0 → AreRefittedGroups names group groups shares others random random
 refitted-empty names group [] [] [] [] g s o r = refitted-none names group
 refitted-empty names group (x ∷ xs) shares others random g s o r = absurd (omega arith)
@@ -107,7 +102,7 @@ refitted-empty names group [] [] (x ∷ xs) random g s o r = absurd (omega arith
 refitted-empty names group [] [] [] (x ∷ xs) g s o r = absurd (omega arith)
 
 -- a group and those after it
-pub refitted-cons : (names : List (ℕ × ℕ)) (group : ℕ) (members : Members) (groups : List Members) (share other : List ℕ)
+pub refitted-cons : (names : Names) (group : ℕ) (members : Members) (groups : List Members) (share other : List ℕ)
     (shares others : List (List ℕ)) (piece fitted rest fitted_rest : List ℕ)
     → IsRefittedGroup names group members share other piece fitted
     → AreRefittedGroups names (group + 1) groups shares others rest fitted_rest
@@ -126,7 +121,7 @@ refitted-cons names group members groups share other shares others piece fitted 
 }
 
 -- a group and those after it are all groups from it on
-pub refitted-whole : (names : List (ℕ × ℕ)) (group : ℕ) (groups : List Members) (shares others : List (List ℕ)) (random : List ℕ)
+pub refitted-whole : (names : Names) (group : ℕ) (groups : List Members) (shares others : List (List ℕ)) (random : List ℕ)
     (members : Members) (more : List Members) (share other : List ℕ) (more_shares more_others : List (List ℕ))
     (piece fitted rest fitted_rest : List ℕ) → members ∷ more ≡ groups → share ∷ more_shares ≡ shares → other ∷ more_others ≡ others
     → random ≡ piece ++ rest → IsRefittedGroup names group members share other piece fitted

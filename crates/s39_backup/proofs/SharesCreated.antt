@@ -9,11 +9,10 @@ use Rattle.s39_kdf.specs.Cipher.{EncryptionKeepsLengthAndBytes}
 use Rattle.s39_split.specs.Sharing.{SharesAreAsLong, SharesAreBytes}
 use Rattle.s39_words.specs.declared.share.ShareFields.{ShareFields}
 use Rattle.s39_words.specs.Share.{IsShare}
-use Rattle.s39_set.proofs.Orders.{All-append_left, All-append_right}
+use Rattle.s39_lists.proofs.Orders.{All-append_left, All-append_right}
 use Rattle.s39_backup.specs.declared.plan.Members.{Members}
-use Rattle.s39_backup.specs.declared.options.Options.{Options}
 use Rattle.s39_backup.specs.Plan.{IsPlan, IsGroup}
-use Rattle.s39_backup.specs.Created.{AreSplitAmong, IsCreatedFrom, AreOfBackup}
+use Rattle.s39_backup.specs.Created.{Asked, AreSplitAmong, IsCreatedFrom, AreOfBackup}
 use Rattle.s39_backup.proofs.Promise.{IsCreatedShare, in_created_groups, split_at_place}
 use Rattle.s39_backup.proofs.Agreeing.{All-at, long}
 
@@ -28,9 +27,21 @@ bytes_among are_bytes (g ∷ gs) (s ∷ ss) (p ∷ ps) (v ∷ vs) split bytes ra
 bytes_among are_bytes gs ss ps vs split bytes random = absurd split
 
 module _ (as_long : SharesAreAsLong) (are_bytes : SharesAreBytes) (keeps : EncryptionKeepsLengthAndBytes)
-    (secret passphrase : List ℕ) (group_threshold : ℕ) (groups : List Members) (options : Options) (random : List ℕ) (shares : List ShareFields)
-    (plan : IsPlan group_threshold groups) (so_long : IsSecretLength (length secret)) (bytes : AreBytes secret) (random_bytes : AreBytes random)
-    (created : IsCreatedFrom secret passphrase group_threshold groups options random shares) where
+    (asked : Asked) (random : List ℕ) (shares : List ShareFields) (plan : IsPlan asked.group_threshold asked.groups)
+    (so_long : IsSecretLength (length asked.secret)) (bytes : AreBytes asked.secret) (random_bytes : AreBytes random)
+    (created : IsCreatedFrom asked random shares) where
+  abbrev secret : List ℕ
+  secret = asked.secret
+
+  abbrev passphrase : List ℕ
+  passphrase = asked.passphrase
+
+  abbrev group_threshold : ℕ
+  group_threshold = asked.group_threshold
+
+  abbrev groups : List Members
+  groups = asked.groups
+
   values_bytes : All (All AreBytes) created.values
   values_bytes =
       let levels : AreBytes (created.group_piece ++ concat created.pieces) =
@@ -46,7 +57,7 @@ module _ (as_long : SharesAreAsLong) (are_bytes : SharesAreBytes) (keeps : Encry
   backup = record {
     group_threshold = group_threshold;
     groups = groups;
-    options = options;
+    options = asked.options;
     random = random;
     shares = shares;
     is_plan = plan;

@@ -9,20 +9,20 @@ use Rattle.s39_words.specs.declared.share.ShareFields.{ShareFields}
 use Rattle.s39_words.specs.Share.{IsShare}
 use Rattle.s39_kdf.specs.Bytes.{AreBytes}
 use Rattle.s39_kdf.specs.Limits.{shortest_secret}
-use Rattle.s39_set.specs.Names.{most_members}
+use Rattle.s39_set.specs.Names.{Name, most_members}
 use Rattle.s39_set.specs.ShareSet.{IsShareSet, name_of, is_in_group, has_name}
 use Rattle.s39_set.specs.Quorums.{group_threshold_of, member_threshold_of}
-use Rattle.s39_set.proofs.Finds.{Contains-find}
+use Rattle.s39_lists.proofs.Finds.{Contains-find}
 use Rattle.s39_backup.specs.Combination.{value_of}
 use Rattle.s39_backup.specs.GroupShares.{value_bytes_of}
 
 -- a name of a set has a share in it
-pub record HasShare (set : List ShareFields) (name : ℕ × ℕ) : Type 0 where
+pub record HasShare (set : List ShareFields) (name : Name) : Type 0 where
   pub share : ShareFields
   pub found : find (has_name name.0 name.1) set ≡ Some share
   pub among : Contains set share
 
-found_share : (set : List ShareFields) (name : ℕ × ℕ) → Contains (map name_of set) name
+found_share : (set : List ShareFields) (name : Name) → Contains (map name_of set) name
     → (share : ShareFields) × (find (has_name name.0 name.1) set ≡ Some share)
 found_share [] name (k, below, here) = absurd (omega arith)
 found_share (s ∷ ss) name (zero, below, here) =
@@ -39,7 +39,7 @@ found_share (s ∷ ss) name (suc k, below, here) =
           (t, cond-false (has_name name.0 name.1 s) (Some s) (find (has_name name.0 name.1) ss) no' ∙ found))
     ]
 
-pub has_share : (set : List ShareFields) (name : ℕ × ℕ) → Contains (map name_of set) name → HasShare set name
+pub has_share : (set : List ShareFields) (name : Name) → Contains (map name_of set) name → HasShare set name
 has_share set name among =
     let (share, found) = found_share set name among in
     record { share = share; found = found; among = Contains-find (has_name name.0 name.1) set share found }
@@ -59,13 +59,13 @@ value_bytes-long set share is among =
     omega arith
 
 -- the value of a name
-pub bytes-value_of : (set : List ShareFields) (name : ℕ × ℕ) → IsShareSet set → Contains (map name_of set) name → AreBytes (value_of set name)
+pub bytes-value_of : (set : List ShareFields) (name : Name) → IsShareSet set → Contains (map name_of set) name → AreBytes (value_of set name)
 bytes-value_of set name is among =
     let has = has_share set name among in
     subst AreBytes (sym (ap (λ found. option_map_or (λ s. s.value.items) found []) has.found))
     (All-contains IsShare set has.share is.each has.among).value.bytes
 
-pub length-value_of : (set : List ShareFields) (name : ℕ × ℕ) → IsShareSet set → Contains (map name_of set) name
+pub length-value_of : (set : List ShareFields) (name : Name) → IsShareSet set → Contains (map name_of set) name
     → length (value_of set name) ≡ value_bytes_of set
 length-value_of set name is among =
     let has = has_share set name among in

@@ -12,21 +12,23 @@ use Rattle.std.proofs.lemmas.List.Kept.{AllPairs-filter}
 use Rattle.std.proofs.lemmas.Option.{slice_get-get_or}
 use Rattle.s39_kdf.specs.declared.params.Params.{Params}
 use Rattle.s39_words.specs.declared.share.ShareFields.{ShareFields}
-use Rattle.s39_set.specs.Names.{name_cmp, names_in_group, IsAscending}
+use Rattle.s39_set.specs.Names.{Name, Names, name_cmp, names_in_group, IsAscending}
 use Rattle.s39_set.specs.Groups.{complete_groups}
 use Rattle.s39_set.specs.ShareSet.{IsShareSet, name_of, is_in_group}
 use Rattle.s39_set.specs.Quorums.{group_threshold_of, member_threshold_of, MeetsThresholds}
-use Rattle.s39_set.proofs.Sublists.{length-sublist, sublist_from_contains, Contains-filter}
+use Rattle.s39_lists.proofs.Sublists.{length-sublist, sublist_from_contains, Contains-filter}
 use Rattle.s39_set.proofs.Ascending.{names-sublist}
-use Rattle.s39_set.proofs.AtHand.{Contains-map, AllPairs-map, member-less}
-use Rattle.s39_set.proofs.CompleteGroups.{range-ascending, range-below, complete_groups-ascending, Contains-complete_groups}
-use Rattle.s39_set.proofs.Finds.{find-passes, Contains-find, none-passes}
+use Rattle.s39_set.proofs.Ascending.{member-less}
+use Rattle.s39_lists.proofs.Images.{Contains-map}
+use Rattle.s39_lists.proofs.Pairs.{AllPairs-map}
+use Rattle.s39_set.proofs.CompleteGroups.{complete_groups-ascending, Contains-complete_groups}
+use Rattle.s39_lists.proofs.Ranges.{range-ascending, range-below}
+use Rattle.s39_lists.proofs.Finds.{find-passes, Contains-find, none-passes, some_same}
 use Rattle.std.specs.declared.cmp.Ordering.TheVariants.{Less}
 use Rattle.s39_backup.specs.declared.plan.Members.{Members}
 use Rattle.s39_backup.specs.Plan.{IsGroup}
-use Rattle.s39_backup.specs.Created.{AreSplitAmong, created_share, created_group, created_groups, IsCreatedFrom, AreOfBackup}
+use Rattle.s39_backup.specs.Created.{AreSplitAmong, created_share, created_group, created_groups, IsCreatedFrom, AreOfBackup, asked_for}
 use Rattle.s39_backup.proofs.Agreeing.{All-at}
-use Rattle.s39_backup.proofs.Images.{some_same}
 use Rattle.s39_backup.proofs.Promise.{IsCreatedShare, in_created_groups}
 use Rattle.s39_backup.proofs.SameShares.{contains_member}
 
@@ -89,10 +91,10 @@ values_at gs ss ps vs place members all at = absurd all
 
 module _ (set : List ShareFields) (passphrase secret : List ℕ) (is_set : IsShareSet set) (backup : AreOfBackup set passphrase secret)
     (all : All (Contains set) backup.shares) where
-  abbrev created : IsCreatedFrom secret passphrase backup.group_threshold backup.groups backup.options backup.random backup.shares
+  abbrev created : IsCreatedFrom (asked_for secret passphrase backup.group_threshold backup.groups backup.options) backup.random backup.shares
   created = backup.created
 
-  abbrev names : List (ℕ × ℕ)
+  abbrev names : Names
   names = map name_of set
 
   abbrev count : ℕ
@@ -164,7 +166,7 @@ module _ (set : List ShareFields) (passphrase secret : List ℕ) (is_set : IsSha
       (λ i j d before within. member-less group (get_or range i d) (get_or range j d) (range-ascending members.count i j d before within)) in
       let part = names-sublist (names_in_group group names) wanted
       (AllPairs-filter (λ a b. name_cmp a b ≡ Less) (λ name. name.0 == group) names is_set.ascending) ascending there in
-      omega (arith, length-sublist part, length-map {B = ℕ × ℕ} range (λ (m : ℕ). (group, m)), length-range_with_len 0 members.count)
+      omega (arith, length-sublist part, length-map {B = Name} range (λ (m : ℕ). (group, m)), length-range_with_len 0 members.count)
 
   -- so each group is complete
   abbrev complete : List ℕ

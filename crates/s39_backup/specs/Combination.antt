@@ -4,31 +4,31 @@ use Rattle.std.specs.List.{AllZip, range_with_len}
 use Rattle.std.specs.Option.{option_map_or}
 use Rattle.s39_split.specs.Recovery.{Combines}
 use Rattle.s39_words.specs.declared.ShareFields.{ShareFields}
-use Rattle.s39_set.specs.Names.{most_groups, names_in_group}
+use Rattle.s39_set.specs.Names.{Name, Names, most_groups, names_in_group}
 use Rattle.s39_set.specs.ShareSet.{has_name}
 use Rattle.s39_set.specs.Quorums.{group_threshold_of, member_threshold_of}
 use Rattle.s39_backup.specs.declared.combination.Mismatch.{Mismatch}
 use Rattle.s39_backup.specs.declared.combination.Mismatch.TheVariants.{InGroup, OfGroups}
 
 -- the value of the share of a name
-abbrev pub value_of : List ShareFields → ℕ × ℕ → List ℕ
+abbrev pub value_of : List ShareFields → Name → List ℕ
 value_of set name = option_map_or (λ share. share.value.items) (find (has_name name.0 name.1) set) []
 
 -- the shares of a group among these names, each its member index and its value
-abbrev pub member_shares : List ShareFields → List (ℕ × ℕ) → ℕ → List (ℕ × List ℕ)
+abbrev pub member_shares : List ShareFields → Names → ℕ → List (ℕ × List ℕ)
 member_shares set names group = map (λ name. (name.1, value_of set name)) (names_in_group group names)
 
 -- the groups of which a name is among these
-abbrev pub groups_of : List (ℕ × ℕ) → List ℕ
+abbrev pub groups_of : Names → List ℕ
 groups_of names = filter (λ group. nat_lt 0 (length (names_in_group group names))) (range_with_len 0 most_groups)
 
 -- the shares of a group combine to this group share, or are refused, which is None
-abbrev pub GroupCombines : List ShareFields → List (ℕ × ℕ) → ℕ → Option (List ℕ) → Type 0
+abbrev pub GroupCombines : List ShareFields → Names → ℕ → Option (List ℕ) → Type 0
 GroupCombines set names group outcome =
     IsSomeAnd (member_threshold_of set group) (λ threshold. Combines threshold (member_shares set names group) outcome)
 
 -- each group combines to its group share
-abbrev pub AllCombine : List ShareFields → List (ℕ × ℕ) → List ℕ → List (List ℕ) → Type 0
+abbrev pub AllCombine : List ShareFields → Names → List ℕ → List (List ℕ) → Type 0
 AllCombine set names groups shares = AllZip (λ group share. GroupCombines set names group (Some share)) groups shares
 
 -- the group shares, each with its group index, combine to this encrypted secret, or are refused
@@ -37,13 +37,13 @@ GroupsCombine set groups shares outcome =
     IsSomeAnd (group_threshold_of set) (λ threshold. Combines threshold (zip groups shares) outcome)
 
 -- all groups combine, and their group shares to this encrypted secret
-pub record CombinesTo (set : List ShareFields) (names : List (ℕ × ℕ)) (encrypted : List ℕ) : Type 0 where
+pub record CombinesTo (set : List ShareFields) (names : Names) (encrypted : List ℕ) : Type 0 where
   pub shares : List (List ℕ)
   pub groups : AllCombine set names (groups_of names) shares
   pub combined : GroupsCombine set (groups_of names) shares (Some encrypted)
 
 -- this is the first group whose shares are refused
-pub record MismatchesInGroup (set : List ShareFields) (names : List (ℕ × ℕ)) (group : ℕ) : Type 0 where
+pub record MismatchesInGroup (set : List ShareFields) (names : Names) (group : ℕ) : Type 0 where
   pub before : List ℕ
   pub after : List ℕ
   pub shares : List (List ℕ)
@@ -52,14 +52,14 @@ pub record MismatchesInGroup (set : List ShareFields) (names : List (ℕ × ℕ)
   pub refused : GroupCombines set names group None
 
 -- all groups combine, and the group shares are refused
-pub record MismatchesOfGroups (set : List ShareFields) (names : List (ℕ × ℕ)) : Type 0 where
+pub record MismatchesOfGroups (set : List ShareFields) (names : Names) : Type 0 where
   pub shares : List (List ℕ)
   pub groups : AllCombine set names (groups_of names) shares
   pub refused : GroupsCombine set (groups_of names) shares None
 
 -- what the names of a quorum combine to: an encrypted secret, or a mismatch of digests, in the lowest group of which
 -- that is so, or else of the groups
-abbrev pub IsCombination : List ShareFields → List (ℕ × ℕ) → Result (List ℕ) Mismatch → Type 0
+abbrev pub IsCombination : List ShareFields → Names → Result (List ℕ) Mismatch → Type 0
 IsCombination set names (Ok encrypted) = CombinesTo set names encrypted
 IsCombination set names (Err (InGroup group)) = MismatchesInGroup set names group
 IsCombination set names (Err OfGroups) = MismatchesOfGroups set names

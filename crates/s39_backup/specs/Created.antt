@@ -1,6 +1,9 @@
 -- Backups created from a secret (SLIP-0039, "Shamir's secret sharing" and "Encryption of the master secret").
 use Rattle.std.specs.Prelude.{◌≡◌, ◌≢◌, ℕ, ◌+◌, ◌*◌, ◌%◌, ◌^◌, List, [], ◌∷◌, ◌++◌, All, Contains, length, map, sum_by, Result, Ok, Err}
 use Rattle.std.specs.List.{concat, enumerate_from}
+use Rattle.s39_refusal.specs.declared.cause.Cause.{Cause}
+use Rattle.s39_refusal.specs.Causes.{cause}
+use Rattle.s39_kdf.specs.Causes.{passphrase_cause, length_cause}
 use Rattle.s39_kdf.specs.declared.params.Params.{Params}
 use Rattle.s39_kdf.specs.Limits.{id_bits, IsPrintable, IsFirstUnprintable, IsSecretLength}
 use Rattle.s39_kdf.specs.Cipher.{IsEncryption}
@@ -21,6 +24,28 @@ identifier_length = 2
 abbrev pub random_needed : ℕ → List Members → ℕ → ℕ
 random_needed group_threshold groups n =
     identifier_length + level_random_needed group_threshold n + sum_by (λ members. level_random_needed members.threshold n) groups
+
+-- what a backup is created from, but for the random bytes
+pub record Asked : Type 0 where
+  pub secret : List ℕ
+  pub passphrase : List ℕ
+  pub group_threshold : ℕ
+  pub groups : List Members
+  pub options : Options
+
+-- all of that
+abbrev pub asked_for : List ℕ → List ℕ → ℕ → List Members → Options → Asked
+asked_for secret passphrase group_threshold groups options = record {
+  secret = secret;
+  passphrase = passphrase;
+  group_threshold = group_threshold;
+  groups = groups;
+  options = options;
+}
+
+-- how many random bytes it takes
+abbrev pub needed_by : Asked → ℕ
+needed_by asked = random_needed asked.group_threshold asked.groups (length asked.secret)
 
 -- the most random bytes that a backup takes: those of sixteen groups of which all sixteen members are needed, and all
 -- groups, with the longest secret
@@ -73,8 +98,7 @@ module _ (params : Params) (group_threshold group_count : ℕ) where
 -- A backup created from a secret, with a passphrase, a plan, options and random bytes. The encrypted secret is split
 -- into the group shares, and each of these among its members. The random bytes are those of the identifier, of the
 -- group level and of each group, in this order. The shares stand by group, then member.
-pub record IsCreatedFrom (secret passphrase : List ℕ) (group_threshold : ℕ) (groups : List Members) (options : Options)
-    (random : List ℕ) (shares : List ShareFields) : Type 0 where
+pub record IsCreatedFrom (asked : Asked) (random : List ℕ) (shares : List ShareFields) : Type 0 where
   pub high : ℕ
   pub low : ℕ
   pub group_piece : List ℕ
@@ -84,31 +108,29 @@ pub record IsCreatedFrom (secret passphrase : List ℕ) (group_threshold : ℕ) 
   pub group_shares : List (List ℕ)
   pub values : List (List (List ℕ))
   pub consumed : random ≡ high ∷ low ∷ group_piece ++ concat pieces
-  pub params_are : AreCreatedParams options high low params
-  pub encryption : IsEncryption secret passphrase params encrypted
-  pub groups_split : IsSplit group_threshold (length groups) encrypted group_piece group_shares
-  pub members_split : AreSplitAmong groups group_shares pieces values
-  pub shares_are : shares ≡ created_groups params group_threshold (length groups) 0 groups values
+  pub params_are : AreCreatedParams asked.options high low params
+  pub encryption : IsEncryption asked.secret asked.passphrase params encrypted
+  pub groups_split : IsSplit asked.group_threshold (length asked.groups) encrypted group_piece group_shares
+  pub members_split : AreSplitAmong asked.groups group_shares pieces values
+  pub shares_are : shares ≡ created_groups params asked.group_threshold (length asked.groups) 0 asked.groups values
 
 -- what the creation of a backup gives: its shares, or the first cause that applies
-abbrev pub IsCreation : List ℕ → List ℕ → ℕ → List Members → Options → List ℕ → Result (List ShareFields) CreateError → Type 0
-IsCreation secret passphrase group_threshold groups options random (Ok shares) =
-    All IsPrintable passphrase × IsSecretLength (length secret)
-    × (length random ≡ random_needed group_threshold groups (length secret))
-    × IsCreatedFrom secret passphrase group_threshold groups options random shares
-IsCreation secret passphrase group_threshold groups options random (Err (Passphrase bad)) =
-    IsFirstUnprintable passphrase bad.position
-IsCreation secret passphrase group_threshold groups options random (Err (SecretLength bad)) =
-    All IsPrintable passphrase × ¬ IsSecretLength (length secret) × (bad.bytes ≡ length secret)
-IsCreation secret passphrase group_threshold groups options random (Err (BadRandomLength needed)) =
-    All IsPrintable passphrase × IsSecretLength (length secret)
-    × (needed ≡ random_needed group_threshold groups (length secret)) × (length random ≢ needed)
+abbrev pub IsCreation : Asked → List ℕ → Result (List ShareFields) CreateError → Type 0
+IsCreation asked random (Ok shares) =
+    All IsPrintable asked.passphrase × IsSecretLength (length asked.secret) × (length random ≡ needed_by asked)
+    × IsCreatedFrom asked random shares
+IsCreation asked random (Err (Passphrase bad)) = IsFirstUnprintable asked.passphrase bad.position
+IsCreation asked random (Err (SecretLength bad)) =
+    All IsPrintable asked.passphrase × ¬ IsSecretLength (length asked.secret) × (bad.bytes ≡ length asked.secret)
+IsCreation asked random (Err (BadRandomLength needed)) =
+    All IsPrintable asked.passphrase × IsSecretLength (length asked.secret) × (needed ≡ needed_by asked)
+    × (length random ≢ needed)
 
--- the code of a cause
-abbrev pub create_code_of : CreateError → ℕ
-create_code_of (Passphrase _) = 41
-create_code_of (SecretLength _) = 42
-create_code_of (BadRandomLength _) = 43
+-- what a refusal says
+abbrev pub create_cause_of : CreateError → Cause
+create_cause_of (Passphrase bad) = passphrase_cause bad.position
+create_cause_of (SecretLength bad) = length_cause bad.bytes
+create_cause_of (BadRandomLength needed) = cause 43 needed 0
 
 -- shares of a backup that was created from this secret with this passphrase, whatever plan, options and random bytes
 pub record AreOfBackup (set : List ShareFields) (passphrase secret : List ℕ) : Type 0 where
@@ -118,5 +140,5 @@ pub record AreOfBackup (set : List ShareFields) (passphrase secret : List ℕ) :
   pub random : List ℕ
   pub shares : List ShareFields
   pub is_plan : IsPlan group_threshold groups
-  pub created : IsCreatedFrom secret passphrase group_threshold groups options random shares
+  pub created : IsCreatedFrom (asked_for secret passphrase group_threshold groups options) random shares
   pub belong : All (Contains shares) set

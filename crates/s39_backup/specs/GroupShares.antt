@@ -5,7 +5,7 @@ use Rattle.arrayvec.specs.ArrayVec.{ArrayVec}
 use Rattle.s39_kdf.specs.Limits.{shortest_secret}
 use Rattle.s39_split.specs.Sharing.{most_shares}
 use Rattle.s39_words.specs.declared.ShareFields.{ShareFields}
-use Rattle.s39_set.specs.Names.{names_in_group}
+use Rattle.s39_set.specs.Names.{Names, names_in_group}
 use Rattle.s39_set.specs.ShareSet.{IsShareSet}
 use Rattle.s39_set.specs.Quorums.{HasJustTheGroups}
 use Rattle.s39_backup.specs.Combination.{GroupCombines}
@@ -20,7 +20,7 @@ value_bytes_of [] = 0
 value_bytes_of (share ∷ shares) = length share.value.items
 
 -- names with just the groups and members that the thresholds of a share set ask
-pub record IsExactQuorum (set : List ShareFields) (names : List (ℕ × ℕ)) : Type 0 where
+pub record IsExactQuorum (set : List ShareFields) (names : Names) : Type 0 where
   pub is_set : IsShareSet set
   pub exact : HasJustTheGroups set names
 
@@ -34,11 +34,11 @@ pub record AreOfOneLevel (bytes : ℕ) (shares : List (ℕ × List ℕ)) : Type 
   pub long : shortest_secret ≤ bytes
 
 -- the groups below a number of which a name is among these
-abbrev pub groups_below : List (ℕ × ℕ) → ℕ → List ℕ
+abbrev pub groups_below : Names → ℕ → List ℕ
 groups_below names n = filter (λ group. nat_lt 0 (length (names_in_group group names))) (range_with_len 0 n)
 
 -- these are the shares of these groups, each with its group index
-pub record AreGroupShares (set : List ShareFields) (names : List (ℕ × ℕ)) (groups : List ℕ) (shares : List (ℕ × List ℕ)) : Type 0 where
+pub record AreGroupShares (set : List ShareFields) (names : Names) (groups : List ℕ) (shares : List (ℕ × List ℕ)) : Type 0 where
   pub indices : map (λ share. share.0) shares ≡ groups
   pub combine : All (λ share. GroupCombines set names share.0 (Some share.1)) shares
   pub lengths : All (λ share. length share.1 ≡ value_bytes_of set) shares

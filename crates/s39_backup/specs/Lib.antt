@@ -5,6 +5,7 @@ pub mod RecoverError
 pub mod Plan
 pub mod PlanText
 pub mod Created
+pub mod Asking
 pub mod Building
 pub mod TwoShort
 pub mod Refitting

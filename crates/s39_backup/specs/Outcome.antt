@@ -3,6 +3,7 @@ use Rattle.std.specs.Prelude.{◌≡◌, ℕ, List, [], ◌∷◌, Result, Ok, E
 use Rattle.s39_kdf.specs.declared.params.Params.{Params}
 use Rattle.s39_kdf.specs.Cipher.{IsEncryption}
 use Rattle.s39_words.specs.declared.ShareFields.{ShareFields}
+use Rattle.s39_set.specs.Names.{Names}
 use Rattle.s39_backup.specs.declared.combination.Mismatch.{Mismatch}
 use Rattle.s39_backup.specs.Combination.{IsCombination}
 
@@ -13,7 +14,7 @@ AreParams (share ∷ shares) params =
     (params.id ≡ share.id) × (params.extendable ≡ share.extendable) × (params.exponent ≡ share.exponent)
 
 -- the quorum combines to what is the encryption of this secret
-pub record Recovers (set : List ShareFields) (names : List (ℕ × ℕ)) (passphrase secret : List ℕ) : Type 0 where
+pub record Recovers (set : List ShareFields) (names : Names) (passphrase secret : List ℕ) : Type 0 where
   pub encrypted : List ℕ
   pub params : Params
   pub combined : IsCombination set names (Ok encrypted)
@@ -21,6 +22,6 @@ pub record Recovers (set : List ShareFields) (names : List (ℕ × ℕ)) (passph
   pub secret_is : IsEncryption secret passphrase params encrypted
 
 -- what the names of a quorum recover with a passphrase: a secret, or the mismatch to which they combine
-abbrev pub IsOutcome : List ShareFields → List (ℕ × ℕ) → List ℕ → Result (List ℕ) Mismatch → Type 0
+abbrev pub IsOutcome : List ShareFields → Names → List ℕ → Result (List ℕ) Mismatch → Type 0
 IsOutcome set names passphrase (Ok secret) = Recovers set names passphrase secret
 IsOutcome set names passphrase (Err mismatch) = IsCombination set names (Err mismatch)

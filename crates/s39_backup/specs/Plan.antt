@@ -1,6 +1,9 @@
 -- Plans, and the texts that give them.
-use Rattle.std.specs.Prelude.{◌≡◌, ◌⊎◌, ◌≢◌, ℕ, ◌<◌, ◌≤◌, List, [], ◌∷◌, ◌++◌, All, codes, length, Result, Ok, Err}
+use Rattle.std.specs.Prelude.{◌≡◌, ◌⊎◌, ◌≢◌, ℕ, ◌<◌, ◌≤◌, List, [], ◌∷◌, ◌++◌, All, codes, length, map, Result, Ok, Err}
+use Rattle.std.specs.List.{join_with_byte}
 use Rattle.std.specs.Fmt.{decimal}
+use Rattle.s39_refusal.specs.declared.cause.Cause.{Cause}
+use Rattle.s39_refusal.specs.Causes.{cause}
 use Rattle.s39_set.specs.Names.{most_groups, most_members}
 use Rattle.s39_backup.specs.declared.plan.Members.{Members}
 use Rattle.s39_backup.specs.declared.plan_error.PlanError.{PlanError}
@@ -45,9 +48,7 @@ members_text members = decimal members.threshold ++ (codes "of" ++ decimal membe
 
 -- the texts of groups, joined by commas
 abbrev pub groups_text : List Members → List ℕ
-groups_text [] = []
-groups_text (members ∷ []) = members_text members
-groups_text (members ∷ next ∷ more) = members_text members ++ (codes "," ++ groups_text (next ∷ more))
+groups_text groups = join_with_byte 44 (map members_text groups)
 
 -- The text is `TofN`, which is one group at group threshold 1, or `GT/T1ofN1,T2ofN2,..`, whatever the numbers.
 pub record HasPlanForm (text : List ℕ) (group_threshold : ℕ) (groups : List Members) : Type 0 where
@@ -87,9 +88,14 @@ IsPlanReading text (Err (OneOfMany group)) =
     (read : PlanForm text) × HasEnoughGroups read.group_threshold read.groups
     × IsFirstRefusedGroup read.groups group (λ members. HasEnoughMembers members × IsOneOfMany members)
 
--- the code of a cause
-abbrev pub plan_code_of : PlanError → ℕ
-plan_code_of BadPlan = 31
-plan_code_of PlanGroups = 32
-plan_code_of (PlanMembers _) = 33
-plan_code_of (OneOfMany _) = 34
+-- a text is read as this, and as nothing else
+pub record IsOnlyReading (text : List ℕ) (answer : Result (ℕ × List Members) PlanError) : Type 0 where
+  pub reading : IsPlanReading text answer
+  pub only : (other : Result (ℕ × List Members) PlanError) → IsPlanReading text other → other ≡ answer
+
+-- what a refusal says
+abbrev pub plan_cause_of : PlanError → Cause
+plan_cause_of BadPlan = cause 31 0 0
+plan_cause_of PlanGroups = cause 32 0 0
+plan_cause_of (PlanMembers group) = cause 33 group 0
+plan_cause_of (OneOfMany group) = cause 34 group 0

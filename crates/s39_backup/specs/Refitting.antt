@@ -4,10 +4,9 @@ use Rattle.std.specs.List.{concat, slice_get}
 use Rattle.s39_kdf.specs.declared.params.Params.{Params}
 use Rattle.s39_kdf.specs.Cipher.{IsEncryption}
 use Rattle.s39_split.specs.Sharing.{digest_length, IsSplit}
-use Rattle.s39_set.specs.Names.{names_in_group}
+use Rattle.s39_set.specs.Names.{Names, names_in_group}
 use Rattle.s39_backup.specs.declared.plan.Members.{Members}
-use Rattle.s39_backup.specs.declared.options.Options.{Options}
-use Rattle.s39_backup.specs.Created.{AreCreatedParams, AreSplitAmong}
+use Rattle.s39_backup.specs.Created.{AreCreatedParams, AreSplitAmong, Asked}
 use Rattle.s39_backup.specs.TwoShort.{is_held, held_groups}
 
 -- indices of shares in order, at least two fewer than a threshold, or none
@@ -44,7 +43,7 @@ pub record AreLevels (threshold count : ℕ) (secret other : List ℕ) (kept : L
   pub stay : StayTheSame threshold secret kept random fitted shares others
 
 -- of each group from this one on, the shares with these names are the same
-abbrev pub AreSameAmong : List (ℕ × ℕ) → ℕ → List (List (List ℕ)) → List (List (List ℕ)) → Type 0
+abbrev pub AreSameAmong : Names → ℕ → List (List (List ℕ)) → List (List (List ℕ)) → Type 0
 AreSameAmong names group [] [] = Unit {0}
 AreSameAmong names group (values ∷ more) (others ∷ rest) =
     All (λ name. slice_get values name.1 ≡ slice_get others name.1) (names_in_group group names)
@@ -52,19 +51,19 @@ AreSameAmong names group (values ∷ more) (others ∷ rest) =
 AreSameAmong names group _ _ = ⊥
 
 -- the names of each group from this one on are of members that it has
-abbrev pub AreNamesOfGroups : List (ℕ × ℕ) → ℕ → List Members → Type 0
+abbrev pub AreNamesOfGroups : Names → ℕ → List Members → Type 0
 AreNamesOfGroups names group groups = (i : ℕ) (d : Members) → i < length groups
     → All (λ name. name.1 < (slice_index_or groups i d).count) (names_in_group (group + i) names)
 
 -- the share of each group that is held, from this one on, is the same
-abbrev pub HeldAreSame : List (ℕ × ℕ) → ℕ → List Members → List (List ℕ) → List (List ℕ) → Type 0
+abbrev pub HeldAreSame : Names → ℕ → List Members → List (List ℕ) → List (List ℕ) → Type 0
 HeldAreSame names group groups shares others = (i : ℕ) (d : Members) → i < length groups
     → is_held names (group + i, slice_index_or groups i d) ≡ true
     → slice_get shares i ≡ slice_get others i
 
 -- Splits of a group's share in two backups, each with its random bytes, that have the shares with these names in common.
 -- Where the group is held, the random bytes are the same, and else the key of the digest and the staying shares.
-pub record IsRefittedGroup (names : List (ℕ × ℕ)) (group : ℕ) (members : Members) (share other : List ℕ)
+pub record IsRefittedGroup (names : Names) (group : ℕ) (members : Members) (share other : List ℕ)
     (random fitted : List ℕ) : Type 0 where
   pub values : List (List ℕ)
   pub others : List (List ℕ)
@@ -76,14 +75,14 @@ pub record IsRefittedGroup (names : List (ℕ × ℕ)) (group : ℕ) (members : 
       → StayTheSame members.threshold share (map (λ name. name.1) (names_in_group group names)) random fitted values others
 
 -- each group from this one on, with its share in two backups and its random bytes in them
-abbrev pub EachIsRefitted : List (ℕ × ℕ) → ℕ → List Members → (shares others pieces fitted : List (List ℕ)) → Type 0
+abbrev pub EachIsRefitted : Names → ℕ → List Members → (shares others pieces fitted : List (List ℕ)) → Type 0
 EachIsRefitted names group [] [] [] [] [] = Unit {0}
 EachIsRefitted names group (members ∷ groups) (share ∷ shares) (other ∷ others) (piece ∷ pieces) (fitted ∷ more) =
     IsRefittedGroup names group members share other piece fitted × EachIsRefitted names (group + 1) groups shares others pieces more
 EachIsRefitted names group _ _ _ _ _ = ⊥
 
 -- the same of all of them
-pub record AreRefittedGroups (names : List (ℕ × ℕ)) (group : ℕ) (groups : List Members) (shares others : List (List ℕ))
+pub record AreRefittedGroups (names : Names) (group : ℕ) (groups : List Members) (shares others : List (List ℕ))
     (random fitted : List ℕ) : Type 0 where
   pub pieces : List (List ℕ)
   pub fitted_pieces : List (List ℕ)
@@ -100,8 +99,7 @@ pub record AreRefittedGroups (names : List (ℕ × ℕ)) (group : ℕ) (groups :
 -- passphrase, plan and options. The bytes of the identifier are the same, and at each level the key of the digest and as
 -- many shares as its threshold less two: those that the names keep, which are the held groups and the names' members, and
 -- the lowest others. Of a held group all random bytes are the same.
-pub record IsRefitting (names : List (ℕ × ℕ)) (group_threshold : ℕ) (groups : List Members) (options : Options)
-    (passphrase secret other random fitted : List ℕ) : Type 0 where
+pub record IsRefitting (names : Names) (asked : Asked) (other random fitted : List ℕ) : Type 0 where
   pub high : ℕ
   pub low : ℕ
   pub group_piece : List ℕ
@@ -115,9 +113,9 @@ pub record IsRefitting (names : List (ℕ × ℕ)) (group_threshold : ℕ) (grou
   pub other_shares : List (List ℕ)
   pub consumed : random ≡ high ∷ low ∷ group_piece ++ rest
   pub fitted_consumed : fitted ≡ high ∷ low ∷ fitted_piece ++ fitted_rest
-  pub params_are : AreCreatedParams options high low params
-  pub encryption : IsEncryption secret passphrase params encrypted
-  pub other_encryption : IsEncryption other passphrase params other_encrypted
-  pub levels : AreLevels group_threshold (length groups) encrypted other_encrypted (held_groups names groups)
+  pub params_are : AreCreatedParams asked.options high low params
+  pub encryption : IsEncryption asked.secret asked.passphrase params encrypted
+  pub other_encryption : IsEncryption other asked.passphrase params other_encrypted
+  pub levels : AreLevels asked.group_threshold (length asked.groups) encrypted other_encrypted (held_groups names asked.groups)
       group_piece fitted_piece group_shares other_shares
-  pub refitted : AreRefittedGroups names 0 groups group_shares other_shares rest fitted_rest
+  pub refitted : AreRefittedGroups names 0 asked.groups group_shares other_shares rest fitted_rest

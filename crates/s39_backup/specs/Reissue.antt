@@ -1,16 +1,21 @@
 -- The shares of a plan that those at hand determine: which they are, and which they determine.
-use Rattle.std.specs.Prelude.{◌≡◌, ◌⊎◌, ℕ, ◌+◌, ◌<◌, ◌≤◌, ◌==◌, ◌&&◌, not, nat_le, Bool, List, ◌∷◌, ◌++◌, length, map, filter, take, All, Contains}
+use Rattle.std.specs.Prelude.{◌≡◌, ◌⊎◌, ℕ, ◌+◌, ◌*◌, ◌<◌, ◌≤◌, ◌==◌, ◌&&◌, not, nat_le, Bool, List, ◌∷◌, ◌++◌, length, map, filter, take, All, Contains}
 use Rattle.std.specs.Prelude.{Option, Some, None, Result, Ok, Err, IsSomeAnd}
 use Rattle.std.specs.List.{AllZip, enumerate_from, slice_get}
+use Rattle.s39_refusal.specs.declared.cause.Cause.{Cause}
+use Rattle.s39_refusal.specs.Causes.{cause}
 use Rattle.s39_split.specs.Sharing.{secret_place}
 use Rattle.s39_split.specs.Recovery.{Combines}
 use Rattle.s39_split.specs.Completion.{Completes}
 use Rattle.s39_words.specs.declared.share.ShareFields.{ShareFields}
+use Rattle.s39_set.specs.Names.{Name}
 use Rattle.s39_set.specs.ShareSet.{name_of, is_in_group}
+use Rattle.s39_backup.specs.RecoverError.{mismatch_cause_of}
 use Rattle.s39_backup.specs.declared.plan.Members.{Members}
 use Rattle.s39_backup.specs.declared.combination.Mismatch.{Mismatch}
 use Rattle.s39_backup.specs.declared.combination.Mismatch.TheVariants.{InGroup, OfGroups}
 use Rattle.s39_backup.specs.declared.reissue_error.ReissueError.{ReissueError}
+use Rattle.s39_backup.specs.declared.reissue_error.TooFew.{TooFew}
 use Rattle.s39_backup.specs.declared.reissue_error.ReissueError.TheVariants.{Undetermined, DigestMismatch}
 
 -- ---- shares of a plan
@@ -123,7 +128,7 @@ module _ (set : List ShareFields) (group_threshold : ℕ) (groups : List Members
 -- ---- the share of a name
 
 -- a share like this one, with another name, member threshold and value
-abbrev pub share_like : ShareFields → ℕ × ℕ → ℕ → List ℕ → ShareFields
+abbrev pub share_like : ShareFields → Name → ℕ → List ℕ → ShareFields
 share_like share name threshold value = record share {
   group_index = name.0;
   member_index = name.1;
@@ -132,7 +137,7 @@ share_like share name threshold value = record share {
 }
 
 -- a share that isn't at hand, or why those at hand don't determine it: its other fields are those of the set
-abbrev pub IsMissing : List ShareFields → ℕ → List Members → ℕ × ℕ → Members → Result ShareFields ReissueError → Type 0
+abbrev pub IsMissing : List ShareFields → ℕ → List Members → Name → Members → Result ShareFields ReissueError → Type 0
 IsMissing set group_threshold groups name members (Ok share) =
     (value : List ℕ) × IsValue set group_threshold groups name.0 members name.1 (Ok value)
     × ((like : ShareFields) × Contains set like × (share ≡ share_like like name members.threshold value))
@@ -141,19 +146,52 @@ IsMissing set group_threshold groups name members (Err error) =
 
 -- The share of a name of a plan, as the shares at hand determine it: the one that they have, or the one that follows
 -- from them; or why they don't.
-pub record IsReissue (set : List ShareFields) (group_threshold : ℕ) (groups : List Members) (name : ℕ × ℕ)
+pub record IsReissue (set : List ShareFields) (group_threshold : ℕ) (groups : List Members) (name : Name)
     (result : Result ShareFields ReissueError) : Type 0 where
   pub at_hand : (share : ShareFields) → Contains set share → name_of share ≡ name → result ≡ Ok share
   pub missing : ¬ Contains (map name_of set) name
       → (members : Members) × (slice_get groups name.0 ≡ Some members) × IsMissing set group_threshold groups name members result
 
+-- ---- which names are determined
+
+-- The shares at hand determine the share of a name of a plan: they have it, or as many members of its group as are needed,
+-- or one fewer and as many other groups as are needed.
+abbrev pub IsDetermined : List ShareFields → ℕ → List Members → Name → Type 0
+IsDetermined set group_threshold groups name =
+    Contains (map name_of set) name
+    ⊎ IsSomeAnd (slice_get groups name.0) (λ members.
+    (members.threshold ≤ length (members_at_hand set name.0)) ⊎ IsOneShort set group_threshold groups name.0 members name.1)
+
+-- both counts for a name: how many members of its group are at hand and are needed, and of how many other groups enough
+-- are and how many groups are needed
+abbrev pub counts_for : List ShareFields → ℕ → List Members → Name → Members → TooFew
+counts_for set group_threshold groups name members = record {
+  group = name.0;
+  member = name.1;
+  members = length (members_at_hand set name.0);
+  threshold = members.threshold;
+  others = length (other_groups set groups name.0);
+  required = group_threshold;
+}
+
+-- the share of this name isn't determined, and these are both counts for it
+pub record IsUndetermined (set : List ShareFields) (group_threshold : ℕ) (groups : List Members) (name : Name) (few : TooFew) : Type 0 where
+  pub undetermined : ¬ IsDetermined set group_threshold groups name
+  pub counts : IsSomeAnd (slice_get groups name.0) (λ members. few ≡ counts_for set group_threshold groups name members)
+
 -- of a backup with these shares: its share of the name, or that the shares at hand don't determine it, and no mismatch
-abbrev pub IsRightFor : List ShareFields → ℕ × ℕ → Result ShareFields ReissueError → Type 0
+abbrev pub IsRightFor : List ShareFields → Name → Result ShareFields ReissueError → Type 0
 IsRightFor shares name (Ok share) = Contains shares share × (name_of share ≡ name)
 IsRightFor shares name (Err (Undetermined _)) = Unit {0}
 IsRightFor shares name (Err (DigestMismatch _)) = ⊥
 
--- the code of a cause
-abbrev pub reissue_code_of : ReissueError → ℕ
-reissue_code_of (Undetermined _) = 66
-reissue_code_of (DigestMismatch _) = 51
+-- what a refusal says of what isn't determined: the name of the share, and how much there is of what determines it, a byte for
+-- each number
+abbrev pub too_few_cause : TooFew → Cause
+too_few_cause few = cause 66 (256 * few.group + few.member)
+    (65536 * (256 * few.members + few.threshold) + (256 * few.others + few.required))
+
+-- what a refusal says
+abbrev pub reissue_cause_of : ReissueError → Cause
+reissue_cause_of (Undetermined few) = too_few_cause few
+reissue_cause_of (DigestMismatch mismatch) = mismatch_cause_of mismatch

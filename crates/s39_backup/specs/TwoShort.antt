@@ -2,32 +2,32 @@
 use Rattle.std.specs.Prelude.{◌≡◌, ℕ, ◌-◌, ◌<◌, ◌≤◌, List, Bool, ◌&&◌, length, map, filter, nat_lt, All, Contains, IsSomeAnd}
 use Rattle.std.specs.List.{enumerate_from, slice_get}
 use Rattle.s39_words.specs.declared.share.ShareFields.{ShareFields}
-use Rattle.s39_set.specs.Names.{names_in_group}
+use Rattle.s39_set.specs.Names.{Name, Names, names_in_group}
 use Rattle.s39_set.specs.ShareSet.{name_of}
 use Rattle.s39_backup.specs.declared.plan.Members.{Members}
 
 -- a group is held where the names have at least one of it, and more than its member threshold less two
-abbrev pub is_held : List (ℕ × ℕ) → ℕ × Members → Bool
+abbrev pub is_held : Names → ℕ × Members → Bool
 is_held names group =
     let count = length (names_in_group group.0 names) in
     nat_lt 0 count && nat_lt (group.1.threshold - 2) count
 
 -- the indices of the groups that are held
-abbrev pub held_groups : List (ℕ × ℕ) → List Members → List ℕ
+abbrev pub held_groups : Names → List Members → List ℕ
 held_groups names groups = map (λ group. group.0) (filter (is_held names) (enumerate_from 0 groups))
 
 -- a plan has a share with this name
-abbrev pub IsNameOfPlan : List Members → ℕ × ℕ → Type 0
+abbrev pub IsNameOfPlan : List Members → Name → Type 0
 IsNameOfPlan groups name = IsSomeAnd (slice_get groups name.0) (λ members. name.1 < members.count)
 
 -- Names of a plan's shares, by which at most as many groups are held as the group threshold less two: none where that
 -- is 1.
-pub record IsTwoShort (group_threshold : ℕ) (groups : List Members) (names : List (ℕ × ℕ)) : Type 0 where
+pub record IsTwoShort (group_threshold : ℕ) (groups : List Members) (names : Names) : Type 0 where
   pub of_plan : All (IsNameOfPlan groups) names
   pub few : length (held_groups names groups) ≤ group_threshold - 2
 
 -- both have the same share with this name
-pub record HaveTheShare (shares others : List ShareFields) (name : ℕ × ℕ) : Type 0 where
+pub record HaveTheShare (shares others : List ShareFields) (name : Name) : Type 0 where
   pub share : ShareFields
   pub name_is : name_of share ≡ name
   pub in_shares : Contains shares share

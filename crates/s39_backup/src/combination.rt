@@ -7,12 +7,14 @@ ghost use Rattle.s39_set.specs.ShareSet.{IsShareSet, name_of};
 ghost use Rattle.s39_set.specs.Quorums.{IsQuorum};
 ghost use Rattle.s39_backup.specs.Combination.{IsCombination, MismatchesInGroup, member_shares, groups_of, value_of};
 ghost use Rattle.s39_backup.specs.Outcome.{AreParams};
+ghost use Rattle.s39_backup.specs.RecoverError.{mismatch_cause_of};
 ghost use Rattle.s39_backup.specs.Created.{AreOfBackup};
 ghost use Rattle.s39_backup.specs.GroupShares.{IsExactQuorum, AreOfOneLevel, AreGroupShares, indexed_group_shares};
 
 use crate::laws::{every_quorum_combines, one_combination};
 use arrayvec::ArrayVec;
 use s39_kdf::{Bytes, Params};
+use s39_refusal::{Cause, code};
 use s39_set::laws::quorums_are_exact;
 use s39_set::{MAX_GROUPS, Quorum, ShareSet, are_a_share_set, share_at};
 use s39_split::{DigestMismatch, MAX_SHARES, Points, combine};
@@ -29,11 +31,14 @@ pub enum Mismatch {
 }
 
 impl Mismatch {
-    /// The code of the cause, 51.
-    pub fn code(&self) -> u8
-        ensures { result ≡ 51 }
+    /// What the refusal says: 51, and the group, or `OF_GROUPS`.
+    pub fn cause(&self) -> Cause
+        ensures { result ≡ mismatch_cause_of self.now }
     {
-        51
+        match self {
+            Mismatch::InGroup { group } => DigestMismatch.cause(u64::from(*group)),
+            Mismatch::OfGroups => DigestMismatch.cause(code::OF_GROUPS),
+        }
     }
 }
 

@@ -1,8 +1,9 @@
 //! Why no backup is created.
 ghost use Rattle.std.specs.Prelude.{◌≡◌};
-ghost use Rattle.s39_backup.specs.Created.{create_code_of};
+ghost use Rattle.s39_backup.specs.Created.{create_cause_of};
 
 use s39_kdf::{BadPassphrase, BadSecretLength};
+use s39_refusal::{Cause, code};
 
 /// Why no backup is created.
 #[derive(Clone, Copy, Debug, PartialEq, Eq)]
@@ -16,14 +17,16 @@ pub enum CreateError {
 }
 
 impl CreateError {
-    /// The code of the cause: 41 to 43.
-    pub fn code(&self) -> u8
-        ensures { result ≡ create_code_of self.now }
+    /// What the refusal says: 41 to 43, and the position, the length or the number that is needed.
+    pub fn cause(&self) -> Cause
+        ensures { result ≡ create_cause_of self.now }
     {
         match self {
-            CreateError::Passphrase(bad) => bad.code(),
-            CreateError::SecretLength(bad) => bad.code(),
-            CreateError::BadRandomLength { .. } => 43,
+            CreateError::Passphrase(bad) => bad.cause(),
+            CreateError::SecretLength(bad) => bad.cause(),
+            CreateError::BadRandomLength { needed } => {
+                Cause::new(code::RANDOM_LENGTH, *needed as u64, 0)
+            }
         }
     }
 }

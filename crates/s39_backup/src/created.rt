@@ -1,4 +1,4 @@
-//! The shares of a created backup.
+//! Shares of a created backup.
 ghost use Rattle.std.specs.Prelude.{◌≡◌, ◌<◌, ◌≤◌, [], ◌∷◌, ◌++◌, length, All};
 ghost use Rattle.s39_set.specs.Names.{most_names};
 ghost use Rattle.s39_words.specs.Share.{IsShare};
@@ -9,7 +9,8 @@ use s39_words::{Share, ShareFields};
 use std::array;
 use std::marker::Model;
 
-/// The shares of a created backup, by group, then member: 256 at most. They have fixed slots and take no memory.
+/// Shares of a created backup, in the order in which they are appended: 256 at most. `create` appends all of them, by
+/// group, then member. They have fixed slots and take no memory.
 #[derive(Drop)]
 pub struct Created {
     slots: [Share; MAX_NAMES],
@@ -41,7 +42,7 @@ impl Created {
         }
     }
 
-    /// The shares, by group, then member.
+    /// The shares.
     pub fn shares(&self) -> &[Share]
         ensures shares { result.now ≡ self.now }
         ensures few { length self.now ≤ most_names }
@@ -57,8 +58,8 @@ impl Created {
         self.len = 0;
     }
 
-    /// Appends a share.
-    pub(crate) fn push(&mut self, share: Share)
+    /// Appends a share. The caller keeps them at most 256.
+    pub fn push(&mut self, share: Share)
         requires { length self.old < most_names }
         ensures { self.new ≡ self.old ++ share ∷ [] }
     {

@@ -7,6 +7,7 @@ ghost use Rattle.s39_split.specs.Sharing.{random_needed as level_random_needed, 
 ghost use Rattle.s39_set.specs.Names.{most_groups, most_members};
 ghost use Rattle.s39_backup.specs.Plan.{IsPlan, IsGroup};
 ghost use Rattle.s39_backup.specs.Created.{identifier_of, AreCreatedParams, IsCreatedFrom, IsCreation, created_share, created_group, random_needed};
+ghost use Rattle.s39_backup.specs.Asking.{asked_of};
 ghost use Rattle.s39_backup.specs.Building.{IsHeader, ShareOneLength, AreCreatedGroups};
 
 use crate::create_error::CreateError;
@@ -39,10 +40,10 @@ pub fn create(
     random: &[u8],
     out: &mut Created,
 ) -> Result<(), CreateError>
-    ensures created { OnOk result (IsCreation secret.now passphrase.now
-        plan.now.group_threshold plan.now.groups.items options random.now (Ok out.new)) }
-    ensures refused { IfErr result (λ error. IsCreation secret.now passphrase.now
-        plan.now.group_threshold plan.now.groups.items options random.now (Err error)) }
+    ensures created { OnOk result (IsCreation
+        (asked_of plan.now secret.now passphrase.now options) random.now (Ok out.new)) }
+    ensures refused { IfErr result (λ error. IsCreation
+        (asked_of plan.now secret.now passphrase.now options) random.now (Err error)) }
     ensures unchanged { OnErr result (out.new ≡ out.old) }
 {
     check_passphrase(passphrase).map_err(CreateError::Passphrase)?;
@@ -67,8 +68,8 @@ fn create_shares(
     requires secret { IsSecretLength (array_vec_len secret.now) }
     requires random { length random.now
         ≡ random_needed plan.now.group_threshold plan.now.groups.items (array_vec_len secret.now) }
-    ensures { IsCreatedFrom secret.now.items passphrase.now
-        plan.now.group_threshold plan.now.groups.items options random.now out.new }
+    ensures { IsCreatedFrom (asked_of plan.now secret.now.items passphrase.now options)
+        random.now out.new }
 {
     let (id, levels) = random.split_at(ID_BYTES);
     let params = params_from(id[0], id[1], options);

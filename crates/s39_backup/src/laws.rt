@@ -1,14 +1,13 @@
 //! Facts about the definitions, each the contract of a function that does nothing.
-ghost use Rattle.std.specs.Prelude.{◌≡◌, ℕ, List, length, map, All, Contains, Result, Ok, None, replicate};
+ghost use Rattle.std.specs.Prelude.{◌≡◌, ℕ, List, length, map, All, Contains, Result, Ok, Err, None, replicate};
 ghost use Rattle.s39_kdf.specs.Bytes.{AreBytes};
 ghost use Rattle.s39_kdf.specs.Limits.{longest_secret, IsSecretLength};
-ghost use Rattle.s39_set.specs.Names.{most_groups, most_members};
+ghost use Rattle.s39_set.specs.Names.{Name, Names, most_groups, most_members};
 ghost use Rattle.s39_backup.specs.declared.plan.Members.{Members};
 ghost use Rattle.s39_backup.specs.declared.create_error.CreateError.{CreateError};
-ghost use Rattle.s39_backup.specs.declared.options.Options.{Options};
 ghost use Rattle.s39_backup.specs.declared.plan_error.PlanError.{PlanError};
 ghost use Rattle.s39_backup.specs.Plan.{IsPlan, IsPlanReading};
-ghost use Rattle.s39_backup.specs.Created.{IsCreatedFrom, IsCreation, AreOfBackup, identifier_length, random_needed, most_random};
+ghost use Rattle.s39_backup.specs.Created.{Asked, IsCreatedFrom, IsCreation, AreOfBackup, identifier_length, needed_by, random_needed, most_random};
 ghost use Rattle.s39_backup.specs.Refitting.{IsRefitting};
 ghost use Rattle.s39_words.specs.declared.ShareFields.{ShareFields};
 ghost use Rattle.s39_words.specs.Share.{IsShare};
@@ -19,9 +18,11 @@ ghost use Rattle.s39_backup.specs.Combination.{IsCombination};
 ghost use Rattle.s39_backup.specs.Outcome.{IsOutcome};
 ghost use Rattle.s39_backup.specs.Memo.{most_kept};
 ghost use Rattle.s39_backup.specs.TwoShort.{IsNameOfPlan};
-ghost use Rattle.s39_backup.specs.Reissue.{AreOfPlan, IsReissue, IsRightFor};
+ghost use Rattle.s39_backup.specs.Reissue.{AreOfPlan, IsReissue, IsDetermined, IsUndetermined, IsRightFor};
 ghost use Rattle.s39_backup.specs.LargerPlan.{HaveMoreMembers, ArePartOf};
 ghost use Rattle.s39_backup.specs.declared.reissue_error.ReissueError.{ReissueError};
+ghost use Rattle.s39_backup.specs.declared.reissue_error.ReissueError.TheVariants.{Undetermined};
+ghost use Rattle.s39_backup.specs.declared.reissue_error.TooFew.{TooFew};
 
 use crate::creation::ID_BYTES;
 use crate::memo::MAX_KEPT;
@@ -49,11 +50,8 @@ pub fn numbers()
 
 /// A secret, passphrase, plan, options and random bytes give one backup.
 pub fn one_created_backup()
-    ensures { (secret passphrase : List ℕ) (group_threshold : ℕ) (groups : List Members)
-        (options : Options) (random : List ℕ)
-        (shares other : List ShareFields)
-        → IsCreatedFrom secret passphrase group_threshold groups options random shares
-        → IsCreatedFrom secret passphrase group_threshold groups options random other
+    ensures { (asked : Asked) (random : List ℕ) (shares other : List ShareFields)
+        → IsCreatedFrom asked random shares → IsCreatedFrom asked random other
         → shares ≡ other }
 {
     needed_random_bytes();
@@ -65,13 +63,11 @@ pub fn one_created_backup()
 /// A backup exists for each secret of an accepted length, passphrase, plan and options, and as many random bytes as it
 /// takes.
 pub fn every_backup_can_be_created()
-    ensures { (secret passphrase : List ℕ) (group_threshold : ℕ) (groups : List Members)
-        (options : Options) (random : List ℕ)
-        → IsPlan group_threshold groups
-        → IsSecretLength (length secret) → AreBytes secret → AreBytes random
-        → length random ≡ random_needed group_threshold groups (length secret)
-        → (shares : List ShareFields)
-        × IsCreatedFrom secret passphrase group_threshold groups options random shares }
+    ensures { (asked : Asked) (random : List ℕ)
+        → IsPlan asked.group_threshold asked.groups
+        → IsSecretLength (length asked.secret) → AreBytes asked.secret → AreBytes random
+        → length random ≡ needed_by asked
+        → (shares : List ShareFields) × IsCreatedFrom asked random shares }
 {
     shares_of_a_split();
     one_split();
@@ -81,11 +77,10 @@ pub fn every_backup_can_be_created()
 
 /// What a backup consists of are shares: their fields are in range.
 pub fn created_shares_are_shares()
-    ensures { (secret passphrase : List ℕ) (group_threshold : ℕ) (groups : List Members)
-        (options : Options) (random : List ℕ) (shares : List ShareFields)
-        → IsPlan group_threshold groups
-        → IsSecretLength (length secret) → AreBytes secret → AreBytes random
-        → IsCreatedFrom secret passphrase group_threshold groups options random shares
+    ensures { (asked : Asked) (random : List ℕ) (shares : List ShareFields)
+        → IsPlan asked.group_threshold asked.groups
+        → IsSecretLength (length asked.secret) → AreBytes asked.secret → AreBytes random
+        → IsCreatedFrom asked random shares
         → All IsShare shares }
 {
     shares_of_a_split();
@@ -94,11 +89,10 @@ pub fn created_shares_are_shares()
 
 /// Random bytes that are refitted to another secret of one length, and then back with the same names, are what they were.
 pub fn refitted_back()
-    ensures { (names : List (ℕ × ℕ)) (group_threshold : ℕ) (groups : List Members)
-        (options : Options) (passphrase secret other random fitted back : List ℕ)
-        → IsSecretLength (length secret) → length other ≡ length secret
-        → IsRefitting names group_threshold groups options passphrase secret other random fitted
-        → IsRefitting names group_threshold groups options passphrase other secret fitted back
+    ensures { (names : Names) (asked : Asked) (other random fitted back : List ℕ)
+        → IsSecretLength (length asked.secret) → length other ≡ length asked.secret
+        → IsRefitting names asked other random fitted
+        → IsRefitting names (record asked { secret = other }) asked.secret fitted back
         → back ≡ random }
 {
     needed_random_bytes();
@@ -110,15 +104,13 @@ pub fn refitted_back()
 
 /// A creation from bytes with a plan gives one thing: its shares, or the first cause for which it is refused.
 pub fn one_creation()
-    ensures exists { (secret passphrase : List ℕ) (group_threshold : ℕ) (groups : List Members)
-        (options : Options) (random : List ℕ)
-        → IsPlan group_threshold groups → AreBytes secret → AreBytes random
+    ensures exists { (asked : Asked) (random : List ℕ)
+        → IsPlan asked.group_threshold asked.groups → AreBytes asked.secret → AreBytes random
         → (result : Result (List ShareFields) CreateError)
-        × IsCreation secret passphrase group_threshold groups options random result }
-    ensures once { (secret passphrase : List ℕ) (group_threshold : ℕ) (groups : List Members)
-        (options : Options) (random : List ℕ) (result other : Result (List ShareFields) CreateError)
-        → IsCreation secret passphrase group_threshold groups options random result
-        → IsCreation secret passphrase group_threshold groups options random other
+        × IsCreation asked random result }
+    ensures once { (asked : Asked) (random : List ℕ)
+        (result other : Result (List ShareFields) CreateError)
+        → IsCreation asked random result → IsCreation asked random other
         → result ≡ other }
 {
     passphrases_are_printable_or_not();
@@ -141,7 +133,7 @@ pub fn every_text_has_a_plan_reading(text: &[u8])
 
 /// A quorum of a share set combines to one encrypted secret or mismatch.
 pub fn one_combination()
-    ensures { (set : List ShareFields) (names : List (ℕ × ℕ))
+    ensures { (set : List ShareFields) (names : Names)
         (combination other : Result (List ℕ) Mismatch)
         → IsShareSet set → IsQuorum set names
         → IsCombination set names combination → IsCombination set names other
@@ -153,7 +145,7 @@ pub fn one_combination()
 
 /// A quorum of a share set has one outcome with a passphrase.
 pub fn one_outcome()
-    ensures { (set : List ShareFields) (names : List (ℕ × ℕ)) (passphrase : List ℕ)
+    ensures { (set : List ShareFields) (names : Names) (passphrase : List ℕ)
         (outcome other : Result (List ℕ) Mismatch)
         → IsShareSet set → IsQuorum set names
         → IsOutcome set names passphrase outcome → IsOutcome set names passphrase other
@@ -165,7 +157,7 @@ pub fn one_outcome()
 
 /// Every quorum of a share set combines to an encrypted secret or a mismatch.
 pub fn every_quorum_has_a_combination()
-    ensures { (set : List ShareFields) (names : List (ℕ × ℕ)) → IsShareSet set → IsQuorum set names
+    ensures { (set : List ShareFields) (names : Names) → IsShareSet set → IsQuorum set names
         → (combination : Result (List ℕ) Mismatch) × IsCombination set names combination }
 {
     quorums_are_exact();
@@ -175,7 +167,7 @@ pub fn every_quorum_has_a_combination()
 
 /// Every quorum of a share set has an outcome with any passphrase.
 pub fn every_quorum_has_an_outcome()
-    ensures { (set : List ShareFields) (names : List (ℕ × ℕ)) (passphrase : List ℕ)
+    ensures { (set : List ShareFields) (names : Names) (passphrase : List ℕ)
         → IsShareSet set → IsQuorum set names
         → (outcome : Result (List ℕ) Mismatch) × IsOutcome set names passphrase outcome }
 {
@@ -187,7 +179,7 @@ pub fn every_quorum_has_an_outcome()
 
 /// Every quorum of shares of a created backup combines to its encrypted secret.
 pub fn every_quorum_combines()
-    ensures { (set : List ShareFields) (names : List (ℕ × ℕ)) (passphrase secret : List ℕ)
+    ensures { (set : List ShareFields) (names : Names) (passphrase secret : List ℕ)
         → IsShareSet set → IsQuorum set names → (backup : AreOfBackup set passphrase secret)
         → IsCombination set names (Ok backup.created.encrypted) }
 {
@@ -197,7 +189,7 @@ pub fn every_quorum_combines()
 
 /// Every quorum of shares of a created backup recovers its secret, with the passphrase of the creation.
 pub fn every_quorum_recovers()
-    ensures { (set : List ShareFields) (names : List (ℕ × ℕ)) (passphrase secret : List ℕ)
+    ensures { (set : List ShareFields) (names : Names) (passphrase secret : List ℕ)
         → IsShareSet set → IsQuorum set names → AreOfBackup set passphrase secret
         → IsOutcome set names passphrase (Ok secret) }
 {
@@ -225,7 +217,7 @@ pub fn whole_backups_meet_the_thresholds()
 /// The share of a name of a plan is one share, or it is missing for one cause.
 pub fn one_reissue()
     ensures { (set : List ShareFields) (group_threshold : ℕ) (groups : List Members)
-        (name : ℕ × ℕ) (result other : Result ShareFields ReissueError)
+        (name : Name) (result other : Result ShareFields ReissueError)
         → IsShareSet set → IsPlan group_threshold groups
         → IsReissue set group_threshold groups name result
         → IsReissue set group_threshold groups name other
@@ -238,7 +230,7 @@ pub fn one_reissue()
 /// The share of every name of a plan is a share, or missing for a cause.
 pub fn every_name_has_a_reissue()
     ensures { (set : List ShareFields) (group_threshold : ℕ) (groups : List Members)
-        (name : ℕ × ℕ)
+        (name : Name)
         → IsShareSet set → IsPlan group_threshold groups → IsNameOfPlan groups name
         → (result : Result ShareFields ReissueError)
         × IsReissue set group_threshold groups name result }
@@ -248,6 +240,34 @@ pub fn every_name_has_a_reissue()
     secrets_are_like_their_shares();
 }
 
+/// The share of a name of a plan is a share that can be printed, where it is one.
+pub fn reissued_shares_are_shares()
+    ensures { (set : List ShareFields) (group_threshold : ℕ) (groups : List Members)
+        (name : Name) (share : ShareFields)
+        → IsShareSet set → IsPlan group_threshold groups → IsNameOfPlan groups name
+        → IsReissue set group_threshold groups name (Ok share) → IsShare share }
+{
+    shares_combine();
+    points_complete();
+    secrets_are_like_their_shares();
+    one_reissue();
+}
+
+/// There is a share of a name of a plan only where the shares at hand determine it, and that they don't is answered only
+/// where they don't, with both counts.
+pub fn names_are_determined_or_not()
+    ensures determined { (set : List ShareFields) (group_threshold : ℕ) (groups : List Members)
+        (name : Name) (share : ShareFields)
+        → IsShareSet set
+        → IsReissue set group_threshold groups name (Ok share)
+        → IsDetermined set group_threshold groups name }
+    ensures undetermined { (set : List ShareFields) (group_threshold : ℕ) (groups : List Members)
+        (name : Name) (few : TooFew)
+        → IsShareSet set
+        → IsReissue set group_threshold groups name (Err (Undetermined few))
+        → IsUndetermined set group_threshold groups name few }
+{}
+
 /// Shares of a created backup are of its plan. The share of a name of this plan that they determine is the backup's, and
 /// no digest refuses what it is computed from.
 pub fn backups_reissue_their_shares()
@@ -255,7 +275,7 @@ pub fn backups_reissue_their_shares()
         → IsShareSet set → (backup : AreOfBackup set passphrase secret)
         → AreOfPlan backup.group_threshold backup.groups set }
     ensures right { (set : List ShareFields) (passphrase secret : List ℕ)
-        (name : ℕ × ℕ) (result : Result ShareFields ReissueError)
+        (name : Name) (result : Result ShareFields ReissueError)
         → IsShareSet set → (backup : AreOfBackup set passphrase secret)
         → IsNameOfPlan backup.groups name
         → IsReissue set backup.group_threshold backup.groups name result
@@ -269,20 +289,18 @@ pub fn backups_reissue_their_shares()
 
 /// A plan with more members has a backup of which that of the plan is a part, with the same random bytes.
 pub fn larger_plans_keep_the_shares()
-    ensures exists { (secret passphrase : List ℕ) (group_threshold : ℕ)
-        (groups larger : List Members) (options : Options) (random : List ℕ)
-        → IsPlan group_threshold larger → HaveMoreMembers groups larger
-        → IsSecretLength (length secret) → AreBytes secret → AreBytes random
-        → length random ≡ random_needed group_threshold groups (length secret)
+    ensures exists { (asked : Asked) (larger : List Members) (random : List ℕ)
+        → IsPlan asked.group_threshold larger → HaveMoreMembers asked.groups larger
+        → IsSecretLength (length asked.secret) → AreBytes asked.secret → AreBytes random
+        → length random ≡ needed_by asked
         → (others : List ShareFields)
-        × IsCreatedFrom secret passphrase group_threshold larger options random others }
-    ensures part { (secret passphrase : List ℕ) (group_threshold : ℕ)
-        (groups larger : List Members) (options : Options) (random : List ℕ)
+        × IsCreatedFrom (record asked { groups = larger }) random others }
+    ensures part { (asked : Asked) (larger : List Members) (random : List ℕ)
         (shares others : List ShareFields)
-        → IsPlan group_threshold groups → HaveMoreMembers groups larger
-        → IsCreatedFrom secret passphrase group_threshold groups options random shares
-        → IsCreatedFrom secret passphrase group_threshold larger options random others
-        → ArePartOf groups shares others }
+        → IsPlan asked.group_threshold asked.groups → HaveMoreMembers asked.groups larger
+        → IsCreatedFrom asked random shares
+        → IsCreatedFrom (record asked { groups = larger }) random others
+        → ArePartOf asked.groups shares others }
 {
     first_shares();
     one_created_backup();

@@ -35,4 +35,6 @@ pub use refitting::refit;
 pub use reissue_error::{ReissueError, TooFew};
 
 #[cfg(test)]
+mod reissue_tests;
+#[cfg(test)]
 mod tests;

@@ -10,6 +10,7 @@ ghost use Rattle.s39_backup.specs.Created.{AreOfBackup};
 use crate::combination::{Mismatch, combine_quorum, params_of};
 use crate::laws::{every_quorum_recovers, one_outcome};
 use s39_kdf::{Bytes, decrypt};
+use s39_refusal::Cause;
 use s39_set::{Looks, NotAQuorum, Quorum, ShareSet, are_a_share_set, is_quorum};
 
 /// Why a quorum gives no secret.
@@ -22,15 +23,15 @@ pub enum RecoverError {
 }
 
 impl RecoverError {
-    ghost use Rattle.s39_backup.specs.RecoverError.{code_of};
+    ghost use Rattle.s39_backup.specs.RecoverError.{cause_of};
 
-    /// The code of the cause: 62 or 51.
-    pub fn code(&self) -> u8
-        ensures { result ≡ code_of self.now }
+    /// What the refusal says: 62; or 51, and the group, or `OF_GROUPS`.
+    pub fn cause(&self) -> Cause
+        ensures { result ≡ cause_of self.now }
     {
         match self {
-            RecoverError::NotAQuorum => NotAQuorum.code(),
-            RecoverError::DigestMismatch(mismatch) => mismatch.code(),
+            RecoverError::NotAQuorum => NotAQuorum.cause(),
+            RecoverError::DigestMismatch(mismatch) => mismatch.cause(),
         }
     }
 }

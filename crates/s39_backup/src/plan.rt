@@ -1,17 +1,14 @@
 //! Plans: how many groups a backup has and how many of them are needed, and the same of the members of each group.
-ghost use Rattle.std.specs.Prelude.{◌≡◌, ◌↔◌, ℕ, ◌≤◌, List, length, All, Result, IfErr, IsTrue, OnOk};
+ghost use Rattle.std.specs.Prelude.{◌≡◌, ◌↔◌, ◌≤◌, length, All, IfErr, IsTrue, OnOk};
 ghost use Rattle.std.specs.Result.{result_map_both};
 ghost use Rattle.s39_set.specs.Names.{most_groups};
 ghost use Rattle.s39_kdf.specs.Limits.{shortest_secret, longest_secret};
-ghost use Rattle.s39_backup.specs.Plan.{IsPlan, IsPlanNumber, IsGroup, IsPlanReading};
+ghost use Rattle.s39_backup.specs.Plan.{IsPlan, IsPlanNumber, IsGroup, IsOnlyReading};
 ghost use Rattle.s39_backup.specs.PlanText.{RefusesAGroup};
-ghost use Rattle.s39_backup.specs.declared.plan.Members.{Members};
-ghost use Rattle.s39_backup.specs.declared.plan_error.PlanError.{PlanError};
 ghost use Rattle.s39_backup.specs.Created.{random_needed, most_random};
 ghost use Rattle.s39_backup.specs.TwoShort.{IsNameOfPlan};
 
 use crate::creation::ID_BYTES;
-use crate::laws::one_plan_reading;
 use crate::plan_error::PlanError;
 use crate::plan_text::plan_form;
 use crate::two_short::is_of_plan;
@@ -50,26 +47,17 @@ impl Plan {
     /// - then group by group, counted from 0: `PlanMembers` where `N` is above 16 or `T` above `N`, and `OneOfMany`
     ///   where `T` is 1 and `N` above 1.
     pub fn parse(text: &str) -> Result<Plan, PlanError>
-        ensures reading { IsPlanReading text.now (result_map_both
+        ensures { IsOnlyReading text.now (result_map_both
             (λ plan. (plan.group_threshold, plan.groups.items)) (λ error. error) result) }
-        ensures only { (reading : Result (ℕ × List Members) PlanError)
-            → IsPlanReading text.now reading
-            → reading ≡ result_map_both
-            (λ plan. (plan.group_threshold, plan.groups.items)) (λ error. error) result }
     {
         Plan::parse_bytes(text.as_bytes())
     }
 
     /// The plan of a text in bytes, which needn't be UTF-8, as `parse` gives it.
     pub fn parse_bytes(text: &[u8]) -> Result<Plan, PlanError>
-        ensures reading { IsPlanReading text.now (result_map_both
+        ensures { IsOnlyReading text.now (result_map_both
             (λ plan. (plan.group_threshold, plan.groups.items)) (λ error. error) result) }
-        ensures only { (reading : Result (ℕ × List Members) PlanError)
-            → IsPlanReading text.now reading
-            → reading ≡ result_map_both
-            (λ plan. (plan.group_threshold, plan.groups.items)) (λ error. error) result }
     {
-        one_plan_reading();
         let Some((group_threshold, groups)) = plan_form(text) else {
             return Err(PlanError::BadPlan);
         };

@@ -1,6 +1,8 @@
 //! Why a text gives no plan.
 ghost use Rattle.std.specs.Prelude.{◌≡◌};
-ghost use Rattle.s39_backup.specs.Plan.{plan_code_of};
+ghost use Rattle.s39_backup.specs.Plan.{plan_cause_of};
+
+use s39_refusal::{Cause, code};
 
 /// Why a text gives no plan.
 #[derive(Clone, Copy, Debug, PartialEq, Eq)]
@@ -17,15 +19,19 @@ pub enum PlanError {
 }
 
 impl PlanError {
-    /// The code of the cause: 31 to 34.
-    pub fn code(&self) -> u8
-        ensures { result ≡ plan_code_of self.now }
+    /// What the refusal says: 31 to 34, and the group that is named.
+    pub fn cause(&self) -> Cause
+        ensures { result ≡ plan_cause_of self.now }
     {
         match self {
-            PlanError::BadPlan => 31,
-            PlanError::PlanGroups => 32,
-            PlanError::PlanMembers { .. } => 33,
-            PlanError::OneOfMany { .. } => 34,
+            PlanError::BadPlan => Cause::of(code::BAD_PLAN),
+            PlanError::PlanGroups => Cause::of(code::PLAN_GROUPS),
+            PlanError::PlanMembers { group } => Cause::new(
+                code::PLAN_MEMBERS,
+                u64::from(*group),
+                0,
+            ),
+            PlanError::OneOfMany { group } => Cause::new(code::ONE_OF_MANY, u64::from(*group), 0),
         }
     }
 }

@@ -1,13 +1,13 @@
-//! The texts of plans, read from the front.
-ghost use Rattle.std.specs.Prelude.{◌≡◌, ◌≢◌, ℕ, ◌+◌, ◌<◌, List, [], ◌∷◌, ◌++◌, length, None, IfSome};
+//! The texts of plans, cut at their separators.
+ghost use Rattle.std.specs.Prelude.{◌≡◌, ◌+◌, ◌<◌, ◌==◌, ℕ, List, [], ◌∷◌, ◌++◌, None, Some, IfSome};
 ghost use Rattle.s39_backup.specs.declared.plan.Members.{Members};
 ghost use Rattle.s39_backup.specs.Plan.{PlanForm};
-ghost use Rattle.s39_backup.specs.PlanText.{BeginsWithNoDigit, BeginsWithDigit, BeginsWithNumber, BeginsWithMembers, BeginsWithGroupThreshold};
-ghost use Rattle.s39_backup.specs.PlanText.{IsGroupsText, IsListOf, ListsGroupsOf, ListsPlanOf};
+ghost use Rattle.s39_backup.specs.PlanText.{IsNumberText, IsMembersText, IsGroupsText};
+ghost use Rattle.s39_backup.specs.PlanText.{IsListOf, ListsGroupsOf, ListsPlanOf};
 
 use crate::plan::Members;
 use arrayvec::ArrayVec;
-use s39_set::GROUPS;
+use s39_set::{GROUPS, cut_at, small_number};
 
 /// The groups of a plan's text, whatever their numbers: how many there are, and the first sixteen.
 #[derive(Drop)]
@@ -37,12 +37,16 @@ pub(crate) fn plan_form(text: &[u8]) -> Option<(u8, GroupList)>
     ensures form { IfSome result (ListsPlanOf text.now) }
     ensures none { result ≡ None → ¬ PlanForm text.now }
 {
-    if let Some((group_threshold, groups)) = group_threshold(text) {
-        let groups = group_list(groups)?;
-        return Some((group_threshold, groups));
-    }
-    let groups = group_list(text)?;
-    (groups.count == 1).then_some((1, groups))
+    let Some((front, back)) = cut_at(text, b'/') else {
+        let groups = group_list(text)?;
+        if groups.count != 1 {
+            return None;
+        }
+        return Some((1, groups));
+    };
+    let group_threshold = number(front)?;
+    let groups = group_list(back)?;
+    Some((group_threshold, groups))
 }
 
 /// The groups of a text of the form `T1ofN1,T2ofN2,..`, at least one; `None` where it has another form.
@@ -54,78 +58,42 @@ fn group_list(text: &[u8]) -> Option<GroupList>
         count: 0,
         first: ArrayVec::new(),
     };
-    let mut rest = text;
-    loop {
-        let (members, others) = members(rest)?;
+    for part in text.split(is_comma) {
+        let members = members(part)?;
         groups.push(members);
-        if others.is_empty() {
-            return Some(groups);
-        }
-        rest = after(others, b",")?;
     }
+    Some(groups)
 }
 
-/// The group threshold `GT/` with which a text begins, and what follows; `None` where it begins with none.
-fn group_threshold(text: &[u8]) -> Option<(u8, &[u8])>
-    ensures begins { IfSome result (λ found.
-        BeginsWithGroupThreshold text.now found.0 found.1.now) }
-    ensures none { result ≡ None
-        → (n : ℕ) (rest : List ℕ) → ¬ BeginsWithGroupThreshold text.now n rest }
+fn is_comma(byte: &u8) -> bool
+    ensures { result ≡ (byte.now == 44) }
 {
-    let (group_threshold, rest) = number(text)?;
-    let rest = after(rest, b"/")?;
-    Some((group_threshold, rest))
+    *byte == b','
 }
 
-/// The members `TofN` with which a text begins, and what follows; `None` where it begins with none.
-fn members(text: &[u8]) -> Option<(Members, &[u8])>
-    ensures begins { IfSome result (λ found. BeginsWithMembers text.now found.0 found.1.now) }
-    ensures none { result ≡ None
-        → (members : Members) (rest : List ℕ) → ¬ BeginsWithMembers text.now members rest }
-    ensures shorter { IfSome result (λ found. length found.1.now < length text.now) }
+/// The members of a text of the form `TofN`; `None` where it has another form.
+fn members(text: &[u8]) -> Option<Members>
+    ensures members { IfSome result (IsMembersText text.now) }
+    ensures none { result ≡ None → (members : Members) → ¬ IsMembersText text.now members }
 {
-    let (threshold, rest) = number(text)?;
-    let rest = after(rest, b"of")?;
-    let (count, rest) = number(rest)?;
-    Some((Members { threshold, count }, rest))
-}
-
-/// The number of one or two digits with which a text begins, and what follows, which doesn't begin with a digit;
-/// `None` where the text begins with no digit, with 0, or with more digits.
-fn number(text: &[u8]) -> Option<(u8, &[u8])>
-    ensures begins { IfSome result (λ found. BeginsWithNumber text.now found.0 found.1.now) }
-    ensures none { result ≡ None
-        → (n : ℕ) (rest : List ℕ) → ¬ BeginsWithNumber text.now n rest }
-    ensures shorter { IfSome result (λ found. length found.1.now < length text.now) }
-{
-    let (first, rest) = digit(text)?;
-    if first == 0 {
+    let (front, rest) = cut_at(text, b'o')?;
+    let (between, back) = cut_at(rest, b'f')?;
+    if !between.is_empty() {
         return None;
     }
-    let Some((second, after)) = digit(rest) else {
-        return Some((first, rest));
-    };
-    match digit(after) {
-        Some(_) => None,
-        None => Some((10 * first + second, after)),
-    }
+    let threshold = number(front)?;
+    let count = number(back)?;
+    Some(Members { threshold, count })
 }
 
-/// The value of the digit with which a text begins, and what follows; `None` where it begins with none.
-fn digit(text: &[u8]) -> Option<(u8, &[u8])>
-    ensures begins { IfSome result (λ found. BeginsWithDigit text.now found.0 found.1.now) }
-    ensures none { result ≡ None → BeginsWithNoDigit text.now }
+/// The number of one or two digits that doesn't begin with 0 of which a text is the decimal form.
+fn number(text: &[u8]) -> Option<u8>
+    ensures number { IfSome result (IsNumberText text.now) }
+    ensures only { (n : ℕ) → IsNumberText text.now n → result ≡ Some n }
 {
-    match text {
-        [byte @ b'0'..=b'9', rest @ ..] => Some((*byte - b'0', rest)),
-        _ => None,
+    let number = small_number(text)?;
+    if number == 0 {
+        return None;
     }
-}
-
-/// What follows these letters, with which a text begins; `None` where it doesn't begin with them.
-fn after<'a>(text: &'a [u8], letters: &[u8]) -> Option<&'a [u8]>
-    ensures rest { IfSome result (λ rest. text.now ≡ letters.now ++ rest.now) }
-    ensures none { result ≡ None → (rest : List ℕ) → text.now ≢ letters.now ++ rest }
-{
-    text.strip_prefix(letters)
+    Some(number)
 }

@@ -10,6 +10,7 @@ ghost use Rattle.s39_words.specs.declared.ShareFields.{ShareFields};
 ghost use Rattle.s39_set.specs.Names.{most_groups, names_in_group, AreNames};
 ghost use Rattle.s39_backup.specs.Plan.{IsGroup};
 ghost use Rattle.s39_backup.specs.Created.{IsCreatedFrom, random_needed};
+ghost use Rattle.s39_backup.specs.Asking.{asked_of};
 ghost use Rattle.s39_backup.specs.Building.{ShareOneLength};
 ghost use Rattle.s39_backup.specs.TwoShort.{is_held, IsTwoShort, HaveTheShare};
 ghost use Rattle.s39_backup.specs.Refitting.{AreKept, StayTheSame, AreLevels, AreNamesOfGroups, HeldAreSame, IsRefittedGroup, AreRefittedGroups, IsRefitting};
@@ -53,14 +54,12 @@ pub fn refit(
     ensures two_short { IsTrue result
         ↔ IsTwoShort plan.now.group_threshold plan.now.groups.items keep.now }
     ensures unchanged { result ≡ false → random.new ≡ random.old }
-    ensures stays { IsTrue result → IsRefitting keep.now plan.now.group_threshold
-        plan.now.groups.items options passphrase.now secret.now other.now random.old random.new }
+    ensures stays { IsTrue result → IsRefitting keep.now
+        (asked_of plan.now secret.now passphrase.now options) other.now random.old random.new }
     ensures refits { IsTrue result → (shares : List ShareFields)
-        → IsCreatedFrom secret.now passphrase.now plan.now.group_threshold
-        plan.now.groups.items options random.old shares
+        → IsCreatedFrom (asked_of plan.now secret.now passphrase.now options) random.old shares
         → (others : List ShareFields)
-        × IsCreatedFrom other.now passphrase.now plan.now.group_threshold
-        plan.now.groups.items options random.new others
+        × IsCreatedFrom (asked_of plan.now other.now passphrase.now options) random.new others
         × All (HaveTheShare shares others) keep.now }
 {
     if !are_two_short(plan, keep.pairs()) {
@@ -97,13 +96,13 @@ fn refit_backup(
         ≡ random_needed plan.now.group_threshold plan.now.groups.items (array_vec_len secret.now) }
     requires names { AreNames names.now }
     requires two_short { IsTwoShort plan.now.group_threshold plan.now.groups.items names.now }
-    ensures stays { IsRefitting names.now plan.now.group_threshold plan.now.groups.items options
-        passphrase.now secret.now.items other.now.items random.old random.new }
+    ensures stays { IsRefitting names.now (asked_of plan.now secret.now.items passphrase.now options)
+        other.now.items random.old random.new }
     ensures created { (shares others : List ShareFields)
-        × IsCreatedFrom secret.now.items passphrase.now plan.now.group_threshold
-        plan.now.groups.items options random.old shares
-        × IsCreatedFrom other.now.items passphrase.now plan.now.group_threshold
-        plan.now.groups.items options random.new others
+        × IsCreatedFrom (asked_of plan.now secret.now.items passphrase.now options)
+        random.old shares
+        × IsCreatedFrom (asked_of plan.now other.now.items passphrase.now options)
+        random.new others
         × All (HaveTheShare shares others) names.now }
 {
     let (id, levels) = random.split_at_mut(ID_BYTES);

@@ -1,8 +1,9 @@
 //! Why the shares at hand don't give the share of a name.
 ghost use Rattle.std.specs.Prelude.{◌≡◌};
-ghost use Rattle.s39_backup.specs.Reissue.{reissue_code_of};
+ghost use Rattle.s39_backup.specs.Reissue.{reissue_cause_of};
 
 use crate::combination::Mismatch;
+use s39_refusal::{Cause, code};
 
 /// What there is of what would determine a share.
 #[derive(Clone, Copy, Debug, PartialEq, Eq)]
@@ -21,6 +22,24 @@ pub struct TooFew {
     pub required: u8,
 }
 
+impl TooFew {
+    ghost use Rattle.s39_backup.specs.Reissue.{too_few_cause};
+
+    /// What the refusal says: 66, the name of the share as `256 * group + member`, and the four counts, each a byte, the
+    /// highest first.
+    pub fn cause(&self) -> Cause
+        ensures { result ≡ too_few_cause self.now }
+    {
+        let members = 256 * u64::from(self.members) + u64::from(self.threshold);
+        let groups = 256 * u64::from(self.others) + u64::from(self.required);
+        Cause::new(
+            code::UNDETERMINED,
+            256 * u64::from(self.group) + u64::from(self.member),
+            65_536 * members + groups,
+        )
+    }
+}
+
 /// Why the shares at hand don't give the share of a name.
 #[derive(Clone, Copy, Debug, PartialEq, Eq)]
 pub enum ReissueError {
@@ -31,13 +50,13 @@ pub enum ReissueError {
 }
 
 impl ReissueError {
-    /// The code of the cause: 66 or 51.
-    pub fn code(&self) -> u8
-        ensures { result ≡ reissue_code_of self.now }
+    /// What the refusal says: 66, the name of the share and what there is; or 51, and the group, or `OF_GROUPS`.
+    pub fn cause(&self) -> Cause
+        ensures { result ≡ reissue_cause_of self.now }
     {
         match self {
-            ReissueError::Undetermined(_) => 66,
-            ReissueError::DigestMismatch(mismatch) => mismatch.code(),
+            ReissueError::Undetermined(few) => few.cause(),
+            ReissueError::DigestMismatch(mismatch) => mismatch.cause(),
         }
     }
 }

@@ -128,9 +128,9 @@ fn refused_creations(rt: HostRuntime) {
     };
     let mut created = Created::new();
     let refusal = create(&plan, &[0; 14], b"a\x07", options, b"", &mut created).err();
-    assert_eq!(rt; refusal.map(|refusal| refusal.code()), Some(41));
+    assert_eq!(rt; refusal.map(|refusal| refusal.cause().code), Some(41));
     let refusal = create(&plan, &[0; 14], b"", options, b"", &mut created).err();
-    assert_eq!(rt; refusal.map(|refusal| refusal.code()), Some(42));
+    assert_eq!(rt; refusal.map(|refusal| refusal.cause().code), Some(42));
     for random in [b"".as_slice(), b"\x00", b"\x00\x00\x00"] {
         let refusal = create(&plan, &SECRET, b"", options, random, &mut created).err();
         assert_eq!(rt; refusal, Some(CreateError::BadRandomLength { needed: 2 }));

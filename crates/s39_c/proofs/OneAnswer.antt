@@ -11,21 +11,22 @@ use Rattle.s39_words.specs.declared.ShareFields.{ShareFields}
 use Rattle.s39_words.specs.declared.word_error.WordError.{WordError}
 use Rattle.s39_words.specs.Reading.{Reads}
 use Rattle.std.specs.Fmt.{decimal}
+use Rattle.s39_set.specs.Names.{Names}
 use Rattle.s39_set.specs.Written.{name_text, quorum_text, IsWrittenForm}
 use Rattle.s39_backup.specs.declared.options.Options.{Options}
 use Rattle.s39_backup.specs.declared.plan.Members.{Members}
 use Rattle.s39_backup.specs.declared.plan_error.PlanError.{PlanError}
 use Rattle.s39_backup.specs.Plan.{IsPlanReading}
-use Rattle.s39_backup.specs.Created.{random_needed}
+use Rattle.s39_backup.specs.Created.{random_needed, Asked}
 use Rattle.s39_tool.specs.declared.fault.Fault.{Fault}
 use Rattle.s39_tool.specs.declared.listing.Listing.{Listing}
-use Rattle.s39_tool.specs.declared.memory.Unwritten.{Unwritten}
-use Rattle.s39_tool.specs.declared.memory.Unwritten.TheVariants.{Refused, TooShort as SliceTooShort}
+use Rattle.s39_tool.specs.declared.slices.Unwritten.{Unwritten}
+use Rattle.s39_tool.specs.declared.slices.Unwritten.TheVariants.{Refused, TooShort as SliceTooShort}
 use Rattle.s39_tool.specs.Input.{Input, whole}
-use Rattle.s39_tool.specs.Create.{Asked, IsCreateOutput}
+use Rattle.s39_tool.specs.Create.{IsCreateOutput}
 use Rattle.s39_tool.specs.Drill.{IsDrillOutput}
 use Rattle.s39_tool.specs.Recover.{secret_line, IsRecoverOutput}
-use Rattle.s39_tool.specs.Fitting.{Lists}
+use Rattle.s39_tool.specs.Slices.{Lists}
 use Rattle.s39_tool.proofs.Texts.SecretLines.{same_secret, same_size}
 use Rattle.s39_c.specs.declared.answer.ShamirAnswer.{ShamirAnswer}
 use Rattle.s39_c.specs.declared.parsing.ShamirShare.{ShamirShare}
@@ -234,7 +235,7 @@ module _ (one_recover_output : (passphrase : List ℕ) (input : Input) (text oth
 -- ---- a drill
 
 -- the written form of names has a byte
-no_empty_form : (names : List (ℕ × ℕ)) → IsWrittenForm [] names → ⊥
+no_empty_form : (names : Names) → IsWrittenForm [] names → ⊥
 no_empty_form [] is = absurd (is.some refl)
 no_empty_form (name ∷ []) is =
     let whole = ap length is.text_is in
@@ -252,14 +253,14 @@ abbrev answer_of : Result Listing Unwritten → ShamirAnswer
 answer_of (Ok listing) = listed listing.written listing.mismatches
 answer_of (Err cause) = unwritten cause
 
-module _ (one_listing_in_a_slice : (passphrase : List ℕ) (after : Option (List (ℕ × ℕ))) (limit : ℕ) (input : Input) (old new other : List ℕ)
+module _ (one_listing_in_a_slice : (passphrase : List ℕ) (after : Option Names) (limit : ℕ) (input : Input) (old new other : List ℕ)
     (answer another : Result Listing Unwritten)
     → Lists (λ n. IsDrillOutput passphrase after n input) limit old new answer
     → Lists (λ n. IsDrillOutput passphrase after n input) limit old other another → (new ≡ other) × (answer ≡ another))
-    (written_once : (text : List ℕ) (names others : List (ℕ × ℕ)) → IsWrittenForm text names → IsWrittenForm text others → names ≡ others)
+    (written_once : (text : List ℕ) (names others : Names) → IsWrittenForm text names → IsWrittenForm text others → names ≡ others)
     (passphrase lines : List ℕ) where
   -- what is put into a slice, and the answer for it
-  puts : (after : Option (List (ℕ × ℕ))) (limit : ℕ) (old new : List ℕ) (answer : ShamirAnswer)
+  puts : (after : Option Names) (limit : ℕ) (old new : List ℕ) (answer : ShamirAnswer)
       → GivesListing (λ n. IsDrillOutput passphrase after n (whole lines)) limit old new answer
       → (result : Result Listing Unwritten) × Lists (λ n. IsDrillOutput passphrase after n (whole lines)) limit old new result
       × (answer ≡ answer_of result)
@@ -267,7 +268,7 @@ module _ (one_listing_in_a_slice : (passphrase : List ℕ) (after : Option (List
   puts after limit old new answer (inr (inl (short, is_short, is, says))) = (Err (SliceTooShort short), (is_short, is), says)
   puts after limit old new answer (inr (inr (fault, output, is, says))) = (Err (Refused fault), (output, is), says)
 
-  listing_once : (after : Option (List (ℕ × ℕ))) (limit : ℕ) (old new other : List ℕ) (answer another : ShamirAnswer)
+  listing_once : (after : Option Names) (limit : ℕ) (old new other : List ℕ) (answer another : ShamirAnswer)
       → GivesListing (λ n. IsDrillOutput passphrase after n (whole lines)) limit old new answer
       → GivesListing (λ n. IsDrillOutput passphrase after n (whole lines)) limit old other another → (new ≡ other) × (answer ≡ another)
   listing_once after limit old new other answer another is also =
@@ -277,14 +278,14 @@ module _ (one_listing_in_a_slice : (passphrase : List ℕ) (after : Option (List
       (same.0, says ∙ ap answer_of same.1 ∙ sym says')
 
   -- a text writes one list of names, or none
-  cursor_once : (cursor : List ℕ) (after other : Option (List (ℕ × ℕ))) → IsCursor cursor after → IsCursor cursor other → after ≡ other
+  cursor_once : (cursor : List ℕ) (after other : Option Names) → IsCursor cursor after → IsCursor cursor other → after ≡ other
   cursor_once cursor None None is also = refl
   cursor_once cursor None (Some names) is also = absurd (no_empty_form names (subst (λ (t : List ℕ). IsWrittenForm t names) is also))
   cursor_once cursor (Some names) None is also = absurd (no_empty_form names (subst (λ (t : List ℕ). IsWrittenForm t names) also is))
   cursor_once cursor (Some names) (Some others) is also = ap Some (written_once cursor names others is also)
 
-  no_form : (cursor : List ℕ) (after : Option (List (ℕ × ℕ))) → IsCursor cursor after → cursor ≢ []
-      → ((names : List (ℕ × ℕ)) → ¬ IsWrittenForm cursor names) → ⊥
+  no_form : (cursor : List ℕ) (after : Option Names) → IsCursor cursor after → cursor ≢ []
+      → ((names : Names) → ¬ IsWrittenForm cursor names) → ⊥
   no_form cursor None is some none = some is
   no_form cursor (Some names) is some none = none names is
 
@@ -304,5 +305,5 @@ module _ (one_listing_in_a_slice : (passphrase : List ℕ) (after : Option (List
       absurd (no_form cursor after is_cursor full none)
   drill_once cursor limit old new other answer another (inr (inr (some, after, is_cursor, gives))) (inr (inr (some', after', is_cursor', gives'))) =
       listing_once after limit old new other answer another gives
-      (subst (λ (a : Option (List (ℕ × ℕ))). GivesListing (λ n. IsDrillOutput passphrase a n (whole lines)) limit old other another)
+      (subst (λ (a : Option Names). GivesListing (λ n. IsDrillOutput passphrase a n (whole lines)) limit old other another)
       (cursor_once cursor after' after is_cursor' is_cursor) gives')

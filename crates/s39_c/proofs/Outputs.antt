@@ -1,11 +1,12 @@
 -- What a drill gives where it is refused, and of mnemonics of a created backup.
 use Rattle.std.proofs.Common.{◌≡◌, ◌+◌, ℕ, List, [], inl, inr}
 use Rattle.std.specs.Prelude.{Option, Result, Ok, Err}
+use Rattle.s39_set.specs.Names.{Names}
 use Rattle.s39_tool.specs.declared.drill.Done.{Done}
 use Rattle.s39_tool.specs.declared.fault.Fault.{Fault}
-use Rattle.s39_tool.specs.declared.memory.Unwritten.{Unwritten}
-use Rattle.s39_tool.specs.declared.memory.Unwritten.TheVariants.{Refused, TooShort}
-use Rattle.s39_tool.specs.Fitting.{Lists}
+use Rattle.s39_tool.specs.declared.slices.Unwritten.{Unwritten}
+use Rattle.s39_tool.specs.declared.slices.Unwritten.TheVariants.{Refused, TooShort}
+use Rattle.s39_tool.specs.Slices.{Lists}
 use Rattle.s39_tool.specs.Input.{Input}
 use Rattle.s39_tool.specs.Drill.{IsDrillOutput, DrillsCreated}
 use Rattle.s39_c.specs.declared.answer.ShamirAnswer.{ShamirAnswer}
@@ -18,9 +19,9 @@ pub gives_refusal : (IsOutput : ℕ → List ℕ → Result Done Fault → Type 
 gives_refusal IsOutput limit old new (Refused fault) answer (output, same) is = inr (inr (fault, output, same, is))
 gives_refusal IsOutput limit old new (TooShort short) answer (is_short, same) is = inr (inl (short, is_short, same, is))
 
-module _ (created_backups_drill : (passphrase : List ℕ) (after : Option (List (ℕ × ℕ))) (limit : ℕ) (input : Input) (text : List ℕ)
+module _ (created_backups_drill : (passphrase : List ℕ) (after : Option Names) (limit : ℕ) (input : Input) (text : List ℕ)
     (answer : Result Done Fault) → IsDrillOutput passphrase after limit input text answer → DrillsCreated passphrase after limit input text answer)
-    (passphrase : List ℕ) (after : Option (List (ℕ × ℕ))) (input : Input) (limit : ℕ) (old new : List ℕ) (answer : ShamirAnswer) where
+    (passphrase : List ℕ) (after : Option Names) (input : Input) (limit : ℕ) (old new : List ℕ) (answer : ShamirAnswer) where
   created : (n : ℕ) (text : List ℕ) (answer : Result Done Fault) → IsDrillOutput passphrase after n input text answer
       → DrillsCreated passphrase after n input text answer
   created n = created_backups_drill passphrase after n input

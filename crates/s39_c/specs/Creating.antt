@@ -4,10 +4,10 @@ use Rattle.s39_kdf.specs.Limits.{exponent_bits, IsSecretLength}
 use Rattle.s39_backup.specs.declared.plan.Members.{Members}
 use Rattle.s39_backup.specs.declared.plan_error.PlanError.{PlanError}
 use Rattle.s39_backup.specs.Plan.{IsPlanReading}
-use Rattle.s39_backup.specs.Created.{random_needed}
+use Rattle.s39_backup.specs.Created.{random_needed, Asked}
 use Rattle.s39_tool.specs.declared.fault.Fault.{Fault}
 use Rattle.s39_tool.specs.Input.{whole}
-use Rattle.s39_tool.specs.Create.{Asked, IsCreateOutput}
+use Rattle.s39_tool.specs.Create.{IsCreateOutput}
 use Rattle.s39_c.specs.declared.answer.ShamirAnswer.{ShamirAnswer}
 use Rattle.s39_c.specs.Answers.{Gives, number, out_of_range, plan_refused, length_refused, refused}
 

@@ -281,6 +281,7 @@ fn tells(rt: HostRuntime) {
         (refusal(62, 0, 0, 0), b"cursor is no quorum"),
         (refusal(71, 4, 0, 0), b"line too long"),
         (refusal(4, 0, 0, 0), b"unknown answer"),
+        (refusal(65, 0, 0, 0), b"unknown answer"),
         (refusal(72, 0, 0, 0), b"unknown answer"),
         (refusal(27, 2, 256, 0), b"unknown answer"),
         (refusal(28, 2, 3, 256), b"unknown answer"),

@@ -1,4 +1,7 @@
 pub mod Agreement
-pub mod Filled
+pub mod Commands
 pub mod Entered
+pub mod Filled
+pub mod Options
+pub mod Readings
 pub mod Values

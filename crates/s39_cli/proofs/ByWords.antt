@@ -3,13 +3,14 @@ use Rattle.std.proofs.Common.{◌≡◌, ◌≢◌, ◌∙◌, ℕ, suc, List, [
 use Rattle.std.proofs.lemmas.Option.{IfSome_then}
 use Rattle.std.specs.Io.KnownBytes.{Appends}
 use Rattle.clap.specs.Words.{Row, Text, takes}
+use Rattle.s39_set.specs.Names.{Names}
 use Rattle.s39_set.specs.Written.{IsWrittenForm}
 use Rattle.s39_backup.specs.declared.plan_error.PlanError.{PlanError}
 use Rattle.s39_tool.specs.Input.{whole}
 use Rattle.s39_cli.specs.declared.command.Job.{Job}
 use Rattle.s39_cli.specs.declared.command.Job.TheVariants as job
-use Rattle.s39_cli.specs.declared.status.Ended.{Ended}
-use Rattle.s39_cli.specs.declared.status.Ended.TheVariants.{With, NoMemory}
+use Rattle.s39_cli.specs.declared.runner.Ended.{Ended}
+use Rattle.s39_cli.specs.declared.runner.Ended.TheVariants.{With, NoMemory}
 use Rattle.s39_cli.specs.Command.{Gives, GivesJob, shamir_app}
 use Rattle.s39_cli.specs.Ending.{Delivers, DoesJob, Ends, EndsAs, IsOutcome, OnEnd}
 use Rattle.s39_cli.specs.Headline.{AreCreateWords, AreDrillWords, AreRecoverWords, CreatedWordsRecover, DrillWordsList, DrillsBackup, GivesSecret, IsLimit, RecoverWordsRecover, RecoversBackup, WordsWrite, limit_of}
@@ -22,7 +23,7 @@ use Rattle.s39_cli.proofs.Words.{IsDrillFound, IsRecoverFound, create_words_are_
 abbrev IsReady : Job → Type 0
 IsReady j = (HasBadSecret j → ⊥) × (((error : PlanError) × HasBadPlan j error) → ⊥) × (HasBadCursor j → ⊥)
 
-drill_ready : (p q n name : Text) (rows : List Row) (names : List (ℕ × ℕ)) → IsDrillFound p q n name rows → IsWrittenForm q names → (j : Job)
+drill_ready : (p q n name : Text) (rows : List Row) (names : Names) → IsDrillFound p q n name rows → IsWrittenForm q names → (j : Job)
     → Gives name rows j → IsReady j
 drill_ready p q n name rows names found form job.Show gives = (λ b. b, λ b. b.1, λ b. b)
 drill_ready p q n name rows names found form (job.Create t s w e x) gives =
@@ -79,7 +80,7 @@ module _ {R W : Type 0} (remaining : R → Option (List ℕ)) (contents : W → 
     recovery : (p : Text) → AreRecoverWords p words → Delivers remaining contents (WordsWrite words) reader writer status read_to written_to
     recovery p are = ready (λ j gives. recover_ready p gives.0 gives.1 (recover_found p words gives.0 gives.1 are gives.2) j gives.3)
 
-  pub drills : DrillWordsList → (p q n : Text) (names : List (ℕ × ℕ)) (ended : Ended R W) → AreDrillWords p q n words → IsWrittenForm q names → IsLimit n
+  pub drills : DrillWordsList → (p q n : Text) (names : Names) (ended : Ended R W) → AreDrillWords p q n words → IsWrittenForm q names → IsLimit n
       → Ends remaining contents words reader writer ended → OnEnd ended (Delivers remaining contents (DrillsBackup p q (limit_of n)) reader writer)
   drills list p q n names NoMemory are form limit ends = tt
   drills list p q n names (With status read_to written_to) are form limit ends =
@@ -115,3 +116,19 @@ created_recovers remaining held left contents law plan secret passphrase creatin
     × Appends (contents output) (contents written) line)) is_left (recovery_is.done other) in
     let wrote = subst (λ (t : List ℕ). WordsWrite creating (whole bytes) t 0) (sym same) w.1 in
     (got.0, law plan secret passphrase creating recovering (whole bytes) text got.0 status are also wrote got.1, got.2))
+
+-- a creation that is done, and the program with the words of a recovery, which reads what that wrote
+pub created_then_recovers : {R V W : Type 0} (remaining : R → Option (List ℕ)) (held : V → Option (List ℕ)) (contents : W → Option (List ℕ))
+    → CreatedWordsRecover → (creating recovering : List Text) (random random_left : R) (empty filled : V) (output : W) (status : ℕ) (text : List ℕ)
+    → EndsAs remaining held creating random empty status random_left filled → status ≡ 0 → held empty ≡ Some [] → held filled ≡ Some text
+    → (recovery : Ended V W) → Ends held contents recovering filled output recovery → (plan secret passphrase : Text)
+    → AreCreateWords plan secret passphrase creating → AreRecoverWords passphrase recovering
+    → OnEnd recovery (λ ended read_to written_to. IfSome (remaining random) (λ bytes. ended ≢ 3
+    → (line : List ℕ) × GivesSecret secret line ended × Appends (contents output) (contents written_to) line))
+created_then_recovers remaining held contents law creating recovering random random_left empty filled output status text created none is_empty is_filled
+    NoMemory recovered plan secret passphrase are also = tt
+created_then_recovers remaining held contents law creating recovering random random_left empty filled output status text created none is_empty is_filled
+    (With ended read_to written_to) recovered plan secret passphrase are also =
+    created_recovers remaining held held contents law plan secret passphrase creating recovering random random_left empty filled filled read_to output
+    written_to ended text are also (subst (λ (n : ℕ). EndsAs remaining held creating random empty n random_left filled) none created) recovered is_empty
+    is_filled is_filled

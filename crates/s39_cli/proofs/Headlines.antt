@@ -6,6 +6,7 @@ use Rattle.std.proofs.lemmas.Slice.Eq.{bytes_eq-Decides}
 use Rattle.hex.specs.Hex.{decode_of}
 use Rattle.clap.specs.Words.{Row, Text}
 use Rattle.s39_words.specs.declared.ShareFields.{ShareFields}
+use Rattle.s39_set.specs.Names.{Names}
 use Rattle.s39_set.specs.Written.{IsWrittenForm}
 use Rattle.s39_backup.specs.Plan.{IsPlan}
 use Rattle.s39_tool.specs.declared.drill.Done.{Done}
@@ -16,7 +17,8 @@ use Rattle.s39_tool.specs.declared.fault.Refusal.TheVariants.{Device}
 use Rattle.s39_tool.specs.declared.fault.Fault.{Fault}
 use Rattle.s39_tool.specs.Input.{Input, whole}
 use Rattle.s39_tool.specs.Accepted.{IsReadAs}
-use Rattle.s39_tool.specs.Create.{Asked, IsCreateOutput}
+use Rattle.s39_backup.specs.Created.{Asked}
+use Rattle.s39_tool.specs.Create.{IsCreateOutput}
 use Rattle.s39_tool.specs.OfBackup.{HoldsMnemonicsOf, IsSecretOrLack, RecoversCreated}
 use Rattle.s39_tool.specs.Recover.{IsRecoverOutput, secret_line}
 use Rattle.s39_tool.specs.Drill.{DrillsCreated, IsDrillOutput, ListsSecretOrCause, fault_of_undrilled}
@@ -36,8 +38,8 @@ some_now None found text is some = let bad : ⊥ = cc in absurd bad
 some_now (Some t) found text is some = (t, refl, cc)
 
 -- the names that a given text writes
-cursor_given : (o : Option (Bor Text)) (t : Bor Text) (text : Text) (names : Option (List (ℕ × ℕ))) → o ≡ Some t → t.now ≡ text → IsCursor o names
-    → (written : List (ℕ × ℕ)) × (names ≡ Some written) × IsWrittenForm text written
+cursor_given : (o : Option (Bor Text)) (t : Bor Text) (text : Text) (names : Option Names) → o ≡ Some t → t.now ≡ text → IsCursor o names
+    → (written : Names) × (names ≡ Some written) × IsWrittenForm text written
 cursor_given o t text names some same cursor =
     let c = subst (λ (x : Option (Bor Text)). IsCursor x names) some cursor in
     (c.0, c.1, subst (λ (x : Text). IsWrittenForm x c.0) same c.2)
@@ -46,20 +48,20 @@ undrilled_status : (cause : Undrilled) → status_of (Err (fault_of_undrilled ca
 undrilled_status (Lack lack) = refl
 undrilled_status NotAQuorum = refl
 
-drilled : (set : List ShareFields) (secret : List ℕ) (names : List (ℕ × ℕ)) (limit : ℕ) (text : List ℕ) (answer : Result Done Fault) (status : ℕ)
+drilled : (set : List ShareFields) (secret : List ℕ) (names : Names) (limit : ℕ) (text : List ℕ) (answer : Result Done Fault) (status : ℕ)
     → ListsSecretOrCause set secret (Some names) limit text answer → status ≡ status_of answer → ListsOrRefuses set secret names limit text status
 drilled set secret names limit text (Ok done) status lists is =
     inl (lists.1, lists.2, is ∙ ap (λ (n : ℕ). if n == 0 then 0 else 1) lists.3)
 drilled set secret names limit text (Err fault) status lists is =
     inr ((lists.1.0, lists.1.1), lists.0, is ∙ ap (λ (f : Fault). status_of (Err f)) lists.1.2 ∙ undrilled_status lists.1.0)
 
-module _ (created : (passphrase : List ℕ) (after : Option (List (ℕ × ℕ))) (limit : ℕ) (input : Input) (text : List ℕ) (answer : Result Done Fault)
+module _ (created : (passphrase : List ℕ) (after : Option Names) (limit : ℕ) (input : Input) (text : List ℕ) (answer : Result Done Fault)
     → IsDrillOutput passphrase after limit input text answer → DrillsCreated passphrase after limit input text answer) where
   of_drill : (passphrase secret after limit : List ℕ) (input : Input) (text : List ℕ) (status : ℕ) (name : Text) (rows : List Row) (j : Job)
       → HoldsMnemonicsOf passphrase secret input → IsDrillFound passphrase after limit name rows → Gives name rows j
       → (answer : Result Done Fault) → IsJobOutput j input text answer → status ≡ status_of answer
       → (set : List ShareFields) × IsReadAs input (Ok set)
-      × ((names : List (ℕ × ℕ)) × IsWrittenForm after names × ListsOrRefuses set secret names (limit_of limit) text status)
+      × ((names : Names) × IsWrittenForm after names × ListsOrRefuses set secret names (limit_of limit) text status)
   of_drill passphrase secret after limit input text status name rows job.Show holds found gives answer output is =
       absurd (other_text (codes "drill") (codes "show") refl (sym found.name_is ∙ gives))
   of_drill passphrase secret after limit input text status name rows (job.Create p s w e x) holds found gives answer output is =
@@ -73,7 +75,7 @@ module _ (created : (passphrase : List ℕ) (after : Option (List (ℕ × ℕ)))
       let counted : Some (limit_of limit) ≡ Some n =
       sym (ap (option_map (λ (t : Text). digits_value 10 (without_leading_plus t))) found.limit_is) ∙ gives.3 in
       let number : n ≡ limit_of limit = cc in
-      let asked = subst (λ (o : Option (List (ℕ × ℕ))). IsDrillOutput passphrase o (limit_of limit) input text answer) cursor.1
+      let asked = subst (λ (o : Option Names). IsDrillOutput passphrase o (limit_of limit) input text answer) cursor.1
       (subst (λ (k : ℕ). IsDrillOutput passphrase output.0 k input text answer) number
       (subst (λ (t : Text). IsDrillOutput t output.0 n input text answer) same output.2)) in
       let drill = created passphrase (Some cursor.0) (limit_of limit) input text answer asked secret holds in

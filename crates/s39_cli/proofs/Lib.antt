@@ -5,6 +5,7 @@ pub mod GoingOut
 pub mod Headlines
 pub mod Interrupted
 pub mod Jobs
+pub mod Literals
 pub mod Unreadiness
 pub mod Words
 pub mod Works

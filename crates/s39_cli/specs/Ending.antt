@@ -12,8 +12,8 @@ use Rattle.s39_tool.specs.Input.{Input, whole}
 use Rattle.s39_cli.specs.declared.command.Job.{Job}
 use Rattle.s39_cli.specs.declared.command.NoJob.{NoJob}
 use Rattle.s39_cli.specs.declared.command.NoJob.TheVariants as no_job
-use Rattle.s39_cli.specs.declared.status.Ended.{Ended}
-use Rattle.s39_cli.specs.declared.status.Ended.TheVariants.{With, NoMemory}
+use Rattle.s39_cli.specs.declared.runner.Ended.{Ended}
+use Rattle.s39_cli.specs.declared.runner.Ended.TheVariants.{With, NoMemory}
 use Rattle.s39_cli.specs.declared.work.Unready.{Unready}
 use Rattle.s39_cli.specs.declared.work.Unready.TheVariants as unready
 use Rattle.s39_cli.specs.Command.{AsksForText, GivesJob, shamir_app}

@@ -4,7 +4,9 @@ use Rattle.std.specs.Str.Parse.{digits_value, without_leading_plus}
 use Rattle.hex.specs.Hex.{decode_of}
 use Rattle.clap.specs.Lexer.{without_minus}
 use Rattle.clap.specs.Words.{IsSignedIn, Text, takes}
+use Rattle.s39_clap.specs.Options.{AreOptionWords, HasNoDash}
 use Rattle.s39_words.specs.declared.ShareFields.{ShareFields}
+use Rattle.s39_set.specs.Names.{Names}
 use Rattle.s39_set.specs.Quorums.{IsQuorum}
 use Rattle.s39_set.specs.Lack.{IsLack}
 use Rattle.s39_set.specs.Written.{IsWrittenForm}
@@ -21,39 +23,53 @@ use Rattle.s39_cli.specs.Ending.{IsOutcome}
 
 -- ---- the words
 
--- the text doesn't begin with a dash
-abbrev pub HasNoDash : Text → Type 0
-HasNoDash text = (rest : Text) → ¬ (text ≡ codes "-" ++ rest)
+-- These are the words of a drill: `shamir drill --passphrase P --after Q --limit N`. The first word is any name of the program, and
+-- each option is one word or two.
+pub record AreDrillWords (passphrase after limit : Text) (words : List Text) : Type 0 where
+  pub program : Text
+  pub passphrase_words : List Text
+  pub after_words : List Text
+  pub limit_words : List Text
+  pub passphrase_given : AreOptionWords (codes "passphrase") passphrase passphrase_words
+  pub after_given : AreOptionWords (codes "after") after after_words
+  pub limit_given : AreOptionWords (codes "limit") limit limit_words
+  pub words_are : words ≡ program ∷ codes "drill" ∷ (passphrase_words ++ after_words ++ limit_words)
 
--- an option with its value, as one word
-abbrev pub option_word : Text → Text → Text
-option_word name value = codes "--" ++ (name ++ (codes "=" ++ value))
+-- these are the words of a recovery: `shamir recover --passphrase P`
+pub record AreRecoverWords (passphrase : Text) (words : List Text) : Type 0 where
+  pub program : Text
+  pub passphrase_words : List Text
+  pub passphrase_given : AreOptionWords (codes "passphrase") passphrase passphrase_words
+  pub words_are : words ≡ program ∷ codes "recover" ∷ passphrase_words
 
--- `shamir drill --passphrase=P --after=Q --limit=N`; the first word is any name of the program
-abbrev pub drill_words : Text → Text → Text → Text → List Text
-drill_words program passphrase after limit = program ∷ codes "drill" ∷ option_word (codes "passphrase") passphrase
-    ∷ option_word (codes "after") after ∷ option_word (codes "limit") limit ∷ []
+-- these are the words of a creation: `shamir create --master-secret HEX --passphrase P PLAN`; a plan begins with no dash
+pub record AreCreateWords (plan secret passphrase : Text) (words : List Text) : Type 0 where
+  pub program : Text
+  pub secret_words : List Text
+  pub passphrase_words : List Text
+  pub secret_given : AreOptionWords (codes "master-secret") secret secret_words
+  pub passphrase_given : AreOptionWords (codes "passphrase") passphrase passphrase_words
+  pub plan_given : HasNoDash plan
+  pub words_are : words ≡ program ∷ codes "create" ∷ (secret_words ++ passphrase_words ++ plan ∷ [])
 
--- `shamir recover --passphrase=P`
-abbrev pub recover_words : Text → Text → List Text
-recover_words program passphrase = program ∷ codes "recover" ∷ option_word (codes "passphrase") passphrase ∷ []
+-- the words of a drill, each option in one word
+abbrev pub drill_joined : Text → Text → Text → Text → List Text
+drill_joined program passphrase after limit = program ∷ codes "drill" ∷ (codes "--passphrase=" ++ passphrase)
+    ∷ (codes "--after=" ++ after) ∷ (codes "--limit=" ++ limit) ∷ []
 
--- `shamir create --master-secret=HEX --passphrase=P PLAN`
-abbrev pub create_words : Text → Text → Text → Text → List Text
-create_words program plan secret passphrase = program ∷ codes "create" ∷ option_word (codes "master-secret") secret
-    ∷ option_word (codes "passphrase") passphrase ∷ plan ∷ []
+-- and in two
+abbrev pub drill_apart : Text → Text → Text → Text → List Text
+drill_apart program passphrase after limit = program ∷ codes "drill" ∷ codes "--passphrase" ∷ passphrase
+    ∷ codes "--after" ∷ after ∷ codes "--limit" ∷ limit ∷ []
 
--- these are the words of a drill
-abbrev pub AreDrillWords : Text → Text → Text → List Text → Type 0
-AreDrillWords passphrase after limit words = (program : Text) × (words ≡ drill_words program passphrase after limit)
+-- those with each option in one word are the words of a drill
+abbrev pub JoinedDrill : Type 0
+JoinedDrill = (program passphrase after limit : Text) → AreDrillWords passphrase after limit (drill_joined program passphrase after limit)
 
--- these are the words of a recovery
-abbrev pub AreRecoverWords : Text → List Text → Type 0
-AreRecoverWords passphrase words = (program : Text) × (words ≡ recover_words program passphrase)
-
--- these are the words of a creation; a plan begins with no dash
-abbrev pub AreCreateWords : Text → Text → Text → List Text → Type 0
-AreCreateWords plan secret passphrase words = HasNoDash plan × (program : Text) × (words ≡ create_words program plan secret passphrase)
+-- and so are those with each in two, where no value begins with a dash
+abbrev pub ApartDrill : Type 0
+ApartDrill = (program passphrase after limit : Text) → HasNoDash passphrase → HasNoDash after → HasNoDash limit
+    → AreDrillWords passphrase after limit (drill_apart program passphrase after limit)
 
 -- the text writes a limit: a number from 1 to 4294967295
 abbrev pub IsLimit : Text → Type 0
@@ -85,7 +101,7 @@ WordsWrite words input text status = (job : Job) × GivesJob words job × IsOutc
 
 -- just the quorums after these are listed, each with the secret, and the exit status is 0; or nothing is written, and it is 1, as
 -- the set has no quorum, or these are none
-abbrev pub ListsOrRefuses : List ShareFields → List ℕ → List (ℕ × ℕ) → ℕ → List ℕ → ℕ → Type 0
+abbrev pub ListsOrRefuses : List ShareFields → List ℕ → Names → ℕ → List ℕ → ℕ → Type 0
 ListsOrRefuses set secret names limit text status =
     (IsQuorum set names × ListsSecret set secret (Some names) limit text × (status ≡ 0))
     ⊎ (((cause : Undrilled) × IsUndrilled set (Some names) cause) × (text ≡ []) × (status ≡ 1))
@@ -95,7 +111,7 @@ ListsOrRefuses set secret names limit text status =
 abbrev pub DrillsBackup : Text → Text → ℕ → Input → List ℕ → ℕ → Type 0
 DrillsBackup passphrase after limit input text status = (secret : List ℕ) → HoldsMnemonicsOf passphrase secret input
     → (set : List ShareFields) × IsReadAs input (Ok set)
-    × ((names : List (ℕ × ℕ)) × IsWrittenForm after names × ListsOrRefuses set secret names limit text status)
+    × ((names : Names) × IsWrittenForm after names × ListsOrRefuses set secret names limit text status)
 
 -- the words of a drill write that
 abbrev pub DrillWordsList : Type 0
@@ -106,7 +122,7 @@ DrillWordsList = (passphrase after limit : Text) (words : List Text) (input : In
 -- the digits of the secret are written, and the exit status is 0; or nothing is written, and it is 1, as the set has no quorum
 abbrev pub RecoversOrRefuses : List ShareFields → List ℕ → List ℕ → ℕ → Type 0
 RecoversOrRefuses set secret text status =
-    (((names : List (ℕ × ℕ)) × IsQuorum set names) × (text ≡ secret_line secret) × (status ≡ 0))
+    (((names : Names) × IsQuorum set names) × (text ≡ secret_line secret) × (status ≡ 0))
     ⊎ (((lack : SetLack) × IsLack set lack) × (text ≡ []) × (status ≡ 1))
 
 -- that is so of such an input

@@ -4,6 +4,7 @@ use Rattle.std.specs.Borrow.{Bor}
 use Rattle.hex.specs.Hex.{decode_of}
 use Rattle.hex.specs.declared.error.FromHexError.{FromHexError}
 use Rattle.clap.specs.Words.{Text}
+use Rattle.s39_set.specs.Names.{Names}
 use Rattle.s39_set.specs.Written.{IsWrittenForm}
 use Rattle.s39_backup.specs.declared.plan.Members.{Members}
 use Rattle.s39_backup.specs.declared.plan_error.PlanError.{PlanError}
@@ -29,7 +30,7 @@ IsNotHexadecimal text = (error : FromHexError) × (decode_of text ≡ Err error)
 
 -- the text is the written form of no names
 abbrev pub IsNoCursor : Text → Type 0
-IsNoCursor text = (names : List (ℕ × ℕ)) → ¬ IsWrittenForm text names
+IsNoCursor text = (names : Names) → ¬ IsWrittenForm text names
 
 -- the text of the job's secret isn't hexadecimal
 abbrev pub HasBadSecret : Job → Type 0
@@ -50,9 +51,9 @@ HasBadCursor _ = ⊥
 -- ---- what is written
 
 -- the names after which a drill goes on: those that the given text writes, and none where no text is given
-abbrev pub IsCursor : Option (Bor Text) → Option (List (ℕ × ℕ)) → Type 0
+abbrev pub IsCursor : Option (Bor Text) → Option Names → Type 0
 IsCursor None after = after ≡ None
-IsCursor (Some text) after = (names : List (ℕ × ℕ)) × (after ≡ Some names) × IsWrittenForm text.now names
+IsCursor (Some text) after = (names : Names) × (after ≡ Some names) × IsWrittenForm text.now names
 
 -- what a backup is created from is what these texts give: the secret in hexadecimal digits, and the plan
 pub record AreRead (plan_text secret_text : Text) (secret : List ℕ) (group_threshold : ℕ) (groups : List Members) : Type 0 where
@@ -96,7 +97,7 @@ IsJobOutput (Create plan secret passphrase exponent extendable) input text answe
 IsJobOutput (Recover passphrase) input text answer =
     (plain : Result (Unit {0}) Fault) × IsRecoverOutput passphrase.now input text plain × (answer ≡ without_mismatches plain)
 IsJobOutput (Drill passphrase after limit) input text answer =
-    (names : Option (List (ℕ × ℕ))) × IsCursor after names × IsDrillOutput passphrase.now names limit input text answer
+    (names : Option Names) × IsCursor after names × IsDrillOutput passphrase.now names limit input text answer
 
 -- the exit status of a refusal: 3 where a device failed, else 1
 abbrev pub status_of_refusal : Refusal → ℕ

@@ -1,16 +1,17 @@
-//! What the program gives by its words, from the words on: theorems, each the contract of a function that only calls it, or
-//! that only calls a law.
-ghost use Rattle.std.specs.Prelude.{◌≡◌, ◌≢◌, ℕ, List, [], map, Some, IfSome};
+//! What the program gives by its words, from the words on: theorems, each the contract of a function that only calls it.
+ghost use Rattle.std.specs.Prelude.{◌≡◌, ◌≢◌, ℕ, List, [], map, Some, IfErr, IfOk, IfSome};
 ghost use Rattle.std.specs.Io.KnownBytes.{Appends};
 ghost use Rattle.clap.specs.Words.{Text};
+ghost use Rattle.s39_set.specs.Names.{Names};
 ghost use Rattle.s39_set.specs.Written.{IsWrittenForm};
-ghost use Rattle.s39_cli.specs.Ending.{Delivers, EndsAs, OnEnd};
+ghost use Rattle.s39_cli.specs.Ending.{Delivers, Ends, OnEnd, status_in};
 ghost use Rattle.s39_cli.specs.Headline.{AreCreateWords, AreDrillWords, AreRecoverWords, IsLimit, limit_of};
 ghost use Rattle.s39_cli.specs.Headline.{DrillsBackup, GivesSecret, RecoversBackup};
 
 use crate::laws::{created_words_recover, drill_words_list, recover_words_recover};
-use crate::status::{Destination, Ended, program};
+use crate::runner::{Destination, Ended, program};
 use std::alloc::Global;
+use std::collections::VecDeque;
 use std::io::{Read, Write};
 
 /// The program with the words of a drill: of mnemonics of a backup that was created with their passphrase, just the
@@ -23,7 +24,7 @@ pub fn drill<R: Read + Drop, W: Write + Drop, E: Write>(
     errors: &mut E,
     destination: Destination,
 ) -> Ended<R, W>
-    ensures { (passphrase after limit : Text) (names : List (ℕ × ℕ))
+    ensures { (passphrase after limit : Text) (names : Names)
         → AreDrillWords passphrase after limit (map (λ word. word.now) words.now)
         → IsWrittenForm after names → IsLimit limit
         → OnEnd result (Delivers R.remaining W.contents
@@ -50,20 +51,53 @@ pub fn recover<R: Read + Drop, W: Write + Drop, E: Write>(
     program(alloc, words, input, output, errors, destination)
 }
 
-/// Two runs of the program: one with the words of a creation, which ends with status 0 and into a writer that was empty,
-/// and one with the words of a recovery and the same passphrase, whose reader has what the first wrote. Where no device of
-/// the second fails, the secret's digits go out, and its exit status is 0.
-pub fn create_and_recover<R: Read, V: Write, S: Read, W: Write>()
-    ensures { (plan secret passphrase : Text) (creating recovering : List Text)
-        (random random_left : R) (empty filled : V) (backup backup_left : S) (output written : W)
-        (status : ℕ) (text : List ℕ)
-        → AreCreateWords plan secret passphrase creating → AreRecoverWords passphrase recovering
-        → EndsAs R.remaining V.contents creating random empty 0 random_left filled
-        → EndsAs S.remaining W.contents recovering backup output status backup_left written
-        → V.contents empty ≡ Some [] → V.contents filled ≡ Some text → S.remaining backup ≡ Some text
-        → IfSome (R.remaining random) (λ bytes. status ≢ 3
+/// The program with the words of a creation, and then with the words of a recovery and the same passphrase, whose input is
+/// what the first wrote: where no device of the second fails, the secret's digits go out, and its exit status is 0. Gives
+/// how the second ended, or how the first did, where that didn't end with status 0.
+pub fn create_and_recover<R: Read + Drop, W: Write + Drop, E: Write>(
+    alloc: Global,
+    creating: &[&str],
+    recovering: &[&str],
+    random: R,
+    output: W,
+    errors: &mut E,
+    destination: Destination,
+) -> Result<Ended<VecDeque<u8>, W>, Ended<R, VecDeque<u8>>>
+    ensures recovered { IfOk result (λ recovery. (plan secret passphrase : Text)
+        → AreCreateWords plan secret passphrase (map (λ word. word.now) creating.now)
+        → AreRecoverWords passphrase (map (λ word. word.now) recovering.now)
+        → OnEnd recovery (λ status read_to written_to. IfSome (R.remaining random) (λ bytes. status ≢ 3
         → (line : List ℕ) × GivesSecret secret line status
-        × Appends (W.contents output) (W.contents written) line) }
+        × Appends (W.contents output) (W.contents written_to) line))) }
+    ensures not_done { IfErr result (λ creation. status_in creation ≢ 0) }
+    ensures first { IfErr result (λ creation. (empty : _) × (empty.items ≡ [])
+        × Ends R.remaining (λ queue. Some queue.items) (map (λ word. word.now) creating.now)
+        random empty creation) }
 {
     created_words_recover();
+    let backup = VecDeque::new(alloc);
+    match program(
+        alloc,
+        creating,
+        random,
+        backup,
+        errors,
+        Destination::Elsewhere,
+    ) {
+        Ended::With {
+            status,
+            input,
+            output: backup,
+        } => {
+            if status != 0 {
+                return Err(Ended::With {
+                    status,
+                    input,
+                    output: backup,
+                });
+            }
+            Ok(program(alloc, recovering, backup, output, errors, destination))
+        }
+        Ended::NoMemory => Err(Ended::NoMemory),
+    }
 }

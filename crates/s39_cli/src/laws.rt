@@ -1,4 +1,8 @@
 //! Facts about the definitions, each the contract of a function that does nothing, or only calls other laws.
+ghost use Rattle.std.specs.Prelude.{List, [], ◌∷◌, codes};
+ghost use Rattle.s39_set.specs.Written.{IsWrittenForm};
+ghost use Rattle.s39_cli.specs.Headline.{ApartDrill, AreCreateWords, AreDrillWords, AreRecoverWords};
+ghost use Rattle.s39_cli.specs.Headline.{IsLimit, JoinedDrill, drill_apart};
 ghost use Rattle.s39_cli.specs.Headline.{CreateWordsAreTaken, CreatedWordsRecover, DrillWordsAreTaken, DrillWordsList};
 ghost use Rattle.s39_cli.specs.Headline.{RecoverWordsAreTaken, RecoverWordsRecover};
 
@@ -12,6 +16,22 @@ pub fn words_are_taken()
     ensures drill { DrillWordsAreTaken }
     ensures recover { RecoverWordsAreTaken }
     ensures create { CreateWordsAreTaken }
+{}
+
+/// The words of a drill with each option in one word, and with each in two, are words of a drill; and there are such words
+/// of each command, a text that writes names, and one that writes a limit.
+pub fn there_are_such_words()
+    ensures joined { JoinedDrill }
+    ensures apart { ApartDrill }
+    ensures drill { AreDrillWords (codes "TREZOR") (codes "0.0") (codes "5")
+        (drill_apart (codes "shamir") (codes "TREZOR") (codes "0.0") (codes "5")) }
+    ensures recover { AreRecoverWords (codes "TREZOR")
+        (codes "shamir" ∷ codes "recover" ∷ codes "--passphrase" ∷ codes "TREZOR" ∷ []) }
+    ensures create { AreCreateWords (codes "2of3") (codes "00ff") (codes "TREZOR")
+        (codes "shamir" ∷ codes "create" ∷ codes "--master-secret" ∷ codes "00ff"
+        ∷ codes "--passphrase" ∷ codes "TREZOR" ∷ codes "2of3" ∷ []) }
+    ensures names { IsWrittenForm (codes "0.0") ((0, 0) ∷ []) }
+    ensures limit { IsLimit (codes "5") }
 {}
 
 /// The words of a drill, on mnemonics of a backup that was created with their passphrase: just the quorums after the given

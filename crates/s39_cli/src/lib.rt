@@ -7,8 +7,8 @@ mod command;
 mod delivery;
 pub mod laws;
 mod patient;
-mod status;
+mod runner;
 mod work;
 
 pub use command::{Job, NoJob, read_words};
-pub use status::{Destination, Ended, no_words, program};
+pub use runner::{Destination, Ended, no_words, program};

@@ -7,7 +7,7 @@ ghost use Rattle.s39_cli.specs.Outcome.{IsCursor, IsNoCursor, without_mismatches
 ghost use Rattle.s39_cli.specs.Unready.{IsNoSecret, IsUnready};
 
 use crate::command::Job;
-use crate::status::Destination;
+use crate::runner::Destination;
 use hex::FromHexError;
 use s39_set::{BadCursor, Quorum, parse_quorum};
 use s39_tool::{

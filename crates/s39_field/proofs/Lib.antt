@@ -3,3 +3,11 @@ pub mod Differences
 pub mod ByLane
 pub mod VectorSums
 pub mod Tables
+pub mod Values
+pub mod FieldPowers
+pub mod Roots
+pub mod LagrangeWeights
+pub mod Strings
+pub mod PowerSums
+pub mod Products
+pub mod Orders

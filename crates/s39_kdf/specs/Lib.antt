@@ -6,3 +6,4 @@ pub mod Pbkdf2
 pub mod Cipher
 pub mod Limits
 pub mod Passphrases
+pub mod Causes

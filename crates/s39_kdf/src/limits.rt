@@ -1,8 +1,10 @@
 //! The limits of master secrets and passphrases.
 ghost use Rattle.std.specs.Prelude.{◌≡◌, ◌↔◌, length, All, IsTrue, IsOk, IfOk, IfErr};
+ghost use Rattle.s39_kdf.specs.Causes.{passphrase_cause, length_cause};
 ghost use Rattle.s39_kdf.specs.Limits.{IsPrintable, IsFirstUnprintable, IsSecretLength};
 
 use arrayvec::ArrayVec;
+use s39_refusal::{Cause, code};
 
 /// The fewest bytes of a master secret.
 pub const MIN_SECRET_BYTES: usize = 16;
@@ -21,11 +23,11 @@ pub struct BadPassphrase {
 }
 
 impl BadPassphrase {
-    /// The number of this refusal, 41.
-    pub fn code(&self) -> u8
-        ensures { result ≡ 41 }
+    /// What the refusal says: 41, and the position.
+    pub fn cause(&self) -> Cause
+        ensures { result ≡ passphrase_cause self.now.position }
     {
-        41
+        Cause::new(code::PASSPHRASE, self.position as u64, 0)
     }
 }
 
@@ -37,11 +39,11 @@ pub struct BadSecretLength {
 }
 
 impl BadSecretLength {
-    /// The number of this refusal, 42.
-    pub fn code(&self) -> u8
-        ensures { result ≡ 42 }
+    /// What the refusal says: 42, and the length.
+    pub fn cause(&self) -> Cause
+        ensures { result ≡ length_cause self.now.bytes }
     {
-        42
+        Cause::new(code::SECRET_LENGTH, self.bytes as u64, 0)
     }
 }
 

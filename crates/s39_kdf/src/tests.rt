@@ -287,7 +287,7 @@ fn passphrases(rt: HostRuntime) {
             position.map(|position| BadPassphrase { position })
         );
     }
-    assert_eq!(rt; BadPassphrase { position: 1 }.code(), 41);
+    assert_eq!(rt; BadPassphrase { position: 1 }.cause().code, 41);
 }
 
 #[test]
@@ -315,7 +315,7 @@ fn secret_lengths(rt: HostRuntime) {
             Err(refusal) => assert!(rt; !is_accepted && refusal.bytes == len),
         }
     }
-    assert_eq!(rt; BadSecretLength { bytes: 14 }.code(), 42);
+    assert_eq!(rt; BadSecretLength { bytes: 14 }.cause().code, 42);
 }
 
 // As Python's hmac computes them.

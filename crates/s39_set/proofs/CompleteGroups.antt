@@ -1,15 +1,15 @@
 -- The groups of which enough members are there.
-use Rattle.std.proofs.Common.{◌≡◌, ℕ, zero, suc, ◌+◌, ◌-◌, ◌<◌, ◌≤◌, ◌==◌, Bool, true, false, List, [], ◌∷◌, ◌++◌, length, get_or, filter, take}
-use Rattle.std.proofs.Common.{Option, Some, None, nat_le, unwrap_or, refl, sym, ap, ◌∙◌, arith, zero-add}
+use Rattle.std.proofs.Common.{◌≡◌, ℕ, ◌<◌, ◌≤◌, ◌==◌, true, false, List, [], length, take}
+use Rattle.std.proofs.Common.{Option, Some, None, nat_le, unwrap_or, refl, ap, ◌∙◌, arith}
 use Rattle.std.specs.List.{All, AllPairs, Contains, range_with_len}
 use Rattle.std.specs.Option.{option_map_or}
 use Rattle.std.proofs.lemmas.Bool.{leb-true, le-leb, lt-leb, false≢true}
 use Rattle.std.proofs.lemmas.List.Elements.{All-contains, filter_passes}
-use Rattle.std.proofs.lemmas.List.FromFn.{get_or-range_with_len, length-range_with_len}
 use Rattle.std.proofs.lemmas.List.Kept.{AllPairs-filter}
-use Rattle.s39_set.specs.Names.{names_in_group, most_groups}
+use Rattle.s39_set.specs.Names.{Names, names_in_group, most_groups}
 use Rattle.s39_set.specs.Groups.{is_complete, complete_groups, first_members}
-use Rattle.s39_set.proofs.Sublists.{IsSublist, length-sublist, filter_weaker, filter-sublist, Contains-filter, same_from_elements}
+use Rattle.s39_lists.proofs.Sublists.{IsSublist, length-sublist, filter_weaker, filter-sublist, Contains-filter, same_from_elements}
+use Rattle.s39_lists.proofs.Ranges.{range-ascending, Contains-range}
 
 pub groups_one_way : (a b : ℕ) → a < b → b < a → ⊥
 groups_one_way a b before after = omega arith
@@ -18,42 +18,13 @@ groups_one_way a b before after = omega arith
 pub same_groups : (xs ys : List ℕ) → AllPairs (λ a b. a < b) xs → AllPairs (λ a b. a < b) ys → All (Contains xs) ys → All (Contains ys) xs → xs ≡ ys
 same_groups = same_from_elements (λ a b. a < b) groups_one_way
 
--- the numbers of a range ascend
-pub range_from-ascending : (a n : ℕ) → AllPairs (λ i j. i < j) (range_with_len a n)
-range_from-ascending a n i j d less within =
-    let short : j < n = omega (arith, length-range_with_len a n) in
-    omega (arith, get_or-range_with_len a n i d (omega arith), get_or-range_with_len a n j d short)
-
-pub range-ascending : (n : ℕ) → AllPairs (λ a b. a < b) (range_with_len 0 n)
-range-ascending n = range_from-ascending 0 n
-
--- each is from the start on, and below the end
-pub range_from-bounds : (a n : ℕ) → All (λ g. (a ≤ g) × (g < a + n)) (range_with_len a n)
-range_from-bounds a n k d within =
-    let short : k < n = omega (arith, length-range_with_len a n) in
-    let at = get_or-range_with_len a n k d short in
-    (omega (arith, at), omega (arith, at))
-
-pub range-below : (n : ℕ) → All (λ g. g < n) (range_with_len 0 n)
-range-below n k d below = omega (arith, (range_from-bounds 0 n k d below).1)
-
--- each number between them is one of them
-pub Contains-range_from : (a n g : ℕ) → a ≤ g → g < a + n → Contains (range_with_len a n) g
-Contains-range_from a n g from below =
-    let short : g - a < n = omega arith in
-    let at : get_or (range_with_len a n) (g - a) g ≡ g = omega (arith, get_or-range_with_len a n (g - a) g short) in
-    (g - a, omega (arith, length-range_with_len a n), at)
-
-pub Contains-range : (n g : ℕ) → g < n → Contains (range_with_len 0 n) g
-Contains-range n g below = Contains-range_from 0 n g (omega arith) (omega arith)
-
 -- a group's threshold, and that so many of its members are there
-pub record HasThreshold (T : ℕ → Option ℕ) (names : List (ℕ × ℕ)) (g : ℕ) : Type 0 where
+pub record HasThreshold (T : ℕ → Option ℕ) (names : Names) (g : ℕ) : Type 0 where
   pub threshold : ℕ
   pub is : T g ≡ Some threshold
   pub enough : threshold ≤ length (names_in_group g names)
 
-module _ (T : ℕ → Option ℕ) (names : List (ℕ × ℕ)) where
+module _ (T : ℕ → Option ℕ) (names : Names) where
   -- a group with its threshold's members is complete
   pub is_complete_from : (g t : ℕ) → T g ≡ Some t → t ≤ length (names_in_group g names) → is_complete T names g ≡ true
   is_complete_from g t e enough =
@@ -84,11 +55,11 @@ module _ (T : ℕ → Option ℕ) (names : List (ℕ × ℕ)) where
       Contains-filter (is_complete T names) (range_with_len 0 most_groups) g (Contains-range most_groups g below) (is_complete_from g t e enough)
 
 -- some of the names have some of the members of a group
-pub names_in_group-sublist : (g : ℕ) {fewer names : List (ℕ × ℕ)} → IsSublist fewer names → IsSublist (names_in_group g fewer) (names_in_group g names)
+pub names_in_group-sublist : (g : ℕ) {fewer names : Names} → IsSublist fewer names → IsSublist (names_in_group g fewer) (names_in_group g names)
 names_in_group-sublist g part = filter-sublist (λ name. name.0 == g) part
 
 -- a group that some complete is complete
-pub complete_weaker : (T : ℕ → Option ℕ) {fewer names : List (ℕ × ℕ)} → IsSublist fewer names → (g : ℕ) → is_complete T fewer g ≡ true
+pub complete_weaker : (T : ℕ → Option ℕ) {fewer names : Names} → IsSublist fewer names → (g : ℕ) → is_complete T fewer g ≡ true
     → is_complete T names g ≡ true
 complete_weaker T {fewer} {names} part g complete =
     let has = threshold_from_complete T fewer g complete in
@@ -96,17 +67,17 @@ complete_weaker T {fewer} {names} part g complete =
     is_complete_from T names g has.threshold has.is (omega arith)
 
 -- and they complete some of the groups
-pub complete_groups-sublist : (T : ℕ → Option ℕ) {fewer names : List (ℕ × ℕ)} → IsSublist fewer names
+pub complete_groups-sublist : (T : ℕ → Option ℕ) {fewer names : Names} → IsSublist fewer names
     → IsSublist (complete_groups T fewer) (complete_groups T names)
 complete_groups-sublist T {fewer} {names} part =
     filter_weaker (is_complete T fewer) (is_complete T names) (complete_weaker T part) (range_with_len 0 most_groups)
 
 -- at a known threshold, a test on the number of the group's names
-pub is_complete-at : (T : ℕ → Option ℕ) (names : List (ℕ × ℕ)) (g t : ℕ) → T g ≡ Some t → is_complete T names g ≡ nat_le t (length (names_in_group g names))
+pub is_complete-at : (T : ℕ → Option ℕ) (names : Names) (g t : ℕ) → T g ≡ Some t → is_complete T names g ≡ nat_le t (length (names_in_group g names))
 is_complete-at T names g t e = ap (λ o. option_map_or (λ threshold. nat_le threshold (length (names_in_group g names))) o false) e
 
 -- at a known threshold, so many of the group's names
-pub first_members-at : (T : ℕ → Option ℕ) (names : List (ℕ × ℕ)) (g t : ℕ) → T g ≡ Some t → first_members T names g ≡ take t (names_in_group g names)
+pub first_members-at : (T : ℕ → Option ℕ) (names : Names) (g t : ℕ) → T g ≡ Some t → first_members T names g ≡ take t (names_in_group g names)
 first_members-at T names g t e = ap (λ o. take (unwrap_or o 0) (names_in_group g names)) e
 
 not_reached : (o : Option ℕ) → ((t : ℕ) → o ≡ Some t → 1 ≤ t) → option_map_or (λ threshold. nat_le threshold 0) o false ≡ false
@@ -114,25 +85,7 @@ not_reached None positive = refl
 not_reached (Some t) positive = lt-leb t 0 (positive t refl)
 
 -- a group with no name is not complete, if its threshold is positive
-pub is_complete-none : (T : ℕ → Option ℕ) (names : List (ℕ × ℕ)) (g : ℕ) → ((t : ℕ) → T g ≡ Some t → 1 ≤ t) → names_in_group g names ≡ []
+pub is_complete-none : (T : ℕ → Option ℕ) (names : Names) (g : ℕ) → ((t : ℕ) → T g ≡ Some t → 1 ≤ t) → names_in_group g names ≡ []
     → is_complete T names g ≡ false
 is_complete-none T names g positive none =
     ap (λ some. option_map_or (λ threshold. nat_le threshold (length some)) (T g) false) none ∙ not_reached (T g) positive
-
--- tests that agree on a range choose the same numbers of it
-pub filter-range_agree : (p q : ℕ → Bool) (a k : ℕ) → ((g : ℕ) → a ≤ g → g < a + k → p g ≡ q g) → filter p (range_with_len a k) ≡ filter q (range_with_len a k)
-filter-range_agree p q a zero h = refl
-filter-range_agree p q a (suc k) h =
-    let rest : filter p (range_with_len (a + 1) k) ≡ filter q (range_with_len (a + 1) k) =
-    filter-range_agree p q (a + 1) k (λ g from below. h g (omega arith) (omega arith)) in
-    rw (h a (omega arith) (omega arith), rest)
-
--- a range in two parts
-pub range-split : (a m n : ℕ) → range_with_len a (m + n) ≡ range_with_len a m ++ range_with_len (a + m) n
-range-split a zero n =
-    let none : a + 0 ≡ a = omega arith in
-    ap (range_with_len a) (zero-add n) ∙ ap (λ b. range_with_len b n) (sym none)
-range-split a (suc m) n =
-    let long : suc m + n ≡ suc (m + n) = omega arith in
-    let next : (a + 1) + m ≡ a + suc m = omega arith in
-    ap (range_with_len a) long ∙ ap (λ l. a ∷ l) (range-split (a + 1) m n ∙ ap (λ b. range_with_len (a + 1) m ++ range_with_len b n) next)

@@ -8,23 +8,22 @@ use Rattle.std.proofs.lemmas.Bool.{cases_lt}
 use Rattle.std.proofs.lemmas.List.{length-take-le, nil_from_length}
 use Rattle.std.proofs.lemmas.List.Elements.{All-append, All-contains, Contains-append_left, Contains-append_right, Contains-append_cases, filter-append}
 use Rattle.std.proofs.lemmas.List.Kept.{AllPairs-filter}
-use Rattle.s39_set.specs.Names.{name_cmp, names_cmp, IsAscending, names_in_group, most_groups}
+use Rattle.s39_set.specs.Names.{Name, Names, name_cmp, names_cmp, IsAscending, names_in_group, most_groups}
 use Rattle.s39_set.specs.Groups.{is_complete, complete_groups, first_members}
 use Rattle.s39_set.proofs.Thresholds.{HasJust}
-use Rattle.s39_set.proofs.Sublists.{IsSublist, each, one_of, of_filter, in_whole, take-sublist, Contains-head, Contains-cons, Contains-nil, Contains-filter}
-use Rattle.s39_set.proofs.Sublists.{Contains-cases, filter-none}
-use Rattle.s39_set.proofs.Sublists.{AllPairs-nil, AllPairs-head, AllPairs-tail, AllPairs-append, AllPairs-sublist}
-use Rattle.s39_set.proofs.Orders.{taken_before}
+use Rattle.s39_lists.proofs.Sublists.{IsSublist, each, one_of, of_filter, in_whole, take-sublist, Contains-head, Contains-cons, Contains-nil, Contains-filter, Contains-cases, filter-none, AllPairs-append, AllPairs-sublist}
+use Rattle.s39_lists.proofs.Pairs.{AllPairs-nil, AllPairs-head, AllPairs-tail}
+use Rattle.s39_lists.proofs.Orders.{taken_before}
 use Rattle.s39_set.proofs.Ascending.{Precedes, name_cmp_groups, same_names}
 use Rattle.s39_set.proofs.CompleteGroups.{threshold_from_complete, is_complete-none, first_members-at}
-use Rattle.s39_set.proofs.CompleteGroups.{Contains-complete_groups, complete_groups-ascending, same_groups, range_from-ascending, range_from-bounds}
-use Rattle.s39_set.proofs.CompleteGroups.{Contains-range_from, filter-range_agree, range-split}
+use Rattle.s39_set.proofs.CompleteGroups.{Contains-complete_groups, complete_groups-ascending, same_groups}
+use Rattle.s39_lists.proofs.Ranges.{range_from-ascending, range_from-bounds, Contains-range_from, filter-range_agree, range-split}
 use Rattle.s39_set.proofs.MembersOf.{count, of_group, in_group, group-ascending, one_counted, counted, none_counted, count-append}
 use Rattle.s39_set.proofs.Just.{exact_at, exact_group, one_complete, complete_at_hand, HasNoRoom, not_greater}
 
 -- ---- lists joined end to end
 
-one_of_flat_map : (f : ℕ → List (ℕ × ℕ)) (gs : List ℕ) (n : ℕ × ℕ) → Contains (flat_map f gs) n → (g : ℕ) × Contains gs g × Contains (f g) n
+one_of_flat_map : (f : ℕ → Names) (gs : List ℕ) (n : Name) → Contains (flat_map f gs) n → (g : ℕ) × Contains gs g × Contains (f g) n
 one_of_flat_map f [] n among = absurd (Contains-nil n among)
 one_of_flat_map f (g ∷ gs) n among =
     elim (Contains-append_cases (f g) (flat_map f gs) n among) [
@@ -32,7 +31,7 @@ one_of_flat_map f (g ∷ gs) n among =
       | inr later ↦ (let (h, in_gs, in_f) = one_of_flat_map f gs n later in (h, Contains-cons g gs h in_gs, in_f))
     ]
 
-Contains-flat_map : (f : ℕ → List (ℕ × ℕ)) (gs : List ℕ) (g : ℕ) (n : ℕ × ℕ) → Contains gs g → Contains (f g) n → Contains (flat_map f gs) n
+Contains-flat_map : (f : ℕ → Names) (gs : List ℕ) (g : ℕ) (n : Name) → Contains gs g → Contains (f g) n → Contains (flat_map f gs) n
 Contains-flat_map f [] g n in_gs in_f = absurd (Contains-nil g in_gs)
 Contains-flat_map f (h ∷ gs) g n in_gs in_f =
     ⊎_elim
@@ -41,8 +40,8 @@ Contains-flat_map f (h ∷ gs) g n in_gs in_f =
     (Contains-cases h gs g in_gs)
 
 -- names of each of ascending groups ascend
-flat_map-ascending : (f : ℕ → List (ℕ × ℕ)) (gs : List ℕ) → AllPairs (λ g h. g < h) gs
-    → ((g : ℕ) → Contains gs g → IsAscending (f g) × ((n : ℕ × ℕ) → Contains (f g) n → n.0 ≡ g)) → IsAscending (flat_map f gs)
+flat_map-ascending : (f : ℕ → Names) (gs : List ℕ) → AllPairs (λ g h. g < h) gs
+    → ((g : ℕ) → Contains gs g → IsAscending (f g) × ((n : Name) → Contains (f g) n → n.0 ≡ g)) → IsAscending (flat_map f gs)
 flat_map-ascending f [] order parts = AllPairs-nil Precedes
 flat_map-ascending f (g ∷ gs) order parts =
     let first = parts g (Contains-head g gs) in
@@ -57,11 +56,11 @@ flat_map-ascending f (g ∷ gs) order parts =
     name_cmp_groups n m (omega arith)))
 
 -- groups with as many names are complete alike
-complete_alike : (T : ℕ → Option ℕ) (xs ys : List (ℕ × ℕ)) (g : ℕ) → count xs g ≡ count ys g → is_complete T xs g ≡ is_complete T ys g
+complete_alike : (T : ℕ → Option ℕ) (xs ys : Names) (g : ℕ) → count xs g ≡ count ys g → is_complete T xs g ≡ is_complete T ys g
 complete_alike T xs ys g same = ap (λ n. option_map_or (λ threshold. nat_le threshold n) (T g) false) same
 
 -- the complete groups are those below one and those from it on
-complete_split : (T : ℕ → Option ℕ) (names : List (ℕ × ℕ)) (b : ℕ) → b ≤ most_groups → length (complete_groups T names)
+complete_split : (T : ℕ → Option ℕ) (names : Names) (b : ℕ) → b ≤ most_groups → length (complete_groups T names)
     ≡ length (filter (is_complete T names) (range_with_len 0 b)) + length (filter (is_complete T names) (range_with_len b (most_groups - b)))
 complete_split T names b upto =
     let p = is_complete T names in
@@ -74,14 +73,14 @@ complete_split T names b upto =
     ∙ length-append (filter p (range_with_len 0 b)) (filter p (range_with_len b (most_groups - b)))
 
 -- C says which groups are complete, and M gives the first members of each of them
-module _ (T : ℕ → Option ℕ) (N : List (ℕ × ℕ)) (positive : (g t : ℕ) → T g ≡ Some t → 1 ≤ t) (sorted : IsAscending N) (M : ℕ → List (ℕ × ℕ)) (C : ℕ → Bool)
+module _ (T : ℕ → Option ℕ) (N : Names) (positive : (g t : ℕ) → T g ≡ Some t → 1 ≤ t) (sorted : IsAscending N) (M : ℕ → Names) (C : ℕ → Bool)
     (M_is : (g : ℕ) → g < most_groups → M g ≡ first_members T N g) (C_is : (g : ℕ) → g < most_groups → C g ≡ is_complete T N g) where
   -- the complete groups from one on
   abbrev pub groups_there : ℕ → List ℕ
   groups_there a = filter C (range_with_len a (most_groups - a))
 
   -- the first members of the first so many of them
-  abbrev pub names_taken : ℕ → ℕ → List (ℕ × ℕ)
+  abbrev pub names_taken : ℕ → ℕ → Names
   names_taken a n = flat_map M (take n (groups_there a))
 
   record IsTaken (g : ℕ) : Type 0 where
@@ -89,7 +88,7 @@ module _ (T : ℕ → Option ℕ) (N : List (ℕ × ℕ)) (positive : (g t : ℕ
     threshold : T g ≡ Some (length (M g))
     some : 1 ≤ length (M g)
     part : IsSublist (M g) (names_in_group g N)
-    first : (n : ℕ × ℕ) → Contains (names_in_group g N) n → (Contains (M g) n → ⊥) → All (λ m. name_cmp m n ≡ Less) (M g)
+    first : (n : Name) → Contains (names_in_group g N) n → (Contains (M g) n → ⊥) → All (λ m. name_cmp m n ≡ Less) (M g)
 
   is_taken : (g : ℕ) → g < most_groups → is_complete T N g ≡ true → IsTaken g
   is_taken g low complete =
@@ -123,18 +122,18 @@ module _ (T : ℕ → Option ℕ) (N : List (ℕ × ℕ)) (positive : (g t : ℕ
   of_taken : (a n g : ℕ) → Contains (take n (groups_there a)) g → (a ≤ g) × IsTaken g
   of_taken a n g among = there a g (in_whole (take-sublist n (groups_there a)) g among)
 
-  member-group : (g : ℕ) → IsTaken g → (m : ℕ × ℕ) → Contains (M g) m → Contains N m × (m.0 ≡ g)
+  member-group : (g : ℕ) → IsTaken g → (m : Name) → Contains (M g) m → Contains N m × (m.0 ≡ g)
   member-group g is m among = of_group g N m (in_whole is.part m among)
 
   -- a name that is taken is one of those of its group
-  of_names : (a n : ℕ) (m : ℕ × ℕ) → Contains (names_taken a n) m → Contains (take n (groups_there a)) m.0 × Contains (M m.0) m
+  of_names : (a n : ℕ) (m : Name) → Contains (names_taken a n) m → Contains (take n (groups_there a)) m.0 × Contains (M m.0) m
   of_names a n m among =
       let (g, in_groups, in_members) = one_of_flat_map M (take n (groups_there a)) m among in
       let same : m.0 ≡ g = (member-group g (of_taken a n g in_groups).1 m in_members).1 in
       (subst (Contains (take n (groups_there a))) (sym same) in_groups, subst (λ h. Contains (M h) m) (sym same) in_members)
 
   -- and each of those is taken
-  in_names : (a n g : ℕ) (m : ℕ × ℕ) → Contains (take n (groups_there a)) g → Contains (M g) m → Contains (names_taken a n) m
+  in_names : (a n g : ℕ) (m : Name) → Contains (take n (groups_there a)) g → Contains (M g) m → Contains (names_taken a n) m
   in_names a n g m in_groups in_members = Contains-flat_map M (take n (groups_there a)) g m in_groups in_members
 
   names_taken-ascending : (a n : ℕ) → IsAscending (names_taken a n)
@@ -188,7 +187,7 @@ module _ (T : ℕ → Option ℕ) (N : List (ℕ × ℕ)) (positive : (g t : ℕ
       }
 
   -- so do they behind names that have as many of each group below b as Q has, with as many groups as Q has from there on
-  pub joined_just : (G : ℕ) (Q front : List (ℕ × ℕ)) (b a n : ℕ) → HasJust T N G Q → b ≤ a → b ≤ most_groups → IsAscending front → All (Contains N) front
+  pub joined_just : (G : ℕ) (Q front : Names) (b a n : ℕ) → HasJust T N G Q → b ≤ a → b ≤ most_groups → IsAscending front → All (Contains N) front
       → All (λ m. m.0 < b) front → ((g : ℕ) → g < b → count front g ≡ count Q g)
       → n ≡ length (filter (is_complete T Q) (range_with_len b (most_groups - b))) → n ≤ length (groups_there a) → HasJust T N G (front ++ names_taken a n)
   joined_just G Q front b a n just upto low ascending at_hand earlier counts wanted enough =
@@ -203,7 +202,7 @@ module _ (T : ℕ → Option ℕ) (N : List (ℕ × ℕ)) (positive : (g t : ℕ
       let below : (g : ℕ) → g < b → count names g ≡ count Q g =
       λ g less. omega (arith, count-append front back g, none_behind g less, counts g less) in
       let above : (g : ℕ) → b ≤ g → count names g ≡ count back g = λ g more. omega (arith, count-append front back g, none_before g more) in
-      let agree : (xs : List (ℕ × ℕ)) (c k : ℕ) → ((g : ℕ) → c ≤ g → g < c + k → count names g ≡ count xs g)
+      let agree : (xs : Names) (c k : ℕ) → ((g : ℕ) → c ≤ g → g < c + k → count names g ≡ count xs g)
       → length (filter (is_complete T names) (range_with_len c k)) ≡ length (filter (is_complete T xs) (range_with_len c k)) =
       λ xs c k same. ap length (filter-range_agree (is_complete T names) (is_complete T xs) c k
       (λ g from_c upto_k. complete_alike T names xs g (same g from_c upto_k))) in
@@ -241,10 +240,10 @@ module _ (T : ℕ → Option ℕ) (N : List (ℕ × ℕ)) (positive : (g t : ℕ
       }
 
   -- behind a front, the first names of a list of earlier groups and then these are least, where what can stand there is of the list or of these groups
-  pub taken_least : (G : ℕ) → All (λ m. m.0 < most_groups) N → (front A others : List (ℕ × ℕ)) (a c n : ℕ) → IsAscending A → All (λ m. m.0 < a) A
+  pub taken_least : (G : ℕ) → All (λ m. m.0 < most_groups) N → (front A others : Names) (a c n : ℕ) → IsAscending A → All (λ m. m.0 < a) A
       → HasJust T N G (front ++ (take c A ++ names_taken a n)) → HasJust T N G (front ++ others)
-      → ((m : ℕ × ℕ) → Contains A m → (r : ℕ × ℕ) × Contains (front ++ (take c A ++ names_taken a n)) r × (r.0 ≡ m.0))
-      → ((y : ℕ × ℕ) → Contains others y → Contains A y ⊎ (a ≤ y.0)) → names_cmp (take c A ++ names_taken a n) others ≢ Greater
+      → ((m : Name) → Contains A m → (r : Name) × Contains (front ++ (take c A ++ names_taken a n)) r × (r.0 ≡ m.0))
+      → ((y : Name) → Contains others y → Contains A y ⊎ (a ≤ y.0)) → names_cmp (take c A ++ names_taken a n) others ≢ Greater
   taken_least G below front A others a c n ascending earlier just other used free =
       not_greater below front names others just other
       (λ y in_others missing.
@@ -263,19 +262,19 @@ module _ (T : ℕ → Option ℕ) (N : List (ℕ × ℕ)) (positive : (g t : ℕ
       (λ (past : a ≤ y.0). behind y in_others past missing)
       (free y in_others))
     where
-      back : List (ℕ × ℕ)
+      back : Names
       back = names_taken a n
 
-      names : List (ℕ × ℕ)
+      names : Names
       names = take c A ++ back
 
       from : All (λ m. a ≤ m.0) back
       from = names_taken-from a n
 
-      before_a : (m : ℕ × ℕ) → Contains (take c A) m → m.0 < a
+      before_a : (m : Name) → Contains (take c A) m → m.0 < a
       before_a m among = All-contains (λ p. p.0 < a) A m earlier (in_whole (take-sublist c A) m among)
 
-      behind : (y : ℕ × ℕ) → Contains others y → a ≤ y.0 → (Contains (front ++ names) y → ⊥) → HasNoRoom front names y
+      behind : (y : Name) → Contains others y → a ≤ y.0 → (Contains (front ++ names) y → ⊥) → HasNoRoom front names y
       behind y in_others past missing =
           let groups = take n (groups_there a) in
           let in_other : Contains (front ++ others) y = Contains-append_right front others y in_others in

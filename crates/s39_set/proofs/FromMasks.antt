@@ -10,14 +10,17 @@ use Rattle.std.proofs.lemmas.List.{get_or-set_same, get_or-set_other}
 use Rattle.std.proofs.lemmas.List.Elements.{All-contains}
 use Rattle.std.proofs.lemmas.List.Kept.{AllPairs-filter}
 use Rattle.s39_set.specs.declared.masks.Masks.{Masks}
-use Rattle.s39_set.specs.Names.{name_cmp, IsAscending, names_in_group, most_groups, most_members}
+use Rattle.s39_set.specs.Names.{Name, Names, name_cmp, IsAscending, names_in_group, most_groups, most_members}
 use Rattle.s39_set.specs.Groups.{is_complete}
 use Rattle.s39_set.specs.Masks.{is_in}
 use Rattle.s39_set.specs.Steps.{AreMasksOf, members_from}
-use Rattle.s39_set.proofs.Sublists.{each, of_filter, Contains-filter}
+use Rattle.s39_lists.proofs.Sublists.{each, of_filter, Contains-filter}
 use Rattle.s39_set.proofs.Ascending.{Precedes, same_names}
-use Rattle.s39_set.proofs.AtHand.{Contains-map, AllPairs-map, one_of_map, member-less}
-use Rattle.s39_set.proofs.CompleteGroups.{range_from-ascending, range_from-bounds, Contains-range_from, is_complete-at}
+use Rattle.s39_set.proofs.Ascending.{member-less}
+use Rattle.s39_lists.proofs.Images.{Contains-map, one_of_map}
+use Rattle.s39_lists.proofs.Pairs.{AllPairs-map}
+use Rattle.s39_set.proofs.CompleteGroups.{is_complete-at}
+use Rattle.s39_lists.proofs.Ranges.{range_from-ascending, range_from-bounds, Contains-range_from}
 use Rattle.s39_set.proofs.MembersOf.{of_group, in_group, group-ascending}
 use Rattle.s39_set.proofs.Step.{AreAbove}
 
@@ -27,20 +30,20 @@ lower_first g m h n same less = grind (arith, nat_tests)
 pub higher_member : (g m h n : ℕ) → g ≡ h → name_cmp (h, m) (g, n) ≡ Less → m < n
 higher_member g m h n same less = grind (arith, nat_tests)
 
-module _ (masks : Masks) (names : List (ℕ × ℕ)) (masks_are : AreMasksOf masks names) (low : All (λ n. n.1 < most_members) names) (g : ℕ)
+module _ (masks : Masks) (names : Names) (masks_are : AreMasksOf masks names) (low : All (λ n. n.1 < most_members) names) (g : ℕ)
     (low_g : g < most_groups) where
   -- the members of a group from one on in the masks are names of the group
-  listed : (a : ℕ) (n : ℕ × ℕ) → Contains (members_from masks g a) n → Contains names n × (n.0 ≡ g) × (a ≤ n.1)
+  listed : (a : ℕ) (n : Name) → Contains (members_from masks g a) n → Contains names n × (n.0 ≡ g) × (a ≤ n.1)
   listed a n among =
       let numbers = range_with_len a (most_members - a) in
       let (m, held, same) = one_of_map (λ k. (g, k)) (filter (is_in masks g) numbers) n among in
       let (in_range, bit) = of_filter (is_in masks g) numbers m held in
       let bounds = All-contains (λ k. (a ≤ k) × (k < a + (most_members - a))) numbers m (range_from-bounds a (most_members - a)) in_range in
       let small : m < most_members = omega (arith, bounds.0, bounds.1) in
-      subst (λ (k : ℕ × ℕ). Contains names k × (k.0 ≡ g) × (a ≤ k.1)) same ((masks_are g m low_g small).0 bit, refl, bounds.0)
+      subst (λ (k : Name). Contains names k × (k.0 ≡ g) × (a ≤ k.1)) same ((masks_are g m low_g small).0 bit, refl, bounds.0)
 
   -- and all that there are from it on
-  lists : (a : ℕ) (n : ℕ × ℕ) → Contains names n → n.0 ≡ g → a ≤ n.1 → Contains (members_from masks g a) n
+  lists : (a : ℕ) (n : Name) → Contains names n → n.0 ≡ g → a ≤ n.1 → Contains (members_from masks g a) n
   lists a n among same from =
       let numbers = range_with_len a (most_members - a) in
       let small : n.1 < most_members = All-contains (λ m. m.1 < most_members) names n low among in
@@ -74,13 +77,13 @@ module _ (masks : Masks) (names : List (ℕ × ℕ)) (masks_are : AreMasksOf mas
   }
 
 -- a group with a threshold is complete where it has as many members in the masks
-pub complete_test : (T : ℕ → Option ℕ) (N : List (ℕ × ℕ)) (masks : Masks) → AreMasksOf masks N → All (λ n. n.1 < most_members) N → IsAscending N → (g t : ℕ)
+pub complete_test : (T : ℕ → Option ℕ) (N : Names) (masks : Masks) → AreMasksOf masks N → All (λ n. n.1 < most_members) N → IsAscending N → (g t : ℕ)
     → g < most_groups → T g ≡ Some t → is_complete T N g ≡ nat_le t (length (members_from masks g 0))
 complete_test T N masks masks_are low ascending g t low_g e =
     is_complete-at T N g t e ∙ ap (λ l. nat_le t (length l)) (names_in_group-masks masks N masks_are low g low_g ascending)
 
 -- a group without a threshold isn't
-pub no_threshold : (T : ℕ → Option ℕ) (N : List (ℕ × ℕ)) (g : ℕ) → T g ≡ None → is_complete T N g ≡ false
+pub no_threshold : (T : ℕ → Option ℕ) (N : Names) (g : ℕ) → T g ≡ None → is_complete T N g ≡ false
 no_threshold T N g e = ap (λ o. option_map_or (λ threshold. nat_le threshold (length (names_in_group g N))) o false) e
 
 -- one entry of a table more

@@ -6,22 +6,22 @@ use Rattle.std.proofs.lemmas.Bool.{eq-eqb, false≢true}
 use Rattle.std.proofs.lemmas.List.{length-take-le, get_or-take, get_or_default, take_more}
 use Rattle.std.proofs.lemmas.List.Elements.{All-append, All-contains, All-map, All-take, Contains-push_cases}
 use Rattle.s39_set.specs.declared.masks.Masks.{Masks}
-use Rattle.s39_set.specs.Names.{name_cmp, IsAscending, names_in_group, most_members}
+use Rattle.s39_set.specs.Names.{Name, Names, name_cmp, IsAscending, names_in_group, most_members}
 use Rattle.s39_set.specs.Masks.{is_in}
 use Rattle.s39_set.specs.Steps.{members_from}
-use Rattle.s39_set.proofs.Sublists.{each}
+use Rattle.s39_lists.proofs.Sublists.{each}
 use Rattle.s39_set.proofs.MembersOf.{none_counted}
 use Rattle.s39_set.proofs.Ascending.{groups-in_order}
 use Rattle.s39_set.proofs.RangesFrom.{less_up}
 
 -- they come before the name there
-pub front-before : (names : List (ℕ × ℕ)) (i : ℕ) → IsAscending names → i < length names → All (λ n. name_cmp n (get_or names i (0, 0)) ≡ Less) (take i names)
+pub front-before : (names : Names) (i : ℕ) → IsAscending names → i < length names → All (λ n. name_cmp n (get_or names i (0, 0)) ≡ Less) (take i names)
 front-before names i ascending below k d within =
     let short : length (take i names) ≡ i = length-take-le i names (omega arith) in
     subst (λ n. name_cmp n (get_or names i (0, 0)) ≡ Less) (sym (get_or-take i names k d (omega arith)))
     (subst (λ n. name_cmp (get_or names k d) n ≡ Less) (get_or_default names i d (0, 0) below) (ascending k i d (omega arith) below))
 
-module _ (names : List (ℕ × ℕ)) (i : ℕ) (ascending : IsAscending names) (below : i < length names) where
+module _ (names : Names) (i : ℕ) (ascending : IsAscending names) (below : i < length names) where
   -- and before the next member of its group
   pub front-before_next : All (λ n. name_cmp n ((get_or names i (0, 0)).0, (get_or names i (0, 0)).1 + 1) ≡ Less) (take i names)
   front-before_next k d within =
@@ -61,7 +61,7 @@ module _ (names : List (ℕ × ℕ)) (i : ℕ) (ascending : IsAscending names) (
       groups-in_order n last
       (All-contains (λ m. name_cmp m last ≡ Less) (take (i - 1) names) n (front-before names (i - 1) ascending (omega arith)) earlier) in
       absurd (apart (omega arith)))
-      (λ (here : last ≡ n). let own : last.0 ≡ n.0 = ap (λ (m : ℕ × ℕ). m.0) here in absurd (apart (omega arith)))
+      (λ (here : last ≡ n). let own : last.0 ≡ n.0 = ap (λ (m : Name). m.0) here in absurd (apart (omega arith)))
       (Contains-push_cases (take (i - 1) names) last n (subst (λ l. Contains l n) split among))))
 
 pub apart_from_test : (m n : ℕ) → not (m == n) ≡ true → m ≢ n

@@ -7,8 +7,8 @@ use Rattle.std.proofs.lemmas.List.Elements.{Contains-append_left, Contains-appen
 use Rattle.s39_set.specs.declared.masks.Masks.{Masks}
 use Rattle.s39_set.specs.Masks.{is_in, AddsName}
 use Rattle.s39_set.specs.Steps.{AreMasksOf}
-use Rattle.s39_set.proofs.Sublists.{Contains-head, Contains-cases, Contains-nil}
-use Rattle.s39_set.specs.Names.{most_groups, most_members}
+use Rattle.s39_lists.proofs.Sublists.{Contains-head, Contains-cases, Contains-nil}
+use Rattle.s39_set.specs.Names.{Name, Names, most_groups, most_members}
 use Rattle.s39_set.specs.Slots.{slot_of}
 
 -- a name is in the new masks where it was in the old ones or is the one added
@@ -30,7 +30,7 @@ inserted_this old new group member is g m same_group same_member =
     (and_from (g == group) (m == member) (eq-eqb g group same_group) (eq-eqb m member same_member))
 
 -- masks with one name more
-pub masks_more : (old new : Masks) (names : List (ℕ × ℕ)) (name : ℕ × ℕ) → AreMasksOf old names → AddsName old new name → AreMasksOf new (names ++ name ∷ [])
+pub masks_more : (old new : Masks) (names : Names) (name : Name) → AreMasksOf old names → AddsName old new name → AreMasksOf new (names ++ name ∷ [])
 masks_more old new names name were is g m low_g low_m = (
   λ h.
       ⊎_elim
@@ -43,18 +43,18 @@ masks_more old new names name were is g m low_g low_m = (
       (λ (earlier : Contains names (g, m)). inserted_old old new name.0 name.1 is g m ((were g m low_g low_m).1 earlier))
       (λ (last : Contains (name ∷ []) (g, m)).
       ⊎_elim
-      (λ (same : name ≡ (g, m)). inserted_this old new name.0 name.1 is g m (sym (ap (λ (n : ℕ × ℕ). n.0) same)) (sym (ap (λ (n : ℕ × ℕ). n.1) same)))
+      (λ (same : name ≡ (g, m)). inserted_this old new name.0 name.1 is g m (sym (ap (λ (n : Name). n.0) same)) (sym (ap (λ (n : Name). n.1) same)))
       (λ (none : Contains [] (g, m)). absurd (Contains-nil (g, m) none))
       (Contains-cases name [] (g, m) last))
       (Contains-append_cases names (name ∷ []) (g, m) among),
 )
 
 -- the masks have just those of these names whose slot is below a number
-abbrev pub AreMasksBelow : Masks → List (ℕ × ℕ) → ℕ → Type 0
+abbrev pub AreMasksBelow : Masks → Names → ℕ → Type 0
 AreMasksBelow masks names n =
     (g m : ℕ) → g < most_groups → m < most_members → (IsTrue (is_in masks g m) ↔ ((slot_of (g, m) < n) × Contains names (g, m)))
 
-pub below_more_yes : (old new : Masks) (names : List (ℕ × ℕ)) (n group member : ℕ) → AreMasksBelow old names n → slot_of (group, member) ≡ n
+pub below_more_yes : (old new : Masks) (names : Names) (n group member : ℕ) → AreMasksBelow old names n → slot_of (group, member) ≡ n
     → member < most_members → Contains names (group, member) → AddsName old new (group, member) → AreMasksBelow new names (n + 1)
 below_more_yes old new names n group member were at low_member among is g m low_g low_m = (
   λ h.
@@ -76,7 +76,7 @@ below_more_yes old new names n group member were at low_member among is g m low_
       ],
 )
 
-pub below_more_no : (masks : Masks) (names : List (ℕ × ℕ)) (n group member : ℕ) → AreMasksBelow masks names n → slot_of (group, member) ≡ n
+pub below_more_no : (masks : Masks) (names : Names) (n group member : ℕ) → AreMasksBelow masks names n → slot_of (group, member) ≡ n
     → member < most_members → (Contains names (group, member) → ⊥) → AreMasksBelow masks names (n + 1)
 below_more_no masks names n group member were at low_member apart g m low_g low_m = (
   λ h. let both = (were g m low_g low_m).0 h in let less : slot_of (g, m) < n = both.0 in (omega arith, both.1),

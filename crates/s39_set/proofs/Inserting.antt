@@ -7,9 +7,10 @@ use Rattle.std.proofs.lemmas.List.Elements.{All-nil, All-cons, All-map}
 use Rattle.std.proofs.lemmas.List.Kept.{AllPairs-cons}
 use Rattle.s39_words.specs.declared.share.ShareFields.{ShareFields}
 use Rattle.s39_words.specs.Share.{IsShare}
-use Rattle.s39_set.specs.Names.{name_cmp, IsAscending}
+use Rattle.s39_set.specs.Names.{Name, name_cmp, IsAscending}
 use Rattle.s39_set.specs.ShareSet.{IsShareSet, HasOneMore, CanJoin, name_of, refusal_of}
-use Rattle.s39_set.proofs.Sublists.{Contains-head, Contains-cons, AllPairs-head, AllPairs-tail, AllPairs-nil}
+use Rattle.s39_lists.proofs.Sublists.{Contains-head, Contains-cons}
+use Rattle.s39_lists.proofs.Pairs.{AllPairs-head, AllPairs-tail, AllPairs-nil}
 use Rattle.s39_set.proofs.Ascending.{name_cmp_total}
 use Rattle.s39_set.proofs.NamesOrder.{name_cmp-equal}
 use Rattle.s39_set.proofs.Joins.{joins_from_none, same_from_joins}
@@ -28,7 +29,7 @@ record IsInserted (set : List ShareFields) (share : ShareFields) (more : List Sh
 names_after : (s : ShareFields) (ss : List ShareFields) → IsAscending (map name_of (s ∷ ss)) → All (λ t. name_cmp (name_of s) (name_of t) ≡ Less) ss
 names_after s ss ascending k d below =
     let after : All (λ n. name_cmp (name_of s) n ≡ Less) (map name_of ss) = AllPairs-head (λ a b. name_cmp a b ≡ Less) (name_of s) (map name_of ss) ascending in
-    subst (λ (n : ℕ × ℕ). name_cmp (name_of s) n ≡ Less) (get_or-map name_of ss k d (name_of d) below)
+    subst (λ (n : Name). name_cmp (name_of s) n ≡ Less) (get_or-map name_of ss k d (name_of d) below)
     (after k (name_of d) (omega (arith, length-map ss name_of)))
 
 inserted : (set : List ShareFields) (share : ShareFields) → IsAscending (map name_of set)

@@ -8,10 +8,11 @@ use Rattle.std.proofs.lemmas.List.Elements.{All-contains, Contains-get_or}
 use Rattle.std.proofs.lemmas.List.Folds.{list_any_none, list_any_at}
 use Rattle.s39_words.specs.declared.share.ShareFields.{ShareFields}
 use Rattle.s39_words.specs.Share.{flag_bit}
+use Rattle.s39_set.specs.Names.{Name}
 use Rattle.s39_set.specs.ShareSet.{Agrees, IsShareSet, CanJoin, name_of, is_in_group, has_name, some_differs, refusal_of}
 use Rattle.s39_set.specs.declared.set_error.SetError.{SetError}
 use Rattle.s39_set.specs.declared.set_error.SetError.TheVariants.{OtherIdentifier}
-use Rattle.s39_set.proofs.Sublists.{each, of_filter, Contains-filter}
+use Rattle.s39_lists.proofs.Sublists.{each, of_filter, Contains-filter}
 use Rattle.s39_set.proofs.Sets.{agree, one_share}
 use Rattle.s39_set.proofs.Refusals.{causes_of, none_apply, has_name-is, has_name-own}
 
@@ -80,8 +81,8 @@ fields-of s = refl
 -- shares of one name that agree and have one value are the same
 same_share : (s t : ShareFields) → Agrees s t → name_of s ≡ name_of t → s.value.items ≡ t.value.items → s ≡ t
 same_share s t h names values =
-    let group : s.group_index ≡ t.group_index = ap (λ (n : ℕ × ℕ). n.0) names in
-    let member : s.member_index ≡ t.member_index = ap (λ (n : ℕ × ℕ). n.1) names in
+    let group : s.group_index ≡ t.group_index = ap (λ (n : Name). n.0) names in
+    let member : s.member_index ≡ t.member_index = ap (λ (n : Name). n.1) names in
     let threshold = h.member_threshold group in
     let of_s = fields-of s in
     let of_t = fields-of t in
@@ -131,7 +132,7 @@ module _ (shares : List ShareFields) (share : ShareFields) where
               (Contains-filter (is_in_group share.group_index) shares s has_s (eq-eqb s.group_index share.group_index group));
         });
         same_value = each (λ s. name_of s ≡ name_of share → s.value.items ≡ share.value.items) shares (λ s has_s names.
-            let passes : has_name share.group_index share.member_index s ≡ true = subst (λ (n : ℕ × ℕ). has_name n.0 n.1 s ≡ true) names (has_name-own s) in
+            let passes : has_name share.group_index share.member_index s ≡ true = subst (λ (n : Name). has_name n.0 n.1 s ≡ true) names (has_name-own s) in
             let among = Contains-filter (has_name share.group_index share.member_index) shares s has_s passes in
             (bytes_decides s.value.items share.value.items).0
             (not-false (bytes_eq s.value.items share.value.items)

@@ -5,11 +5,11 @@ use Rattle.std.specs.Ordering.{ordering_reverse}
 use Rattle.std.proofs.lemmas.Bool.{cases_lt, lt-ltb, le-ltb}
 use Rattle.std.proofs.lemmas.List.{nil_from_length}
 use Rattle.std.proofs.lemmas.List.Elements.{All-contains, Contains-append_left, Contains-append_right, Contains-append_cases}
-use Rattle.s39_set.specs.Names.{name_cmp, names_cmp, IsAscending, names_in_group, most_groups}
+use Rattle.s39_set.specs.Names.{Name, Names, name_cmp, names_cmp, IsAscending, names_in_group, most_groups}
 use Rattle.s39_set.specs.Groups.{is_complete, complete_groups}
-use Rattle.s39_set.proofs.Sublists.{IsSublist, length-sublist, each, same_from_length, same_from_part, Contains-head}
-use Rattle.s39_set.proofs.Sublists.{Contains-cases, AllPairs-head}
-use Rattle.s39_set.proofs.Orders.{AllPairs-append_right, across}
+use Rattle.s39_lists.proofs.Sublists.{IsSublist, length-sublist, each, same_from_length, same_from_part, Contains-head, Contains-cases}
+use Rattle.s39_lists.proofs.Pairs.{AllPairs-head}
+use Rattle.s39_lists.proofs.Orders.{AllPairs-append_right, across}
 use Rattle.s39_set.proofs.Ascending.{Precedes, name_cmp_one_way, names-sublist, same_names, same_names_from_length, less_than}
 use Rattle.s39_set.proofs.NamesOrder.{names_order, IsBefore, ends, differs, before}
 use Rattle.s39_set.proofs.Thresholds.{HasJust}
@@ -20,18 +20,18 @@ use Rattle.s39_set.proofs.CompleteGroups.{Contains-complete_groups, names_in_gro
 -- ---- names with just what the thresholds ask
 
 -- a group that has names has just as many as its threshold
-pub exact_at : {T : ℕ → Option ℕ} {N : List (ℕ × ℕ)} {G : ℕ} {names : List (ℕ × ℕ)} → HasJust T N G names → (n : ℕ × ℕ) → Contains names n
+pub exact_at : {T : ℕ → Option ℕ} {N : Names} {G : ℕ} {names : Names} → HasJust T N G names → (n : Name) → Contains names n
     → T n.0 ≡ Some (count names n.0)
 exact_at {T} {N} {G} {names} just n among = All-contains (λ m. T m.0 ≡ Some (count names m.0)) names n just.members among
 
-pub exact_group : {T : ℕ → Option ℕ} {N : List (ℕ × ℕ)} {G : ℕ} {names : List (ℕ × ℕ)} → HasJust T N G names → (g : ℕ) → 0 < count names g
+pub exact_group : {T : ℕ → Option ℕ} {N : Names} {G : ℕ} {names : Names} → HasJust T N G names → (g : ℕ) → 0 < count names g
     → T g ≡ Some (count names g)
 exact_group {T} {N} {G} {names} just g some =
     let (n, among, same) = one_counted g names some in
     subst (λ h. T h ≡ Some (count names h)) same (exact_at just n among)
 
 -- a group whose names are as many as its threshold is complete where it has some
-pub complete_where : (T : ℕ → Option ℕ) (names : List (ℕ × ℕ)) (g : ℕ) → ((t : ℕ) → T g ≡ Some t → 1 ≤ t) → (0 < count names g → T g ≡ Some (count names g))
+pub complete_where : (T : ℕ → Option ℕ) (names : Names) (g : ℕ) → ((t : ℕ) → T g ≡ Some t → 1 ≤ t) → (0 < count names g → T g ≡ Some (count names g))
     → is_complete T names g ≡ nat_lt 0 (count names g)
 complete_where T names g positive exact =
     elim (cases_lt 0 (count names g)) [
@@ -39,11 +39,11 @@ complete_where T names g positive exact =
       | inr none ↦ is_complete-none T names g positive (nil_from_length (names_in_group g names) (omega arith)) ∙ sym (le-ltb 0 (count names g) none)
     ]
 
-pub complete_is : {T : ℕ → Option ℕ} {N : List (ℕ × ℕ)} {G : ℕ} {names : List (ℕ × ℕ)} → ((g t : ℕ) → T g ≡ Some t → 1 ≤ t) → HasJust T N G names → (g : ℕ)
+pub complete_is : {T : ℕ → Option ℕ} {N : Names} {G : ℕ} {names : Names} → ((g t : ℕ) → T g ≡ Some t → 1 ≤ t) → HasJust T N G names → (g : ℕ)
     → is_complete T names g ≡ nat_lt 0 (count names g)
 complete_is {T} {N} {G} {names} positive just g = complete_where T names g (positive g) (exact_group just g)
 
-pub complete_at : {T : ℕ → Option ℕ} {N : List (ℕ × ℕ)} {G : ℕ} {names : List (ℕ × ℕ)} → All (λ n. n.0 < most_groups) N → HasJust T N G names → (n : ℕ × ℕ)
+pub complete_at : {T : ℕ → Option ℕ} {N : Names} {G : ℕ} {names : Names} → All (λ n. n.0 < most_groups) N → HasJust T N G names → (n : Name)
     → Contains names n → Contains (complete_groups T names) n.0
 complete_at {T} {N} {G} {names} below just n among =
     Contains-complete_groups T names n.0 (count names n.0)
@@ -51,21 +51,21 @@ complete_at {T} {N} {G} {names} below just n among =
     (exact_at just n among) (le_refl (count names n.0))
 
 -- and those are complete at hand
-pub complete_at_hand : {T : ℕ → Option ℕ} {N : List (ℕ × ℕ)} {G : ℕ} {names : List (ℕ × ℕ)} → IsAscending N → HasJust T N G names → (n : ℕ × ℕ)
+pub complete_at_hand : {T : ℕ → Option ℕ} {N : Names} {G : ℕ} {names : Names} → IsAscending N → HasJust T N G names → (n : Name)
     → Contains names n → is_complete T N n.0 ≡ true
 complete_at_hand {T} {N} {G} {names} sorted just n among =
     is_complete_from T N n.0 (count names n.0) (exact_at just n among)
     (length-sublist (names_in_group-sublist n.0 (names-sublist N names sorted just.ascending just.at_hand)))
 
-pub one_complete : (T : ℕ → Option ℕ) → ((g t : ℕ) → T g ≡ Some t → 1 ≤ t) → (names : List (ℕ × ℕ)) (g : ℕ) → Contains (complete_groups T names) g
-    → (n : ℕ × ℕ) × Contains names n × (n.0 ≡ g)
+pub one_complete : (T : ℕ → Option ℕ) → ((g t : ℕ) → T g ≡ Some t → 1 ≤ t) → (names : Names) (g : ℕ) → Contains (complete_groups T names) g
+    → (n : Name) × Contains names n × (n.0 ≡ g)
 one_complete T positive names g among =
     let has = complete_groups-threshold T names g among in
     one_counted g names (omega (arith, positive g has.threshold has.is, has.enough))
 
 -- where all names of a group of the one are among the other's, they are the other's
-pub same_members : {T : ℕ → Option ℕ} {N : List (ℕ × ℕ)} {G : ℕ} {xs ys : List (ℕ × ℕ)} → HasJust T N G xs → HasJust T N G ys → (x y : ℕ × ℕ)
-    → Contains xs x → Contains ys y → x.0 ≡ y.0 → ((n : ℕ × ℕ) → Contains xs n → n.0 ≡ y.0 → Contains ys n) → Contains xs y
+pub same_members : {T : ℕ → Option ℕ} {N : Names} {G : ℕ} {xs ys : Names} → HasJust T N G xs → HasJust T N G ys → (x y : Name)
+    → Contains xs x → Contains ys y → x.0 ≡ y.0 → ((n : Name) → Contains xs n → n.0 ≡ y.0 → Contains ys n) → Contains xs y
 same_members {T} {N} {G} {xs} {ys} first second x y in_xs in_ys same inside =
     let g : ℕ = y.0 in
     let own : T g ≡ Some (count xs g) = subst (λ h. T h ≡ Some (count xs h)) same (exact_at first x in_xs) in
@@ -79,7 +79,7 @@ same_members {T} {N} {G} {xs} {ys} first second x y in_xs in_ys same inside =
     (of_group g xs y (subst (λ l. Contains l y) whole (in_group g ys y in_ys refl))).0
 
 -- where all complete groups of the one are the other's too, they are the other's
-pub same_complete : {T : ℕ → Option ℕ} {N : List (ℕ × ℕ)} {G : ℕ} {xs ys : List (ℕ × ℕ)} → HasJust T N G xs → HasJust T N G ys
+pub same_complete : {T : ℕ → Option ℕ} {N : Names} {G : ℕ} {xs ys : Names} → HasJust T N G xs → HasJust T N G ys
     → All (Contains (complete_groups T ys)) (complete_groups T xs) → complete_groups T ys ≡ complete_groups T xs
 same_complete {T} {N} {G} {xs} {ys} first second inside =
     let one = first.groups in
@@ -88,8 +88,8 @@ same_complete {T} {N} {G} {xs} {ys} first second inside =
     (complete_groups-ascending T xs) inside (omega arith)
 
 -- no fewer of the names complete as many groups
-pub all_needed : {T : ℕ → Option ℕ} {N : List (ℕ × ℕ)} {G : ℕ} {names : List (ℕ × ℕ)} → All (λ n. n.0 < most_groups) N → HasJust T N G names
-    → (fewer : List (ℕ × ℕ)) → IsAscending fewer → All (Contains names) fewer → G ≤ length (complete_groups T fewer) → fewer ≡ names
+pub all_needed : {T : ℕ → Option ℕ} {N : Names} {G : ℕ} {names : Names} → All (λ n. n.0 < most_groups) N → HasJust T N G names
+    → (fewer : Names) → IsAscending fewer → All (Contains names) fewer → G ≤ length (complete_groups T fewer) → fewer ≡ names
 all_needed {T} {N} {G} {names} below just fewer ascending inside enough =
     let part : IsSublist fewer names = names-sublist names fewer just.ascending ascending inside in
     let groups = just.groups in
@@ -106,7 +106,7 @@ all_needed {T} {N} {G} {names} below just fewer ascending inside enough =
     inside
 
 -- so none goes on where another ends
-pub alone : {T : ℕ → Option ℕ} {N : List (ℕ × ℕ)} {G : ℕ} → All (λ n. n.0 < most_groups) N → (xs : List (ℕ × ℕ)) (z : ℕ × ℕ) (zs : List (ℕ × ℕ))
+pub alone : {T : ℕ → Option ℕ} {N : Names} {G : ℕ} → All (λ n. n.0 < most_groups) N → (xs : Names) (z : Name) (zs : Names)
     → HasJust T N G xs → HasJust T N G (xs ++ z ∷ zs) → ⊥
 alone below xs z zs just longer =
     let groups = just.groups in
@@ -118,19 +118,19 @@ alone below xs z zs just longer =
 -- ---- the least that can stand behind a front
 
 -- a name can't stand before some of these: all of them come first, or all of its group do, which has some
-abbrev pub HasNoRoom : List (ℕ × ℕ) → List (ℕ × ℕ) → ℕ × ℕ → Type 0
+abbrev pub HasNoRoom : Names → Names → Name → Type 0
 HasNoRoom front names y = All (λ n. name_cmp n y ≡ Less) names
-    ⊎ (((n : ℕ × ℕ) × Contains (front ++ names) n × (n.0 ≡ y.0)) × ((n : ℕ × ℕ) → Contains names n → n.0 ≡ y.0 → name_cmp n y ≡ Less))
+    ⊎ (((n : Name) × Contains (front ++ names) n × (n.0 ≡ y.0)) × ((n : Name) → Contains names n → n.0 ≡ y.0 → name_cmp n y ≡ Less))
 
 -- names don't come after others with the same front, where those that only the others have find no room
-pub not_greater : {T : ℕ → Option ℕ} {N : List (ℕ × ℕ)} {G : ℕ} → All (λ n. n.0 < most_groups) N → (front names others : List (ℕ × ℕ))
+pub not_greater : {T : ℕ → Option ℕ} {N : Names} {G : ℕ} → All (λ n. n.0 < most_groups) N → (front names others : Names)
     → HasJust T N G (front ++ names) → HasJust T N G (front ++ others)
-    → ((y : ℕ × ℕ) → Contains others y → (Contains (front ++ names) y → ⊥) → HasNoRoom front names y) → names_cmp names others ≢ Greater
+    → ((y : Name) → Contains others y → (Contains (front ++ names) y → ⊥) → HasNoRoom front names y) → names_cmp names others ≢ Greater
 not_greater {T} {N} {G} below P names others just other no_room greater =
     by (before others names (names_order.antisymm others names ∙ ap ordering_reverse greater)) just other no_room
   where
-    by : {ys xs : List (ℕ × ℕ)} → IsBefore ys xs → HasJust T N G (P ++ xs) → HasJust T N G (P ++ ys)
-        → ((y : ℕ × ℕ) → Contains ys y → (Contains (P ++ xs) y → ⊥) → HasNoRoom P xs y) → ⊥
+    by : {ys xs : Names} → IsBefore ys xs → HasJust T N G (P ++ xs) → HasJust T N G (P ++ ys)
+        → ((y : Name) → Contains ys y → (Contains (P ++ xs) y → ⊥) → HasNoRoom P xs y) → ⊥
     by (ends front x xs) just other no_room = alone below (P ++ front) x xs other (subst (HasJust T N G) (sym (append_assoc P front (x ∷ xs))) just)
     by (differs front y ys x xs less) just other no_room =
         let mine = P ++ (front ++ x ∷ xs) in
@@ -138,13 +138,13 @@ not_greater {T} {N} {G} below P names others just other no_room greater =
         let x_in = Contains-append_right front (x ∷ xs) x (Contains-head x xs) in
         let y_in = Contains-append_right front (y ∷ ys) y (Contains-head y ys) in
         let ordered = AllPairs-append_right Precedes front (x ∷ xs) (AllPairs-append_right Precedes P (front ++ x ∷ xs) just.ascending) in
-        let behind : (n : ℕ × ℕ) → Contains (x ∷ xs) n → name_cmp y n ≡ Less =
+        let behind : (n : Name) → Contains (x ∷ xs) n → name_cmp y n ≡ Less =
         λ n among.
         ⊎_elim
         (λ (same : x ≡ n). subst (Precedes y) same less)
         (λ (later : Contains xs n). less_than y x n less (All-contains (Precedes x) xs n (AllPairs-head Precedes x xs ordered) later))
         (Contains-cases x xs n among) in
-        let shared : (n : ℕ × ℕ) → Contains mine n → (Contains (x ∷ xs) n → ⊥) → Contains theirs n =
+        let shared : (n : Name) → Contains mine n → (Contains (x ∷ xs) n → ⊥) → Contains theirs n =
         λ n among apart.
         ⊎_elim
         (λ (first : Contains P n). Contains-append_left P (front ++ y ∷ ys) n first)

@@ -3,25 +3,25 @@ use Rattle.std.proofs.Common.{◌≡◌, ℕ, ◌<◌, Bool, List, length, filte
 use Rattle.std.specs.List.{range_with_len}
 use Rattle.std.proofs.lemmas.List.Elements.{All-contains}
 use Rattle.s39_words.specs.declared.share.ShareFields.{ShareFields}
-use Rattle.s39_set.specs.Names.{most_groups}
+use Rattle.s39_set.specs.Names.{Names, most_groups}
 use Rattle.s39_set.specs.Groups.{is_complete, complete_groups}
 use Rattle.s39_set.specs.ShareSet.{IsShareSet}
 use Rattle.s39_set.specs.Quorums.{group_threshold_of, member_threshold_of, HasJustTheMembers}
-use Rattle.s39_set.proofs.Sublists.{each}
-use Rattle.s39_set.proofs.CompleteGroups.{filter-range_agree}
+use Rattle.s39_lists.proofs.Sublists.{each}
+use Rattle.s39_lists.proofs.Ranges.{filter-range_agree}
 use Rattle.s39_set.proofs.MembersOf.{count, counted, one_counted}
 use Rattle.s39_set.proofs.Just.{complete_where}
 use Rattle.s39_set.proofs.SetQuorums.{member_threshold-positive}
 
 -- some of these names are of the group
-abbrev pub has_members : List (ℕ × ℕ) → ℕ → Bool
+abbrev pub has_members : Names → ℕ → Bool
 has_members names group = nat_lt 0 (count names group)
 
 -- each group below a number that has some of these names has just as many as its threshold
-abbrev pub AreExactBelow : (ℕ → Option ℕ) → List (ℕ × ℕ) → ℕ → Type 0
+abbrev pub AreExactBelow : (ℕ → Option ℕ) → Names → ℕ → Type 0
 AreExactBelow T names n = (g : ℕ) → g < n → 0 < count names g → T g ≡ Some (count names g)
 
-module _ (set : List ShareFields) (names : List (ℕ × ℕ)) where
+module _ (set : List ShareFields) (names : Names) where
   -- names with just the members of their groups are exact
   pub exact_from_just : HasJustTheMembers set names → AreExactBelow (member_threshold_of set) names most_groups
   exact_from_just has g below some =

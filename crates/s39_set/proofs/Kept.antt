@@ -16,15 +16,16 @@ use Rattle.s39_words.specs.declared.share.ShareFields.{ShareFields}
 use Rattle.s39_words.specs.Share.{IsShare}
 use Rattle.s39_set.specs.declared.common.Common.{Common}
 use Rattle.s39_set.specs.declared.masks.Masks.{Masks}
-use Rattle.s39_set.specs.Names.{name_cmp, IsAscending, most_groups, most_members}
+use Rattle.s39_set.specs.Names.{Name, name_cmp, IsAscending, most_groups, most_members}
 use Rattle.s39_set.specs.ShareSet.{Agrees, IsShareSet, CanJoin, HasOneMore, name_of, is_in_group, has_name, refusal_of}
 use Rattle.s39_set.specs.Masks.{is_in, AddsName}
 use Rattle.s39_set.specs.Quorums.{member_threshold_of}
 use Rattle.s39_set.specs.Slots.{shares_at, slot_of, common_of, common_of_all, IsKept}
-use Rattle.s39_set.proofs.Finds.{IfSome-map, find-none, find-passes, Contains-find, find-insert_other}
+use Rattle.s39_lists.proofs.Finds.{IfSome-map, find-none, find-passes, Contains-find, find-insert_other}
 use Rattle.s39_set.proofs.Slots.{OwnSlots, slots-at_least, own_slots-tail, find-slot}
-use Rattle.s39_set.proofs.Sublists.{Contains-head, Contains-cons, Contains-cases, Contains-nil, AllPairs-nil}
-use Rattle.s39_set.proofs.AtHand.{Contains-map, one_of_map}
+use Rattle.s39_lists.proofs.Sublists.{Contains-head, Contains-cons, Contains-cases, Contains-nil}
+use Rattle.s39_lists.proofs.Pairs.{AllPairs-nil}
+use Rattle.s39_lists.proofs.Images.{Contains-map, one_of_map}
 use Rattle.s39_set.proofs.Inserted.{inserted_cases, inserted_old, inserted_this}
 use Rattle.s39_set.specs.Steps.{AreMasksOf}
 use Rattle.s39_set.proofs.Sets.{agree, threshold_is}
@@ -33,7 +34,7 @@ use Rattle.s39_set.proofs.Refusals.{has_name-is}
 
 -- ---- names in the order of their slots
 
-name_cmp-from_slots : (a b : ℕ × ℕ) → a.1 < most_members → b.1 < most_members → slot_of a < slot_of b → name_cmp a b ≡ Less
+name_cmp-from_slots : (a b : Name) → a.1 < most_members → b.1 < most_members → slot_of a < slot_of b → name_cmp a b ≡ Less
 name_cmp-from_slots (g, m) (h, n) low also_low before = grind (arith, nat_tests)
 
 pub ascending-slots : (b : ℕ) (slots : List (Option ShareFields)) → OwnSlots b slots → All (λ share. share.member_index < most_members) (shares_at slots)
@@ -216,7 +217,7 @@ module _ (common : Option Common) (masks : Masks) (thresholds : List (Option ℕ
                 | inr this ↦
                     (let names_are : name_of share ≡ (group, member) = ap name_of this ∙ same in
                     inserted_this masks masks' share.group_index share.member_index adds group member
-                    (sym (ap (λ (n : ℕ × ℕ). n.0) names_are)) (sym (ap (λ (n : ℕ × ℕ). n.1) names_are)))
+                    (sym (ap (λ (n : Name). n.0) names_are)) (sym (ap (λ (n : Name). n.1) names_are)))
               ],
         )
 

@@ -1,8 +1,5 @@
-pub mod Finds
 pub mod Flags
 pub mod StepLooks
-pub mod Sublists
-pub mod Orders
 pub mod Ascending
 pub mod Thresholds
 pub mod CompleteGroups
@@ -15,10 +12,8 @@ pub mod Kept
 pub mod SetQuorums
 pub mod NamesBefore
 pub mod JustMembers
-pub mod Ranges
 pub mod OptionTests
-pub mod AtHand
-pub mod IndexText
+pub mod NumberText
 pub mod NameText
 pub mod WrittenNames
 pub mod Bits
@@ -38,3 +33,4 @@ pub mod Step
 pub mod StepOf
 pub mod SameShares
 pub mod OneLack
+pub mod Enough

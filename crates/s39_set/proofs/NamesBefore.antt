@@ -5,19 +5,19 @@ use Rattle.std.proofs.lemmas.List.{get_or_default}
 use Rattle.std.proofs.lemmas.Bool.Decides.{nat_tests}
 use Rattle.std.proofs.lemmas.List.Elements.{All-head, All-tail, All-push}
 use Rattle.std.proofs.lemmas.List.Quantifiers.{all_pairs_push}
-use Rattle.s39_set.specs.Names.{name_cmp, IsAscending, AreNames, most_groups, most_members}
+use Rattle.s39_set.specs.Names.{Name, Names, name_cmp, IsAscending, AreNames, most_groups, most_members}
 use Rattle.s39_set.specs.Slots.{slot_of}
-use Rattle.s39_set.proofs.Sublists.{AllPairs-head, AllPairs-tail}
+use Rattle.s39_lists.proofs.Pairs.{AllPairs-head, AllPairs-tail}
 use Rattle.s39_set.proofs.Ascending.{less_than}
 
 less_slots : (a b c d : ℕ) → b < most_members → name_cmp (a, b) (c, d) ≡ Less → most_members * a + b < most_members * c + d
 less_slots a b c d low h = grind (arith, nat_tests)
 
 -- the earlier of two names has the lower slot
-slot_of-less : (x y : ℕ × ℕ) → x.1 < most_members → name_cmp x y ≡ Less → slot_of x < slot_of y
+slot_of-less : (x y : Name) → x.1 < most_members → name_cmp x y ≡ Less → slot_of x < slot_of y
 slot_of-less x y low h = less_slots x.0 x.1 y.0 y.1 low h
 
-length_from_slot : (name : ℕ × ℕ) (b : ℕ) (names : List (ℕ × ℕ)) → IsAscending names → All (λ x. x.1 < most_members) names → All (λ x. b ≤ slot_of x) names
+length_from_slot : (name : Name) (b : ℕ) (names : Names) → IsAscending names → All (λ x. x.1 < most_members) names → All (λ x. b ≤ slot_of x) names
     → All (λ x. name_cmp x name ≡ Less) names → b ≤ slot_of name → b + length names ≤ slot_of name
 length_from_slot name b [] ascending low from earlier first = omega arith
 length_from_slot name b (x ∷ xs) ascending low from earlier first =
@@ -34,13 +34,13 @@ length_from_slot name b (x ∷ xs) ascending low from earlier first =
     omega arith
 
 -- they are no more than its slot says
-pub length-before : (names : List (ℕ × ℕ)) (name : ℕ × ℕ) → AreNames names → All (λ x. name_cmp x name ≡ Less) names → length names ≤ slot_of name
+pub length-before : (names : Names) (name : Name) → AreNames names → All (λ x. name_cmp x name ≡ Less) names → length names ≤ slot_of name
 length-before names name are earlier =
     let most = length_from_slot name 0 names are.ascending are.members (λ k d below. omega arith) earlier (omega arith) in
     omega arith
 
 -- with it behind them they are still names in order
-pub AreNames-push : (names : List (ℕ × ℕ)) (name : ℕ × ℕ) → AreNames names → name.0 < most_groups → name.1 < most_members
+pub AreNames-push : (names : Names) (name : Name) → AreNames names → name.0 < most_groups → name.1 < most_members
     → All (λ x. name_cmp x name ≡ Less) names → AreNames (names ++ name ∷ [])
 AreNames-push names name are group member earlier = record {
   ascending = all_pairs_push (λ a b. name_cmp a b ≡ Less) names name are.ascending earlier;
@@ -49,7 +49,7 @@ AreNames-push names name are group member earlier = record {
 }
 
 -- ascending names all come before a name where the last of them does
-pub all_before : (names : List (ℕ × ℕ)) (last name : ℕ × ℕ) → IsAscending names → 0 < length names → get_or names (length names - 1) last ≡ last
+pub all_before : (names : Names) (last name : Name) → IsAscending names → 0 < length names → get_or names (length names - 1) last ≡ last
     → name_cmp last name ≡ Less → All (λ x. name_cmp x name ≡ Less) names
 all_before names last name ascending some at less k d below =
     elim (cases_lt k (length names - 1)) [

@@ -9,10 +9,9 @@ use Rattle.std.proofs.lemmas.Bool.{cases_Bool}
 use Rattle.std.proofs.lemmas.Bool.Decides.{nat_tests}
 use Rattle.std.proofs.lemmas.List.FromFn.{get_or-range_with_len, length-range_with_len}
 use Rattle.std.proofs.lemmas.List.Elements.{All-filter, All-take, All-map, All-weaker, All-append}
-use Rattle.s39_set.specs.Names.{name_cmp}
-use Rattle.s39_set.proofs.AtHand.{member-less}
-use Rattle.s39_set.proofs.Ranges.{take_push_short, take_push_full}
-use Rattle.s39_set.proofs.CompleteGroups.{range-split}
+use Rattle.s39_set.specs.Names.{Names, name_cmp}
+use Rattle.s39_set.proofs.Ascending.{member-less}
+use Rattle.s39_lists.proofs.Ranges.{take_push_short, take_push_full, range-split}
 
 module _ (p : ℕ → Bool) (a j : ℕ) (from : a ≤ j) where
   filter-range_from : filter p (range_with_len a ((j + 1) - a)) ≡ filter p (range_with_len a (j - a)) ++ cond (p j) (j ∷ []) []
@@ -68,7 +67,7 @@ pub less_up : (g m h a b : ℕ) → name_cmp (g, m) (h, a) ≡ Less → a ≤ b 
 less_up g m h a b less up = grind (arith, nat_tests)
 
 -- names before a group's member, and its members from there on, come before the next member
-pub all_before_next : (p : ℕ → Bool) (many a j group : ℕ) → a ≤ j → (names : List (ℕ × ℕ)) → All (λ n. name_cmp n (group, a) ≡ Less) names
+pub all_before_next : (p : ℕ → Bool) (many a j group : ℕ) → a ≤ j → (names : Names) → All (λ n. name_cmp n (group, a) ≡ Less) names
     → All (λ n. name_cmp n (group, j) ≡ Less) (names ++ map (λ member. (group, member)) (first_from p many a j))
 all_before_next p many a j group from names earlier =
     All-append (λ n. name_cmp n (group, j) ≡ Less) names (map (λ member. (group, member)) (first_from p many a j))

@@ -16,8 +16,8 @@ use Rattle.s39_set.specs.declared.set_error.SetError.TheVariants.{OtherMemberThr
 use Rattle.s39_set.specs.ShareSet.{Agrees, IsShareSet, name_of, is_in_group, has_name, some_differs, refusal_of}
 use Rattle.s39_set.specs.Quorums.{member_threshold_of}
 use Rattle.s39_set.specs.Slots.{common_of, common_of_all, common_refusal_of, last_refusal_of}
-use Rattle.s39_set.proofs.Finds.{find-passes, Contains-find, none-passes}
-use Rattle.s39_set.proofs.Sublists.{filter-none, Contains-filter, Contains-from_filter}
+use Rattle.s39_lists.proofs.Finds.{find-passes, Contains-find, none-passes}
+use Rattle.s39_lists.proofs.Sublists.{filter-none, Contains-filter, Contains-from_filter}
 use Rattle.s39_set.proofs.Sets.{list_any-same, agree, one_share}
 
 -- the first cause that applies, or else what remains

@@ -8,9 +8,9 @@ use Rattle.std.proofs.lemmas.List.Elements.{All-contains, filter_passes}
 use Rattle.std.proofs.lemmas.List.Folds.{Any-from_list_any, list_any_at}
 use Rattle.s39_words.specs.declared.share.ShareFields.{ShareFields}
 use Rattle.s39_words.specs.Share.{flag_bit}
-use Rattle.s39_set.specs.Names.{name_cmp, IsAscending}
+use Rattle.s39_set.specs.Names.{Name, name_cmp, IsAscending}
 use Rattle.s39_set.specs.ShareSet.{HasOneMore, name_of, is_in_group, has_name, some_differs, refusal_of}
-use Rattle.s39_set.proofs.Sublists.{Contains-filter, Contains-from_filter, same_from_elements}
+use Rattle.s39_lists.proofs.Sublists.{Contains-filter, Contains-from_filter, same_from_elements}
 use Rattle.s39_set.proofs.Ascending.{name_cmp_one_way}
 use Rattle.s39_set.proofs.Kept.{Contains-more_cases, Contains-more, Contains-old}
 
@@ -77,7 +77,7 @@ shares_ascend set names i j d before below =
     names i j (name_of d) before (omega (arith, length-map set name_of)) in
     let first : get_or (map name_of set) i (name_of d) ≡ name_of (get_or set i d) = get_or-map name_of set i d (name_of d) (omega arith) in
     let second : get_or (map name_of set) j (name_of d) ≡ name_of (get_or set j d) = get_or-map name_of set j d (name_of d) below in
-    subst₂ (λ (a b : ℕ × ℕ). name_cmp a b ≡ Less) first second names_before
+    subst₂ (λ (a b : Name). name_cmp a b ≡ Less) first second names_before
 
 -- they are known by which shares they are
 pub set_once : (set other : List ShareFields) → IsAscending (map name_of set) → IsAscending (map name_of other) → All (Contains set) other

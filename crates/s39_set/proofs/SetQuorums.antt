@@ -7,7 +7,7 @@ use Rattle.std.proofs.lemmas.Bool.{cases_lt}
 use Rattle.std.proofs.lemmas.List.Elements.{All-nil, All-map, All-weaker, All-contains}
 use Rattle.s39_words.specs.declared.share.ShareFields.{ShareFields}
 use Rattle.s39_words.specs.Share.{IsShare}
-use Rattle.s39_set.specs.Names.{IsAscending, most_groups, most_members}
+use Rattle.s39_set.specs.Names.{Names, IsAscending, most_groups, most_members}
 use Rattle.s39_set.specs.Groups.{is_complete, complete_groups, first_members}
 use Rattle.s39_set.specs.ShareSet.{IsShareSet, name_of, is_in_group}
 use Rattle.s39_set.specs.Quorums.{group_threshold_of, member_threshold_of, MeetsThresholds, IsQuorum, IsFirstQuorumAfter, HasJustTheGroups}
@@ -15,8 +15,9 @@ use Rattle.s39_set.specs.Written.{quorum_text, IsWrittenForm}
 use Rattle.s39_set.specs.Lack.{IsLack, IsIncomplete}
 use Rattle.s39_set.specs.declared.set_lack.SetLack.{SetLack}
 use Rattle.s39_set.specs.declared.set_lack.SetLack.TheVariants.{NoShares, Incomplete}
-use Rattle.s39_set.proofs.Finds.{Contains-find}
-use Rattle.s39_set.proofs.Sublists.{length-sublist, one_of, Contains-head, Contains-nil, AllPairs-nil}
+use Rattle.s39_lists.proofs.Finds.{Contains-find}
+use Rattle.s39_lists.proofs.Sublists.{length-sublist, one_of, Contains-head, Contains-nil}
+use Rattle.s39_lists.proofs.Pairs.{AllPairs-nil}
 use Rattle.s39_set.proofs.Ascending.{Precedes, names-sublist, same_names_from_length}
 use Rattle.s39_set.proofs.Thresholds.{HasJust}
 use Rattle.s39_set.proofs.CompleteGroups.{complete_groups-sublist}
@@ -24,7 +25,7 @@ use Rattle.s39_set.proofs.Just.{all_needed, one_complete}
 use Rattle.s39_set.proofs.Completion.{names_taken, groups_there, taken_just, taken_least}
 
 -- what just meets the set's thresholds just meets them as plain numbers
-pub just_from_set : (set : List ShareFields) (names : List (ℕ × ℕ)) (required : ℕ) → group_threshold_of set ≡ Some required → HasJustTheGroups set names
+pub just_from_set : (set : List ShareFields) (names : Names) (required : ℕ) → group_threshold_of set ≡ Some required → HasJustTheGroups set names
     → HasJust (member_threshold_of set) (map name_of set) required names
 just_from_set set names required e has = record {
   ascending = has.at_hand.ascending;
@@ -34,7 +35,7 @@ just_from_set set names required e has = record {
 }
 
 -- and the other way round
-pub set_from_just : (set : List ShareFields) (names : List (ℕ × ℕ)) (required : ℕ) → group_threshold_of set ≡ Some required
+pub set_from_just : (set : List ShareFields) (names : Names) (required : ℕ) → group_threshold_of set ≡ Some required
     → HasJust (member_threshold_of set) (map name_of set) required names → HasJustTheGroups set names
 set_from_just set names required e just = record {
   at_hand = record { ascending = just.ascending; at_hand = just.at_hand };
@@ -42,7 +43,7 @@ set_from_just set names required e just = record {
 }
 
 -- where names meet thresholds there is a group threshold
-pub group_threshold-from_meets : (set : List ShareFields) (names : List (ℕ × ℕ)) → MeetsThresholds set names
+pub group_threshold-from_meets : (set : List ShareFields) (names : Names) → MeetsThresholds set names
     → (required : ℕ) × (group_threshold_of set ≡ Some required)
 group_threshold-from_meets set names meets = by (group_threshold_of set) refl meets.groups
   where
@@ -52,7 +53,7 @@ group_threshold-from_meets set names meets = by (group_threshold_of set) refl me
     by (Some required) e h = (required, e)
 
 -- a set with names that meet its thresholds has no lack
-pub no_lack-from_meets : (set : List ShareFields) (names : List (ℕ × ℕ)) → MeetsThresholds set names → (lack : SetLack) → ¬ IsLack set lack
+pub no_lack-from_meets : (set : List ShareFields) (names : Names) → MeetsThresholds set names → (lack : SetLack) → ¬ IsLack set lack
 no_lack-from_meets set names meets NoShares none =
     let (required, e) = group_threshold-from_meets set names meets in
     let missing : None ≡ Some required = sym (ap group_threshold_of none) ∙ e in
@@ -102,22 +103,22 @@ module _ (set : List ShareFields) (is : IsShareSet set) where
     abbrev T : ℕ → Option ℕ
     T = member_threshold_of set
 
-    abbrev N : List (ℕ × ℕ)
+    abbrev N : Names
     N = map name_of set
 
     -- names at hand that complete enough groups meet the thresholds
-    meets_from : (names : List (ℕ × ℕ)) → IsAscending names → All (Contains N) names → required ≤ length (complete_groups T names) → MeetsThresholds set names
+    meets_from : (names : Names) → IsAscending names → All (Contains N) names → required ≤ length (complete_groups T names) → MeetsThresholds set names
     meets_from names ascending at_hand enough = record {
       at_hand = record { ascending = ascending; at_hand = at_hand };
       groups = subst (λ o. IsSomeAnd o (λ threshold. threshold ≤ length (complete_groups T names))) (sym e) enough;
     }
 
     -- and all that meet them do
-    enough_from : (names : List (ℕ × ℕ)) → MeetsThresholds set names → required ≤ length (complete_groups T names)
+    enough_from : (names : Names) → MeetsThresholds set names → required ≤ length (complete_groups T names)
     enough_from names meets = subst (λ o. IsSomeAnd o (λ threshold. threshold ≤ length (complete_groups T names))) e meets.groups
 
     -- a quorum has just the groups and members that the thresholds ask
-    pub just_of : (names : List (ℕ × ℕ)) → IsQuorum set names → HasJust T N required names
+    pub just_of : (names : Names) → IsQuorum set names → HasJust T N required names
     just_of names quorum =
         let own = quorum.meets.at_hand in
         let fewer = names_taken T names member_threshold-positive own.ascending (first_members T names) (is_complete T names) (λ g _. refl)
@@ -137,7 +138,7 @@ module _ (set : List ShareFields) (is : IsShareSet set) where
         record { ascending = own.ascending; at_hand = own.at_hand; groups = whole.groups; members = whole.members }
 
     -- and names at hand that have are a quorum
-    pub of_just : (names : List (ℕ × ℕ)) → HasJust T N required names → IsQuorum set names
+    pub of_just : (names : Names) → HasJust T N required names → IsQuorum set names
     of_just names just = record {
       meets = meets_from names just.ascending just.at_hand (let groups = just.groups in omega arith);
       minimal = λ fewer proper meets.
@@ -145,7 +146,7 @@ module _ (set : List ShareFields) (is : IsShareSet set) where
     }
 
     -- where enough groups are complete, the first members of the first of them are the least quorum
-    pub first_is : (M : ℕ → List (ℕ × ℕ)) (C : ℕ → Bool) (M_is : (g : ℕ) → g < most_groups → M g ≡ first_members T N g)
+    pub first_is : (M : ℕ → Names) (C : ℕ → Bool) (M_is : (g : ℕ) → g < most_groups → M g ≡ first_members T N g)
         (C_is : (g : ℕ) → g < most_groups → C g ≡ is_complete T N g)
         → required ≤ length (groups_there T N member_threshold-positive is.ascending M C M_is C_is 0)
         → IsFirstQuorumAfter set None (names_taken T N member_threshold-positive is.ascending M C M_is C_is 0 required)
@@ -171,19 +172,19 @@ module _ (set : List ShareFields) (is : IsShareSet set) where
           absurd (omega (arith, length-sublist (complete_groups-sublist T part)));
     }
 
-  pub just_from_quorum : (names : List (ℕ × ℕ)) → IsQuorum set names → HasJustTheGroups set names
+  pub just_from_quorum : (names : Names) → IsQuorum set names → HasJustTheGroups set names
   just_from_quorum names quorum =
       let (required, e) = group_threshold-from_meets set names quorum.meets in
       set_from_just set names required e (just_of required e names quorum)
 
-  pub quorum_from_just : (names : List (ℕ × ℕ)) → HasJustTheGroups set names → IsQuorum set names
+  pub quorum_from_just : (names : Names) → HasJustTheGroups set names → IsQuorum set names
   quorum_from_just names has =
       let required = length (complete_groups (member_threshold_of set) names) in
       of_just required has.just.groups names (just_from_set set names required has.just.groups has)
 
 -- a set has a first quorum or a lack
 pub first_or_lack : (set : List ShareFields) → IsShareSet set
-    → ((names : List (ℕ × ℕ)) × IsFirstQuorumAfter set None names) ⊎ ((lack : SetLack) × IsLack set lack)
+    → ((names : Names) × IsFirstQuorumAfter set None names) ⊎ ((lack : SetLack) × IsLack set lack)
 first_or_lack [] is = inr (NoShares, refl)
 first_or_lack (share ∷ shares) is =
     let set = share ∷ shares in
@@ -201,7 +202,7 @@ first_or_lack (share ∷ shares) is =
     ]
 
 -- the names of a quorum are names in order, and there are some
-pub written_of_quorum : (set : List ShareFields) → IsShareSet set → (names : List (ℕ × ℕ)) → IsQuorum set names → IsWrittenForm (quorum_text names) names
+pub written_of_quorum : (set : List ShareFields) → IsShareSet set → (names : Names) → IsQuorum set names → IsWrittenForm (quorum_text names) names
 written_of_quorum set is names quorum = record {
   some = λ none.
       let (required, e) = group_threshold-from_meets set names quorum.meets in

@@ -9,10 +9,10 @@ use Rattle.std.proofs.lemmas.Bool.{false≢true, eqb-true, eq-eqb, cases_order}
 use Rattle.std.proofs.lemmas.List.{get_or_default, get_or-map, length-map}
 use Rattle.std.proofs.lemmas.List.Elements.{All-head, All-tail, All-contains}
 use Rattle.s39_words.specs.declared.share.ShareFields.{ShareFields}
-use Rattle.s39_set.specs.Names.{name_cmp}
+use Rattle.s39_set.specs.Names.{Name, name_cmp}
 use Rattle.s39_set.specs.ShareSet.{Agrees, IsShareSet, name_of, is_in_group}
 use Rattle.s39_set.specs.Quorums.{member_threshold_of}
-use Rattle.s39_set.proofs.Finds.{find-passes, Contains-find, none-passes}
+use Rattle.s39_lists.proofs.Finds.{find-passes, Contains-find, none-passes}
 
 -- ---- tests of a list
 
@@ -44,7 +44,7 @@ module _ (shares : List ShareFields) (is : IsShareSet shares) where
           let same = eqb-true t.group_index s.group_index (find-passes (is_in_group s.group_index) shares t e) in
           ap Some ((agree t s (Contains-find (is_in_group s.group_index) shares t e) has_s).member_threshold same)
 
-  equal_names : (a b : ℕ × ℕ) → a ≡ b → name_cmp a b ≡ Less → ⊥
+  equal_names : (a b : Name) → a ≡ b → name_cmp a b ≡ Less → ⊥
   equal_names a b e less = grind (arith, e, less)
 
   -- a name has one share

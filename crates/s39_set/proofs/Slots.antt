@@ -7,7 +7,7 @@ use Rattle.std.proofs.lemmas.List.Elements.{All-nil, All-cons, All-head, All-tai
 use Rattle.s39_words.specs.declared.share.ShareFields.{ShareFields}
 use Rattle.s39_set.specs.ShareSet.{name_of, has_name}
 use Rattle.s39_set.specs.Slots.{shares_at, slot_of}
-use Rattle.s39_set.proofs.Finds.{IfSome-map, find-none}
+use Rattle.s39_lists.proofs.Finds.{IfSome-map, find-none}
 use Rattle.s39_set.specs.Names.{most_members}
 
 -- each share stands at its own slot, counted from b

@@ -7,45 +7,44 @@ use Rattle.std.proofs.lemmas.Bool.{cases_lt, lt-ltb, le-ltb, eq-eqb, false≢tru
 use Rattle.std.proofs.lemmas.List.{length-take-le}
 use Rattle.std.proofs.lemmas.List.Elements.{All-nil, All-append, All-contains, Contains-append_left, Contains-append_right, Contains-append_cases}
 use Rattle.std.proofs.lemmas.List.Kept.{AllPairs-cons}
-use Rattle.s39_set.specs.Names.{name_cmp, names_cmp, IsAscending, names_in_group, most_groups}
+use Rattle.s39_set.specs.Names.{Name, Names, name_cmp, names_cmp, IsAscending, names_in_group, most_groups}
 use Rattle.s39_set.specs.Groups.{is_complete, complete_groups, first_members, groups_above}
 use Rattle.s39_set.proofs.Thresholds.{HasJust}
-use Rattle.s39_set.proofs.Sublists.{IsSublist, each, one_of, of_filter, in_whole, length_less, length-sublist, filter_weaker, take-sublist, filter-all}
-use Rattle.s39_set.proofs.Sublists.{Contains-filter, Contains-head, Contains-cons, Contains-cases, Contains-nil, AllPairs-nil, AllPairs-head, AllPairs-append}
-use Rattle.s39_set.proofs.Sublists.{AllPairs-sublist}
-use Rattle.s39_set.proofs.Orders.{All-append_left, AllPairs-append_left, AllPairs-append_right, across}
+use Rattle.s39_lists.proofs.Sublists.{IsSublist, each, one_of, of_filter, in_whole, length_less, length-sublist, filter_weaker, take-sublist, filter-all, Contains-filter, Contains-head, Contains-cons, Contains-cases, Contains-nil, AllPairs-append, AllPairs-sublist}
+use Rattle.s39_lists.proofs.Pairs.{AllPairs-nil, AllPairs-head}
+use Rattle.s39_lists.proofs.Orders.{All-append_left, AllPairs-append_left, AllPairs-append_right, across}
 use Rattle.s39_set.proofs.Ascending.{Precedes, name_cmp_groups, name_cmp_one_way, names-sublist, same_names, less_than, groups-in_order}
-use Rattle.s39_set.proofs.CompleteGroups.{complete_weaker, filter-range_agree}
-use Rattle.s39_set.proofs.CompleteGroups.{Contains-range_from}
+use Rattle.s39_set.proofs.CompleteGroups.{complete_weaker}
+use Rattle.s39_lists.proofs.Ranges.{filter-range_agree, Contains-range_from}
 use Rattle.s39_set.proofs.MembersOf.{count, of_group, in_group, group-ascending, one_counted, counted, none_counted, count-append}
 use Rattle.s39_set.proofs.Just.{complete_is, complete_at, complete_at_hand, one_complete, same_members, same_complete}
 use Rattle.s39_set.proofs.Completion.{names_taken, groups_there, names_taken-from, joined_just, taken_least}
 
 -- the names of a list that are of the group of a name and come after it
-pub record AreAbove (names : List (ℕ × ℕ)) (x : ℕ × ℕ) (above : List (ℕ × ℕ)) : Type 0 where
+pub record AreAbove (names : Names) (x : Name) (above : Names) : Type 0 where
   pub ascending : IsAscending above
-  pub only : (n : ℕ × ℕ) → Contains above n → Contains names n × (n.0 ≡ x.0) × (name_cmp x n ≡ Less)
-  pub all : (n : ℕ × ℕ) → Contains names n → n.0 ≡ x.0 → name_cmp x n ≡ Less → Contains above n
+  pub only : (n : Name) → Contains above n → Contains names n × (n.0 ≡ x.0) × (name_cmp x n ≡ Less)
+  pub all : (n : Name) → Contains names n → n.0 ≡ x.0 → name_cmp x n ≡ Less → Contains above n
 
-module _ (T : ℕ → Option ℕ) (N : List (ℕ × ℕ)) (G : ℕ) (positive : (g t : ℕ) → T g ≡ Some t → 1 ≤ t) (below : All (λ n. n.0 < most_groups) N)
-    (sorted : IsAscending N) (P S : List (ℕ × ℕ)) (x : ℕ × ℕ) (just : HasJust T N G (P ++ x ∷ S)) where
+module _ (T : ℕ → Option ℕ) (N : Names) (G : ℕ) (positive : (g t : ℕ) → T g ≡ Some t → 1 ≤ t) (below : All (λ n. n.0 < most_groups) N)
+    (sorted : IsAscending N) (P S : Names) (x : Name) (just : HasJust T N G (P ++ x ∷ S)) where
   in_place : Contains (P ++ x ∷ S) x
   in_place = Contains-append_right P (x ∷ S) x (Contains-head x S)
 
   low : x.0 < most_groups
   low = All-contains (λ n. n.0 < most_groups) N x below (All-contains (Contains N) (P ++ x ∷ S) x just.at_hand in_place)
 
-  earlier : (n : ℕ × ℕ) → Contains P n → name_cmp n x ≡ Less
+  earlier : (n : Name) → Contains P n → name_cmp n x ≡ Less
   earlier n among = across Precedes P (x ∷ S) just.ascending n x among (Contains-head x S)
 
-  later : (n : ℕ × ℕ) → Contains S n → name_cmp x n ≡ Less
+  later : (n : Name) → Contains S n → name_cmp x n ≡ Less
   later n among = All-contains (Precedes x) S n (AllPairs-head Precedes x S (AllPairs-append_right Precedes P (x ∷ S) just.ascending)) among
 
   not_itself : name_cmp x x ≡ Less → ⊥
   not_itself e = name_cmp_one_way x x e e
 
   -- names behind the front of another quorum that has a greater name in x's place
-  after_x : (y : ℕ × ℕ) (Z : List (ℕ × ℕ)) → HasJust T N G (P ++ y ∷ Z) → name_cmp x y ≡ Less → (n : ℕ × ℕ) → Contains (y ∷ Z) n → name_cmp x n ≡ Less
+  after_x : (y : Name) (Z : Names) → HasJust T N G (P ++ y ∷ Z) → name_cmp x y ≡ Less → (n : Name) → Contains (y ∷ Z) n → name_cmp x n ≡ Less
   after_x y Z other less n among =
       ⊎_elim
       (λ (same : y ≡ n). subst (Precedes x) same less)
@@ -54,8 +53,8 @@ module _ (T : ℕ → Option ℕ) (N : List (ℕ × ℕ)) (G : ℕ) (positive : 
       (Contains-cases y Z n among)
 
   -- where all of x's group at hand above it are chosen, another quorum with a greater name in x's place has none of its group
-  none_of_group : ((n : ℕ × ℕ) → Contains N n → n.0 ≡ x.0 → name_cmp x n ≡ Less → Contains (P ++ x ∷ S) n) → (y : ℕ × ℕ) (Z : List (ℕ × ℕ))
-      → HasJust T N G (P ++ y ∷ Z) → name_cmp x y ≡ Less → (n : ℕ × ℕ) → Contains (P ++ y ∷ Z) n → n.0 ≢ x.0
+  none_of_group : ((n : Name) → Contains N n → n.0 ≡ x.0 → name_cmp x n ≡ Less → Contains (P ++ x ∷ S) n) → (y : Name) (Z : Names)
+      → HasJust T N G (P ++ y ∷ Z) → name_cmp x y ≡ Less → (n : Name) → Contains (P ++ y ∷ Z) n → n.0 ≢ x.0
   none_of_group chosen y Z other less n among own =
       let has_x : Contains (P ++ y ∷ Z) x =
       same_members other just n x among in_place own
@@ -69,15 +68,15 @@ module _ (T : ℕ → Option ℕ) (N : List (ℕ × ℕ)) (G : ℕ) (positive : 
       (Contains-append_cases P (y ∷ Z) x has_x)
 
   -- then nothing greater can stand there, where a name before x is of its group or all complete groups above it are used
-  pub nothing_greater : ((n : ℕ × ℕ) → Contains N n → n.0 ≡ x.0 → name_cmp x n ≡ Less → Contains (P ++ x ∷ S) n)
+  pub nothing_greater : ((n : Name) → Contains N n → n.0 ≡ x.0 → name_cmp x n ≡ Less → Contains (P ++ x ∷ S) n)
       → (count P x.0 ≡ 0 → (g : ℕ) → x.0 < g → g < most_groups → is_complete T N g ≡ true → 0 < count (P ++ x ∷ S) g)
-      → (y : ℕ × ℕ) (Z : List (ℕ × ℕ)) → HasJust T N G (P ++ y ∷ Z) → name_cmp x y ≡ Less → ⊥
+      → (y : Name) (Z : Names) → HasJust T N G (P ++ y ∷ Z) → name_cmp x y ≡ Less → ⊥
   nothing_greater chosen used y Z other less =
       let Q = P ++ x ∷ S in
       let O = P ++ y ∷ Z in
       let apart = none_of_group chosen y Z other less in
       let first : count P x.0 ≡ 0 = none_counted x.0 P (each (λ n. n.0 ≢ x.0) P (λ n among. apart n (Contains-append_left P (y ∷ Z) n among))) in
-      let in_Q : (g : ℕ) (m : ℕ × ℕ) → Contains O m → m.0 ≡ g → 0 < count Q g =
+      let in_Q : (g : ℕ) (m : Name) → Contains O m → m.0 ≡ g → 0 < count Q g =
       λ g m among same. ⊎_elim
       (λ (front : Contains P m). subst (λ h. 0 < count Q h) same (counted Q m (Contains-append_left P (x ∷ S) m front)))
       (λ (back : Contains (y ∷ Z) m).
@@ -98,20 +97,20 @@ module _ (T : ℕ → Option ℕ) (N : List (ℕ × ℕ)) (G : ℕ) (positive : 
 
   -- ---- the least that can stand there
 
-  module _ (M : ℕ → List (ℕ × ℕ)) (C : ℕ → Bool) (M_is : (g : ℕ) → g < most_groups → M g ≡ first_members T N g)
+  module _ (M : ℕ → Names) (C : ℕ → Bool) (M_is : (g : ℕ) → g < most_groups → M g ≡ first_members T N g)
       (C_is : (g : ℕ) → g < most_groups → C g ≡ is_complete T N g) where
     -- how many groups above x's the quorum has
     abbrev pub groups_used : ℕ
     groups_used = length (filter (is_complete T (P ++ x ∷ S)) (groups_above x.0))
 
-    abbrev taken : ℕ → List (ℕ × ℕ)
+    abbrev taken : ℕ → Names
     taken n = names_taken T N positive sorted M C M_is C_is (x.0 + 1) n
 
     -- what stands there, and is least
-    pub record IsLeastThere (R : List (ℕ × ℕ)) : Type 0 where
+    pub record IsLeastThere (R : Names) : Type 0 where
       pub has_just : HasJust T N G (P ++ R)
       pub later : All (λ n. name_cmp x n ≡ Less) R
-      pub least : (y : ℕ × ℕ) (Z : List (ℕ × ℕ)) → HasJust T N G (P ++ y ∷ Z) → name_cmp x y ≡ Less → names_cmp R (y ∷ Z) ≢ Greater
+      pub least : (y : Name) (Z : Names) → HasJust T N G (P ++ y ∷ Z) → name_cmp x y ≡ Less → names_cmp R (y ∷ Z) ≢ Greater
 
     upto : All (λ n. n.0 ≤ x.0) P
     upto = each (λ n. n.0 ≤ x.0) P (λ n among. groups-in_order n x (earlier n among))
@@ -120,7 +119,7 @@ module _ (T : ℕ → Option ℕ) (N : List (ℕ × ℕ)) (G : ℕ) (positive : 
     none_from_x : (g : ℕ) → g < x.0 → count (x ∷ S) g ≡ 0
     none_from_x g less =
         none_counted g (x ∷ S) (each (λ n. n.0 ≢ g) (x ∷ S) (λ n among same. ⊎_elim
-        (λ (here : x ≡ n). let first : x.0 ≡ n.0 = ap (λ (m : ℕ × ℕ). m.0) here in absurd (omega arith))
+        (λ (here : x ≡ n). let first : x.0 ≡ n.0 = ap (λ (m : Name). m.0) here in absurd (omega arith))
         (λ (rest : Contains S n). let order : x.0 ≤ n.0 = groups-in_order x n (later n rest) in absurd (omega arith))
         (Contains-cases x S n among)))
 
@@ -142,13 +141,13 @@ module _ (T : ℕ → Option ℕ) (N : List (ℕ × ℕ)) (G : ℕ) (positive : 
         All-contains (λ k. x.0 + 1 ≤ k.0) (taken n) m from among in omega arith))
 
     -- of x's group: with A above x at hand and K above it chosen, one of A not in K
-    pub least_of_group : (A K : List (ℕ × ℕ)) → AreAbove N x A → AreAbove (P ++ x ∷ S) x K → (n : ℕ × ℕ) → Contains A n → (Contains K n → ⊥)
+    pub least_of_group : (A K : Names) → AreAbove N x A → AreAbove (P ++ x ∷ S) x K → (n : Name) → Contains A n → (Contains K n → ⊥)
         → IsLeastThere (take (suc (length K)) A ++ taken groups_used)
     least_of_group A K at_hand chosen n above free =
         let Q = P ++ x ∷ S in
         let F = take (suc (length K)) A in
         let part_A = take-sublist (suc (length K)) A in
-        let of_x : (m : ℕ × ℕ) → Contains F m → m.0 ≡ x.0 = λ m among. (at_hand.only m (in_whole part_A m among)).1 in
+        let of_x : (m : Name) → Contains F m → m.0 ≡ x.0 = λ m among. (at_hand.only m (in_whole part_A m among)).1 in
         let K_in_A : All (Contains A) K = each (Contains A) K (λ m among.
         let is = chosen.only m among in at_hand.all m (All-contains (Contains N) Q m just.at_hand is.0) is.1 is.2) in
         let more : length K < length A = length_less (names-sublist A K at_hand.ascending chosen.ascending K_in_A) n above free in
@@ -200,7 +199,7 @@ module _ (T : ℕ → Option ℕ) (N : List (ℕ × ℕ)) (G : ℕ) (positive : 
               ]);
         }
       where
-        own_names : (K : List (ℕ × ℕ)) → AreAbove (P ++ x ∷ S) x K → names_in_group x.0 (x ∷ S) ≡ x ∷ K
+        own_names : (K : Names) → AreAbove (P ++ x ∷ S) x K → names_in_group x.0 (x ∷ S) ≡ x ∷ K
         own_names K chosen =
             let back = names_in_group x.0 (x ∷ S) in
             same_names back (x ∷ K) (group-ascending x.0 (x ∷ S) (AllPairs-append_right Precedes P (x ∷ S) just.ascending))
@@ -222,7 +221,7 @@ module _ (T : ℕ → Option ℕ) (N : List (ℕ × ℕ)) (G : ℕ) (positive : 
             (Contains-cases x S m inside)))
 
     -- of later groups: where all of x's group above it are chosen, none before it is of its group, and a complete group above it isn't used
-    pub least_of_later : ((n : ℕ × ℕ) → Contains N n → n.0 ≡ x.0 → name_cmp x n ≡ Less → Contains (P ++ x ∷ S) n) → count P x.0 ≡ 0 → (g : ℕ) → x.0 < g
+    pub least_of_later : ((n : Name) → Contains N n → n.0 ≡ x.0 → name_cmp x n ≡ Less → Contains (P ++ x ∷ S) n) → count P x.0 ≡ 0 → (g : ℕ) → x.0 < g
         → g < most_groups → is_complete T N g ≡ true → count (P ++ x ∷ S) g ≡ 0 → IsLeastThere (taken (suc groups_used))
     least_of_later all first g above small complete free =
         let Q = P ++ x ∷ S in

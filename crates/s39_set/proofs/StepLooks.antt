@@ -6,8 +6,8 @@ use Rattle.std.proofs.lemmas.Bool.Decides.{nat_tests}
 use Rattle.std.proofs.lemmas.List.{length-take-le, take-append-drop}
 use Rattle.std.proofs.lemmas.List.Elements.{All-head}
 use Rattle.std.proofs.lemmas.List.Sums.{sum_by-cons}
-use Rattle.s39_set.specs.Names.{name_cmp}
-use Rattle.s39_set.specs.Looks.{test_looks, choice_looks, place_looks, completion_looks, common_names, step_looks}
+use Rattle.s39_set.specs.Names.{Name, Names, name_cmp}
+use Rattle.s39_set.specs.Looks.{test_looks, context_looks, place_looks, completion_looks, common_names, step_looks}
 
 same_name : (g m : ℕ) → ((g == g) && (m == m)) ≡ true
 same_name g m = grind (arith, nat_tests)
@@ -16,7 +16,7 @@ other_name : (g m h k : ℕ) → name_cmp (g, m) (h, k) ≡ Less → ((g == h) &
 other_name g m h k less = grind (arith, nat_tests)
 
 -- lists that go on with a name, and with later ones, have the names before in common
-pub common_names-front : (P S R : List (ℕ × ℕ)) (x : ℕ × ℕ) → All (λ n. name_cmp x n ≡ Less) R → common_names (P ++ x ∷ S) (P ++ R) ≡ length P
+pub common_names-front : (P S R : Names) (x : Name) → All (λ n. name_cmp x n ≡ Less) R → common_names (P ++ x ∷ S) (P ++ R) ≡ length P
 common_names-front [] S [] x later = refl
 common_names-front [] S (y ∷ ys) x later =
     cond-false ((x.0 == y.0) && (x.1 == y.1)) (1 + common_names S ys) 0 (other_name x.0 x.1 y.0 y.1 (All-head (λ n. name_cmp x n ≡ Less) y ys later))
@@ -26,9 +26,9 @@ common_names-front (p ∷ ps) S R x later =
     omega arith
 
 -- a step's looks, where its answer differs at a place
-pub step_looks-next : (Q next R : List (ℕ × ℕ)) (i : ℕ) → i < length Q → next ≡ take i Q ++ R → All (λ n. name_cmp (get_or Q i (0, 0)) n ≡ Less) R
+pub step_looks-next : (Q next R : Names) (i : ℕ) → i < length Q → next ≡ take i Q ++ R → All (λ n. name_cmp (get_or Q i (0, 0)) n ≡ Less) R
     → step_looks Q (Ok (Some next))
-    ≡ test_looks Q + choice_looks Q + (place_looks (get_or Q i (0, 0)) + sum_by place_looks (drop (suc i) Q)) + completion_looks i (get_or Q i (0, 0))
+    ≡ test_looks Q + context_looks Q + (place_looks (get_or Q i (0, 0)) + sum_by place_looks (drop (suc i) Q)) + completion_looks i (get_or Q i (0, 0))
 step_looks-next Q next R i below next_is later =
     let x = get_or Q i (0, 0) in
     let S = drop (suc i) Q in
@@ -40,5 +40,5 @@ step_looks-next Q next R i below next_is later =
     ∙ length-take-le i Q (omega arith) in
     let sums : sum_by place_looks (drop i Q) ≡ place_looks x + sum_by place_looks S =
     ap (sum_by place_looks) (drop-cons Q i (0, 0) below) ∙ sum_by-cons place_looks x S in
-    ap (λ k. test_looks Q + choice_looks Q + sum_by place_looks (drop k Q) + completion_looks k (get_or Q k (0, 0))) place
-    ∙ ap (λ n. test_looks Q + choice_looks Q + n + completion_looks i x) sums
+    ap (λ k. test_looks Q + context_looks Q + sum_by place_looks (drop k Q) + completion_looks k (get_or Q k (0, 0))) place
+    ∙ ap (λ n. test_looks Q + context_looks Q + n + completion_looks i x) sums

@@ -1,11 +1,11 @@
 -- Names that just meet thresholds.
 use Rattle.std.specs.Prelude.{◌≡◌, ℕ, List, length, Option, Some, All}
 use Rattle.std.specs.List.{Contains}
-use Rattle.s39_set.specs.Names.{IsAscending, names_in_group}
+use Rattle.s39_set.specs.Names.{Names, IsAscending, names_in_group}
 use Rattle.s39_set.specs.Groups.{complete_groups}
 
 -- these names of those at hand are complete in just G groups, with just the members that each asks, and no others
-pub record HasJust (T : ℕ → Option ℕ) (N : List (ℕ × ℕ)) (G : ℕ) (names : List (ℕ × ℕ)) : Type 0 where
+pub record HasJust (T : ℕ → Option ℕ) (N : Names) (G : ℕ) (names : Names) : Type 0 where
   pub ascending : IsAscending names
   pub at_hand : All (Contains N) names
   pub groups : G ≡ length (complete_groups T names)

@@ -7,6 +7,9 @@ pub mod Listing
 pub mod Looks
 pub mod Written
 pub mod Lack
+pub mod Status
 pub mod Steps
 pub mod Slots
 pub mod SetFacts
+pub mod Causes
+pub mod Texts

@@ -1,7 +1,7 @@
 -- Facts about share sets, as laws state them.
 use Rattle.std.specs.Prelude.{◌≡◌, ◌↔◌, ◌⊎◌, ℕ, List, map, All, Contains}
 use Rattle.s39_words.specs.declared.share.ShareFields.{ShareFields}
-use Rattle.s39_set.specs.Names.{IsAscending}
+use Rattle.s39_set.specs.Names.{Names, IsAscending}
 use Rattle.s39_set.specs.ShareSet.{name_of, refusal_of, HasOneMore}
 use Rattle.s39_set.specs.Quorums.{IsQuorum}
 use Rattle.s39_set.specs.Lack.{IsLack}
@@ -35,4 +35,4 @@ SetsHaveOneLack = (set : List ShareFields) (lack other : SetLack) → IsLack set
 
 -- and none where it has a quorum
 abbrev pub SetsWithQuorumsHaveNone : Type 0
-SetsWithQuorumsHaveNone = (set : List ShareFields) (names : List (ℕ × ℕ)) (lack : SetLack) → IsQuorum set names → ¬ IsLack set lack
+SetsWithQuorumsHaveNone = (set : List ShareFields) (names : Names) (lack : SetLack) → IsQuorum set names → ¬ IsLack set lack

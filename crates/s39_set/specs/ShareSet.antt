@@ -2,16 +2,18 @@
 use Rattle.std.specs.Prelude.{◌≡◌, ◌↔◌, ◌⊎◌, ℕ, List, ◌∷◌, ◌++◌, length, map, All, Contains, Option, Some, None, Bool}
 use Rattle.std.specs.Prelude.{not, ◌==◌, ◌&&◌, bytes_eq, filter, if◌then◌else◌}
 use Rattle.std.specs.List.{list_any}
+use Rattle.s39_refusal.specs.declared.cause.Cause.{Cause}
+use Rattle.s39_refusal.specs.Causes.{cause}
 use Rattle.s39_words.specs.declared.share.ShareFields.{ShareFields}
 use Rattle.s39_words.specs.Share.{IsShare, flag_bit}
-use Rattle.s39_set.specs.Names.{IsAscending}
+use Rattle.s39_set.specs.Names.{Name, IsAscending}
 use Rattle.s39_set.specs.declared.set_error.SetError.{SetError}
 use Rattle.s39_set.specs.declared.set_error.SetError.TheVariants.{OtherIdentifier, OtherExtendable, OtherExponent}
 use Rattle.s39_set.specs.declared.set_error.SetError.TheVariants.{OtherGroupThreshold, OtherGroupCount, OtherLength}
 use Rattle.s39_set.specs.declared.set_error.SetError.TheVariants.{OtherMemberThreshold, ConflictingShare}
 
 -- a share's name
-abbrev pub name_of : ShareFields → ℕ × ℕ
+abbrev pub name_of : ShareFields → Name
 name_of share = (share.group_index, share.member_index)
 
 -- Two shares may be of one backup. Shares of a group have one member threshold.
@@ -82,13 +84,13 @@ SetsTakeShares = (set : List ShareFields) (share : ShareFields)
     → refusal_of set share ≡ None
     → Contains set share ⊎ ((more : List ShareFields) × HasOneMore set share more × IsShareSet more)
 
--- the code of a cause
-abbrev pub code_of : SetError → ℕ
-code_of OtherIdentifier = 21
-code_of OtherExtendable = 22
-code_of OtherExponent = 23
-code_of OtherGroupThreshold = 24
-code_of OtherGroupCount = 25
-code_of OtherLength = 26
-code_of (OtherMemberThreshold _) = 27
-code_of (ConflictingShare _ _) = 28
+-- what a refusal says
+abbrev pub cause_of : SetError → Cause
+cause_of OtherIdentifier = cause 21 0 0
+cause_of OtherExtendable = cause 22 0 0
+cause_of OtherExponent = cause 23 0 0
+cause_of OtherGroupThreshold = cause 24 0 0
+cause_of OtherGroupCount = cause 25 0 0
+cause_of OtherLength = cause 26 0 0
+cause_of (OtherMemberThreshold group) = cause 27 group 0
+cause_of (ConflictingShare group member) = cause 28 group member

@@ -10,7 +10,7 @@ use Rattle.s39_set.specs.declared.set_error.SetError.{SetError}
 use Rattle.s39_set.specs.declared.set_error.SetError.TheVariants.{OtherIdentifier, OtherExtendable, OtherExponent}
 use Rattle.s39_set.specs.declared.set_error.SetError.TheVariants.{OtherGroupThreshold, OtherGroupCount, OtherLength}
 use Rattle.s39_set.specs.declared.set_error.SetError.TheVariants.{OtherMemberThreshold, ConflictingShare}
-use Rattle.s39_set.specs.Names.{most_groups, most_members}
+use Rattle.s39_set.specs.Names.{Name, most_groups, most_members}
 use Rattle.s39_set.specs.Steps.{AreMasksOf}
 use Rattle.s39_set.specs.ShareSet.{IsShareSet, name_of, is_in_group, has_name, some_differs}
 use Rattle.s39_set.specs.Quorums.{member_threshold_of}
@@ -20,7 +20,7 @@ abbrev pub shares_at : List (Option ShareFields) → List ShareFields
 shares_at slots = filter_map (λ slot. slot) slots
 
 -- the slot of a name: as many for each group as it may have members
-abbrev pub slot_of : ℕ × ℕ → ℕ
+abbrev pub slot_of : Name → ℕ
 slot_of name = most_members * name.0 + name.1
 
 -- what a share has in common with all of its backup

@@ -1,21 +1,25 @@
 //! The written form of names, which a listing goes on from.
-ghost use Rattle.std.specs.Prelude.{◌≡◌, ◌<◌, ◌==◌, ℕ, List, position, IfOk, Ok, IfSome, Some};
+ghost use Rattle.std.specs.Prelude.{◌≡◌, ◌<◌, ◌==◌, ℕ, List, IfOk, Ok, IfSome, Some};
 ghost use Rattle.std.specs.Fmt.{decimal};
-ghost use Rattle.s39_set.specs.Names.{most_groups};
+ghost use Rattle.s39_set.specs.Causes.{cursor_cause};
+ghost use Rattle.s39_set.specs.Names.{Name, Names, most_groups};
 ghost use Rattle.s39_set.specs.Written.{IsNameText, IsWrittenForm};
 
+use crate::limits::MAX_GROUPS;
 use crate::quorum::Quorum;
+use crate::texts::{cut_at, small_number};
+use s39_refusal::{Cause, code};
 
 /// A text is not the written form of names.
 #[derive(Clone, Copy, Debug, PartialEq, Eq)]
 pub struct BadCursor;
 
 impl BadCursor {
-    /// The code of this refusal, 61.
-    pub fn code(&self) -> u8
-        ensures { result ≡ 61 }
+    /// What the refusal says: 61.
+    pub fn cause(&self) -> Cause
+        ensures { result ≡ cursor_cause }
     {
-        61
+        Cause::of(code::BAD_CURSOR)
     }
 }
 
@@ -25,7 +29,7 @@ impl BadCursor {
 /// The error says that the text is no such form. Whether the names are a quorum depends on a set (`is_quorum`).
 pub fn parse_quorum(text: &[u8]) -> Result<Quorum, BadCursor>
     ensures names { IfOk result (IsWrittenForm text.now) }
-    ensures only { (names : List (ℕ × ℕ)) → IsWrittenForm text.now names → result ≡ Ok names }
+    ensures only { (names : Names) → IsWrittenForm text.now names → result ≡ Ok names }
 {
     let mut quorum = Quorum::new();
     for name in text.split(is_plus) {
@@ -49,19 +53,12 @@ fn is_plus(byte: &u8) -> bool
 /// The group and the member index of which a text is the written form.
 fn parse_name(text: &[u8]) -> Option<(u8, u8)>
     ensures name { IfSome result (IsNameText text.now) }
-    ensures only { (name : ℕ × ℕ) → IsNameText text.now name → result ≡ Some name }
+    ensures only { (name : Name) → IsNameText text.now name → result ≡ Some name }
 {
-    let stop = stop_of(text)?;
-    let group = parse_index(&text[..stop])?;
-    let member = parse_index(&text[stop + 1..])?;
+    let (front, back) = cut_at(text, b'.')?;
+    let group = parse_index(front)?;
+    let member = parse_index(back)?;
     Some((group, member))
-}
-
-/// The position of the first full stop.
-fn stop_of(text: &[u8]) -> Option<usize>
-    ensures { result ≡ position (λ byte. byte == 46) text.now }
-{
-    text.iter().position(|byte| *byte == b'.')
 }
 
 /// The number from 0 to 15 of which a text is the decimal form.
@@ -70,9 +67,9 @@ fn parse_index(text: &[u8]) -> Option<u8>
     ensures text { IfSome result (λ n. text.now ≡ decimal n) }
     ensures only { (n : ℕ) → n < most_groups → text.now ≡ decimal n → result ≡ Some n }
 {
-    match text {
-        [digit @ b'0'..=b'9'] => Some(*digit - b'0'),
-        [b'1', digit @ b'0'..=b'5'] => Some(10 + (*digit - b'0')),
-        _ => None,
+    let index = small_number(text)?;
+    if index >= MAX_GROUPS {
+        return None;
     }
+    Some(index)
 }

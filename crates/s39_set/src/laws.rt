@@ -1,14 +1,15 @@
 //! Facts about the definitions, each the contract of a function that does nothing.
-ghost use Rattle.std.specs.Prelude.{◌≡◌, ◌↔◌, ◌⊎◌, ◌+◌, ◌++◌, ◌∷◌, [], ℕ, suc, List, Option, Some, None};
+ghost use Rattle.std.specs.Prelude.{◌≡◌, ◌↔◌, ◌⊎◌, ◌+◌, ◌++◌, ◌∷◌, [], ℕ, suc, List, Option, Some, None, IsTrue};
 ghost use Rattle.s39_words.specs.declared.share.ShareFields.{ShareFields};
 ghost use Rattle.s39_set.specs.SetFacts.{SameSharesRefuseTheSame, OneMoreIsAdded, SetsAreTheirShares, SetsHaveOneLack, SetsWithQuorumsHaveNone};
 ghost use Rattle.s39_set.specs.ShareSet.{IsShareSet, SharesThatAgreeJoin, SetsTakeShares};
-ghost use Rattle.s39_set.specs.Names.{most_groups, most_members, most_names};
+ghost use Rattle.s39_set.specs.Names.{Names, most_groups, most_members, most_names};
 ghost use Rattle.s39_set.specs.Looks.{most_test_looks, most_step_looks};
 ghost use Rattle.s39_set.specs.Quorums.{IsQuorum, IsFirstQuorumAfter, HasNoQuorumAfter, HasJustTheGroups};
 ghost use Rattle.s39_set.specs.Listing.{AreAllQuorumsAfter, IsListing, IsWalk};
 ghost use Rattle.s39_set.specs.Written.{quorum_text, IsWrittenForm};
 ghost use Rattle.s39_set.specs.Lack.{IsLack};
+ghost use Rattle.s39_set.specs.Status.{has_enough};
 ghost use Rattle.s39_set.specs.declared.set_lack.SetLack.{SetLack as Lack};
 
 use crate::limits::{GROUPS, MAX_GROUPS, MAX_MEMBERS, MAX_NAMES, MAX_STEP_LOOKS, MAX_TEST_LOOKS};
@@ -26,29 +27,29 @@ pub fn numbers()
 /// A quorum has names of just as many groups as the group threshold, of each just as many as its member
 /// threshold, and no others; and every list of names at hand with these is a quorum.
 pub fn quorums_are_exact()
-    ensures { (set : List ShareFields) (names : List (ℕ × ℕ)) → IsShareSet set
+    ensures { (set : List ShareFields) (names : Names) → IsShareSet set
         → (IsQuorum set names ↔ HasJustTheGroups set names) }
 {}
 
 /// Every set has a first quorum, or there is a cause for which it has none.
 pub fn quorum_or_lack()
     ensures { (set : List ShareFields) → IsShareSet set
-        → ((names : List (ℕ × ℕ)) × IsFirstQuorumAfter set None names)
+        → ((names : Names) × IsFirstQuorumAfter set None names)
         ⊎ ((lack : Lack) × IsLack set lack) }
 {}
 
 /// The names of a quorum have a written form, and a text is the written form of at most one list.
 pub fn written_forms()
-    ensures quorums { (set : List ShareFields) (names : List (ℕ × ℕ))
+    ensures quorums { (set : List ShareFields) (names : Names)
         → IsShareSet set → IsQuorum set names → IsWrittenForm (quorum_text names) names }
-    ensures once { (text : List ℕ) (names others : List (ℕ × ℕ))
+    ensures once { (text : List ℕ) (names others : Names)
         → IsWrittenForm text names → IsWrittenForm text others → names ≡ others }
 {}
 
 /// A set has at most one first quorum after a given list of names, or of all.
 pub fn one_first_quorum()
-    ensures { (set : List ShareFields) (given : Option (List (ℕ × ℕ)))
-        (names others : List (ℕ × ℕ))
+    ensures { (set : List ShareFields) (given : Option Names)
+        (names others : Names)
         → IsFirstQuorumAfter set given names → IsFirstQuorumAfter set given others
         → names ≡ others }
 {}
@@ -56,31 +57,31 @@ pub fn one_first_quorum()
 /// A walk, from the first quorum to the first after it and so on until none comes after, is all quorums: in
 /// ascending order, each once, none left out.
 pub fn walks_list_all()
-    ensures { (set : List ShareFields) (given : Option (List (ℕ × ℕ)))
-        (quorums : List (List (ℕ × ℕ)))
+    ensures { (set : List ShareFields) (given : Option Names)
+        (quorums : List Names)
         → (IsWalk set given quorums ↔ AreAllQuorumsAfter set given quorums) }
 {}
 
 /// There is one listing of a set's quorums, after each list of names and for each limit.
 pub fn one_listing()
-    ensures exists { (set : List ShareFields) (given : Option (List (ℕ × ℕ))) (limit : ℕ)
-        → IsShareSet set → (listed : List (List (ℕ × ℕ))) × IsListing set given limit listed }
-    ensures once { (set : List ShareFields) (given : Option (List (ℕ × ℕ))) (limit : ℕ)
-        (listed others : List (List (ℕ × ℕ)))
+    ensures exists { (set : List ShareFields) (given : Option Names) (limit : ℕ)
+        → IsShareSet set → (listed : List Names) × IsListing set given limit listed }
+    ensures once { (set : List ShareFields) (given : Option Names) (limit : ℕ)
+        (listed others : List Names)
         → IsListing set given limit listed → IsListing set given limit others → listed ≡ others }
 {}
 
 /// A listing is the first quorum and the listing after it; it is empty where no quorum comes after. A listing and
 /// the one after its last quorum are one listing, of as many as both limits allow.
 pub fn listings_join()
-    ensures first { (set : List ShareFields) (given : Option (List (ℕ × ℕ)))
-        (names : List (ℕ × ℕ)) (limit : ℕ) (others : List (List (ℕ × ℕ)))
+    ensures first { (set : List ShareFields) (given : Option Names)
+        (names : Names) (limit : ℕ) (others : List Names)
         → IsFirstQuorumAfter set given names → IsListing set (Some names) limit others
         → IsListing set given (suc limit) (names ∷ others) }
-    ensures none { (set : List ShareFields) (given : Option (List (ℕ × ℕ))) (limit : ℕ)
+    ensures none { (set : List ShareFields) (given : Option Names) (limit : ℕ)
         → HasNoQuorumAfter set given → IsListing set given limit [] }
-    ensures parts { (set : List ShareFields) (given : Option (List (ℕ × ℕ))) (limit more : ℕ)
-        (before : List (List (ℕ × ℕ))) (last : List (ℕ × ℕ)) (others : List (List (ℕ × ℕ)))
+    ensures parts { (set : List ShareFields) (given : Option Names) (limit more : ℕ)
+        (before : List Names) (last : Names) (others : List Names)
         → IsListing set given limit (before ++ last ∷ []) → IsListing set (Some last) more others
         → IsListing set given (limit + more) ((before ++ last ∷ []) ++ others) }
 {}
@@ -115,4 +116,13 @@ pub fn sets_are_their_shares()
 pub fn one_lack()
     ensures one { SetsHaveOneLack }
     ensures none { SetsWithQuorumsHaveNone }
+{}
+
+/// A set has enough, as its status says, exactly where it has a quorum, and exactly where there is no cause for which it has
+/// none.
+pub fn enough_is_a_quorum()
+    ensures quorum { (set : List ShareFields) → IsShareSet set
+        → (IsTrue (has_enough set) ↔ ((names : Names) × IsQuorum set names)) }
+    ensures no_lack { (set : List ShareFields) → IsShareSet set
+        → (IsTrue (has_enough set) ↔ ((lack : Lack) → ¬ IsLack set lack)) }
 {}

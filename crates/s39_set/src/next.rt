@@ -2,30 +2,32 @@
 ghost use Rattle.std.specs.Prelude.{◌≡◌, ◌+◌, ◌-◌, ◌*◌, ◌<◌, ◌≤◌, ◌++◌, Some, None, true, false, length, map, take, All, Contains, IsTrue};
 ghost use Rattle.std.specs.Prelude.{OnOk, OnErr, IfOk, IfSome, Ok};
 ghost use Rattle.std.specs.declared.cmp.Ordering.TheVariants.{Less};
+ghost use Rattle.s39_set.specs.Causes.{no_quorum_cause};
 ghost use Rattle.s39_set.specs.Names.{most_groups, most_members, most_names, name_cmp, AreNames};
-ghost use Rattle.s39_set.specs.Looks.{most_step_looks, step_looks, choice_looks, place_looks, completion_looks, later_members};
+ghost use Rattle.s39_set.specs.Looks.{most_step_looks, step_looks, context_looks, place_looks, completion_looks, later_members};
 ghost use Rattle.s39_set.specs.ShareSet.{IsShareSet, name_of};
 ghost use Rattle.s39_set.specs.Quorums.{IsQuorum, IsFirstQuorumAfter, HasNoQuorumAfter};
 ghost use Rattle.s39_set.specs.Steps.{name_at, earlier_of_group, AreMasksOf, members_from, groups_from, groups_taken};
 ghost use Rattle.s39_set.specs.Steps.{AreCompleteGroups, Knows};
-ghost use Rattle.s39_set.specs.Steps.{HasSpareMember, AllAreChosen, HasSpareGroup, AllAreUsed, groups_used, IsTailFor, tail_names};
+ghost use Rattle.s39_set.specs.Steps.{HasSpareMember, AllAreChosen, HasSpareGroup, AllAreUsed, groups_used, IsReplacementFor, replacement_names};
 
 use crate::limits::{GROUPS, MAX_GROUPS, MAX_MEMBERS, MAX_NAMES};
 use crate::looks::{Looks, has};
 use crate::masks::Masks;
 use crate::quorum::{Quorum, is_quorum, members_of_groups};
 use crate::share_set::{ShareSet, indices_at};
+use s39_refusal::{Cause, code};
 
 /// A list of names is no quorum of a set.
 #[derive(Clone, Copy, Debug, PartialEq, Eq)]
 pub struct NotAQuorum;
 
 impl NotAQuorum {
-    /// The code of this refusal, 62.
-    pub fn code(&self) -> u8
-        ensures { result ≡ 62 }
+    /// What the refusal says: 62.
+    pub fn cause(&self) -> Cause
+        ensures { result ≡ no_quorum_cause }
     {
-        62
+        Cause::of(code::NOT_A_QUORUM)
     }
 }
 
@@ -55,11 +57,11 @@ pub fn next_after(
         return Err(NotAQuorum);
     }
     let names = quorum.pairs();
-    let choice = Choice::of(set, names, looks);
+    let context = StepContext::of(set, names, looks);
     for position in (0..names.len()).rev() {
         looks.turn();
-        if let Some(tail) = choice.tail(names, position, looks) {
-            return Ok(Some(choice.completed(set, names, position, tail, looks)));
+        if let Some(replacement) = context.replacement(names, position, looks) {
+            return Ok(Some(context.completed(set, names, position, replacement, looks)));
         }
     }
     Ok(None)
@@ -67,7 +69,7 @@ pub fn next_after(
 
 /// What a step knows of a set and a quorum of it.
 #[derive(Drop)]
-pub(crate) struct Choice {
+pub(crate) struct StepContext {
     /// The names of the set's shares.
     pub(crate) at_hand: Masks,
     /// The names of the quorum.
@@ -80,7 +82,7 @@ pub(crate) struct Choice {
 
 /// Where the names come from that can stand in the place of a name and of all behind it.
 #[derive(Clone, Copy)]
-pub(crate) enum Tail {
+pub(crate) enum Replacement {
     /// Its own group, with a greater member in its place.
     Group,
     /// Later groups alone.
@@ -172,17 +174,17 @@ fn count_members(masks: &Masks, group: u8, from: u8, looks: &mut Looks) -> u8
     members
 }
 
-impl Choice {
-    pub(crate) fn of(set: &ShareSet, names: &[(u8, u8)], looks: &mut Looks) -> Choice
+impl StepContext {
+    pub(crate) fn of(set: &ShareSet, names: &[(u8, u8)], looks: &mut Looks) -> StepContext
         requires names { AreNames names.now }
         requires short { length names.now ≤ most_names }
         requires is_set { IsShareSet set.now }
-        requires looks { looks.old + choice_looks names.now ≤ u64.MAX }
+        requires looks { looks.old + context_looks names.now ≤ u64.MAX }
         ensures knows { Knows set.now names.now result }
-        ensures looks { looks.new ≡ looks.old + choice_looks names.now }
+        ensures looks { looks.new ≡ looks.old + context_looks names.now }
     {
         let at_hand = shares_at_hand(set, looks);
-        Choice {
+        StepContext {
             at_hand,
             chosen: masks_of(names, looks),
             complete: groups_complete(set, &at_hand, looks),
@@ -191,11 +193,16 @@ impl Choice {
     }
 
     /// Whether a greater name can stand at a position, and then where it and the names behind it come from.
-    fn tail(&self, names: &[(u8, u8)], position: usize, looks: &mut Looks) -> Option<Tail>
+    fn replacement(
+        &self,
+        names: &[(u8, u8)],
+        position: usize,
+        looks: &mut Looks,
+    ) -> Option<Replacement>
         requires names { AreNames names.now }
         requires position { position < length names.now }
         requires looks { looks.old + place_looks (name_at names.now position) ≤ u64.MAX }
-        ensures tail { IsTailFor self.now (take position names.now) (name_at names.now position)
+        ensures replacement { IsReplacementFor self.now (take position names.now) (name_at names.now position)
             result }
         ensures looks { looks.new + 1 ≡ looks.old + place_looks (name_at names.now position) }
     {
@@ -203,9 +210,9 @@ impl Choice {
         let spare_member = has_spare_member(&self.at_hand, &self.chosen, group, member, looks);
         let spare_group = has_spare_group(&self.complete, &self.members, group, looks);
         if spare_member {
-            Some(Tail::Group)
+            Some(Replacement::Group)
         } else if spare_group && is_first_of_group(names, position) {
-            Some(Tail::LaterGroups)
+            Some(Replacement::LaterGroups)
         } else {
             None
         }
@@ -217,7 +224,7 @@ impl Choice {
         set: &ShareSet,
         names: &[(u8, u8)],
         position: usize,
-        tail: Tail,
+        replacement: Replacement,
         looks: &mut Looks,
     ) -> Quorum
         requires names { AreNames names.now }
@@ -226,7 +233,7 @@ impl Choice {
         requires looks { looks.old + completion_looks position (name_at names.now position) ≤ u64.MAX }
         ensures names { result
             ≡ take position names.now
-            ++ tail_names set.now self.now (name_at names.now position) tail }
+            ++ replacement_names set.now self.now (name_at names.now position) replacement }
         ensures looks { looks.new
             ≡ looks.old + completion_looks position (name_at names.now position) }
     {
@@ -234,9 +241,9 @@ impl Choice {
         let mut next = copied(&names[..position], looks);
         let chosen = count_members(&self.chosen, group, member + 1, looks);
         let groups = groups_above(&self.members, group, looks);
-        let (members, groups) = match tail {
-            Tail::Group => (chosen + 1, groups),
-            Tail::LaterGroups => (0, groups + 1),
+        let (members, groups) = match replacement {
+            Replacement::Group => (chosen + 1, groups),
+            Replacement::LaterGroups => (0, groups + 1),
         };
         push_members(&self.at_hand, group, member + 1, members, &mut next, looks);
         self.push_groups(set, group + 1, groups, &mut next, looks);
@@ -273,7 +280,7 @@ impl Choice {
 }
 
 /// Which shares a set has.
-fn shares_at_hand(set: &ShareSet, looks: &mut Looks) -> Masks
+pub(crate) fn shares_at_hand(set: &ShareSet, looks: &mut Looks) -> Masks
     requires looks { looks.old + 2 * most_names ≤ u64.MAX }
     ensures names { AreMasksOf result (map name_of set.now) }
     ensures looks { looks.new ≡ looks.old + 2 * most_names }
@@ -349,7 +356,7 @@ fn copied(names: &[(u8, u8)], looks: &mut Looks) -> Quorum
 }
 
 /// Appends the first members in the masks of a group from one on, as many as wanted.
-fn push_members(
+pub(crate) fn push_members(
     masks: &Masks,
     group: u8,
     from: u8,

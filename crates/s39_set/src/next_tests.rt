@@ -94,7 +94,7 @@ fn names_that_are_no_quorum(rt: HostRuntime) -> Result<(), Fail> {
         assert!(rt; matches!(next, Err(NotAQuorum)));
         assert!(rt; looks.count() <= 16384);
     }
-    assert_eq!(rt; NotAQuorum.code(), 62);
+    assert_eq!(rt; NotAQuorum.cause().code, 62);
     Ok(())
 }
 

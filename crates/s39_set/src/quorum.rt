@@ -1,7 +1,7 @@
 //! Quorums: the minimal sets of names that meet the thresholds.
 ghost use Rattle.std.specs.Prelude.{◌≡◌, ℕ, ◌+◌, ◌-◌, ◌*◌, ◌<◌, ◌≤◌, ◌↔◌, ◌++◌, [], ◌∷◌, length, map, All, Contains, Some, IsTrue, slice_index};
 ghost use Rattle.std.specs.declared.cmp.Ordering.TheVariants.{Less};
-ghost use Rattle.s39_set.specs.Names.{most_groups, most_members, most_names, name_cmp, names_in_group};
+ghost use Rattle.s39_set.specs.Names.{Names, most_groups, most_members, most_names, name_cmp, names_in_group};
 ghost use Rattle.s39_set.specs.Looks.{most_test_looks, test_looks};
 ghost use Rattle.s39_set.specs.ShareSet.{IsShareSet, name_of};
 ghost use Rattle.s39_set.specs.Quorums.{member_threshold_of, IsQuorum, HasJustTheMembers};
@@ -22,9 +22,9 @@ pub struct Quorum {
 
 impl Model for Quorum {
     ghost use Rattle.std.specs.Prelude.{ℕ, List};
-    ghost use Rattle.s39_set.specs.Names.{AreNames};
+    ghost use Rattle.s39_set.specs.Names.{AreNames, Names};
 
-    ghost Value = { List (ℕ × ℕ) };
+    ghost Value = { Names };
 
     ghost view = { λ quorum. quorum.pairs.items };
 
@@ -34,7 +34,7 @@ impl Model for Quorum {
 }
 
 impl Quorum {
-    ghost use Rattle.s39_set.specs.Names.{AreNames};
+    ghost use Rattle.s39_set.specs.Names.{AreNames, Names};
 
     /// No names.
     pub(crate) fn new() -> Quorum

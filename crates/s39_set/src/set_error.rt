@@ -1,6 +1,8 @@
 //! What comes of adding a share to a set.
 ghost use Rattle.std.specs.Prelude.{◌≡◌};
 
+use s39_refusal::{Cause, code};
+
 /// How a share was taken into a set.
 #[derive(Clone, Copy, Debug, PartialEq, Eq)]
 pub enum Added {
@@ -33,21 +35,29 @@ pub enum SetError {
 }
 
 impl SetError {
-    ghost use Rattle.s39_set.specs.ShareSet.{code_of};
+    ghost use Rattle.s39_set.specs.ShareSet.{cause_of};
 
-    /// The code of the cause, 21 to 28.
-    pub fn code(&self) -> u8
-        ensures { result ≡ code_of self.now }
+    /// What the refusal says: 21 to 28, and the group and the member that are named.
+    pub fn cause(&self) -> Cause
+        ensures { result ≡ cause_of self.now }
     {
         match self {
-            SetError::OtherIdentifier => 21,
-            SetError::OtherExtendable => 22,
-            SetError::OtherExponent => 23,
-            SetError::OtherGroupThreshold => 24,
-            SetError::OtherGroupCount => 25,
-            SetError::OtherLength => 26,
-            SetError::OtherMemberThreshold { .. } => 27,
-            SetError::ConflictingShare { .. } => 28,
+            SetError::OtherIdentifier => Cause::of(code::OTHER_IDENTIFIER),
+            SetError::OtherExtendable => Cause::of(code::OTHER_EXTENDABLE),
+            SetError::OtherExponent => Cause::of(code::OTHER_EXPONENT),
+            SetError::OtherGroupThreshold => Cause::of(code::OTHER_GROUP_THRESHOLD),
+            SetError::OtherGroupCount => Cause::of(code::OTHER_GROUP_COUNT),
+            SetError::OtherLength => Cause::of(code::OTHER_LENGTH),
+            SetError::OtherMemberThreshold { group } => {
+                Cause::new(code::OTHER_MEMBER_THRESHOLD, u64::from(*group), 0)
+            }
+            SetError::ConflictingShare { group, member } => {
+                Cause::new(
+                    code::CONFLICTING_SHARE,
+                    u64::from(*group),
+                    u64::from(*member),
+                )
+            }
         }
     }
 }

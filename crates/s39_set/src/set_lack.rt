@@ -1,6 +1,8 @@
 //! Why a set has no quorum.
 ghost use Rattle.std.specs.Prelude.{◌≡◌};
 
+use s39_refusal::{Cause, code};
+
 /// Why a set has no quorum.
 #[derive(Clone, Copy, Debug, PartialEq, Eq)]
 pub enum SetLack {
@@ -12,15 +14,17 @@ pub enum SetLack {
 }
 
 impl SetLack {
-    ghost use Rattle.s39_set.specs.Lack.{code_of};
+    ghost use Rattle.s39_set.specs.Lack.{cause_of};
 
-    /// The code of the cause, 29 or 30.
-    pub fn code(&self) -> u8
-        ensures { result ≡ code_of self.now }
+    /// What the refusal says: 29; or 30, and the complete and the required groups.
+    pub fn cause(&self) -> Cause
+        ensures { result ≡ cause_of self.now }
     {
         match self {
-            SetLack::NoShares => 29,
-            SetLack::Incomplete { .. } => 30,
+            SetLack::NoShares => Cause::of(code::NO_SHARES),
+            SetLack::Incomplete { complete, required } => {
+                Cause::new(code::INCOMPLETE, u64::from(*complete), u64::from(*required))
+            }
         }
     }
 }

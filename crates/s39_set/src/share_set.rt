@@ -127,6 +127,13 @@ impl ShareSet {
         }
     }
 
+    /// Whether the set has no share.
+    pub fn is_empty(&self) -> bool
+        ensures { IsTrue result ↔ (self.now ≡ []) }
+    {
+        self.group_threshold().is_none()
+    }
+
     /// The member threshold of the shares of a group, where the set has one.
     pub(crate) fn member_threshold(&self, group: u8) -> Option<u8>
         requires { group < most_groups }

@@ -1,6 +1,6 @@
 use crate::{
-    Added, BadCursor, Looks, SetError, SetLack, ShareSet, first, has, is_quorum, parse_quorum,
-    share_at,
+    Added, BadCursor, Looks, SetError, SetLack, ShareSet, Status, first, group_status_of, has,
+    is_quorum, parse_quorum, share_at, status_of,
 };
 use s39_kdf::check_secret;
 use s39_words::{Share, ShareFields};
@@ -218,16 +218,17 @@ fn codes_of_causes(rt: HostRuntime) {
         },
     ];
     assert_eq!(rt;
-        causes.map(|cause| cause.code()),
+        causes.map(|cause| cause.cause().code),
         [21, 22, 23, 24, 25, 26, 27, 28]
     );
-    assert_eq!(rt; SetLack::NoShares.code(), 29);
+    assert_eq!(rt; SetLack::NoShares.cause().code, 29);
     assert_eq!(rt;
         SetLack::Incomplete {
             complete: 0,
             required: 1
         }
-        .code(),
+        .cause()
+        .code,
         30
     );
 }
@@ -244,6 +245,37 @@ fn texts_that_are_no_names(rt: HostRuntime) -> Result<(), Fail> {
         parse_quorum(b"0.2+0.10+9.15+10.0+15.9")?.pairs(),
         [(0, 2), (0, 10), (9, 15), (10, 0), (15, 9)].as_slice()
     );
-    assert_eq!(rt; BadCursor.code(), 61);
+    assert_eq!(rt; BadCursor.cause().code, 61);
+    Ok(())
+}
+
+#[test]
+fn what_is_at_hand(rt: HostRuntime) -> Result<(), Fail> {
+    assert_eq!(rt; status_of(&ShareSet::new()), None);
+    assert!(rt; group_status_of(&ShareSet::new(), 0).is_none());
+    for (required, enough) in [(1, true), (2, true), (3, false)] {
+        let mut set = three_groups(required)?;
+        let status = Status {
+            complete: 2,
+            required,
+        };
+        assert_eq!(rt; set.add(zeros(required, 3, 2, 1)?), Ok(Added::Repeat));
+        assert_eq!(rt; status_of(&set), Some(status));
+        assert_eq!(rt; status.is_enough(), enough);
+        for (group, threshold, names) in [
+            (0, 2, [(0, 0), (0, 5), (0, 15)].as_slice()),
+            (3, 2, [(3, 1)].as_slice()),
+            (15, 1, [(15, 3), (15, 4)].as_slice()),
+        ] {
+            let Some(status) = group_status_of(&set, group) else {
+                return Err(Fail::new("the group has shares"));
+            };
+            assert_eq!(rt; (status.group, status.threshold), (group, threshold));
+            assert_eq!(rt; status.names.pairs(), names);
+        }
+        for group in [1, 2, 4, 14] {
+            assert!(rt; group_status_of(&set, group).is_none());
+        }
+    }
     Ok(())
 }

@@ -4,7 +4,7 @@ use Rattle.std.specs.List.{All, slice_get}
 use Rattle.std.proofs.lemmas.Option.{slice_get-get_or, slice_get_within, get_or_from_slice_get}
 use Rattle.std.proofs.lemmas.Bool.{cases_lt}
 use Rattle.s39_field.specs.Interpolation.{InterpolatesBytes}
-use Rattle.s39_field.specs.Theory.Strings.{strings_have_one_value}
+use Rattle.s39_field.proofs.Strings.{strings_have_one_value}
 use Rattle.s39_split.specs.Sharing.{most_shares, digest_place, secret_place, digest_length, digest_share, digest_of, SharesAreAsLong}
 use Rattle.s39_split.specs.Recovery.{Combines, CombinesSeveral, AreSharesOf, AnySharesCombine}
 use Rattle.s39_split.specs.Shares.{AreDistinct}

@@ -8,10 +8,10 @@ use Rattle.arrayvec.specs.ArrayVec.{ArrayVec}
 use Rattle.s39_field.specs.FieldProduct.{byte_field, byte_modulus, product_modulo}
 use Rattle.s39_field.specs.Interpolation.{Interpolates, InterpolatesBytes, points_at, weighted_sum}
 use Rattle.s39_field.specs.Theory.Powers.{byte_field_is_field}
-use Rattle.s39_field.specs.Theory.Strings.{weighted_sum-more}
+use Rattle.s39_field.proofs.Strings.{weighted_sum-more}
 use Rattle.s39_kdf.specs.Bytes.{AreBytes}
 use Rattle.s39_split.specs.Shares.{indexed_bytes}
-use Rattle.s39_split.proofs.Lists.{All-from_map}
+use Rattle.s39_lists.proofs.Pairs.{All-from_map}
 
 -- the bytes of the points' strings at one position
 abbrev pub column : ℕ → List (ℕ × Bor (ArrayVec ℕ)) → List ℕ

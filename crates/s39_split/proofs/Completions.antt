@@ -9,8 +9,8 @@ use Rattle.s39_field.specs.FieldProduct.{byte_field}
 use Rattle.s39_field.specs.Polynomial.{value_at}
 use Rattle.s39_field.specs.Interpolation.{InterpolatesBytes}
 use Rattle.s39_field.specs.Theory.Powers.{byte_field_is_field}
-use Rattle.s39_field.specs.Theory.Values.{value_at-cons, mul-zero_left}
-use Rattle.s39_field.specs.Theory.Strings.{strings_have_one_value}
+use Rattle.s39_field.proofs.Values.{value_at-cons, mul-zero_left}
+use Rattle.s39_field.proofs.Strings.{strings_have_one_value}
 use Rattle.s39_kdf.specs.Bytes.{AreBytes}
 use Rattle.s39_split.specs.Sharing.{most_shares, digest_place, secret_place, digest_share, IsSplit}
 use Rattle.s39_split.specs.Recovery.{Combines}
@@ -18,7 +18,7 @@ use Rattle.s39_split.specs.Completion.{Completes, ArePointsOf, SharesArePoints, 
 use Rattle.s39_split.proofs.Interpolations.{interpolates_by_others}
 use Rattle.s39_split.proofs.SplitPoints.{base_of, SplitBase, split_base}
 use Rattle.s39_split.proofs.Choices.{combines_accepted, one_combines_to, several_combine_to}
-use Rattle.s39_split.proofs.Lists.{All-from_same}
+use Rattle.s39_lists.proofs.Pairs.{All-from_same}
 use Rattle.s39_split.proofs.SplitLaws.{ArePoints, value_at_place, value_interpolated}
 use Rattle.s39_split.proofs.OneOutcome.{combine_once, shares_combine}
 

@@ -6,7 +6,7 @@ use Rattle.std.proofs.Math.Seq.{take-add}
 use Rattle.std.proofs.Math.Nat.{mul-le-mul_right}
 use Rattle.arrayvec.specs.ArrayVec.{ArrayVec}
 use Rattle.s39_split.specs.Shares.{bytes_of}
-use Rattle.s39_split.proofs.Lists.{concat-push}
+use Rattle.s39_lists.proofs.Pushes.{concat-push}
 
 module _ (shares : List (ArrayVec ℕ)) (share : ArrayVec ℕ) (bytes : List ℕ) (n i : ℕ) (within : i < length shares)
     (is : share.items ≡ take ((i + 1) * n - i * n) (drop (i * n) bytes)) where

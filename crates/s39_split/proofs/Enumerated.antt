@@ -5,7 +5,7 @@ use Rattle.std.proofs.lemmas.List.{map_push, take_more, length-map, length-take-
 use Rattle.std.proofs.lemmas.List.FromFn.{length-enumerate_from}
 use Rattle.arrayvec.specs.ArrayVec.{ArrayVec}
 use Rattle.s39_split.specs.Shares.{bytes_of}
-use Rattle.s39_split.proofs.Lists.{enumerate_from-push}
+use Rattle.s39_lists.proofs.Pushes.{enumerate_from-push}
 
 -- the first i shares, each with its index
 abbrev pub enumerated : List (ArrayVec ℕ) → ℕ → List (ℕ × List ℕ)

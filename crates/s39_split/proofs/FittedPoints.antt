@@ -9,13 +9,13 @@ use Rattle.std.proofs.lemmas.List.FromFn.{length-enumerate_from, get_or-enumerat
 use Rattle.std.proofs.lemmas.Option.{slice_get-get_or}
 use Rattle.std.proofs.lemmas.Bool.{cases_lt}
 use Rattle.s39_field.specs.Interpolation.{InterpolatesBytes}
-use Rattle.s39_field.specs.Theory.Strings.{strings_have_one_value}
+use Rattle.s39_field.proofs.Strings.{strings_have_one_value}
 use Rattle.s39_kdf.specs.Bytes.{AreBytes}
 use Rattle.s39_split.specs.Shares.{AreDistinct}
 use Rattle.s39_split.specs.Sharing.{most_shares, digest_place, secret_place, digest_length, digest_share, base_points, IsSplit}
 use Rattle.s39_split.specs.Recovery.{AreSharesOf}
 use Rattle.s39_split.specs.Fitting.{Fits}
-use Rattle.s39_split.proofs.Lists.{concat-push}
+use Rattle.s39_lists.proofs.Pushes.{concat-push}
 use Rattle.s39_split.proofs.Pieces.{length-concat}
 use Rattle.s39_split.proofs.Interpolations.{none, interpolates_itself, interpolates_by_others}
 use Rattle.s39_split.proofs.BasePoints.{length-base_points}

@@ -10,7 +10,7 @@ use Rattle.std.proofs.lemmas.Map.Views.{Contains-from_any}
 use Rattle.std.proofs.lemmas.Bool.{eqb-true}
 use Rattle.std.proofs.lemmas.Bool.Decides.{Decides-eqb}
 use Rattle.arrayvec.specs.ArrayVec.{ArrayVec}
-use Rattle.s39_field.specs.Theory.Lists.{AllPairs-map}
+use Rattle.s39_lists.proofs.Pairs.{AllPairs-map}
 use Rattle.s39_split.specs.Sharing.{most_shares}
 use Rattle.s39_split.specs.Shares.{indexed_bytes, AreDistinct}
 

@@ -5,8 +5,8 @@ use Rattle.std.proofs.lemmas.List.{get_or-map, length-map}
 use Rattle.std.proofs.lemmas.List.Elements.{All-map}
 use Rattle.s39_field.specs.FieldProduct.{byte_field}
 use Rattle.s39_field.specs.Theory.Powers.{byte_field_is_field}
-use Rattle.s39_field.specs.Theory.Lists.{AllPairs-map}
-use Rattle.s39_field.specs.Theory.Roots.{points_have_one_value}
+use Rattle.s39_lists.proofs.Pairs.{AllPairs-map}
+use Rattle.s39_field.proofs.Roots.{points_have_one_value}
 use Rattle.s39_field.specs.Polynomial.{value_at}
 use Rattle.s39_field.specs.Interpolation.{InterpolatesBytes, points_at}
 use Rattle.s39_split.specs.Shares.{AreDistinct}

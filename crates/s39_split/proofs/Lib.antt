@@ -4,7 +4,6 @@ pub mod Digests
 pub mod SplitPoints
 pub mod Choices
 pub mod Columns
-pub mod Lists
 pub mod Cuts
 pub mod Enumerated
 pub mod LentPoints

@@ -7,13 +7,13 @@ use Rattle.std.proofs.lemmas.Bool.{cases_eq, cases_Bool, false≢true}
 use Rattle.s39_split.specs.Sharing.{digest_length, digest_place, secret_place, digest_of}
 use Rattle.s39_split.specs.Recovery.{Combines, CombinesSeveral, SharesCombine, SecretsAreLikeTheirShares}
 use Rattle.s39_kdf.specs.Bytes.{AreBytes}
-use Rattle.s39_split.specs.Shares.{AreDistinct}
+use Rattle.s39_split.specs.Shares.{AreDistinct, HaveByteIndices}
 use Rattle.s39_split.proofs.Choices.{accepted_once, refused_once, combines_accepted, combines_refused, several_combine_to, one_combines_to}
-use Rattle.s39_split.proofs.Lists.{All-from_same}
+use Rattle.s39_lists.proofs.Pairs.{All-from_same}
 use Rattle.s39_split.proofs.SplitLaws.{ArePoints, value_at_place, value_interpolated, AreBytes-interpolated}
 
 module _ (shares : List (ℕ × List ℕ)) (outcome other : Option (List ℕ))
-    (some : 0 < length shares) (places : All (λ share. share.0 < 256) shares) (distinct : AreDistinct shares) where
+    (some : 0 < length shares) (places : HaveByteIndices shares) (distinct : AreDistinct shares) where
   several_combine_once : CombinesSeveral shares outcome → CombinesSeveral shares other → outcome ≡ other
   several_combine_once a b =
       let given = take digest_length a.digest in
@@ -29,7 +29,7 @@ module _ (shares : List (ℕ × List ℕ)) (outcome other : Option (List ℕ))
 
 -- shares at distinct places combine to at most one outcome
 pub combine_once : (threshold : ℕ) (shares : List (ℕ × List ℕ)) (outcome other : Option (List ℕ)) → 0 < length shares
-    → All (λ share. share.0 < 256) shares → AreDistinct shares → Combines threshold shares outcome → Combines threshold shares other → outcome ≡ other
+    → HaveByteIndices shares → AreDistinct shares → Combines threshold shares outcome → Combines threshold shares other → outcome ≡ other
 combine_once threshold shares outcome other some places distinct a b =
     elim (cases_eq threshold 1) [
       | inl one ↦ (

@@ -12,8 +12,8 @@ use Rattle.std.proofs.lemmas.Bool.Decides.{eqb_tells}
 use Rattle.s39_field.specs.FieldProduct.{byte_field}
 use Rattle.s39_field.specs.Interpolation.{InterpolatesBytes}
 use Rattle.s39_field.specs.Theory.Powers.{byte_field_is_field}
-use Rattle.s39_field.specs.Theory.Values.{value_at-element}
-use Rattle.s39_field.specs.Theory.Strings.{strings_have_a_value, strings_have_one_value}
+use Rattle.s39_field.proofs.Values.{value_at-element}
+use Rattle.s39_field.proofs.Strings.{strings_have_a_value, strings_have_one_value}
 use Rattle.s39_kdf.specs.Bytes.{AreBytes}
 use Rattle.s39_kdf.specs.Hmac.{hmac}
 use Rattle.s39_kdf.proofs.Lengths.{length-hmac}

@@ -3,7 +3,7 @@ use Rattle.std.specs.Prelude.{◌≡◌, ◌⊎◌, ℕ, ◌<◌, ◌≤◌, Lis
 use Rattle.std.specs.List.{slice_get}
 use Rattle.s39_field.specs.Interpolation.{InterpolatesBytes}
 use Rattle.s39_kdf.specs.Bytes.{AreBytes}
-use Rattle.s39_split.specs.Shares.{AreDistinct, HaveOneLength}
+use Rattle.s39_split.specs.Shares.{AreDistinct, HaveByteIndices, HaveOneLength}
 use Rattle.s39_split.specs.Sharing.{secret_place, IsSplit}
 use Rattle.s39_split.specs.Recovery.{Combines, AreSharesOf}
 
@@ -40,7 +40,7 @@ AnyPointsComplete =
 -- points at distinct places complete to at most one outcome at an index
 abbrev pub PointsCompleteOnce : Type 0
 PointsCompleteOnce = (threshold : ℕ) (points : List (ℕ × List ℕ)) (index : ℕ) (outcome other : Option (List ℕ))
-    → 0 < length points → All (λ point. point.0 < 256) points → AreDistinct points
+    → 0 < length points → HaveByteIndices points → AreDistinct points
     → Completes threshold points index outcome → Completes threshold points index other → outcome ≡ other
 
 -- one or more points at distinct places, of bytes and of one length, as many as the threshold, complete to an outcome
@@ -48,7 +48,7 @@ abbrev pub PointsComplete : Type 0
 PointsComplete = (threshold : ℕ) (points : List (ℕ × List ℕ)) (index : ℕ)
     → 1 ≤ threshold
     → length points ≡ threshold
-    → All (λ point. point.0 < 256) points
+    → HaveByteIndices points
     → All (λ point. AreBytes point.1) points
     → HaveOneLength points
     → AreDistinct points

@@ -4,7 +4,7 @@ use Rattle.std.specs.Prelude.{◌≡◌, ◌≢◌, ℕ, ◌<◌, ◌≤◌, Lis
 use Rattle.std.specs.List.{slice_get}
 use Rattle.s39_field.specs.Interpolation.{InterpolatesBytes}
 use Rattle.s39_kdf.specs.Bytes.{AreBytes}
-use Rattle.s39_split.specs.Shares.{AreDistinct, HaveOneLength}
+use Rattle.s39_split.specs.Shares.{AreDistinct, HaveByteIndices, HaveOneLength}
 use Rattle.s39_split.specs.Sharing.{digest_place, secret_place, digest_length, digest_of, IsSplit}
 
 -- What two or more shares give: the secret S where the first 4 bytes of D are its digest under the
@@ -44,7 +44,7 @@ AnySharesCombine =
 -- shares with different indices combine to at most one outcome
 abbrev pub SharesCombineOnce : Type 0
 SharesCombineOnce = (threshold : ℕ) (shares : List (ℕ × List ℕ)) (outcome other : Option (List ℕ))
-    → 0 < length shares → All (λ share. share.0 < 256) shares → AreDistinct shares
+    → 0 < length shares → HaveByteIndices shares → AreDistinct shares
     → Combines threshold shares outcome → Combines threshold shares other → outcome ≡ other
 
 -- one or more shares with different indices and one length, as many as the threshold, combine to an outcome
@@ -52,7 +52,7 @@ abbrev pub SharesCombine : Type 0
 SharesCombine = (threshold : ℕ) (shares : List (ℕ × List ℕ))
     → 1 ≤ threshold
     → length shares ≡ threshold
-    → All (λ share. share.0 < 256) shares
+    → HaveByteIndices shares
     → All (λ share. AreBytes share.1) shares
     → HaveOneLength shares
     → AreDistinct shares

@@ -1,5 +1,5 @@
 -- Shares, or points, as a list of indices and byte strings, and what a contract sees of them in memory.
-use Rattle.std.specs.Prelude.{◌≡◌, ◌≢◌, ℕ, List, length, map, AllPairs}
+use Rattle.std.specs.Prelude.{◌≡◌, ◌≢◌, ℕ, ◌<◌, List, length, map, All, AllPairs}
 use Rattle.std.specs.Borrow.{Bor}
 use Rattle.arrayvec.specs.ArrayVec.{ArrayVec}
 
@@ -10,6 +10,10 @@ bytes_of shares = map (λ share. share.items) shares
 -- each share's index and bytes
 abbrev pub indexed_bytes : List (ℕ × Bor (ArrayVec ℕ)) → List (ℕ × List ℕ)
 indexed_bytes shares = map (λ share. (share.0, share.1.now.items)) shares
+
+-- the index of each share is a byte
+abbrev pub HaveByteIndices : List (ℕ × List ℕ) → Type 0
+HaveByteIndices shares = All (λ share. share.0 < 256) shares
 
 -- no two shares have the same index
 abbrev pub AreDistinct : List (ℕ × List ℕ) → Type 0

@@ -4,9 +4,10 @@ ghost use Rattle.std.specs.Option.{option_map};
 ghost use Rattle.std.specs.Result.{result_ok};
 ghost use Rattle.arrayvec.specs.ArrayVec.{array_vec_len};
 ghost use Rattle.s39_kdf.specs.Limits.{shortest_secret};
+ghost use Rattle.s39_split.specs.Mismatch.{mismatch_cause};
 ghost use Rattle.s39_split.specs.Sharing.{most_shares, IsSplit};
 ghost use Rattle.s39_split.specs.Recovery.{Combines, AreSharesOf};
-ghost use Rattle.s39_split.specs.Shares.{indexed_bytes, AreDistinct, HaveOneLength};
+ghost use Rattle.s39_split.specs.Shares.{indexed_bytes, AreDistinct, HaveByteIndices, HaveOneLength};
 
 use crate::digest::digest_of;
 use crate::interpolation::interpolate;
@@ -14,6 +15,7 @@ use crate::laws::any_shares_combine;
 use crate::places::{DIGEST_BYTES, DIGEST_PLACE, SECRET_PLACE};
 use crate::sharing::copied;
 use s39_kdf::Bytes;
+use s39_refusal::{Cause, code};
 
 /// The digest that the shares give isn't that of the secret that they give: a share is wrong, they aren't
 /// all shares of one split, or `t` isn't that split's threshold.
@@ -21,11 +23,11 @@ use s39_kdf::Bytes;
 pub struct DigestMismatch;
 
 impl DigestMismatch {
-    /// The number of this refusal, 51.
-    pub fn code(&self) -> u8
-        ensures { result ≡ 51 }
+    /// What the refusal says of shares of this group, or of group shares where it is `OF_GROUPS`: 51, and the group.
+    pub fn cause(&self, group: u64) -> Cause
+        ensures { result ≡ mismatch_cause group }
     {
-        51
+        Cause::new(code::DIGEST_MISMATCH, group, 0)
     }
 }
 
@@ -64,7 +66,7 @@ pub(crate) fn combine_points(t: u8, points: &[(u8, &Bytes)]) -> Result<Bytes, Di
     requires few { t ≤ most_shares }
     requires number { length points.now ≡ t }
     requires distinct { AreDistinct (indexed_bytes points.now) }
-    requires places { All (λ point. point.0 < 256) (indexed_bytes points.now) }
+    requires places { HaveByteIndices (indexed_bytes points.now) }
     requires one_length { HaveOneLength (indexed_bytes points.now) }
     requires long { All (λ point. shortest_secret ≤ length point.1) (indexed_bytes points.now) }
     ensures secret { IfOk result

@@ -42,7 +42,7 @@ fn two_needed_vectors(rt: HostRuntime) {
 #[test]
 fn another_digest(rt: HostRuntime) {
     let refusal = two_needed(0xFF, 0xFD).err();
-    assert_eq!(rt; refusal.map(|refusal| refusal.code()), Some(51));
+    assert_eq!(rt; refusal.map(|refusal| refusal.cause(0).code), Some(51));
 }
 
 /// The share value of member 1 of the same split, as a plain program in Python computes it from the other two.

@@ -1,19 +1,16 @@
-//! The texts of faults, as the program and the library give them.
+//! The texts of refusals, as the program and the library give them.
 #![tactic(auto)]
 
-use s39_kdf::BadPassphrase;
-use s39_set::{BadCursor, SetError, SetLack};
-use s39_tool::{DeviceFailure, Fault, LineRefusal, Mismatch, PlanError, Refusal};
-use s39_words::WordError;
+use s39_refusal::{Cause, code};
 use thiserror::Error;
 
-/// What a fault is called.
+/// What a refusal is called.
 #[derive(Debug, Drop, Error)]
 pub enum RefusalText {
     #[error("unknown word {0}")]
-    UnknownWord(usize),
+    UnknownWord(u64),
     #[error("{0} words make no share")]
-    WordCount(usize),
+    WordCount(u64),
     #[error("bad checksum")]
     BadChecksum,
     #[error("bad padding")]
@@ -51,17 +48,23 @@ pub enum RefusalText {
     #[error("bad cursor")]
     BadCursor,
     #[error("passphrase byte {0} not printable")]
-    Passphrase(usize),
+    Passphrase(u64),
     #[error("secret of {0} bytes")]
-    SecretLength(usize),
+    SecretLength(u64),
     #[error("random bytes: {0} needed")]
-    RandomLength(usize),
+    RandomLength(u64),
     #[error("digest mismatch in group {0}")]
     DigestMismatchInGroup(u8),
     #[error("digest mismatch of groups")]
     DigestMismatchOfGroups,
     #[error("cursor is no quorum")]
     NotAQuorum,
+    #[error("name {0}.{1} not in plan")]
+    NotInPlan(u8, u8),
+    #[error("other plan")]
+    OtherPlan,
+    #[error("cannot tell {0}.{1}: {2} of {3} members, {4} of {5} other groups")]
+    Undetermined(u8, u8, u8, u8, u8, u8),
     #[error("line too long")]
     LineTooLong,
     #[error("read failed")]
@@ -70,85 +73,66 @@ pub enum RefusalText {
     WriteFailed,
 }
 
-impl From<WordError> for RefusalText {
-    fn from(error: WordError) -> RefusalText {
-        match error {
-            WordError::UnknownWord { position } => RefusalText::UnknownWord(position),
-            WordError::WordCount { words } => RefusalText::WordCount(words),
-            WordError::BadChecksum => RefusalText::BadChecksum,
-            WordError::BadPadding => RefusalText::BadPadding,
-            WordError::GroupThreshold => RefusalText::GroupThreshold,
-        }
-    }
-}
-
-impl From<SetError> for RefusalText {
-    fn from(error: SetError) -> RefusalText {
-        match error {
-            SetError::OtherIdentifier => RefusalText::OtherIdentifier,
-            SetError::OtherExtendable => RefusalText::OtherExtendable,
-            SetError::OtherExponent => RefusalText::OtherExponent,
-            SetError::OtherGroupThreshold => RefusalText::OtherGroupThreshold,
-            SetError::OtherGroupCount => RefusalText::OtherGroupCount,
-            SetError::OtherLength => RefusalText::OtherLength,
-            SetError::OtherMemberThreshold { group } => RefusalText::OtherMemberThreshold(group),
-            SetError::ConflictingShare { group, member } => {
-                RefusalText::ConflictingShare { group, member }
+impl RefusalText {
+    /// What a refusal is called, where there is one of this number with these details.
+    pub fn of(cause: Cause) -> Option<RefusalText> {
+        let number = cause.first;
+        let group = u8::try_from(cause.first).ok();
+        let second = u8::try_from(cause.second).ok();
+        Some(match cause.code {
+            code::UNKNOWN_WORD => RefusalText::UnknownWord(number),
+            code::WORD_COUNT => RefusalText::WordCount(number),
+            code::BAD_CHECKSUM => RefusalText::BadChecksum,
+            code::BAD_PADDING => RefusalText::BadPadding,
+            code::GROUP_THRESHOLD => RefusalText::GroupThreshold,
+            code::OTHER_IDENTIFIER => RefusalText::OtherIdentifier,
+            code::OTHER_EXTENDABLE => RefusalText::OtherExtendable,
+            code::OTHER_EXPONENT => RefusalText::OtherExponent,
+            code::OTHER_GROUP_THRESHOLD => RefusalText::OtherGroupThreshold,
+            code::OTHER_GROUP_COUNT => RefusalText::OtherGroupCount,
+            code::OTHER_LENGTH => RefusalText::OtherLength,
+            code::OTHER_MEMBER_THRESHOLD => RefusalText::OtherMemberThreshold(group?),
+            code::CONFLICTING_SHARE => RefusalText::ConflictingShare {
+                group: group?,
+                member: second?,
+            },
+            code::NO_SHARES => RefusalText::NoShares,
+            code::INCOMPLETE => RefusalText::Incomplete {
+                complete: group?,
+                required: second?,
+            },
+            code::BAD_PLAN => RefusalText::BadPlan,
+            code::PLAN_GROUPS => RefusalText::PlanGroups,
+            code::PLAN_MEMBERS => RefusalText::PlanMembers(group?),
+            code::ONE_OF_MANY => RefusalText::OneOfMany(group?),
+            code::PASSPHRASE => RefusalText::Passphrase(number),
+            code::SECRET_LENGTH => RefusalText::SecretLength(number),
+            code::RANDOM_LENGTH => RefusalText::RandomLength(number),
+            code::DIGEST_MISMATCH if number == code::OF_GROUPS => {
+                RefusalText::DigestMismatchOfGroups
             }
-        }
+            code::DIGEST_MISMATCH => RefusalText::DigestMismatchInGroup(group?),
+            code::BAD_CURSOR => RefusalText::BadCursor,
+            code::NOT_A_QUORUM => RefusalText::NotAQuorum,
+            code::NOT_IN_PLAN => RefusalText::NotInPlan(group?, second?),
+            code::OTHER_PLAN => RefusalText::OtherPlan,
+            code::UNDETERMINED => undetermined(cause)?,
+            code::LINE_TOO_LONG => RefusalText::LineTooLong,
+            code::READ_FAILED => RefusalText::ReadFailed,
+            code::WRITE_FAILED => RefusalText::WriteFailed,
+            _ => return None,
+        })
     }
 }
 
-impl From<SetLack> for RefusalText {
-    fn from(lack: SetLack) -> RefusalText {
-        match lack {
-            SetLack::NoShares => RefusalText::NoShares,
-            SetLack::Incomplete { complete, required } => {
-                RefusalText::Incomplete { complete, required }
-            }
-        }
-    }
+/// What the refusal of a share that isn't determined is called, where its details are a name and four counts.
+fn undetermined(cause: Cause) -> Option<RefusalText> {
+    let [group, member] = u16::try_from(cause.first).ok()?.to_be_bytes();
+    let [members, threshold, others, required] = u32::try_from(cause.second).ok()?.to_be_bytes();
+    Some(RefusalText::Undetermined(group, member, members, threshold, others, required))
 }
 
-impl From<PlanError> for RefusalText {
-    fn from(error: PlanError) -> RefusalText {
-        match error {
-            PlanError::BadPlan => RefusalText::BadPlan,
-            PlanError::PlanGroups => RefusalText::PlanGroups,
-            PlanError::PlanMembers { group } => RefusalText::PlanMembers(group),
-            PlanError::OneOfMany { group } => RefusalText::OneOfMany(group),
-        }
-    }
-}
-
-impl From<BadPassphrase> for RefusalText {
-    fn from(bad: BadPassphrase) -> RefusalText {
-        RefusalText::Passphrase(bad.position)
-    }
-}
-
-impl From<Refusal> for RefusalText {
-    fn from(refusal: Refusal) -> RefusalText {
-        match refusal {
-            Refusal::Line(LineRefusal::Word(error)) => RefusalText::from(error),
-            Refusal::Line(LineRefusal::Set(error)) => RefusalText::from(error),
-            Refusal::Line(LineRefusal::TooLong) => RefusalText::LineTooLong,
-            Refusal::Lack(lack) => RefusalText::from(lack),
-            Refusal::Passphrase(bad) => RefusalText::from(bad),
-            Refusal::SecretLength(bad) => RefusalText::SecretLength(bad.bytes),
-            Refusal::RandomLength { needed } => RefusalText::RandomLength(needed),
-            Refusal::DigestMismatch(Mismatch::InGroup { group }) => {
-                RefusalText::DigestMismatchInGroup(group)
-            }
-            Refusal::DigestMismatch(Mismatch::OfGroups) => RefusalText::DigestMismatchOfGroups,
-            Refusal::NotAQuorum => RefusalText::NotAQuorum,
-            Refusal::Device(DeviceFailure::Read) => RefusalText::ReadFailed,
-            Refusal::Device(DeviceFailure::Write) => RefusalText::WriteFailed,
-        }
-    }
-}
-
-/// A fault as a message: the line where it has one, its code and its text.
+/// A refusal as a message: the line where it has one, its number and its text.
 #[derive(Debug, Drop, Error)]
 pub enum FaultText {
     #[error("shamir: line {line}: {code} {text}")]
@@ -162,33 +146,20 @@ pub enum FaultText {
         code: u8,
         text: RefusalText,
     },
+    #[error("shamir: {code}")]
+    WithoutText {
+        code: u8,
+    },
 }
 
-impl From<Fault> for FaultText {
-    fn from(fault: Fault) -> FaultText {
-        let code = fault.refusal.code();
-        let text = RefusalText::from(fault.refusal);
-        match fault.line {
-            Some(line) => FaultText::AtLine { line, code, text },
-            None => FaultText::Anywhere { code, text },
-        }
-    }
-}
-
-impl From<PlanError> for FaultText {
-    fn from(error: PlanError) -> FaultText {
-        FaultText::Anywhere {
-            code: error.code(),
-            text: RefusalText::from(error),
-        }
-    }
-}
-
-impl From<BadCursor> for FaultText {
-    fn from(error: BadCursor) -> FaultText {
-        FaultText::Anywhere {
-            code: error.code(),
-            text: RefusalText::BadCursor,
+impl FaultText {
+    /// The message of a refusal, at this line. A number or details that no refusal has are told by the number alone.
+    pub fn of(line: Option<u64>, cause: Cause) -> FaultText {
+        let code = cause.code;
+        match (line, RefusalText::of(cause)) {
+            (Some(line), Some(text)) => FaultText::AtLine { line, code, text },
+            (None, Some(text)) => FaultText::Anywhere { code, text },
+            (_, None) => FaultText::WithoutText { code },
         }
     }
 }

@@ -1,6 +1,5 @@
 -- The command `drill`.
 pub mod Names
-pub mod Memos
 pub mod Drilling
 pub mod Filling
 pub mod Complete

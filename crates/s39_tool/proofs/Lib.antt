@@ -4,3 +4,5 @@ pub mod Sets
 pub mod Texts
 pub mod Runs
 pub mod Drills
+pub mod Statuses
+pub mod Reissues

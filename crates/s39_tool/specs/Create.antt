@@ -5,11 +5,9 @@ use Rattle.arrayvec.specs.ArrayVec.{ArrayVec}
 use Rattle.s39_kdf.specs.Limits.{IsPrintable, IsSecretLength}
 use Rattle.s39_words.specs.declared.ShareFields.{ShareFields}
 use Rattle.s39_words.specs.Printing.{IsPrinted}
-use Rattle.s39_backup.specs.declared.plan.Members.{Members}
-use Rattle.s39_backup.specs.declared.options.Options.{Options}
 use Rattle.s39_backup.specs.declared.create_error.CreateError.{CreateError}
 use Rattle.s39_backup.specs.declared.create_error.CreateError.TheVariants.{Passphrase, SecretLength, BadRandomLength}
-use Rattle.s39_backup.specs.Created.{random_needed, IsCreation}
+use Rattle.s39_backup.specs.Created.{Asked, IsCreation, needed_by}
 use Rattle.s39_tool.specs.declared.fault.DeviceFailure.TheVariants.{Read}
 use Rattle.s39_tool.specs.declared.fault.Refusal.TheVariants.{Device, Passphrase as PassphraseRefusal, SecretLength as SecretRefusal, RandomLength}
 use Rattle.s39_tool.specs.declared.fault.Fault.{Fault}
@@ -17,22 +15,6 @@ use Rattle.s39_tool.specs.Device.{Counted}
 use Rattle.s39_tool.specs.Fault.{fault_of}
 use Rattle.s39_tool.specs.Input.{Input, ended_line}
 use Rattle.s39_tool.specs.Output.{WritesWhole, WritesPart}
-
--- what a backup is created from, but for the random bytes
-pub record Asked : Type 0 where
-  pub secret : List ℕ
-  pub passphrase : List ℕ
-  pub group_threshold : ℕ
-  pub groups : List Members
-  pub options : Options
-
--- how many random bytes it takes
-abbrev pub needed_by : Asked → ℕ
-needed_by asked = random_needed asked.group_threshold asked.groups (length asked.secret)
-
--- the creation with these random bytes gives this
-abbrev pub Creates : Asked → List ℕ → Result (List ShareFields) CreateError → Type 0
-Creates asked random result = IsCreation asked.secret asked.passphrase asked.group_threshold asked.groups asked.options random result
 
 -- the text has the printed form of each of these shares, one a line
 pub record ArePrintedLines (shares : List ShareFields) (text : List ℕ) : Type 0 where
@@ -63,10 +45,10 @@ pub record FailsBefore (asked : Asked) (input : Input) : Type 0 where
 -- `create` writes this text for the input, whose bytes are the random ones, and answers so
 abbrev pub IsCreateOutput : Asked → Input → List ℕ → Result (Unit {0}) Fault → Type 0
 IsCreateOutput asked input text (Ok _) =
-    (shares : List ShareFields) × (input.ended ≡ true) × Creates asked input.bytes (Ok shares) × ArePrintedLines shares text
+    (shares : List ShareFields) × (input.ended ≡ true) × IsCreation asked input.bytes (Ok shares) × ArePrintedLines shares text
 IsCreateOutput asked input text (Err fault) =
     (text ≡ [])
-    × (((error : CreateError) × Creates asked input.bytes (Err error) × Applies input error × (fault ≡ fault_of_creation error))
+    × (((error : CreateError) × IsCreation asked input.bytes (Err error) × Applies input error × (fault ≡ fault_of_creation error))
     ⊎ (FailsBefore asked input × (fault ≡ fault_of (Device Read))))
 
 -- Within a run; no public contract cites this.

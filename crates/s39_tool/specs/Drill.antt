@@ -5,6 +5,7 @@ use Rattle.std.specs.List.{flat_map}
 use Rattle.arrayvec.specs.ArrayVec.{ArrayVec}
 use Rattle.hex.specs.Hex.{encode_lower}
 use Rattle.s39_words.specs.declared.ShareFields.{ShareFields}
+use Rattle.s39_set.specs.Names.{Names}
 use Rattle.s39_set.specs.declared.set_lack.SetLack.{SetLack}
 use Rattle.s39_set.specs.Quorums.{IsQuorum, IsFirstQuorumAfter, HasNoQuorumAfter}
 use Rattle.s39_set.specs.Lack.{IsLack}
@@ -29,7 +30,7 @@ use Rattle.s39_tool.specs.Steps.{Then, nothing_for}
 
 -- a quorum that is listed, and its outcome
 abbrev pub Listed : Type 0
-Listed = List (ℕ × ℕ) × Result (List ℕ) Mismatch
+Listed = Names × Result (List ℕ) Mismatch
 
 -- an outcome as it is shown: the secret in lower-case hexadecimal, or which digest isn't the right one
 abbrev pub outcome_text : Result (List ℕ) Mismatch → List ℕ
@@ -42,7 +43,7 @@ abbrev pub quorum_line : Listed → List ℕ
 quorum_line listed = ended_line (quorum_text listed.0 ++ 32 ∷ outcome_text listed.1)
 
 -- the last line: that no more quorums remain, or after which one more do
-abbrev pub last_line : Option (List (ℕ × ℕ)) → List ℕ
+abbrev pub last_line : Option Names → List ℕ
 last_line None = ended_line (codes "end")
 last_line (Some names) = ended_line (codes "more after " ++ quorum_text names)
 
@@ -51,19 +52,19 @@ abbrev pub mismatches_in : List Listed → ℕ
 mismatches_in lines = length (filter (λ line. is_err line.1) lines)
 
 -- the last of these quorums, or what was reached before them where there are none
-abbrev pub last_reached : Option (List (ℕ × ℕ)) → List (List (ℕ × ℕ)) → Option (List (ℕ × ℕ))
+abbrev pub last_reached : Option Names → List Names → Option Names
 last_reached reached [] = reached
 last_reached reached (names ∷ others) = last_reached (Some names) others
 
 -- no quorum comes after what was reached, or some do after this one, which was reached
-abbrev pub GoesOn : List ShareFields → Option (List (ℕ × ℕ)) → Option (List (ℕ × ℕ)) → Type 0
+abbrev pub GoesOn : List ShareFields → Option Names → Option Names → Type 0
 GoesOn set reached None = HasNoQuorumAfter set reached
 GoesOn set reached (Some names) = (reached ≡ Some names) × ¬ HasNoQuorumAfter set reached
 
 -- The drill of a set: the text of the lines of the quorums after a given one, or of all, in order, at most as many as
 -- the limit, each with its outcome; whether more remain; and how many of the outcomes are mismatches.
-pub record IsDrill (set : List ShareFields) (passphrase : List ℕ) (after : Option (List (ℕ × ℕ))) (limit : ℕ)
-    (text : List ℕ) (more : Option (List (ℕ × ℕ))) (mismatches : ℕ) : Type 0 where
+pub record IsDrill (set : List ShareFields) (passphrase : List ℕ) (after : Option Names) (limit : ℕ)
+    (text : List ℕ) (more : Option Names) (mismatches : ℕ) : Type 0 where
   pub lines : List Listed
   pub listing : IsListing set after limit (map (λ line. line.0) lines)
   pub outcomes : All (λ line. IsOutcome set line.0 passphrase line.1) lines
@@ -72,11 +73,11 @@ pub record IsDrill (set : List ShareFields) (passphrase : List ℕ) (after : Opt
   pub mismatches_are : mismatches ≡ mismatches_in lines
 
 -- why a set isn't drilled: it has no quorum, or what is given isn't a quorum of it
-abbrev pub IsUndrilled : List ShareFields → Option (List (ℕ × ℕ)) → Undrilled → Type 0
+abbrev pub IsUndrilled : List ShareFields → Option Names → Undrilled → Type 0
 IsUndrilled set after (Lack lack) = IsLack set lack
 IsUndrilled set after NotAQuorum =
     ((lack : SetLack) → ¬ IsLack set lack)
-    × ((names : List (ℕ × ℕ)) × (after ≡ Some names) × ¬ IsQuorum set names)
+    × ((names : Names) × (after ≡ Some names) × ¬ IsQuorum set names)
 
 -- the fault of a set that isn't drilled
 abbrev pub fault_of_undrilled : Undrilled → Fault
@@ -84,39 +85,39 @@ fault_of_undrilled (Lack lack) = fault_of (LackRefusal lack)
 fault_of_undrilled NotAQuorum = fault_of CursorRefusal
 
 -- the set has a quorum, and what is given is one of its quorums; or why the set isn't drilled
-abbrev pub IsDrillable : List ShareFields → Option (List (ℕ × ℕ)) → Result (Unit {0}) Undrilled → Type 0
+abbrev pub IsDrillable : List ShareFields → Option Names → Result (Unit {0}) Undrilled → Type 0
 IsDrillable set after (Ok _) = ((lack : SetLack) → ¬ IsLack set lack) × IfSome after (IsQuorum set)
 IsDrillable set after (Err cause) = IsUndrilled set after cause
 
 -- the lines of the drill of a set are written, and the last line, and its mismatches are answered
-abbrev pub WritesLines : List ShareFields → List ℕ → Option (List (ℕ × ℕ)) → ℕ → List ℕ × Result Done Fault → Type 0
+abbrev pub WritesLines : List ShareFields → List ℕ → Option Names → ℕ → List ℕ × Result Done Fault → Type 0
 WritesLines set passphrase after limit written =
-    (lines : List ℕ) × (more : Option (List (ℕ × ℕ))) × (mismatches : ℕ) × IsDrill set passphrase after limit lines more mismatches
+    (lines : List ℕ) × (more : Option Names) × (mismatches : ℕ) × IsDrill set passphrase after limit lines more mismatches
     × (written ≡ (lines ++ last_line more, Ok (record { mismatches = mismatches })))
 
 -- the set is drilled; or nothing is written, and the answer is why it isn't
-abbrev pub WritesDrillOf : List ℕ → Option (List (ℕ × ℕ)) → ℕ → List ShareFields → List ℕ × Result Done Fault → Type 0
+abbrev pub WritesDrillOf : List ℕ → Option Names → ℕ → List ShareFields → List ℕ × Result Done Fault → Type 0
 WritesDrillOf passphrase after limit set =
     Then (IsDrillable set after) (λ cause. nothing_for (fault_of_undrilled cause)) (λ _. WritesLines set passphrase after limit)
 
 -- `drill` writes this text for the passphrase, the quorum after which it starts, the limit and the input, and answers
 -- so: the passphrase is judged first, then the lines of the input, and then the set of their shares
-abbrev pub IsDrillOutput : List ℕ → Option (List (ℕ × ℕ)) → ℕ → Input → List ℕ → Result Done Fault → Type 0
+abbrev pub IsDrillOutput : List ℕ → Option Names → ℕ → Input → List ℕ → Result Done Fault → Type 0
 IsDrillOutput passphrase after limit input text answer =
     Then (IsCheckedSet passphrase input) nothing_for (WritesDrillOf passphrase after limit) (text, answer)
 
 -- The drill of a set whose quorums all give this secret: those after a given one, or all, each once, in order, at most
 -- as many as the limit, each with that secret; and then the last line.
-pub record ListsSecret (set : List ShareFields) (secret : List ℕ) (after : Option (List (ℕ × ℕ))) (limit : ℕ) (text : List ℕ) : Type 0 where
-  pub listed : List (List (ℕ × ℕ))
-  pub more : Option (List (ℕ × ℕ))
+pub record ListsSecret (set : List ShareFields) (secret : List ℕ) (after : Option Names) (limit : ℕ) (text : List ℕ) : Type 0 where
+  pub listed : List Names
+  pub more : Option Names
   pub listing : IsListing set after limit listed
   pub goes_on : GoesOn set (last_reached after listed) more
   pub text_is : text ≡ flat_map (λ names. quorum_line (names, Ok secret)) listed ++ last_line more
 
 -- Where the set has a quorum, and what is given is one, just the quorums and that secret are listed, and no mismatch is
 -- answered; else nothing is written, and the answer is which of both isn't so.
-abbrev pub ListsSecretOrCause : List ShareFields → List ℕ → Option (List (ℕ × ℕ)) → ℕ → List ℕ → Result Done Fault → Type 0
+abbrev pub ListsSecretOrCause : List ShareFields → List ℕ → Option Names → ℕ → List ℕ → Result Done Fault → Type 0
 ListsSecretOrCause set secret after limit text (Ok done) =
     ((lack : SetLack) → ¬ IsLack set lack) × IfSome after (IsQuorum set)
     × ListsSecret set secret after limit text × (done.mismatches ≡ 0)
@@ -125,7 +126,7 @@ ListsSecretOrCause set secret after limit text (Err fault) =
 
 -- That is so of the set of the input's shares, where the input holds mnemonics of a backup that was created with this
 -- passphrase.
-abbrev pub DrillsCreated : List ℕ → Option (List (ℕ × ℕ)) → ℕ → Input → List ℕ → Result Done Fault → Type 0
+abbrev pub DrillsCreated : List ℕ → Option Names → ℕ → Input → List ℕ → Result Done Fault → Type 0
 DrillsCreated passphrase after limit input text answer =
     (secret : List ℕ) → HoldsMnemonicsOf passphrase secret input
     → (set : List ShareFields) × IsReadAs input (Ok set) × ListsSecretOrCause set secret after limit text answer
@@ -134,18 +135,18 @@ DrillsCreated passphrase after limit input text answer =
 
 -- what is known of listings and of outcomes
 pub record DrillLaws : Type 0 where
-  pub first : (set : List ShareFields) (given : Option (List (ℕ × ℕ))) (names : List (ℕ × ℕ)) (limit : ℕ) (others : List (List (ℕ × ℕ)))
+  pub first : (set : List ShareFields) (given : Option Names) (names : Names) (limit : ℕ) (others : List Names)
       → IsFirstQuorumAfter set given names → IsListing set (Some names) limit others → IsListing set given (suc limit) (names ∷ others)
-  pub none : (set : List ShareFields) (given : Option (List (ℕ × ℕ))) (limit : ℕ) → HasNoQuorumAfter set given → IsListing set given limit []
-  pub exists : (set : List ShareFields) (given : Option (List (ℕ × ℕ))) (limit : ℕ) → IsShareSet set
-      → (listed : List (List (ℕ × ℕ))) × IsListing set given limit listed
-  pub walks : (set : List ShareFields) (given : Option (List (ℕ × ℕ))) (quorums : List (List (ℕ × ℕ)))
+  pub none : (set : List ShareFields) (given : Option Names) (limit : ℕ) → HasNoQuorumAfter set given → IsListing set given limit []
+  pub exists : (set : List ShareFields) (given : Option Names) (limit : ℕ) → IsShareSet set
+      → (listed : List Names) × IsListing set given limit listed
+  pub walks : (set : List ShareFields) (given : Option Names) (quorums : List Names)
       → (IsWalk set given quorums ↔ AreAllQuorumsAfter set given quorums)
-  pub outcome : (set : List ShareFields) (names : List (ℕ × ℕ)) (passphrase : List ℕ) → IsShareSet set → IsQuorum set names
+  pub outcome : (set : List ShareFields) (names : Names) (passphrase : List ℕ) → IsShareSet set → IsQuorum set names
       → (outcome : Result (List ℕ) Mismatch) × IsOutcome set names passphrase outcome
 
 -- the first quorum after what was reached, or none, where none comes after
-abbrev pub IsNext : List ShareFields → Option (List (ℕ × ℕ)) → Option (List (ℕ × ℕ)) → Type 0
+abbrev pub IsNext : List ShareFields → Option Names → Option Names → Type 0
 IsNext set reached None = HasNoQuorumAfter set reached
 IsNext set reached (Some names) = IsFirstQuorumAfter set reached names
 
@@ -160,17 +161,17 @@ mismatch_in (Ok secret) = 0
 mismatch_in (Err mismatch) = 1
 
 -- where a drill starts: at the first quorum after the given one, or of all, or nowhere where none remains
-pub record StartsAt (set : List ShareFields) (after next : Option (List (ℕ × ℕ))) : Type 0 where
+pub record StartsAt (set : List ShareFields) (after next : Option Names) : Type 0 where
   pub no_lack : (lack : SetLack) → ¬ IsLack set lack
   pub cursor : IfSome after (IsQuorum set)
   pub starts : IsNext set after next
 
 -- the text of a drill is written, or a write fails
-abbrev pub WritesDrill : {W E : Type 0} → (W → Option (List ℕ)) → Counted W → List ShareFields → List ℕ → Option (List (ℕ × ℕ)) → ℕ
+abbrev pub WritesDrill : {W E : Type 0} → (W → Option (List ℕ)) → Counted W → List ShareFields → List ℕ → Option Names → ℕ
     → Result Done E → Counted W → Type 0
 WritesDrill contents old set passphrase after limit (Ok done) new =
-    (lines : List ℕ) × (more : Option (List (ℕ × ℕ))) × IsDrill set passphrase after limit lines more done.mismatches
+    (lines : List ℕ) × (more : Option Names) × IsDrill set passphrase after limit lines more done.mismatches
     × WritesWhole contents old (lines ++ last_line more) new
 WritesDrill contents old set passphrase after limit (Err _) new =
-    (lines : List ℕ) × (more : Option (List (ℕ × ℕ))) × (mismatches : ℕ) × IsDrill set passphrase after limit lines more mismatches
+    (lines : List ℕ) × (more : Option Names) × (mismatches : ℕ) × IsDrill set passphrase after limit lines more mismatches
     × WritesPart contents old (lines ++ last_line more) new

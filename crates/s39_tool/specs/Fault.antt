@@ -8,32 +8,44 @@ use Rattle.s39_tool.specs.declared.fault.DeviceFailure.{DeviceFailure}
 use Rattle.s39_tool.specs.declared.fault.DeviceFailure.TheVariants.{Read, Write}
 use Rattle.s39_tool.specs.declared.fault.Refusal.{Refusal}
 use Rattle.s39_tool.specs.declared.fault.Refusal.TheVariants.{Line, Passphrase, SecretLength, RandomLength, Lack, DigestMismatch, NotAQuorum, Device}
+use Rattle.s39_tool.specs.declared.fault.Refusal.TheVariants.{NotInPlan, OtherPlan, Undetermined}
 use Rattle.s39_tool.specs.declared.fault.Fault.{Fault}
-use Rattle.s39_words.specs.Reading.{code_of as word_code_of}
-use Rattle.s39_set.specs.ShareSet.{code_of as set_code_of}
-use Rattle.s39_set.specs.Lack.{code_of as lack_code_of}
+use Rattle.s39_refusal.specs.declared.cause.Cause.{Cause}
+use Rattle.s39_refusal.specs.Causes.{cause}
+use Rattle.s39_kdf.specs.Causes.{passphrase_cause, length_cause}
+use Rattle.s39_words.specs.Reading.{cause_of as word_cause_of}
+use Rattle.s39_set.specs.ShareSet.{cause_of as set_cause_of}
+use Rattle.s39_set.specs.Lack.{cause_of as lack_cause_of}
+use Rattle.s39_set.specs.Causes.{no_quorum_cause}
+use Rattle.s39_backup.specs.declared.create_error.CreateError.TheVariants.{BadRandomLength}
+use Rattle.s39_backup.specs.Created.{create_cause_of}
+use Rattle.s39_backup.specs.RecoverError.{mismatch_cause_of}
+use Rattle.s39_backup.specs.Reissue.{too_few_cause}
 
--- the code of a refusal of a line
-abbrev pub line_code_of : LineRefusal → ℕ
-line_code_of (Word error) = word_code_of error
-line_code_of (Set error) = set_code_of error
-line_code_of TooLong = 71
+-- what the refusal of a line says
+abbrev pub line_cause_of : LineRefusal → Cause
+line_cause_of (Word error) = word_cause_of error
+line_cause_of (Set error) = set_cause_of error
+line_cause_of TooLong = cause 71 0 0
 
--- the code of a device's failure
-abbrev pub device_code_of : DeviceFailure → ℕ
-device_code_of Read = 72
-device_code_of Write = 73
+-- what a device's failure says
+abbrev pub device_cause_of : DeviceFailure → Cause
+device_cause_of Read = cause 72 0 0
+device_cause_of Write = cause 73 0 0
 
--- the code of a refusal
-abbrev pub code_of : Refusal → ℕ
-code_of (Line refusal) = line_code_of refusal
-code_of (Lack lack) = lack_code_of lack
-code_of (Passphrase _) = 41
-code_of (SecretLength _) = 42
-code_of (RandomLength _) = 43
-code_of (DigestMismatch _) = 51
-code_of NotAQuorum = 62
-code_of (Device failure) = device_code_of failure
+-- what a refusal says
+abbrev pub cause_of : Refusal → Cause
+cause_of (Line refusal) = line_cause_of refusal
+cause_of (Lack lack) = lack_cause_of lack
+cause_of (Passphrase bad) = passphrase_cause bad.position
+cause_of (SecretLength bad) = length_cause bad.bytes
+cause_of (RandomLength needed) = create_cause_of (BadRandomLength needed)
+cause_of (DigestMismatch mismatch) = mismatch_cause_of mismatch
+cause_of NotAQuorum = no_quorum_cause
+cause_of (NotInPlan group member) = cause 64 group member
+cause_of OtherPlan = cause 65 0 0
+cause_of (Undetermined few) = too_few_cause few
+cause_of (Device failure) = device_cause_of failure
 
 -- a refusal of what stands in a line, of its length, or of its share beside those before it
 abbrev pub has_line : Refusal → Bool

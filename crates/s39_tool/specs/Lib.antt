@@ -11,7 +11,9 @@ pub mod Accepted
 pub mod Collecting
 pub mod Exponent
 pub mod Recover
+pub mod Reissue
 pub mod Create
 pub mod OfBackup
 pub mod Drill
-pub mod Fitting
+pub mod Slices
+pub mod Status

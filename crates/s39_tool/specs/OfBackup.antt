@@ -1,13 +1,14 @@
 -- Inputs whose lines hold mnemonics of one created backup, and what `recover` gives of them.
 use Rattle.std.specs.Prelude.{◌≡◌, ℕ, List, [], All, Contains, Option, IfSome, true, Result, Ok, Err}
 use Rattle.s39_words.specs.declared.ShareFields.{ShareFields}
+use Rattle.s39_set.specs.Names.{Names}
 use Rattle.s39_set.specs.Quorums.{IsQuorum}
 use Rattle.s39_set.specs.Lack.{IsLack}
 use Rattle.s39_set.specs.declared.set_lack.SetLack.{SetLack}
 use Rattle.s39_backup.specs.declared.plan.Members.{Members}
 use Rattle.s39_backup.specs.declared.options.Options.{Options}
 use Rattle.s39_backup.specs.Plan.{IsPlan}
-use Rattle.s39_backup.specs.Created.{IsCreation}
+use Rattle.s39_backup.specs.Created.{IsCreation, asked_for}
 use Rattle.s39_tool.specs.declared.fault.Refusal.TheVariants.{Lack}
 use Rattle.s39_tool.specs.declared.fault.Fault.{Fault}
 use Rattle.s39_tool.specs.Input.{Input, lines_of}
@@ -30,13 +31,13 @@ pub record HoldsMnemonicsOf (passphrase secret : List ℕ) (input : Input) : Typ
   pub random : List ℕ
   pub shares : List ShareFields
   pub is_plan : IsPlan group_threshold groups
-  pub created : IsCreation secret passphrase group_threshold groups options random (Ok shares)
+  pub created : IsCreation (asked_for secret passphrase group_threshold groups options) random (Ok shares)
   pub ended : input.ended ≡ true
   pub lines : All (HoldsNothingOrOneOf shares) (lines_of input)
 
 -- the secret is written where the set has a quorum; where it has none, nothing is, and the answer is why
 abbrev pub IsSecretOrLack : List ShareFields → List ℕ → List ℕ → Result (Unit {0}) Fault → Type 0
-IsSecretOrLack set secret text (Ok _) = ((names : List (ℕ × ℕ)) × IsQuorum set names) × (text ≡ secret_line secret)
+IsSecretOrLack set secret text (Ok _) = ((names : Names) × IsQuorum set names) × (text ≡ secret_line secret)
 IsSecretOrLack set secret text (Err fault) = (text ≡ []) × ((lack : SetLack) × IsLack set lack × (fault ≡ fault_of (Lack lack)))
 
 -- That is so of the set of the input's shares, where the input holds mnemonics of a backup that was created with this

@@ -2,6 +2,7 @@
 use Rattle.std.specs.Prelude.{◌≡◌, ℕ, List, Result, Ok, Err}
 use Rattle.hex.specs.Hex.{encode_lower}
 use Rattle.s39_words.specs.declared.ShareFields.{ShareFields}
+use Rattle.s39_set.specs.Names.{Names}
 use Rattle.s39_set.specs.declared.set_lack.SetLack.{SetLack}
 use Rattle.s39_set.specs.Quorums.{IsLeastQuorum}
 use Rattle.s39_set.specs.Lack.{IsLack}
@@ -18,7 +19,7 @@ abbrev pub secret_line : List ℕ → List ℕ
 secret_line secret = ended_line (encode_lower secret)
 
 -- the least quorum of the set, or why it has none
-abbrev pub IsLeastOrLack : List ShareFields → Result (List (ℕ × ℕ)) SetLack → Type 0
+abbrev pub IsLeastOrLack : List ShareFields → Result (Names) SetLack → Type 0
 IsLeastOrLack set (Ok names) = IsLeastQuorum set names
 IsLeastOrLack set (Err lack) = IsLack set lack
 

@@ -3,7 +3,7 @@ ghost use Rattle.std.specs.Prelude.{◌≡◌, ◌+◌, ◌<◌, Err, IfOk};
 ghost use Rattle.s39_kdf.specs.declared.limits.BadPassphrase.{BadPassphrase};
 ghost use Rattle.s39_set.specs.ShareSet.{IsShareSet};
 ghost use Rattle.s39_tool.specs.Accepted.{IsCheckedSet, IsReadAs};
-ghost use Rattle.s39_tool.specs.Fault.{fault_of, read_failures, write_failures};
+ghost use Rattle.s39_tool.specs.Fault.{fault_of, read_failures, stop_failures, write_failures};
 ghost use Rattle.s39_tool.specs.Input.{whole};
 ghost use Rattle.s39_tool.specs.Runs.{OfInput};
 
@@ -76,11 +76,22 @@ pub(crate) fn checked_set_in(passphrase: &[u8], lines: &[u8]) -> Result<ShareSet
     ensures checked { IsCheckedSet passphrase.now (whole lines.now) result }
     ensures is_set { IfOk result IsShareSet }
 {
+    check_passphrase(passphrase)?;
+    Ok(set_in(lines)?)
+}
+
+/// The set of the shares of an input, each once, or the first line that is refused, or a failed read. The caller keeps
+/// `failures()` below `u64::MAX`.
+pub(crate) fn read_set<R: Read>(input: &mut Counting<R>) -> Result<ShareSet, Stop<LineRefusal>>
+    requires { input.old.failures < u64.MAX }
+    ensures read { OfInput R.remaining input.old input.new (λ input. IsReadAs input result) }
+    ensures is_set { IfOk result IsShareSet }
+    ensures failures { input.new.failures ≡ input.old.failures + stop_failures result }
+{
     same_shares_refuse_the_same();
     one_more_is_added();
-    check_passphrase(passphrase)?;
     let mut shares = ShareSet::new();
-    take_lines_of(lines, &mut shares)?;
+    take_lines(input, &mut shares)?;
     Ok(shares)
 }
 

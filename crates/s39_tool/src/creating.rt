@@ -1,12 +1,15 @@
-//! The command `create`: the mnemonics of a backup that is created from a secret and the random bytes of an input.
-ghost use Rattle.std.specs.Prelude.{◌≡◌, ◌≢◌, ◌+◌, ◌<◌, ◌≤◌, All, ℕ, List, Ok, Err, IfErr};
+//! The command `create`: the mnemonics of a backup that is created from a secret and random bytes.
+ghost use Rattle.std.specs.Prelude.{◌≡◌, ◌≢◌, ◌+◌, ◌<◌, ◌≤◌, ◌++◌, All, ℕ, List, length, drop, Ok, Err, IfOk, IfErr};
 ghost use Rattle.s39_words.specs.Printing.{IsPrinted};
 ghost use Rattle.s39_words.specs.Share.{IsShare};
+ghost use Rattle.s39_set.specs.Names.{most_names};
+ghost use Rattle.s39_backup.specs.Asking.{asked_of};
 ghost use Rattle.s39_tool.specs.declared.creating.TheConstants.{ROOM};
-ghost use Rattle.s39_tool.specs.Create.{IsCreateOutput, HasRead, WritesPrinted};
+ghost use Rattle.s39_tool.specs.Create.{ArePrintedLines, IsCreateOutput, HasRead, WritesPrinted};
 ghost use Rattle.s39_tool.specs.Device.{failure_of};
 ghost use Rattle.s39_tool.specs.Fault.{fault_of};
-ghost use Rattle.s39_tool.specs.Input.{ended_line};
+ghost use Rattle.s39_tool.specs.Slices.{IsInFront, Puts};
+ghost use Rattle.s39_tool.specs.Input.{ended_line, whole};
 ghost use Rattle.s39_kdf.specs.declared.limits.BadPassphrase.{BadPassphrase};
 ghost use Rattle.s39_kdf.specs.declared.limits.BadSecretLength.{BadSecretLength};
 ghost use Rattle.s39_tool.specs.Runs.{OfInput, Runs};
@@ -15,10 +18,11 @@ use crate::device::Counting;
 use crate::fault::{DeviceFailure, Fault, Refusal};
 use crate::lines::PIECE;
 use crate::output::{Line, WriteFailed, push_text, write_text};
+use crate::slices::{TooShort, Unwritten, put};
 use arrayvec::ArrayVec;
 use s39_backup::{Created, Options, Plan, create};
 use s39_kdf::{check_passphrase, check_secret};
-use s39_words::laws::every_share_has_a_printed_form;
+use s39_words::laws::{every_share_has_a_printed_form, one_printed_form};
 use s39_words::{Share, print};
 use std::io::{Read, Write};
 
@@ -69,13 +73,9 @@ pub fn run_create<R: Read, W: Write>(
 ) -> Result<(), Fault>
     requires readable { input.old.failures < u64.MAX }
     requires writable { output.old.failures < u64.MAX }
-    ensures runs { Runs R.remaining W.contents (IsCreateOutput (record {
-      secret = secret.now;
-      passphrase = passphrase.now;
-      group_threshold = plan.now.group_threshold;
-      groups = plan.now.groups.items;
-      options = options;
-    })) input.old input.new output.old output.new result }
+    ensures runs { Runs R.remaining W.contents
+        (IsCreateOutput (asked_of plan.now secret.now passphrase.now options))
+        input.old input.new output.old output.new result }
     // Of any devices.
     ensures untouched { IfErr result (λ fault.
         fault.refusal ≢ Refusal.Device DeviceFailure.Write → output.new ≡ output.old) }
@@ -93,6 +93,30 @@ pub fn run_create<R: Read, W: Write>(
     let shares = created.shares();
     write_mnemonics(output, shares)?;
     Ok(())
+}
+
+/// Creates a backup of a secret, and puts the text that `run_create` writes for these random bytes to the front of `text`:
+/// the mnemonics by group and member, each with a line feed behind it. The answer is how many bytes they have.
+///
+/// The first that applies is answered, and then the slice is unchanged: `Passphrase` where a byte of it isn't printable,
+/// `SecretLength` where a secret may not have as many bytes, `RandomLength` where there aren't just as many random bytes as
+/// `Plan::random_needed` says, and that the slice is too short.
+pub fn create_lines(
+    plan: &Plan,
+    secret: &[u8],
+    passphrase: &[u8],
+    options: Options,
+    random: &[u8],
+    text: &mut [u8],
+) -> Result<usize, Unwritten>
+    ensures { Puts (IsCreateOutput (asked_of plan.now secret.now passphrase.now options)
+        (whole random.now)) text.old text.new result }
+{
+    let mut created = Created::new();
+    match create(plan, secret, passphrase, options, random, &mut created) {
+        Ok(()) => Ok(put_mnemonics(created.shares(), text)?),
+        Err(error) => Err(Unwritten::Refused(Fault::from(error))),
+    }
 }
 
 /// The first bytes of an input, at most so many, by as few reads as the device gives them in.
@@ -121,7 +145,10 @@ fn read_up_to<R: Read>(input: &mut Counting<R>, limit: usize) -> Result<Random, 
 }
 
 /// Writes the mnemonics of shares, one a line.
-fn write_mnemonics<W: Write>(output: &mut Counting<W>, shares: &[Share]) -> Result<(), WriteFailed>
+pub(crate) fn write_mnemonics<W: Write>(
+    output: &mut Counting<W>,
+    shares: &[Share],
+) -> Result<(), WriteFailed>
     requires writable { output.old.failures < u64.MAX }
     requires each { All IsShare shares.now }
     ensures { WritesPrinted W.contents output.old shares.now result output.new }
@@ -134,11 +161,60 @@ fn write_mnemonics<W: Write>(output: &mut Counting<W>, shares: &[Share]) -> Resu
 }
 
 /// The line of a share's mnemonic.
-pub(crate) fn mnemonic_line(share: &Share) -> Line
+fn mnemonic_line(share: &Share) -> Line
     ensures { (text : List ℕ) × IsPrinted text share.now × (result.items ≡ ended_line text) }
 {
     let mut line = Line::new();
     push_text(&mut line, &print(share));
     line.push(b'\n');
     line
+}
+
+/// Puts the mnemonics of shares to the front of a slice, each with a line feed behind it, where they fit.
+fn put_mnemonics(shares: &[Share], text: &mut [u8]) -> Result<usize, TooShort>
+    requires each { All IsShare shares.now }
+    requires few { length shares.now ≤ most_names }
+    ensures put { IfOk result (λ written. (lines : List ℕ) × ArePrintedLines shares.now lines
+        × IsInFront lines text.old text.new × (written ≡ length lines)) }
+    ensures short { IfErr result (λ short. (lines : List ℕ) × ArePrintedLines shares.now lines
+        × (short.needed ≡ length lines) × (length text.old < length lines)
+        × (text.new ≡ text.old)) }
+{
+    one_printed_form();
+    let needed = length_of(shares);
+    if text.len() < needed {
+        return Err(TooShort { needed });
+    }
+    copy_mnemonics(shares, text);
+    Ok(needed)
+}
+
+/// How many bytes the mnemonics of shares are, each with a line feed behind it.
+fn length_of(shares: &[Share]) -> usize
+    requires few { length shares.now ≤ most_names }
+    ensures { (text : List ℕ) × ArePrintedLines shares.now text × (result ≡ length text) }
+{
+    let mut needed = 0;
+    for share in shares {
+        needed += mnemonic_line(share).len();
+    }
+    needed
+}
+
+/// Puts the mnemonics of shares to the front of a slice, in which they fit.
+fn copy_mnemonics(shares: &[Share], out: &mut [u8])
+    requires each { All IsShare shares.now }
+    requires room { (text : List ℕ) × ArePrintedLines shares.now text
+        × (length text ≤ length out.old) }
+    ensures { (text : List ℕ) × ArePrintedLines shares.now text
+        × (out.new ≡ text ++ drop (length text) out.old) }
+{
+    every_share_has_a_printed_form();
+    one_printed_form();
+    let mut written = 0;
+    for share in shares {
+        let line = mnemonic_line(share);
+        put(out, written, line.as_slice());
+        written += line.len();
+    }
 }

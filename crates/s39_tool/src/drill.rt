@@ -3,6 +3,7 @@ ghost use Rattle.std.specs.Prelude.{◌≡◌, ◌≢◌, ℕ, List, Option, ◌
 ghost use Rattle.std.specs.Option.{option_copied};
 ghost use Rattle.s39_kdf.specs.Limits.{IsPrintable, longest_secret};
 ghost use Rattle.s39_kdf.specs.declared.limits.BadPassphrase.{BadPassphrase};
+ghost use Rattle.s39_set.specs.Names.{Names};
 ghost use Rattle.s39_set.specs.Looks.{most_step_looks};
 ghost use Rattle.s39_set.specs.Quorums.{IsQuorum, IsFirstQuorumAfter};
 ghost use Rattle.s39_set.specs.ShareSet.{IsShareSet};
@@ -152,7 +153,7 @@ fn write_drill<W: Write>(
     requires some { 1 ≤ limit }
     requires looks { looks.old ≤ most_step_looks }
     requires writable { output.old.failures < u64.MAX }
-    ensures { (after : Option (List (ℕ × ℕ))) → IsFirstQuorumAfter set.now after start
+    ensures { (after : Option Names) → IsFirstQuorumAfter set.now after start
         → WritesDrill W.contents output.old set.now passphrase.now after limit result output.new }
 {
     drill_laws();

@@ -1,6 +1,7 @@
 //! The iteration exponent of lines in memory.
 ghost use Rattle.std.specs.Prelude.{◌≡◌, ℕ, ◌≤◌, List, None, IfSome, Ok};
 ghost use Rattle.s39_words.specs.declared.ShareFields.{ShareFields};
+ghost use Rattle.s39_set.specs.Names.{Names};
 ghost use Rattle.s39_set.specs.Quorums.{IsQuorum};
 ghost use Rattle.s39_tool.specs.Accepted.{IsReadAs};
 ghost use Rattle.s39_tool.specs.Exponent.{HasExponent};
@@ -31,7 +32,7 @@ pub fn exponent_in(lines: &[u8]) -> Option<u8>
 
 /// Shares that are accepted and have a quorum have an iteration exponent.
 pub fn some_exponent()
-    ensures { (input : Input) (set : List ShareFields) (names : List (ℕ × ℕ)) → IsReadAs input (Ok set)
+    ensures { (input : Input) (set : List ShareFields) (names : Names) → IsReadAs input (Ok set)
         → IsQuorum set names → (exponent : ℕ) × HasExponent input exponent }
 {
     accepted_inputs_are_share_sets();

@@ -1,9 +1,10 @@
 //! Why a run stopped.
 ghost use Rattle.std.specs.Prelude.{◌≡◌};
 
-use s39_backup::{CreateError, Mismatch};
+use s39_backup::{CreateError, Mismatch, ReissueError, TooFew};
 use s39_kdf::{BadPassphrase, BadSecretLength};
-use s39_set::{SetError, SetLack};
+use s39_refusal::{Cause, code};
+use s39_set::{NotAQuorum, SetError, SetLack};
 use s39_words::WordError;
 
 /// Why a line is refused.
@@ -18,16 +19,16 @@ pub enum LineRefusal {
 }
 
 impl LineRefusal {
-    ghost use Rattle.s39_tool.specs.Fault.{line_code_of};
+    ghost use Rattle.s39_tool.specs.Fault.{line_cause_of};
 
-    /// The code of the cause: 11 to 15, 21 to 28, or 71.
-    pub fn code(&self) -> u8
-        ensures { result ≡ line_code_of self.now }
+    /// What the refusal says: 11 to 15, 21 to 28, or 71, and the details of the cause.
+    pub fn cause(&self) -> Cause
+        ensures { result ≡ line_cause_of self.now }
     {
         match self {
-            LineRefusal::Word(error) => error.code(),
-            LineRefusal::Set(error) => error.code(),
-            LineRefusal::TooLong => 71,
+            LineRefusal::Word(error) => error.cause(),
+            LineRefusal::Set(error) => error.cause(),
+            LineRefusal::TooLong => Cause::of(code::LINE_TOO_LONG),
         }
     }
 }
@@ -70,15 +71,15 @@ pub enum DeviceFailure {
 }
 
 impl DeviceFailure {
-    ghost use Rattle.s39_tool.specs.Fault.{device_code_of};
+    ghost use Rattle.s39_tool.specs.Fault.{device_cause_of};
 
-    /// The code of the failure: 72 or 73.
-    pub fn code(&self) -> u8
-        ensures { result ≡ device_code_of self.now }
+    /// What the failure says: 72 or 73.
+    pub fn cause(&self) -> Cause
+        ensures { result ≡ device_cause_of self.now }
     {
         match self {
-            DeviceFailure::Read => 72,
-            DeviceFailure::Write => 73,
+            DeviceFailure::Read => Cause::of(code::READ_FAILED),
+            DeviceFailure::Write => Cause::of(code::WRITE_FAILED),
         }
     }
 }
@@ -100,26 +101,39 @@ pub enum Refusal {
     DigestMismatch(Mismatch),
     /// The names after which a drill is to start are no quorum of the shares.
     NotAQuorum,
+    /// A name is none of a share of the plan.
+    NotInPlan { group: u8, member: u8 },
+    /// The shares are none of a backup of the plan.
+    OtherPlan,
+    /// The shares don't determine the share of a name.
+    Undetermined(TooFew),
     /// A device failed.
     Device(DeviceFailure),
 }
 
 impl Refusal {
-    ghost use Rattle.s39_tool.specs.Fault.{code_of, has_line};
+    ghost use Rattle.s39_tool.specs.Fault.{cause_of, has_line};
 
-    /// The code by which a message names the refusal: 11 to 15, 21 to 30, 41 to 43, 51, 62, or 71 to 73.
-    pub fn code(&self) -> u8
-        ensures { result ≡ code_of self.now }
+    /// What the refusal says: 11 to 15, 21 to 30, 41 to 43, 51, 62, 64 to 66, or 71 to 73, and the details of the cause.
+    pub fn cause(&self) -> Cause
+        ensures { result ≡ cause_of self.now }
     {
         match self {
-            Refusal::Line(refusal) => refusal.code(),
-            Refusal::Lack(lack) => lack.code(),
-            Refusal::Passphrase(bad) => bad.code(),
-            Refusal::SecretLength(bad) => bad.code(),
-            Refusal::RandomLength { .. } => 43,
-            Refusal::DigestMismatch(mismatch) => mismatch.code(),
-            Refusal::NotAQuorum => 62,
-            Refusal::Device(failure) => failure.code(),
+            Refusal::Line(refusal) => refusal.cause(),
+            Refusal::Lack(lack) => lack.cause(),
+            Refusal::Passphrase(bad) => bad.cause(),
+            Refusal::SecretLength(bad) => bad.cause(),
+            Refusal::RandomLength { needed } => {
+                CreateError::BadRandomLength { needed: *needed }.cause()
+            }
+            Refusal::DigestMismatch(mismatch) => mismatch.cause(),
+            Refusal::NotAQuorum => NotAQuorum.cause(),
+            Refusal::NotInPlan { group, member } => {
+                Cause::new(code::NOT_IN_PLAN, u64::from(*group), u64::from(*member))
+            }
+            Refusal::OtherPlan => Cause::of(code::OTHER_PLAN),
+            Refusal::Undetermined(few) => few.cause(),
+            Refusal::Device(failure) => failure.cause(),
         }
     }
 
@@ -210,6 +224,19 @@ impl From<CreateError> for Fault {
             CreateError::BadRandomLength { needed } => Fault::from(Refusal::RandomLength {
                 needed,
             }),
+        }
+    }
+}
+
+impl From<ReissueError> for Fault {
+    ghost use Rattle.s39_tool.specs.Reissue.{fault_of_reissue};
+
+    ghost from_gives = { λ error fault. fault ≡ fault_of_reissue error };
+
+    fn from(error: ReissueError) -> Fault {
+        match error {
+            ReissueError::Undetermined(few) => Fault::from(Refusal::Undetermined(few)),
+            ReissueError::DigestMismatch(mismatch) => Fault::from(mismatch),
         }
     }
 }

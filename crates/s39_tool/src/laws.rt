@@ -1,5 +1,5 @@
 //! Facts about the definitions, each the contract of a function that does nothing.
-ghost use Rattle.std.specs.Prelude.{◌≡◌, ℕ, List, Result, Ok, Err, IfOk, ◌+◌, ◌++◌, length, suc, Option, Some};
+ghost use Rattle.std.specs.Prelude.{◌≡◌, ℕ, List, All, Contains, Result, Ok, Err, IfOk, ◌+◌, ◌++◌, length, suc, Option, Some};
 ghost use Rattle.s39_words.specs.declared.ShareFields.{ShareFields};
 ghost use Rattle.s39_set.specs.ShareSet.{IsShareSet};
 ghost use Rattle.s39_kdf.specs.Limits.{IsFirstUnprintable, IsSecretLength};
@@ -7,7 +7,7 @@ ghost use Rattle.s39_kdf.specs.declared.limits.BadPassphrase.{BadPassphrase};
 ghost use Rattle.s39_kdf.specs.declared.limits.BadSecretLength.{BadSecretLength};
 ghost use Rattle.s39_tool.specs.Device.{Counted};
 ghost use Rattle.s39_tool.specs.Fault.{fault_of};
-ghost use Rattle.s39_tool.specs.declared.fault.Refusal.TheVariants.{Passphrase, SecretLength};
+ghost use Rattle.s39_tool.specs.declared.fault.Refusal.TheVariants.{Passphrase, SecretLength, NotInPlan};
 ghost use Rattle.s39_tool.specs.Runs.{Runs, Writes};
 ghost use Rattle.s39_tool.specs.declared.fault.Fault.{Fault};
 ghost use Rattle.s39_tool.specs.declared.fault.LineRefusal.{LineRefusal};
@@ -17,19 +17,25 @@ ghost use Rattle.s39_tool.specs.declared.lines.TheConstants.{MAX_LINE_BYTES};
 ghost use Rattle.s39_tool.specs.Input.{Input, longest_line};
 ghost use Rattle.s39_tool.specs.Accepted.{IsReadAs, CheckedSetLaws};
 ghost use Rattle.s39_kdf.specs.Bytes.{AreBytes};
+ghost use Rattle.s39_set.specs.Names.{Names};
 ghost use Rattle.s39_backup.specs.Plan.{IsPlan};
-ghost use Rattle.s39_tool.specs.Create.{Asked, IsCreateOutput};
+ghost use Rattle.s39_backup.specs.declared.plan.Members.{Members};
+ghost use Rattle.s39_backup.specs.Created.{Asked, AreOfBackup, most_random};
+ghost use Rattle.s39_tool.specs.Create.{IsCreateOutput};
 ghost use Rattle.s39_tool.specs.Show.{IsShowOutput};
 ghost use Rattle.s39_tool.specs.Recover.{IsRecoverOutput};
+ghost use Rattle.s39_tool.specs.Reissue.{IsFirstOther, IsReissueOutput};
 ghost use Rattle.s39_tool.specs.declared.drill.Done.{Done};
+ghost use Rattle.s39_set.specs.declared.status.Status.{Status};
+ghost use Rattle.s39_tool.specs.Status.{IsStatusOutput};
 ghost use Rattle.s39_tool.specs.Drill.{DrillLaws, IsDrill, IsDrillOutput, DrillsCreated};
 ghost use Rattle.s39_tool.specs.declared.listing.Listing.{Listing};
-ghost use Rattle.s39_tool.specs.declared.memory.Unwritten.{Unwritten};
-ghost use Rattle.s39_tool.specs.Fitting.{Lists, Puts};
+ghost use Rattle.s39_tool.specs.declared.slices.Unwritten.{Unwritten};
+ghost use Rattle.s39_tool.specs.Slices.{Lists, Puts};
 ghost use Rattle.s39_tool.specs.OfBackup.{HoldsMnemonicsOf, RecoversCreated};
-ghost use Rattle.s39_backup.specs.Created.{AreOfBackup, most_random};
 
 pub use crate::exponent::{every_exponent_is_at_most_15, one_exponent, some_exponent};
+pub use crate::reissue_laws::{created_backups_reissue, one_reissue_output};
 pub use crate::round_trips::{
     every_backup_is_written, one_output_of_a_backup, written_mnemonics_are_of_the_backup,
     written_mnemonics_drill, written_mnemonics_recover,
@@ -55,14 +61,15 @@ pub fn numbers()
 {}
 
 /// Whatever the devices, also ones that don't tell their bytes, a run refuses a passphrase only where a byte of it isn't
-/// printable, and names the first one; and `create` refuses only a secret that may not have as many bytes.
+/// printable, and names the first one; `create` refuses only a secret that may not have as many bytes; and `reissue`
+/// says only of the first name that the plan doesn't have that it hasn't it.
 pub fn refusals_have_causes<R: Read, W: Write>()
     ensures recover { (passphrase : List ℕ) (reader read_to : Counted R)
         (writer written_to : Counted W) (bad : BadPassphrase)
         → Runs R.remaining W.contents (IsRecoverOutput passphrase) reader read_to writer written_to
         (Err (fault_of (Passphrase bad)))
         → IsFirstUnprintable passphrase bad.position }
-    ensures drill { (passphrase : List ℕ) (after : Option (List (ℕ × ℕ))) (limit : ℕ)
+    ensures drill { (passphrase : List ℕ) (after : Option Names) (limit : ℕ)
         (reader read_to : Counted R) (writer written_to : Counted W) (bad : BadPassphrase)
         → Runs R.remaining W.contents (IsDrillOutput passphrase after limit) reader read_to
         writer written_to (Err (fault_of (Passphrase bad)))
@@ -72,6 +79,11 @@ pub fn refusals_have_causes<R: Read, W: Write>()
         → Runs R.remaining W.contents (IsCreateOutput asked) reader read_to writer written_to
         (Err (fault_of (Passphrase bad)))
         → IsFirstUnprintable asked.passphrase bad.position }
+    ensures name { (group_threshold : ℕ) (groups : List Members) (names : Names)
+        (reader read_to : Counted R) (writer written_to : Counted W) (group member : ℕ)
+        → Runs R.remaining W.contents (IsReissueOutput group_threshold groups names) reader read_to
+        writer written_to (Err (fault_of (NotInPlan group member)))
+        → IsFirstOther groups names (group, member) }
     ensures secret { (asked : Asked) (reader read_to : Counted R) (writer written_to : Counted W)
         (bad : BadSecretLength)
         → Runs R.remaining W.contents (IsCreateOutput asked) reader read_to writer written_to
@@ -92,12 +104,20 @@ pub fn unread_inputs_decide_nothing<R: Read, W: Write>()
         writer written_to answer
         → read_to.reads ≡ reader.reads → read_to.failures ≡ reader.failures → (input : Input)
         → Writes W.contents (IsRecoverOutput passphrase input) writer written_to answer }
-    ensures drill { (passphrase : List ℕ) (after : Option (List (ℕ × ℕ))) (limit : ℕ)
+    ensures drill { (passphrase : List ℕ) (after : Option Names) (limit : ℕ)
         (reader read_to : Counted R) (writer written_to : Counted W) (answer : Result Done Fault)
         → Runs R.remaining W.contents (IsDrillOutput passphrase after limit) reader read_to
         writer written_to answer
         → read_to.reads ≡ reader.reads → read_to.failures ≡ reader.failures → (input : Input)
         → Writes W.contents (IsDrillOutput passphrase after limit input) writer written_to answer }
+    ensures reissue { (group_threshold : ℕ) (groups : List Members) (names : Names)
+        (reader read_to : Counted R) (writer written_to : Counted W)
+        (answer : Result (Unit {0}) Fault)
+        → Runs R.remaining W.contents (IsReissueOutput group_threshold groups names) reader read_to
+        writer written_to answer
+        → read_to.reads ≡ reader.reads → read_to.failures ≡ reader.failures → (input : Input)
+        → Writes W.contents (IsReissueOutput group_threshold groups names input)
+        writer written_to answer }
     ensures create { (asked : Asked) (reader read_to : Counted R) (writer written_to : Counted W)
         (answer : Result (Unit {0}) Fault)
         → Runs R.remaining W.contents (IsCreateOutput asked) reader read_to writer written_to answer
@@ -186,15 +206,25 @@ pub(crate) fn one_checked_set()
     accepted_inputs_are_share_sets();
 }
 
+/// Mnemonics of a created backup, in any order and with repeats, are read as a set of its shares.
+pub fn mnemonics_are_read_as_their_shares()
+    ensures { (passphrase secret : List ℕ) (input : Input)
+        (mnemonics : HoldsMnemonicsOf passphrase secret input)
+        → (set : List ShareFields) × IsReadAs input (Ok set)
+        × All (Contains mnemonics.shares) set }
+{
+    one_reading();
+    every_input_is_read();
+    shares_of_a_backup_agree();
+}
+
 /// Mnemonics of a created backup, in any order and with repeats, are read as the set of their shares.
 pub fn mnemonics_of_a_backup_are_a_set()
     ensures { (passphrase secret : List ℕ) (input : Input)
         → HoldsMnemonicsOf passphrase secret input
         → (set : List ShareFields) × IsReadAs input (Ok set) × AreOfBackup set passphrase secret }
 {
-    one_reading();
-    every_input_is_read();
-    shares_of_a_backup_agree();
+    mnemonics_are_read_as_their_shares();
 }
 
 /// Of mnemonics of a created backup, an output of `recover` with the passphrase of the creation is the secret where they
@@ -225,15 +255,15 @@ pub(crate) fn drill_laws()
 /// A set has one drill with a passphrase, after a list of names or from its first quorum on, and up to a limit: one
 /// text, one answer whether more remain, and one number of mismatches.
 pub fn one_drill()
-    ensures once { (set : List ShareFields) (passphrase : List ℕ) (after : Option (List (ℕ × ℕ)))
-        (limit : ℕ) (text other : List ℕ) (more another : Option (List (ℕ × ℕ)))
+    ensures once { (set : List ShareFields) (passphrase : List ℕ) (after : Option Names)
+        (limit : ℕ) (text other : List ℕ) (more another : Option Names)
         (mismatches others : ℕ) → IsShareSet set
         → IsDrill set passphrase after limit text more mismatches
         → IsDrill set passphrase after limit other another others
         → (text ≡ other) × (more ≡ another) × (mismatches ≡ others) }
     ensures exists { (set : List ShareFields) (passphrase : List ℕ)
-        (after : Option (List (ℕ × ℕ))) (limit : ℕ) → IsShareSet set
-        → (text : List ℕ) × (more : Option (List (ℕ × ℕ))) × (mismatches : ℕ)
+        (after : Option Names) (limit : ℕ) → IsShareSet set
+        → (text : List ℕ) × (more : Option Names) × (mismatches : ℕ)
         × IsDrill set passphrase after (suc limit) text more mismatches }
 {
     one_outcome();
@@ -244,9 +274,9 @@ pub fn one_drill()
 /// The lines of a drill that ends with `more after` a quorum, followed by the drill after that quorum, are the drill up
 /// to both limits: its text, its last line, and the number of its mismatches.
 pub fn drills_join()
-    ensures { (set : List ShareFields) (passphrase : List ℕ) (after : Option (List (ℕ × ℕ)))
-        (limit extra : ℕ) (text others : List ℕ) (names : List (ℕ × ℕ))
-        (more : Option (List (ℕ × ℕ))) (mismatches later : ℕ)
+    ensures { (set : List ShareFields) (passphrase : List ℕ) (after : Option Names)
+        (limit extra : ℕ) (text others : List ℕ) (names : Names)
+        (more : Option Names) (mismatches later : ℕ)
         → IsDrill set passphrase after limit text (Some names) mismatches
         → IsDrill set passphrase (Some names) extra others more later
         → IsDrill set passphrase after (limit + extra) (text ++ others) more (mismatches + later) }
@@ -257,7 +287,7 @@ pub fn drills_join()
 /// An input has one output of `drill` with a passphrase, a list of names after which it starts, or none, and a limit:
 /// one text, and one answer.
 pub fn one_drill_output()
-    ensures { (passphrase : List ℕ) (after : Option (List (ℕ × ℕ))) (limit : ℕ) (input : Input)
+    ensures { (passphrase : List ℕ) (after : Option Names) (limit : ℕ) (input : Input)
         (text other : List ℕ) (answer another : Result Done Fault)
         → IsDrillOutput passphrase after limit input text answer
         → IsDrillOutput passphrase after limit input other another
@@ -271,7 +301,7 @@ pub fn one_drill_output()
 
 /// What is listed of an input in a slice is one thing: one slice, and one answer.
 pub fn one_listing_in_a_slice()
-    ensures { (passphrase : List ℕ) (after : Option (List (ℕ × ℕ))) (limit : ℕ) (input : Input)
+    ensures { (passphrase : List ℕ) (after : Option Names) (limit : ℕ) (input : Input)
         (old new other : List ℕ) (answer another : Result Listing Unwritten)
         → Lists (λ n. IsDrillOutput passphrase after n input) limit old new answer
         → Lists (λ n. IsDrillOutput passphrase after n input) limit old other another
@@ -282,7 +312,7 @@ pub fn one_listing_in_a_slice()
 
 /// An input has an output of `drill`, where the limit is at least 1.
 pub fn some_drill_output()
-    ensures { (passphrase : List ℕ) (after : Option (List (ℕ × ℕ))) (limit : ℕ) (input : Input)
+    ensures { (passphrase : List ℕ) (after : Option Names) (limit : ℕ) (input : Input)
         → (text : List ℕ) × (answer : Result Done Fault)
         × IsDrillOutput passphrase after (suc limit) input text answer }
 {
@@ -295,7 +325,7 @@ pub fn some_drill_output()
 /// Of mnemonics of a created backup, an output of `drill` with the passphrase of the creation is just the quorums in
 /// order, each with the backup's secret, and no mismatch, or else why none is listed.
 pub fn created_backups_drill()
-    ensures { (passphrase : List ℕ) (after : Option (List (ℕ × ℕ))) (limit : ℕ) (input : Input)
+    ensures { (passphrase : List ℕ) (after : Option Names) (limit : ℕ) (input : Input)
         (text : List ℕ) (answer : Result Done Fault)
         → IsDrillOutput passphrase after limit input text answer
         → DrillsCreated passphrase after limit input text answer }
@@ -305,6 +335,18 @@ pub fn created_backups_drill()
     one_outcome();
     every_quorum_recovers();
     mnemonics_of_a_backup_are_a_set();
+}
+
+/// An input has one output of `status`: one text, and one answer.
+pub fn one_status_output()
+    ensures once { (input : Input) (text other : List ℕ) (answer another : Result Status Fault)
+        → IsStatusOutput input text answer → IsStatusOutput input other another
+        → (text ≡ other) × (answer ≡ another) }
+    ensures exists { (input : Input)
+        → (text : List ℕ) × (answer : Result Status Fault) × IsStatusOutput input text answer }
+{
+    one_set();
+    every_input_is_read();
 }
 
 /// An input has one output of `create` for what is asked: one text, and one answer. It has one for every plan, all bytes

@@ -1,5 +1,5 @@
 //! What the commands of the program `shamir` do, over readers and writers: counted devices, faults, the lines of
-//! an input, and the runs `show`, `create`, `recover` and `drill`.
+//! an input, and the runs `show`, `create`, `recover`, `drill`, `status` and `reissue`.
 #![tactic(auto)]
 
 mod collect;
@@ -11,24 +11,27 @@ mod fault;
 pub mod laws;
 mod lines;
 mod listing;
-mod memory;
 mod output;
 mod recover;
+mod reissue_laws;
+mod reissuing;
 mod round_trips;
 mod show;
 mod slices;
+mod status;
 
-pub use creating::run_create;
+pub use creating::{create_lines, run_create};
 pub use device::Counting;
 pub use drill::{Done, Undrilled, run_drill};
 pub use exponent::exponent_in;
 pub use fault::{DeviceFailure, Fault, LineRefusal, Refusal, RefusedLine, Stop};
 pub use listing::{Listing, drill_lines};
-pub use memory::{TooShort, Unwritten, create_lines, recover_secret};
-pub use recover::run_recover;
+pub use recover::{recover_secret, run_recover};
+pub use reissuing::run_reissue;
 pub use s39_backup::{
-    CreateError, Created, Members, Memo, Mismatch, Options, Plan, PlanError, RecoverError, create,
-    recover_by, refit,
+    CreateError, Created, Members, Memo, Mismatch, Options, Plan, PlanError, RecoverError,
+    ReissueError, TooFew, create, recover_by, refit,
 };
 pub use show::run_show;
-pub use slices::put;
+pub use slices::{TooShort, Unwritten, put};
+pub use status::run_status;

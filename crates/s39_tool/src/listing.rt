@@ -2,6 +2,7 @@
 ghost use Rattle.std.specs.Prelude.{◌≡◌, ℕ, List, Option, ◌+◌, ◌-◌, ◌<◌, ◌≤◌, ◌++◌, [], All, Some, None, Ok, Err, IfOk, IfErr, IsOk, length, take, drop};
 ghost use Rattle.std.specs.Option.{option_copied};
 ghost use Rattle.s39_kdf.specs.Limits.{IsPrintable};
+ghost use Rattle.s39_set.specs.Names.{Names};
 ghost use Rattle.s39_set.specs.Looks.{most_step_looks};
 ghost use Rattle.s39_set.specs.Quorums.{IsQuorum, IsFirstQuorumAfter};
 ghost use Rattle.s39_set.specs.ShareSet.{IsShareSet};
@@ -9,15 +10,14 @@ ghost use Rattle.s39_backup.specs.Outcome.{AreParams};
 ghost use Rattle.s39_tool.specs.Accepted.{IsCheckedSet};
 ghost use Rattle.s39_tool.specs.Input.{whole};
 ghost use Rattle.s39_tool.specs.Drill.{IsDrillOutput, StartsAt, last_line};
-ghost use Rattle.s39_tool.specs.Fitting.{IsInFront, Lists, IsTried, Fills};
+ghost use Rattle.s39_tool.specs.Slices.{IsInFront, Lists, IsTried, Fills};
 
 use crate::collect::checked_set_in;
 use crate::drill::{following, last_line, mismatch_in, outcome_of, quorum_line, start_of};
 use crate::fault::Fault;
 use crate::laws::drill_laws;
-use crate::memory::{TooShort, Unwritten};
 use crate::output::Line;
-use crate::slices::put;
+use crate::slices::{TooShort, Unwritten, put};
 use s39_backup::{Memo, params_of};
 use s39_set::laws::listings_join;
 use s39_set::{Looks, Quorum, ShareSet};
@@ -118,7 +118,7 @@ fn fill(
     requires printable { All IsPrintable passphrase.now }
     requires some { 1 ≤ limit }
     requires looks { looks.old ≤ most_step_looks }
-    ensures { (after : Option (List (ℕ × ℕ))) → IsFirstQuorumAfter set.now after start
+    ensures { (after : Option Names) → IsFirstQuorumAfter set.now after start
         → Fills set.now passphrase.now after limit text.old text.new result }
 {
     drill_laws();

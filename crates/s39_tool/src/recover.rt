@@ -1,12 +1,13 @@
 //! The command `recover`: the secret of the least quorum of an input's shares.
-ghost use Rattle.std.specs.Prelude.{◌≡◌, ◌≢◌, ◌<◌, Ok, Err, IfOk, IfErr};
+ghost use Rattle.std.specs.Prelude.{◌≡◌, ◌≢◌, ◌<◌, [], Ok, Err, IfOk, IfErr};
 ghost use Rattle.s39_kdf.specs.declared.limits.BadPassphrase.{BadPassphrase};
 ghost use Rattle.s39_tool.specs.Fault.{fault_of};
+ghost use Rattle.s39_tool.specs.Input.{whole};
 ghost use Rattle.s39_tool.specs.Recover.{IsRecovered, IsRecoverOutput, secret_line};
 ghost use Rattle.s39_tool.specs.OfBackup.{RecoversCreated};
 ghost use Rattle.s39_tool.specs.Runs.{Runs};
 
-use crate::collect::checked_set;
+use crate::collect::{checked_set, checked_set_in};
 use crate::device::Counting;
 use crate::fault::{DeviceFailure, Fault, Refusal};
 use crate::laws::created_backups_recover;
@@ -57,8 +58,30 @@ pub fn run_recover<R: Read, W: Write>(
     Ok(())
 }
 
+/// The secret that the least quorum of the lines' shares recovers with the passphrase: the one whose digits `run_recover`
+/// writes of them. A line with no byte but separators, or whose first other byte is `#`, is skipped.
+///
+/// The first that applies is answered:
+///
+/// - `Passphrase` where a byte of it isn't printable;
+/// - the first refused line with its number: a word error, `TooLong` for more than 1,024 bytes, or `Set` where its
+///   share can't join those before it;
+/// - `Lack` where the shares have no quorum;
+/// - `DigestMismatch` where the least quorum's digests don't match.
+///
+/// A wrong passphrase isn't noticed: as a rule it gives another secret.
+pub fn recover_secret(passphrase: &[u8], lines: &[u8]) -> Result<Bytes, Fault>
+    ensures secret { IfOk result (λ secret.
+        IsRecoverOutput passphrase.now (whole lines.now) (secret_line secret.items) (Ok tt)) }
+    ensures refused { IfErr result (λ fault.
+        IsRecoverOutput passphrase.now (whole lines.now) [] (Err fault)) }
+{
+    let set = checked_set_in(passphrase, lines)?;
+    secret_of(&set, passphrase)
+}
+
 /// The secret that the least quorum of a set recovers.
-pub(crate) fn secret_of(set: &ShareSet, passphrase: &[u8]) -> Result<Bytes, Fault>
+fn secret_of(set: &ShareSet, passphrase: &[u8]) -> Result<Bytes, Fault>
     ensures secret { IfOk result (λ secret. IsRecovered passphrase.now set.now (Ok secret.items)) }
     ensures refused { IfErr result (λ fault. IsRecovered passphrase.now set.now (Err fault)) }
 {

@@ -3,13 +3,15 @@ ghost use Rattle.std.specs.Prelude.{◌≡◌, ◌⊎◌, ℕ, List, All, Contai
 ghost use Rattle.s39_kdf.specs.Bytes.{AreBytes};
 ghost use Rattle.s39_kdf.specs.Limits.{IsPrintable, IsSecretLength};
 ghost use Rattle.s39_words.specs.declared.ShareFields.{ShareFields};
+ghost use Rattle.s39_set.specs.Names.{Names};
 ghost use Rattle.s39_backup.specs.Plan.{IsPlan};
 ghost use Rattle.s39_tool.specs.declared.fault.Fault.{Fault};
 ghost use Rattle.s39_tool.specs.declared.drill.Done.{Done};
 ghost use Rattle.s39_tool.specs.Input.{Input, whole, lines_of};
 ghost use Rattle.s39_tool.specs.Lines.{Holds};
 ghost use Rattle.s39_tool.specs.Accepted.{IsReadAs};
-ghost use Rattle.s39_tool.specs.Create.{Asked, needed_by, IsCreateOutput};
+ghost use Rattle.s39_backup.specs.Created.{Asked, needed_by};
+ghost use Rattle.s39_tool.specs.Create.{IsCreateOutput};
 ghost use Rattle.s39_tool.specs.Recover.{secret_line, IsRecoverOutput};
 ghost use Rattle.s39_tool.specs.Drill.{IsDrillOutput, ListsSecret, ListsSecretOrCause, DrillsCreated};
 ghost use Rattle.s39_tool.specs.OfBackup.{HoldsMnemonicsOf, IsSecretOrLack, RecoversCreated};
@@ -88,7 +90,7 @@ pub fn written_mnemonics_drill()
         × ListsSecret set asked.secret None limit output
         × (answer ≡ Ok (record { mismatches = 0 })) }
     ensures some_lines { (asked : Asked) (random text bytes : List ℕ)
-        (after : Option (List (ℕ × ℕ))) (limit : ℕ) (output : List ℕ) (answer : Result Done Fault)
+        (after : Option Names) (limit : ℕ) (output : List ℕ) (answer : Result Done Fault)
         → IsPlan asked.group_threshold asked.groups → IsCreateOutput asked (whole random) text (Ok tt)
         → All (λ line. Holds line None ⊎ Contains (lines_of (whole text)) line) (lines_of (whole bytes))
         → IsDrillOutput asked.passphrase after limit (whole bytes) output answer
@@ -110,7 +112,7 @@ pub fn one_output_of_a_backup()
         → RecoversCreated passphrase input text answer
         → RecoversCreated passphrase input other another
         → (text ≡ other) × (answer ≡ another) }
-    ensures drill { (passphrase secret : List ℕ) (after : Option (List (ℕ × ℕ))) (limit : ℕ)
+    ensures drill { (passphrase secret : List ℕ) (after : Option Names) (limit : ℕ)
         (input : Input) (text other : List ℕ) (answer another : Result Done Fault)
         → HoldsMnemonicsOf passphrase secret input
         → DrillsCreated passphrase after limit input text answer

@@ -1,5 +1,43 @@
-//! Slices of the caller.
+//! Slices of the caller, and why nothing is put into one.
 ghost use Rattle.std.specs.Prelude.{◌≡◌, ◌+◌, ◌≤◌, ◌++◌, length, take, drop};
+
+use crate::fault::Fault;
+
+/// A slice is too short for what would be put there.
+#[derive(Clone, Copy, Debug, PartialEq, Eq)]
+pub struct TooShort {
+    /// How many bytes are needed.
+    pub needed: usize,
+}
+
+/// Why nothing is put into a slice.
+#[derive(Clone, Copy, Debug, PartialEq, Eq)]
+pub enum Unwritten {
+    /// What is asked for is refused.
+    Refused(Fault),
+    /// The slice is too short for it.
+    TooShort(TooShort),
+}
+
+impl From<Fault> for Unwritten {
+    ghost use Rattle.s39_tool.specs.declared.slices.Unwritten.TheVariants.{Refused};
+
+    ghost from_gives = { λ fault cause. cause ≡ Refused fault };
+
+    fn from(fault: Fault) -> Unwritten {
+        Unwritten::Refused(fault)
+    }
+}
+
+impl From<TooShort> for Unwritten {
+    ghost use Rattle.s39_tool.specs.declared.slices.Unwritten.TheVariants.{TooShort as IsTooShort};
+
+    ghost from_gives = { λ short cause. cause ≡ IsTooShort short };
+
+    fn from(short: TooShort) -> Unwritten {
+        Unwritten::TooShort(short)
+    }
+}
 
 /// Puts bytes to a place of a slice, where the caller has room for them, and leaves what is before and behind them.
 pub fn put(slice: &mut [u8], at: usize, bytes: &[u8])

@@ -5,6 +5,7 @@ use Rattle.std.specs.Prelude.{◌==◌}
 use Rattle.std.specs.Int.Digits.{number_from_digits}
 use Rattle.std.proofs.lemmas.Bool.Decides.{nat_tests}
 use Rattle.std.proofs.lemmas.List.{length-append, length-take-le, length-drop, take-append-drop, take_at, drop_at}
+use Rattle.std.proofs.Math.Seq.{take-add}
 use Rattle.std.proofs.lemmas.List.{append_assoc, length-replicate, append-nil, take_all}
 use Rattle.std.proofs.lemmas.List.Concat.{flat_map-append}
 use Rattle.std.proofs.lemmas.List.Elements.{All-append, All-take, All-drop, All-replicate}
@@ -16,7 +17,7 @@ use Rattle.s39_words.specs.Reading.{IsWordCount, padding_length, bits_of_words, 
 use Rattle.s39_words.specs.FieldsAt.{pieces, byte_count, share_value_at, fields_at}
 use Rattle.s39_words.proofs.Digits.{bits-below, number-bits-below, number-below, bits-number, zeros_from_number, number_from_zeros, bits-zeros}
 use Rattle.s39_words.proofs.Pieces.{length-pieces, length-joined, joined-below, pieces-below, joined-pieces}
-use Rattle.s39_words.proofs.Pieces.{pieces-joined, cut-joined, joined-cut, length-cut, cut-below, take-add, take-joined}
+use Rattle.s39_words.proofs.Pieces.{pieces-joined, cut-joined, joined-cut, length-cut, cut-below, take-joined}
 use Rattle.s39_words.proofs.Pieces.{all_zeros}
 
 -- fields that are equal one by one
@@ -255,7 +256,7 @@ module _ (ws : List ℕ) (count : IsWordCount (length ws)) where
   joins place width n h e =
       ap (λ k. take place (bits_of_words ws) ++ bits width k) e
       ∙ ap (λ xs. take place (bits_of_words ws) ++ xs) (bits-at place width h)
-      ∙ take-add place width (bits_of_words ws)
+      ∙ sym (take-add place width (bits_of_words ws))
 
   pub words-at_least : 20 ≤ length ws
   words-at_least = let a = count.at_least in let b = count.padding in omega arith
@@ -352,9 +353,9 @@ module _ (ws : List ℕ) (count : IsWordCount (length ws)) where
         let n : 40 + padding_length (length ws) + 8 * byte_count (length ws) ≡ 10 * (length ws - 3) = omega (arith, value-whole, words-at_least) in
         ap (λ xs. xs ++ padding_bits (length (value_bits (share_value_at ws))) ++ value_bits (share_value_at ws)) header-is
         ∙ ap (λ xs. take 40 (bits_of_words ws) ++ xs ++ value_bits (share_value_at ws)) padding-is
-        ∙ ap (λ xs. xs ++ value_bits (share_value_at ws)) (take-add 40 (padding_length (length ws)) (bits_of_words ws))
+        ∙ ap (λ xs. xs ++ value_bits (share_value_at ws)) (sym (take-add 40 (padding_length (length ws)) (bits_of_words ws)))
         ∙ ap (λ xs. take (40 + padding_length (length ws)) (bits_of_words ws) ++ xs) value-is
-        ∙ take-add (40 + padding_length (length ws)) (8 * byte_count (length ws)) (bits_of_words ws)
+        ∙ sym (take-add (40 + padding_length (length ws)) (8 * byte_count (length ws)) (bits_of_words ws))
         ∙ ap (λ k. take k (bits_of_words ws)) n
 
     -- the words are the data words of those fields, and the last three

@@ -4,7 +4,8 @@ use Rattle.std.proofs.Common.{replicate, refl, sym, ap, ◌∙◌, arith, All, s
 use Rattle.std.specs.List.{flat_map}
 use Rattle.std.specs.Int.Digits.{number_from_digits}
 use Rattle.std.proofs.lemmas.List.{length-append, length-take-le, length-drop, take-append-drop, take_at, drop_at}
-use Rattle.std.proofs.lemmas.List.{append_assoc, drop-drop, nil_from_length, append-nil}
+use Rattle.std.proofs.Math.Seq.{take-add}
+use Rattle.std.proofs.lemmas.List.{append_assoc, drop-drop, take_all}
 use Rattle.std.proofs.lemmas.List.Concat.{flat_map-append}
 use Rattle.std.proofs.lemmas.List.Elements.{All-cons, All-nil, All-append, All-head, All-tail, All-take, All-drop}
 use Rattle.s39_words.specs.Layout.{IsIndex}
@@ -36,15 +37,6 @@ pieces-below w (suc k) ds h l =
     (subst (λ v. number_from_digits 2 (take w ds) < 2 ^ v) e b)
     (pieces-below w k (drop w ds) (All-drop (λ b. b < 2) w ds h) m)
 
-take_nil : (k : ℕ) → take {A = ℕ} k [] ≡ []
-take_nil zero = refl
-take_nil (suc k) = refl
-
-pub take-add : (m n : ℕ) (ds : List ℕ) → take m ds ++ take n (drop m ds) ≡ take (m + n) ds
-take-add zero n ds = let e : n ≡ 0 + n = omega arith in ap (λ k. take k ds) e
-take-add (suc m) n [] = take_nil n ∙ sym (take_nil (suc m + n))
-take-add (suc m) n (d ∷ ds) = let e : suc (m + n) ≡ suc m + n = omega arith in ap (λ xs. d ∷ xs) (take-add m n ds) ∙ ap (λ k. take k (d ∷ ds)) e
-
 -- pieces joined again are the digits
 pub joined-pieces : (w k : ℕ) (ds : List ℕ) → All (λ b. b < 2) ds → w * k ≤ length ds → flat_map (bits w) (pieces w k ds) ≡ take (w * k) ds
 joined-pieces w zero ds h l = let e : 0 ≡ w * 0 = omega arith in ap (λ k. take k ds) e
@@ -56,7 +48,7 @@ joined-pieces w (suc k) ds h l =
     let s : w + w * k ≡ w * suc k = omega arith in
     ap (λ xs. xs ++ flat_map (bits w) (pieces w k (drop w ds))) one
     ∙ ap (λ xs. take w ds ++ xs) (joined-pieces w k (drop w ds) (All-drop (λ b. b < 2) w ds h) m)
-    ∙ take-add w (w * k) ds
+    ∙ sym (take-add w (w * k) ds)
     ∙ ap (λ j. take j ds) s
 
 -- the first k pieces of the joined numbers are the first k numbers
@@ -78,14 +70,9 @@ cut-joined (w ∷ ws) h =
     ap (λ x. x ∷ cut_in_tens (flat_map (bits 10) ws)) (number-bits-below 10 w (All-head IsIndex w ws h))
     ∙ ap (λ xs. w ∷ xs) (cut-joined ws (All-tail IsIndex w ws h))
 
-take_whole : (k : ℕ) (ds : List ℕ) → length ds ≡ k → take k ds ≡ ds
-take_whole k ds e = let a : take k ds ++ drop k ds ≡ ds = take-append-drop k ds in
-    let n : drop k ds ≡ [] = nil_from_length (drop k ds) (omega (arith, length-drop k ds)) in
-    sym (append-nil (take k ds)) ∙ ap (λ xs. take k ds ++ xs) (sym n) ∙ a
-
 module _ (k : ℕ) (ds : List ℕ) (h : All (λ b. b < 2) ds) (e : length ds ≡ 10 * k) where
   whole : flat_map (bits 10) (pieces 10 k ds) ≡ ds
-  whole = joined-pieces 10 k ds h (omega arith) ∙ take_whole (10 * k) ds e
+  whole = joined-pieces 10 k ds h (omega arith) ∙ take_all (10 * k) ds (omega arith)
 
   pub cut-pieces : cut_in_tens ds ≡ pieces 10 k ds
   cut-pieces = ap cut_in_tens (sym whole) ∙ cut-joined (pieces 10 k ds) (pieces-below 10 k ds h (omega arith))

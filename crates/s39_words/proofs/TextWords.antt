@@ -1,19 +1,15 @@
 -- The words of a text, from the first on.
 use Rattle.std.proofs.Common.{◌≡◌, ℕ, zero, suc, ◌<◌, Bool, true, false, List, [], ◌∷◌, ◌++◌, length, take, get_or}
-use Rattle.std.proofs.Common.{Option, Some, None, refl, sym, ap, subst, ◌∙◌, arith}
-use Rattle.std.specs.Prelude.{map, All, filter, nat_lt}
+use Rattle.std.proofs.Common.{refl, sym, ap, subst, ◌∙◌, arith}
+use Rattle.std.specs.Prelude.{All, filter, nat_lt}
 use Rattle.std.specs.List.{slice_split}
 use Rattle.std.specs.Char.{is_ascii_alphabetic, to_ascii_lowercase}
 use Rattle.std.specs.Str.{str_to_ascii_lowercase}
 use Rattle.std.proofs.lemmas.Bool.{false≢true, cond-true, lt-ltb}
 use Rattle.std.proofs.lemmas.Bool.Decides.{nat_tests}
-use Rattle.std.proofs.lemmas.List.{length-map, map-append, append-nil}
+use Rattle.std.proofs.lemmas.List.{map-append, append-nil}
 use Rattle.std.proofs.lemmas.List.Elements.{All-nil, All-cons, All-head, All-tail, All-map, All-weaker}
 use Rattle.std.proofs.lemmas.List.Splits.{slice_split-cons_yes, slice_split_none, slice_split_at}
-use Rattle.std.specs.Iterator.{Yields}
-use denote.Ref.{Bor}
-use Rattle.std.proofs.lemmas.Iterator.{YieldsList}
-use Rattle.std.proofs.lemmas.Iterator.Consumers.{YieldsList-so_far, YieldsList-turn, YieldsList-end}
 use Rattle.s39_words.specs.FirstWord.{BeginsInWord, BeginsWith}
 use Rattle.s39_words.specs.Spelling.{is_separator, words_of}
 
@@ -114,18 +110,3 @@ within_first text word rest i h inside within =
     let there = within_parts word rest i h.behind (subst (λ t. All (λ b. is_separator b ≡ false) (take (suc i) t)) h.parts inside)
     (subst (λ t. i < length t) h.parts within) in
     (there.0, there.1 ∙ ap (λ t. get_or t i 0) (sym h.parts))
-
--- ---- a loop over the pieces, which has yielded xs
-
-pub turn : {S : Type 0} {steps : S → Option (Bor (List ℕ)) → S → Type 0} (s t u : S) (xs : List (Bor (List ℕ))) (r : Option (Bor (List ℕ)))
-    (x : Bor (List ℕ)) → Yields steps s xs t → r ≡ Some x → steps t r u → (all : List (List ℕ)) → YieldsList steps (λ w. w.now) s all
-    → (map (λ w. w.now) xs ≡ take (length (map (λ w. w.now) xs)) all) × (length (map (λ w. w.now) xs) < length all) ×
-    (x.now ≡ get_or all (length (map (λ w. w.now) xs)) x.now)
-turn s t u xs r x yields is step all road =
-    let now : (length xs < length all) × (x.now ≡ get_or all (length xs) x.now) = YieldsList-turn road xs t yields r u x is step in
-    let same : length (map (λ w. w.now) xs) ≡ length xs = length-map xs (λ w. w.now) in
-    rw same (YieldsList-so_far road xs t yields, now.0, now.1)
-
-pub ended : {S : Type 0} {steps : S → Option (Bor (List ℕ)) → S → Type 0} (s t u : S) (xs : List (Bor (List ℕ))) (r : Option (Bor (List ℕ)))
-    → Yields steps s xs t → r ≡ None → steps t r u → (all : List (List ℕ)) → YieldsList steps (λ w. w.now) s all → map (λ w. w.now) xs ≡ all
-ended s t u xs r yields is step all road = (YieldsList-end road xs t yields r u is step).0

@@ -10,13 +10,13 @@ use Rattle.s39_field.specs.Field.{IsField}
 use Rattle.s39_field.specs.FieldProduct.{word_field, product_modulo}
 use Rattle.s39_field.specs.Polynomial.{power, value_from, value_at, sum_of}
 use Rattle.s39_field.specs.PowerSums.{power_sum}
-use Rattle.s39_field.specs.Theory.FieldPowers.{power-element, power-nonzero, power-exchanges, power-one, power-product, powers_apart}
-use Rattle.s39_field.specs.Theory.Lists.{AllPairs-nil}
-use Rattle.s39_field.specs.Theory.Orders.{power_of_two-element, powers_of_two_are_distinct}
-use Rattle.s39_field.specs.Theory.PowerSums.{power_sums_determine_values}
-use Rattle.s39_field.specs.Theory.Products.{multiples_keep_roots}
+use Rattle.s39_field.proofs.FieldPowers.{power-element, power-nonzero, power-exchanges, power-one, power-product, powers_apart}
+use Rattle.s39_lists.proofs.Pairs.{AllPairs-nil}
+use Rattle.s39_field.proofs.Orders.{power_of_two-element, powers_of_two_are_distinct}
+use Rattle.s39_field.proofs.PowerSums.{power_sums_determine_values}
+use Rattle.s39_field.proofs.Products.{multiples_keep_roots}
 use Rattle.s39_field.specs.Theory.Powers.{word_field_is_field}
-use Rattle.s39_field.specs.Theory.Values.{add_of_sums, same_from_sum, mul-zero_left, value_at-sum}
+use Rattle.s39_field.proofs.Values.{add_of_sums, same_from_sum, mul-zero_left, value_at-sum}
 use Rattle.s39_words.specs.Layout.{IsIndex, most_words}
 use Rattle.s39_words.specs.Checksum.{generator, customization_string, one_added_to_last, checked_polynomial, IsValidChecksum}
 use Rattle.s39_words.specs.Reading.{IsWordCount, flag_of, Reads}

@@ -3,6 +3,8 @@ use Rattle.std.specs.Prelude.{◌≡◌, ℕ, suc, ◌+◌, ◌-◌, ◌*◌, �
 use Rattle.std.specs.Prelude.{None, IsSome, Result, Ok, Err, Bool, ◌==◌}
 use Rattle.std.specs.List.{flat_map}
 use Rattle.std.specs.Int.Digits.{number_from_digits}
+use Rattle.s39_refusal.specs.declared.cause.Cause.{Cause}
+use Rattle.s39_refusal.specs.Causes.{cause}
 use Rattle.s39_kdf.specs.Limits.{shortest_secret, longest_secret}
 use Rattle.s39_words.specs.declared.share.ShareFields.{ShareFields}
 use Rattle.s39_words.specs.declared.word_error.WordError.{WordError}
@@ -87,10 +89,10 @@ Reads text (Err BadChecksum) = (indices : List ℕ) × PassesCount text indices 
 Reads text (Err BadPadding) = (indices : List ℕ) × PassesChecksum text indices × ¬ All (λ b. b ≡ 0) (padding_of indices)
 Reads text (Err GroupThreshold) = (indices : List ℕ) × PassesPadding text indices × (stored_group_count indices < stored_group_threshold indices)
 
--- the code of a cause
-abbrev pub code_of : WordError → ℕ
-code_of (UnknownWord _) = 11
-code_of (WordCount _) = 12
-code_of BadChecksum = 13
-code_of BadPadding = 14
-code_of GroupThreshold = 15
+-- what a refusal says
+abbrev pub cause_of : WordError → Cause
+cause_of (UnknownWord position) = cause 11 position 0
+cause_of (WordCount words) = cause 12 words 0
+cause_of BadChecksum = cause 13 0 0
+cause_of BadPadding = cause 14 0 0
+cause_of GroupThreshold = cause 15 0 0

@@ -68,11 +68,11 @@ fn refused_texts(rt: HostRuntime) {
         assert_eq!(rt; parse(text.as_bytes()).err(), Some(error), "{text}");
     }
     let codes = [
-        WordError::UnknownWord { position: 1 }.code(),
-        WordError::WordCount { words: 19 }.code(),
-        WordError::BadChecksum.code(),
-        WordError::BadPadding.code(),
-        WordError::GroupThreshold.code(),
+        WordError::UnknownWord { position: 1 }.cause().code,
+        WordError::WordCount { words: 19 }.cause().code,
+        WordError::BadChecksum.cause().code,
+        WordError::BadPadding.cause().code,
+        WordError::GroupThreshold.cause().code,
     ];
     assert_eq!(rt; codes, [11, 12, 13, 14, 15]);
     assert_eq!(rt;

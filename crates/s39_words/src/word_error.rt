@@ -1,6 +1,8 @@
 //! Why a text is no share.
 ghost use Rattle.std.specs.Prelude.{◌≡◌};
 
+use s39_refusal::{Cause, code};
+
 /// The first cause for which a text spells no share.
 #[derive(Clone, Copy, Debug, PartialEq, Eq)]
 pub enum WordError {
@@ -17,18 +19,20 @@ pub enum WordError {
 }
 
 impl WordError {
-    ghost use Rattle.s39_words.specs.Reading.{code_of};
+    ghost use Rattle.s39_words.specs.Reading.{cause_of};
 
-    /// The code of the cause, 11 to 15.
-    pub fn code(&self) -> u8
-        ensures { result ≡ code_of self.now }
+    /// What the refusal says: 11 to 15, and the position or the number of words.
+    pub fn cause(&self) -> Cause
+        ensures { result ≡ cause_of self.now }
     {
         match self {
-            WordError::UnknownWord { .. } => 11,
-            WordError::WordCount { .. } => 12,
-            WordError::BadChecksum => 13,
-            WordError::BadPadding => 14,
-            WordError::GroupThreshold => 15,
+            WordError::UnknownWord { position } => {
+                Cause::new(code::UNKNOWN_WORD, *position as u64, 0)
+            }
+            WordError::WordCount { words } => Cause::new(code::WORD_COUNT, *words as u64, 0),
+            WordError::BadChecksum => Cause::of(code::BAD_CHECKSUM),
+            WordError::BadPadding => Cause::of(code::BAD_PADDING),
+            WordError::GroupThreshold => Cause::of(code::GROUP_THRESHOLD),
         }
     }
 }

@@ -10,9 +10,6 @@ use Rattle.s39_field.specs.BinaryPolynomial.{binary_sum, product_below, binary_p
 
 -- ---- sums
 
-pub sum-zero_left : (a : ℕ) → binary_sum 0 a ≡ a
-sum-zero_left a = refl
-
 pub sum-zero_right : (a : ℕ) → binary_sum a 0 ≡ a
 sum-zero_right a = xor_zero_r a
 

@@ -3,6 +3,7 @@ use Rattle.std.proofs.Common.{◌≡◌, ℕ, List, [], ◌∷◌, ◌++◌, map
 use Rattle.std.specs.List.{flat_map}
 use Rattle.std.proofs.lemmas.List.Elements.{All-head, All-tail, All-take, All-contains_itself}
 use Rattle.s39_words.specs.declared.ShareFields.{ShareFields}
+use Rattle.s39_set.specs.Names.{Names}
 use Rattle.s39_set.specs.ShareSet.{IsShareSet}
 use Rattle.s39_set.specs.Quorums.{IsQuorum}
 use Rattle.s39_set.specs.Listing.{IsListing}
@@ -19,7 +20,6 @@ use Rattle.s39_tool.specs.Drill.{Listed, quorum_line, last_line, mismatches_in, 
 use Rattle.s39_tool.specs.Drill.{ListsSecret, ListsSecretOrCause, DrillsCreated}
 use Rattle.s39_tool.proofs.Steps.{then_next}
 use Rattle.s39_tool.proofs.Sets.Checked.{of_writing}
-use Rattle.s39_tool.proofs.Drills.Drilling.{Names}
 
 -- listed names are quorums
 pub listed_quorums : (set : List ShareFields) (after : Option Names) (limit : ℕ) (listed : List Names) → IsListing set after limit listed

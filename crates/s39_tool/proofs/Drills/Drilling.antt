@@ -7,6 +7,7 @@ use Rattle.std.specs.Bool.{then_some}
 use Rattle.std.specs.Option.{option_copied}
 use Rattle.std.proofs.lemmas.List.Elements.{All-nil, All-cons}
 use Rattle.s39_words.specs.declared.ShareFields.{ShareFields}
+use Rattle.s39_set.specs.Names.{Names}
 use Rattle.s39_set.specs.ShareSet.{IsShareSet}
 use Rattle.s39_set.specs.Quorums.{IsQuorum, IsFirstQuorumAfter, HasNoQuorumAfter}
 use Rattle.s39_set.specs.Listing.{IsListing, IsWalk}
@@ -15,11 +16,8 @@ use Rattle.s39_backup.specs.Outcome.{IsOutcome}
 use Rattle.s39_tool.specs.Device.{Counted}
 use Rattle.s39_tool.specs.Output.{WritesWhole, WritesPart}
 use Rattle.s39_tool.specs.Drill.{DrillLaws, Listed, quorum_line, last_line, mismatches_in, mismatch_in, IsDrill, IsNext}
-use Rattle.s39_tool.specs.Fitting.{more_after}
+use Rattle.s39_tool.specs.Slices.{more_after}
 use Rattle.s39_tool.proofs.Runs.Writing.{nothing_written, both_written, part_after}
-
-abbrev pub Names : Type 0
-Names = List (ℕ × ℕ)
 
 pub mismatch_most : (outcome : Result (List ℕ) Mismatch) → mismatch_in outcome ≤ 1
 mismatch_most (Ok secret) = omega arith

@@ -7,19 +7,20 @@ use Rattle.std.proofs.lemmas.List.{length-append}
 use Rattle.std.proofs.lemmas.Slice.{drop-append-drop}
 use Rattle.std.proofs.Math.Seq.{take-append_seam}
 use Rattle.s39_words.specs.declared.ShareFields.{ShareFields}
+use Rattle.s39_set.specs.Names.{Names}
 use Rattle.s39_set.specs.ShareSet.{IsShareSet}
 use Rattle.s39_set.specs.Quorums.{IsFirstQuorumAfter, HasNoQuorumAfter}
 use Rattle.s39_set.specs.Listing.{IsListing}
 use Rattle.s39_tool.specs.declared.listing.Listing.{Listing}
-use Rattle.s39_tool.specs.declared.memory.TooShort.{TooShort}
-use Rattle.s39_tool.specs.declared.memory.Unwritten.{Unwritten}
-use Rattle.s39_tool.specs.declared.memory.Unwritten.TheVariants.{TooShort as SliceTooShort}
+use Rattle.s39_tool.specs.declared.slices.TooShort.{TooShort}
+use Rattle.s39_tool.specs.declared.slices.Unwritten.{Unwritten}
+use Rattle.s39_tool.specs.declared.slices.Unwritten.TheVariants.{TooShort as SliceTooShort}
 use Rattle.s39_tool.specs.Input.{Input}
 use Rattle.s39_tool.specs.Accepted.{IsCheckedSet}
 use Rattle.s39_tool.specs.Steps.{gives}
 use Rattle.s39_tool.specs.Drill.{DrillLaws, last_line, IsDrill, IsDrillOutput, IsNext, StartsAt}
-use Rattle.s39_tool.specs.Fitting.{IsInFront, Lists, more_after, IsTried, DrillFits, FillsSlice, Fills, IsFilling}
-use Rattle.s39_tool.proofs.Drills.Drilling.{Names, drill_ends, drill_step, drill_over}
+use Rattle.s39_tool.specs.Slices.{IsInFront, Lists, more_after, IsTried, DrillFits, FillsSlice, Fills, IsFilling}
+use Rattle.s39_tool.proofs.Drills.Drilling.{drill_ends, drill_step, drill_over}
 
 -- bytes that are put behind those at the front of a slice
 pub put_next : (text line old : List ℕ)

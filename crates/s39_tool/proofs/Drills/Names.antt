@@ -2,6 +2,7 @@
 use Rattle.std.proofs.Common.{◌≡◌, ℕ, ◌<◌, ◌≤◌, List, [], ◌∷◌, ◌++◌, length, refl, sym, ap, ◌∙◌, append_assoc, arith}
 use Rattle.std.specs.Fmt.{decimal}
 use Rattle.std.proofs.lemmas.Fmt.{length-decimal-le}
+use Rattle.s39_set.specs.Names.{Name, Names}
 use Rattle.s39_set.specs.Written.{name_text, quorum_text}
 
 -- an index takes at most two digits
@@ -9,7 +10,7 @@ pub length-index : (n : ℕ) → n < 16 → length (decimal n) ≤ 2
 length-index n low = length-decimal-le 2 n (omega arith) (omega arith) (omega arith)
 
 -- one more name
-pub quorum_text-more : (first : ℕ × ℕ) (names : List (ℕ × ℕ)) (name : ℕ × ℕ)
+pub quorum_text-more : (first : Name) (names : Names) (name : Name)
     → quorum_text (first ∷ (names ++ name ∷ [])) ≡ quorum_text (first ∷ names) ++ 43 ∷ name_text name
 quorum_text-more first [] name = refl
 quorum_text-more first (next ∷ names) name =

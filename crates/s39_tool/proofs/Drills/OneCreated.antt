@@ -2,6 +2,7 @@
 use Rattle.std.proofs.Common.{◌≡◌, ℕ, List, ◌++◌, refl, sym, ap, ap₂, ◌∙◌, subst, Option, Result, Ok, Err}
 use Rattle.std.specs.List.{flat_map}
 use Rattle.s39_words.specs.declared.ShareFields.{ShareFields}
+use Rattle.s39_set.specs.Names.{Names}
 use Rattle.s39_set.specs.declared.set_lack.SetLack.{SetLack}
 use Rattle.s39_set.specs.Listing.{IsListing}
 use Rattle.s39_set.specs.SetFacts.{SetsHaveOneLack, SetsWithQuorumsHaveNone}
@@ -12,7 +13,6 @@ use Rattle.s39_tool.specs.Input.{Input}
 use Rattle.s39_tool.specs.Fault.{fault_of}
 use Rattle.s39_tool.specs.OfBackup.{HoldsMnemonicsOf, IsSecretOrLack, RecoversCreated}
 use Rattle.s39_tool.specs.Drill.{quorum_line, last_line, last_reached, GoesOn, fault_of_undrilled, ListsSecret, ListsSecretOrCause, DrillsCreated}
-use Rattle.s39_tool.proofs.Drills.Drilling.{Names}
 use Rattle.s39_tool.proofs.Drills.OneDrill.{goes_on_once}
 use Rattle.s39_tool.proofs.Drills.Outputs.{undrilled_once, drilled_or_not}
 use Rattle.s39_tool.proofs.Sets.OneSet.{InputsAreReadOnce, same_set}

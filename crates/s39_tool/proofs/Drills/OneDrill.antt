@@ -5,15 +5,15 @@ use Rattle.std.specs.List.{flat_map}
 use Rattle.std.proofs.lemmas.List.{map-append}
 use Rattle.std.proofs.lemmas.List.Concat.{flat_map-append}
 use Rattle.std.proofs.lemmas.List.Elements.{All-head, All-tail, All-append}
-use Rattle.s39_set.proofs.Sublists.{Contains-nil}
+use Rattle.s39_lists.proofs.Sublists.{Contains-nil}
 use Rattle.s39_words.specs.declared.ShareFields.{ShareFields}
+use Rattle.s39_set.specs.Names.{Names}
 use Rattle.s39_set.specs.ShareSet.{IsShareSet}
 use Rattle.s39_set.specs.Quorums.{IsQuorum}
 use Rattle.s39_set.specs.Listing.{IsListing}
 use Rattle.s39_backup.specs.declared.combination.Mismatch.{Mismatch}
 use Rattle.s39_backup.specs.Outcome.{IsOutcome}
 use Rattle.s39_tool.specs.Drill.{Listed, quorum_line, last_reached, mismatches_in, GoesOn, IsDrill}
-use Rattle.s39_tool.proofs.Drills.Drilling.{Names}
 use Rattle.s39_tool.proofs.Drills.Complete.{listed_quorums}
 
 pub goes_on_once : (set : List ShareFields) (reached more other : Option Names) → GoesOn set reached more → GoesOn set reached other → more ≡ other

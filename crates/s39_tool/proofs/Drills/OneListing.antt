@@ -2,24 +2,25 @@
 use Rattle.std.proofs.Common.{◌≡◌, ℕ, ◌+◌, ◌<◌, ◌≤◌, List, [], ◌++◌, length, drop, sym, ap, ap₂, ◌∙◌, subst, inl, inr, arith}
 use Rattle.std.proofs.Common.{Option, Result, Ok, Err}
 use Rattle.std.proofs.lemmas.Bool.{cases_lt}
+use Rattle.s39_set.specs.Names.{Names}
 use Rattle.s39_tool.specs.declared.drill.Done.{Done}
 use Rattle.s39_tool.specs.declared.fault.Fault.{Fault}
 use Rattle.s39_tool.specs.declared.listing.Listing.{Listing}
-use Rattle.s39_tool.specs.declared.memory.Unwritten.{Unwritten}
-use Rattle.s39_tool.specs.declared.memory.Unwritten.TheVariants.{Refused, TooShort as SliceTooShort}
+use Rattle.s39_tool.specs.declared.slices.Unwritten.{Unwritten}
+use Rattle.s39_tool.specs.declared.slices.Unwritten.TheVariants.{Refused, TooShort as SliceTooShort}
 use Rattle.s39_tool.specs.Input.{Input}
 use Rattle.s39_tool.specs.Drill.{IsDrillOutput}
-use Rattle.s39_tool.specs.Fitting.{ListsWhatFits, Lists}
+use Rattle.s39_tool.specs.Slices.{ListsWhatFits, Lists}
 use Rattle.s39_tool.proofs.Drills.Outputs.{refused_with}
 
 abbrev mismatches_of : Result Done Fault → ℕ
 mismatches_of (Ok done) = done.mismatches
 mismatches_of (Err _) = 0
 
-module _ (one_drill_output : (passphrase : List ℕ) (after : Option (List (ℕ × ℕ))) (limit : ℕ) (input : Input) (text other : List ℕ)
+module _ (one_drill_output : (passphrase : List ℕ) (after : Option Names) (limit : ℕ) (input : Input) (text other : List ℕ)
     (answer another : Result Done Fault) → IsDrillOutput passphrase after limit input text answer
     → IsDrillOutput passphrase after limit input other another → (text ≡ other) × (answer ≡ another))
-    (passphrase : List ℕ) (after : Option (List (ℕ × ℕ))) (limit : ℕ) (input : Input) (old : List ℕ) where
+    (passphrase : List ℕ) (after : Option Names) (limit : ℕ) (input : Input) (old : List ℕ) where
   abbrev Writes : ℕ → List ℕ → ℕ → Type 0
   Writes n text mismatches = IsDrillOutput passphrase after n input text (Ok (record { mismatches = mismatches }))
 

@@ -2,6 +2,7 @@
 use Rattle.std.proofs.Common.{◌≡◌, ◌≢◌, ◌⊎◌, ℕ, suc, List, ◌++◌, refl, ap, ap₂, subst, inl, inr, Option, Some, None, IfSome, Result, Ok, Err}
 use Rattle.std.proofs.lemmas.Bool.{cases_eq}
 use Rattle.s39_words.specs.declared.ShareFields.{ShareFields}
+use Rattle.s39_set.specs.Names.{Name, Names}
 use Rattle.s39_set.specs.declared.set_lack.SetLack.{SetLack}
 use Rattle.s39_set.specs.ShareSet.{IsShareSet}
 use Rattle.s39_set.specs.Quorums.{IsQuorum, IsFirstQuorumAfter}
@@ -20,8 +21,8 @@ use Rattle.s39_tool.specs.Steps.{gives, refuses}
 use Rattle.s39_tool.specs.Drill.{DrillLaws, last_line, IsUndrilled, fault_of_undrilled, IsDrillable, WritesLines, WritesDrillOf, IsDrillOutput}
 use Rattle.s39_tool.proofs.Steps.{AtMostOne, AtLeastOne, then_once, then_some}
 use Rattle.s39_tool.proofs.Sets.Checked.{same_writing}
-use Rattle.s39_tool.proofs.Drills.Memos.{same_or_other, among_or_not}
-use Rattle.s39_tool.proofs.Drills.Drilling.{Names, some_drill_of}
+use Rattle.s39_lists.proofs.Decided.{same_or_other, among_or_not}
+use Rattle.s39_tool.proofs.Drills.Drilling.{some_drill_of}
 use Rattle.s39_tool.proofs.Drills.OneDrill.{one_drill}
 
 -- which failures a fault says
@@ -77,14 +78,14 @@ refused_with passphrase after limit n input text fault (gives set checked (gives
 
 -- ---- at least one
 
-same_name_or_other : (a b : ℕ × ℕ) → (a ≡ b) ⊎ (a ≢ b)
+same_name_or_other : (a b : Name) → (a ≡ b) ⊎ (a ≢ b)
 same_name_or_other (g, m) (h, n) =
     elim (cases_eq g h) [
       | inl groups ↦ (elim (cases_eq m n) [
         | inl members ↦ inl (ap₂ (λ (x y : ℕ). (x, y)) groups members)
-        | inr other ↦ inr (λ e. other (ap (λ (p : ℕ × ℕ). p.1) e))
+        | inr other ↦ inr (λ e. other (ap (λ (p : Name). p.1) e))
       ])
-      | inr other ↦ inr (λ e. other (ap (λ (p : ℕ × ℕ). p.0) e))
+      | inr other ↦ inr (λ e. other (ap (λ (p : Name). p.0) e))
     ]
 
 module _ (laws : DrillLaws) (no_lack : SetsWithQuorumsHaveNone)

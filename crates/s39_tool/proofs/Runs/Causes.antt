@@ -3,6 +3,7 @@ use Rattle.std.proofs.Common.{◌≡◌, ℕ, Bool, true, false, List, [], ◌++
 use Rattle.s39_kdf.specs.declared.limits.BadPassphrase.{BadPassphrase}
 use Rattle.s39_kdf.specs.declared.limits.BadSecretLength.{BadSecretLength}
 use Rattle.s39_kdf.specs.Limits.{IsFirstUnprintable, IsSecretLength}
+use Rattle.s39_set.specs.Names.{Names}
 use Rattle.s39_backup.specs.declared.create_error.CreateError.TheVariants.{Passphrase as OfPassphrase, SecretLength as OfSecret, BadRandomLength}
 use Rattle.s39_tool.specs.declared.fault.Stop.{Stop}
 use Rattle.s39_tool.specs.declared.fault.Stop.TheVariants.{AtLine, ReadFailed}
@@ -20,7 +21,8 @@ use Rattle.s39_tool.specs.Steps.{gives, refuses}
 use Rattle.s39_tool.specs.Accepted.{IsCheckedSet}
 use Rattle.s39_tool.specs.Recover.{secret_line, IsRecoverOutput}
 use Rattle.s39_tool.specs.Drill.{last_line, IsDrillOutput, fault_of_undrilled}
-use Rattle.s39_tool.specs.Create.{Asked, IsCreateOutput, fault_of_creation}
+use Rattle.s39_backup.specs.Created.{Asked}
+use Rattle.s39_tool.specs.Create.{IsCreateOutput, fault_of_creation}
 use Rattle.s39_tool.specs.Runs.{Writes, Runs}
 use Rattle.s39_tool.proofs.Sets.Checked.{writing, same_writing}
 use Rattle.s39_tool.proofs.Runs.Devices.{some_input}
@@ -78,11 +80,11 @@ checked_cause passphrase input bad fault (gives _ printable (refuses stop read i
 checked_cause passphrase input bad fault (gives _ printable (gives set read is)) same = absurd (cc)
 
 -- what is answered is the fault
-fault_is : {T : Type 0} (text other : List ℕ) (fault another : Fault) → writing {T = T} (Err fault) text ≡ writing (Err another) other → fault ≡ another
+pub fault_is : {T : Type 0} (text other : List ℕ) (fault another : Fault) → writing {T = T} (Err fault) text ≡ writing (Err another) other → fault ≡ another
 fault_is {T} text other fault another same = let answers = (same_writing {T = T} text other (Err fault) (Err another) same).1 in cc
 
 -- a refusal isn't what is answered of all that was asked for
-not_done : {T : Type 0} (text other : List ℕ) (fault : Fault) (done : T) → writing (Err fault) text ≡ writing (Ok done) other → ⊥
+pub not_done : {T : Type 0} (text other : List ℕ) (fault : Fault) (done : T) → writing (Err fault) text ≡ writing (Ok done) other → ⊥
 not_done {T} text other fault done same = let answers = (same_writing {T = T} text other (Err fault) (Ok done) same).1 in absurd (cc)
 
 pub recover_cause : (passphrase : List ℕ) (input : Input) (text : List ℕ) (bad : BadPassphrase)
@@ -95,7 +97,7 @@ recover_cause passphrase input text bad (gives set checked (refuses fault so is)
     absurd (not_of_passphrase bad fault (fault_is {T = Unit {0}} text [] (fault_of (Passphrase bad)) fault is)
     (recovered_fault (λ f. is_passphrase f.refusal ≡ false) (λ lack. refl) (λ mismatch. refl) passphrase set fault so))
 
-pub drill_cause : (passphrase : List ℕ) (after : Option (List (ℕ × ℕ))) (limit : ℕ) (input : Input) (text : List ℕ) (bad : BadPassphrase)
+pub drill_cause : (passphrase : List ℕ) (after : Option Names) (limit : ℕ) (input : Input) (text : List ℕ) (bad : BadPassphrase)
     → IsDrillOutput passphrase after limit input text (Err (fault_of (Passphrase bad))) → IsFirstUnprintable passphrase bad.position
 drill_cause passphrase after limit input text bad (refuses fault checked is) =
     checked_cause passphrase input bad fault checked (fault_is {T = Done} text [] (fault_of (Passphrase bad)) fault is)

@@ -16,7 +16,8 @@ use Rattle.s39_backup.specs.declared.create_error.CreateError.TheVariants.{Passp
 use Rattle.s39_tool.specs.Device.{Counted}
 use Rattle.s39_tool.specs.Input.{Input, ended_line}
 use Rattle.s39_tool.specs.Fault.{read_failures_in, write_failures_in}
-use Rattle.s39_tool.specs.Create.{Asked, needed_by, Creates, ArePrintedLines, fault_of_creation, Applies, IsCreateOutput}
+use Rattle.s39_backup.specs.Created.{Asked, needed_by, IsCreation}
+use Rattle.s39_tool.specs.Create.{ArePrintedLines, fault_of_creation, Applies, IsCreateOutput}
 
 -- between two reads: these bytes came of the first reader's
 pub record IsTaking {D : Type 0} (remaining : D → Option (List ℕ)) (first reader : Counted D) (came : List ℕ) (limit : ℕ) : Type 0 where
@@ -102,16 +103,16 @@ module _ (asked : Asked) (input : Input) (limit : ℕ) (random : List ℕ) (limi
   counted = ap length random_is ∙ length-take limit input.bytes
 
   -- the creation with the bytes that came is that with all bytes
-  pub created_of_all : (shares : List ShareFields) (text : List ℕ) → Creates asked random (Ok shares) → ArePrintedLines shares text
+  pub created_of_all : (shares : List ShareFields) (text : List ℕ) → IsCreation asked random (Ok shares) → ArePrintedLines shares text
       → IsCreateOutput asked input text (Ok tt)
   created_of_all shares text created printed =
       let many : length random ≡ needed_by asked = created.2 in
       let c = counted in
       let same : random ≡ input.bytes = random_is ∙ take_all limit input.bytes (omega arith) in
-      (shares, ended (omega arith), subst (λ r. Creates asked r (Ok shares)) same created, printed)
+      (shares, ended (omega arith), subst (λ r. IsCreation asked r (Ok shares)) same created, printed)
 
   -- and so is its refusal
-  pub refused_of_all : (error : CreateError) → Creates asked random (Err error) → IsCreateOutput asked input [] (Err (fault_of_creation error))
+  pub refused_of_all : (error : CreateError) → IsCreation asked random (Err error) → IsCreateOutput asked input [] (Err (fault_of_creation error))
   refused_of_all (Passphrase bad) refused = (refl, inl (Passphrase bad, refused, tt, refl))
   refused_of_all (SecretLength bad) refused = (refl, inl (SecretLength bad, refused, tt, refl))
   refused_of_all (BadRandomLength needed) refused =

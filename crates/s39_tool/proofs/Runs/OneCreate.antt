@@ -14,7 +14,8 @@ use Rattle.s39_tool.specs.declared.fault.Refusal.TheVariants.{Device}
 use Rattle.s39_tool.specs.declared.fault.Fault.{Fault}
 use Rattle.s39_tool.specs.Fault.{fault_of}
 use Rattle.s39_tool.specs.Input.{Input, ended_line}
-use Rattle.s39_tool.specs.Create.{Asked, Creates, needed_by, ArePrintedLines, fault_of_creation, Applies, FailsBefore, IsCreateOutput}
+use Rattle.s39_backup.specs.Created.{Asked, IsCreation, needed_by}
+use Rattle.s39_tool.specs.Create.{ArePrintedLines, fault_of_creation, Applies, FailsBefore, IsCreateOutput}
 use Rattle.s39_tool.proofs.Runs.Creating.{printed_all}
 
 -- ---- one output
@@ -33,12 +34,12 @@ module _ (one_printed_form : (share : ShareFields) (text other : List ℕ) → I
   pub text_once : (shares : List ShareFields) (text other : List ℕ) → ArePrintedLines shares text → ArePrintedLines shares other → text ≡ other
   text_once shares text other p q = p.text_is ∙ ap (flat_map ended_line) (lines_once shares p.lines q.lines p.printed q.printed) ∙ sym q.text_is
 
-module _ (one_creation : (asked : Asked) (random : List ℕ) (r s : Result (List ShareFields) CreateError) → Creates asked random r → Creates asked random s
+module _ (one_creation : (asked : Asked) (random : List ℕ) (r s : Result (List ShareFields) CreateError) → IsCreation asked random r → IsCreation asked random s
     → r ≡ s)
     (none_unprintable : PrintablePassphrasesHaveNone)
     (one_printed_form : (share : ShareFields) (text other : List ℕ) → IsPrinted text share → IsPrinted other share → text ≡ other) where
   -- a refusal that applies isn't a failed read
-  not_both : (asked : Asked) (input : Input) (error : CreateError) → Creates asked input.bytes (Err error) → Applies input error → FailsBefore asked input → ⊥
+  not_both : (asked : Asked) (input : Input) (error : CreateError) → IsCreation asked input.bytes (Err error) → Applies input error → FailsBefore asked input → ⊥
   not_both asked input (Passphrase bad) creates applies fails = none_unprintable asked.passphrase bad.position fails.printable creates
   not_both asked input (SecretLength bad) creates applies fails = creates.1 fails.secret_length
   not_both asked input (BadRandomLength needed) creates (inl ended) fails = let bad : true ≡ false = sym ended ∙ fails.failed in absurd (cc)
@@ -50,7 +51,7 @@ module _ (one_creation : (asked : Asked) (random : List ℕ) (r s : Result (List
   -- why nothing is written
   abbrev Stops : Asked → Input → Fault → Type 0
   Stops asked input fault =
-      ((error : CreateError) × Creates asked input.bytes (Err error) × Applies input error × (fault ≡ fault_of_creation error))
+      ((error : CreateError) × IsCreation asked input.bytes (Err error) × Applies input error × (fault ≡ fault_of_creation error))
       ⊎ (FailsBefore asked input × (fault ≡ fault_of (Device Read)))
 
   fault_once : (asked : Asked) (input : Input) (f g : Fault) → Stops asked input f → Stops asked input g → f ≡ g
@@ -63,7 +64,7 @@ module _ (one_creation : (asked : Asked) (random : List ℕ) (r s : Result (List
   fault_once asked input f g (inr (fails, is)) (inr (fails', is')) = is ∙ sym is'
 
   written_not_stopped : (asked : Asked) (input : Input) (shares : List ShareFields) (fault : Fault) → input.ended ≡ true
-      → Creates asked input.bytes (Ok shares) → Stops asked input fault → ⊥
+      → IsCreation asked input.bytes (Ok shares) → Stops asked input fault → ⊥
   written_not_stopped asked input shares fault ended creates (inl (error, creates', applies, is)) =
       let both = one_creation asked input.bytes (Ok shares) (Err error) creates creates' in absurd (cc)
   written_not_stopped asked input shares fault ended creates (inr (fails, is)) = let bad : true ≡ false = sym ended ∙ fails.failed in absurd (cc)
@@ -85,14 +86,14 @@ HasOutput asked input = (text : List ℕ) × (answer : Result (Unit {0}) Fault) 
 
 module _ (every_share_has_a_printed_form : (share : ShareFields) → IsShare share → (text : List ℕ) × IsPrinted text share) where
   module _ (asked : Asked) (input : Input) where
-    refused : (error : CreateError) → Creates asked input.bytes (Err error) → Applies input error → HasOutput asked input
+    refused : (error : CreateError) → IsCreation asked input.bytes (Err error) → Applies input error → HasOutput asked input
     refused error creates applies = ([], Err (fault_of_creation error), (refl, inl (error, creates, applies, refl)))
 
     failed : FailsBefore asked input → HasOutput asked input
     failed fails = ([], Err (fault_of (Device Read)), (refl, inr (fails, refl)))
 
-    of_creation : (ended : Bool) → input.ended ≡ ended → (result : Result (List ShareFields) CreateError) → Creates asked input.bytes result
-        → ((shares : List ShareFields) → Creates asked input.bytes (Ok shares) → All IsShare shares) → HasOutput asked input
+    of_creation : (ended : Bool) → input.ended ≡ ended → (result : Result (List ShareFields) CreateError) → IsCreation asked input.bytes result
+        → ((shares : List ShareFields) → IsCreation asked input.bytes (Ok shares) → All IsShare shares) → HasOutput asked input
     of_creation ended is (Err (Passphrase bad)) creates are_shares = refused (Passphrase bad) creates tt
     of_creation ended is (Err (SecretLength bad)) creates are_shares = refused (SecretLength bad) creates tt
     of_creation true is (Err (BadRandomLength needed)) creates are_shares = refused (BadRandomLength needed) creates (inl is)
@@ -109,6 +110,6 @@ module _ (every_share_has_a_printed_form : (share : ShareFields) → IsShare sha
         let enough : length input.bytes ≡ needed_by asked = creates.2 in
         failed (record { failed = is; printable = creates.0; secret_length = creates.1; few = omega arith })
 
-    pub some_output : (result : Result (List ShareFields) CreateError) × Creates asked input.bytes result
-        → ((shares : List ShareFields) → Creates asked input.bytes (Ok shares) → All IsShare shares) → HasOutput asked input
+    pub some_output : (result : Result (List ShareFields) CreateError) × IsCreation asked input.bytes result
+        → ((shares : List ShareFields) → IsCreation asked input.bytes (Ok shares) → All IsShare shares) → HasOutput asked input
     some_output (result, creates) are_shares = of_creation input.ended refl result creates are_shares

@@ -1,9 +1,9 @@
 -- What is put into a slice of one output is one thing.
 use Rattle.std.proofs.Common.{◌≡◌, ℕ, ◌<◌, ◌≤◌, List, [], ◌++◌, length, drop, sym, ap, ◌∙◌, arith, Result, Ok, Err}
 use Rattle.s39_tool.specs.declared.fault.Fault.{Fault}
-use Rattle.s39_tool.specs.declared.memory.Unwritten.{Unwritten}
-use Rattle.s39_tool.specs.declared.memory.Unwritten.TheVariants.{Refused, TooShort as SliceTooShort}
-use Rattle.s39_tool.specs.Fitting.{Puts}
+use Rattle.s39_tool.specs.declared.slices.Unwritten.{Unwritten}
+use Rattle.s39_tool.specs.declared.slices.Unwritten.TheVariants.{Refused, TooShort as SliceTooShort}
+use Rattle.s39_tool.specs.Slices.{Puts}
 
 module _ (IsOutput : List ℕ → Result (Unit {0}) Fault → Type 0)
     (once : (text other : List ℕ) (answer another : Result (Unit {0}) Fault) → IsOutput text answer → IsOutput other another

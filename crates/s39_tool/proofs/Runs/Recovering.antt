@@ -2,6 +2,7 @@
 use Rattle.std.proofs.Common.{◌≡◌, ◌⊎◌, ℕ, List, [], refl, sym, ap, ◌∙◌, subst, subst₂, inl, inr}
 use Rattle.std.proofs.Common.{None, Option, Result, Ok, Err}
 use Rattle.s39_words.specs.declared.ShareFields.{ShareFields}
+use Rattle.s39_set.specs.Names.{Names}
 use Rattle.s39_set.specs.declared.set_lack.SetLack.{SetLack}
 use Rattle.s39_set.specs.ShareSet.{IsShareSet}
 use Rattle.s39_set.specs.Quorums.{IsQuorum, IsFirstQuorumAfter}
@@ -32,9 +33,9 @@ recovered_fault P lacks mismatches passphrase set fault (gives names least (give
 
 -- each set has one least quorum or one lack, and each quorum one outcome
 module _ (one_lack : SetsHaveOneLack) (no_lack : SetsWithQuorumsHaveNone)
-    (one_first_quorum : (set : List ShareFields) (given : Option (List (ℕ × ℕ))) (names others : List (ℕ × ℕ))
+    (one_first_quorum : (set : List ShareFields) (given : Option Names) (names others : Names)
     → IsFirstQuorumAfter set given names → IsFirstQuorumAfter set given others → names ≡ others)
-    (one_outcome : (set : List ShareFields) (names : List (ℕ × ℕ)) (passphrase : List ℕ) (outcome other : Result (List ℕ) Mismatch) → IsShareSet set
+    (one_outcome : (set : List ShareFields) (names : Names) (passphrase : List ℕ) (outcome other : Result (List ℕ) Mismatch) → IsShareSet set
     → IsQuorum set names
     → IsOutcome set names passphrase outcome → IsOutcome set names passphrase other → outcome ≡ other) where
   least_once : (set : List ShareFields) → AtMostOne (IsLeastOrLack set)
@@ -52,9 +53,9 @@ module _ (one_lack : SetsHaveOneLack) (no_lack : SetsWithQuorumsHaveNone)
 
 -- every set has a least quorum or a lack
 module _ (quorum_or_lack : (set : List ShareFields) → IsShareSet set
-    → ((names : List (ℕ × ℕ)) × IsFirstQuorumAfter set None names) ⊎ ((lack : SetLack) × IsLack set lack)) where
+    → ((names : Names) × IsFirstQuorumAfter set None names) ⊎ ((lack : SetLack) × IsLack set lack)) where
   -- and every quorum an outcome
-  pub some_secret : ((set : List ShareFields) (names : List (ℕ × ℕ)) (passphrase : List ℕ) → IsShareSet set → IsQuorum set names
+  pub some_secret : ((set : List ShareFields) (names : Names) (passphrase : List ℕ) → IsShareSet set → IsQuorum set names
       → (outcome : Result (List ℕ) Mismatch) × IsOutcome set names passphrase outcome)
       → (passphrase : List ℕ) (set : List ShareFields) → IsShareSet set → AtLeastOne (WritesSecret passphrase set)
   some_secret every_outcome passphrase set is =
@@ -71,7 +72,7 @@ module _ (quorum_or_lack : (set : List ShareFields) → IsShareSet set
   pub recovers_created : AcceptedAreShareSets
       → ((passphrase : List ℕ) (input : Input) (text other : List ℕ) (answer another : Result (Unit {0}) Fault)
       → IsRecoverOutput passphrase input text answer → IsRecoverOutput passphrase input other another → (text ≡ other) × (answer ≡ another))
-      → ((set : List ShareFields) (names : List (ℕ × ℕ)) (passphrase secret : List ℕ) → IsShareSet set → IsQuorum set names
+      → ((set : List ShareFields) (names : Names) (passphrase secret : List ℕ) → IsShareSet set → IsQuorum set names
       → AreOfBackup set passphrase secret → IsOutcome set names passphrase (Ok secret))
       → ((passphrase secret : List ℕ) (input : Input) → HoldsMnemonicsOf passphrase secret input
       → (set : List ShareFields) × IsReadAs input (Ok set) × AreOfBackup set passphrase secret)

@@ -20,7 +20,7 @@ use Rattle.s39_tool.specs.OfBackup.{HoldsNothingOrOneOf, HoldsMnemonicsOf}
 use Rattle.s39_tool.proofs.Taking.Held.{holds_once, held_not_refused}
 
 -- the created shares are of the backup
-of_backup : (passphrase secret : List ℕ) (input : Input) (mnemonics : HoldsMnemonicsOf passphrase secret input) (set : List ShareFields)
+unfoldable pub of_backup : (passphrase secret : List ℕ) (input : Input) (mnemonics : HoldsMnemonicsOf passphrase secret input) (set : List ShareFields)
     → All (Contains mnemonics.shares) set → AreOfBackup set passphrase secret
 of_backup passphrase secret input mnemonics set belong = record {
   group_threshold = mnemonics.group_threshold;
@@ -79,14 +79,13 @@ module _ (one_reading : (text : List ℕ) (r s : Result ShareFields WordError) �
         )
 
     pub read_as_set : (read : Result (List ShareFields) (Stop LineRefusal)) → IsReadAs input read
-        → (set : List ShareFields) × IsReadAs input (Ok set) × AreOfBackup set passphrase secret
+        → (set : List ShareFields) × IsReadAs input (Ok set) × All (Contains mnemonics.shares) set
     read_as_set (Ok set) (shares, (ended, together), set_is) =
         let belong : All (Contains created) shares =
         subst (All (Contains created)) (sym together.shares_are) (all_held created (lines_of input) together.held mnemonics.lines together.holds) in (
           set,
           (shares, (ended, together), set_is),
-          of_backup passphrase secret input mnemonics set
-              (λ k d below. All-contains (Contains created) shares (get_or set k d) belong (set_is.only k d below)),
+          (λ k d below. All-contains (Contains created) shares (get_or set k d) belong (set_is.only k d below)),
         )
     read_as_set (Err ReadFailed) (shares, (failed, together)) = absurd (let bad : true ≡ false = sym mnemonics.ended ∙ failed in cc)
     read_as_set (Err (AtLine refused)) (shares, at) =

@@ -4,6 +4,7 @@ use Rattle.std.proofs.lemmas.List.Elements.{All-head}
 use Rattle.s39_kdf.specs.declared.params.Params.{Params}
 use Rattle.s39_words.specs.declared.ShareFields.{ShareFields}
 use Rattle.s39_words.specs.Share.{IsShare}
+use Rattle.s39_set.specs.Names.{Names}
 use Rattle.s39_set.specs.ShareSet.{Agrees, IsShareSet}
 use Rattle.s39_set.specs.Quorums.{IsQuorum}
 use Rattle.s39_backup.specs.Outcome.{AreParams}
@@ -20,14 +21,14 @@ all_have_exponent (share ∷ shares) params is are = λ k d below.
     sym agrees.exponent ∙ sym are.2
 
 -- a set with a quorum has a share, and so one exponent
-pub exponent_once : (set : List ShareFields) (names : List (ℕ × ℕ)) (exponent other : ℕ) → IsQuorum set names
+pub exponent_once : (set : List ShareFields) (names : Names) (exponent other : ℕ) → IsQuorum set names
     → All (λ share. share.exponent ≡ exponent) set → All (λ share. share.exponent ≡ other) set → exponent ≡ other
 exponent_once [] names exponent other quorum all also = absurd quorum.meets.groups
 exponent_once (share ∷ shares) names exponent other quorum all also =
     sym (All-head (λ s. s.exponent ≡ exponent) share shares all) ∙ All-head (λ s. s.exponent ≡ other) share shares also
 
 -- a set with a quorum has a share, and so an exponent that four bits hold
-pub exponent_at_most_15 : (set : List ShareFields) (names : List (ℕ × ℕ)) (exponent : ℕ) → IsShareSet set → IsQuorum set names
+pub exponent_at_most_15 : (set : List ShareFields) (names : Names) (exponent : ℕ) → IsShareSet set → IsQuorum set names
     → All (λ share. share.exponent ≡ exponent) set → exponent ≤ 15
 exponent_at_most_15 [] names exponent is quorum all = absurd quorum.meets.groups
 exponent_at_most_15 (share ∷ shares) names exponent is quorum all =
@@ -35,7 +36,7 @@ exponent_at_most_15 (share ∷ shares) names exponent is quorum all =
     let below : exponent < 16 = subst (λ e. e < 16) (All-head (λ s. s.exponent ≡ exponent) share shares all) share_is.exponent in omega (arith, below)
 
 -- that of its first share, in which the others agree with it
-pub exponent_of_quorum : (input : Input) (set : List ShareFields) (names : List (ℕ × ℕ)) → IsReadAs input (Ok set) → IsShareSet set → IsQuorum set names
+pub exponent_of_quorum : (input : Input) (set : List ShareFields) (names : Names) → IsReadAs input (Ok set) → IsShareSet set → IsQuorum set names
     → (exponent : ℕ) × HasExponent input exponent
 exponent_of_quorum input [] names read is quorum = absurd quorum.meets.groups
 exponent_of_quorum input (share ∷ shares) names read is quorum = (

@@ -12,7 +12,7 @@ use Rattle.s39_set.specs.ShareSet.{IsShareSet, name_of}
 use Rattle.s39_set.specs.Quorums.{MeetsThresholds}
 use Rattle.s39_set.proofs.SetQuorums.{no_lack-from_meets}
 use Rattle.s39_backup.specs.Plan.{IsPlan}
-use Rattle.s39_backup.specs.Created.{AreOfBackup}
+use Rattle.s39_backup.specs.Created.{AreOfBackup, Asked}
 use Rattle.s39_tool.specs.declared.drill.Done.{Done}
 use Rattle.s39_tool.specs.declared.drill.Undrilled.TheVariants.{Lack, NotAQuorum}
 use Rattle.s39_tool.specs.declared.fault.Fault.{Fault}
@@ -20,7 +20,7 @@ use Rattle.s39_tool.specs.Input.{Input, whole}
 use Rattle.s39_tool.specs.Lines.{Holds}
 use Rattle.s39_tool.specs.Accepted.{shares_in, IsSetOf, IsReadAs}
 use Rattle.s39_tool.specs.Recover.{secret_line, IsRecoverOutput}
-use Rattle.s39_tool.specs.Create.{Asked, IsCreateOutput}
+use Rattle.s39_tool.specs.Create.{IsCreateOutput}
 use Rattle.s39_tool.specs.OfBackup.{IsSecretOrLack}
 use Rattle.s39_tool.specs.Drill.{ListsSecret, ListsSecretOrCause}
 use Rattle.s39_tool.proofs.Taking.Held.{holds_once}

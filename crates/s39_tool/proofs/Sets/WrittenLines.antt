@@ -12,7 +12,8 @@ use Rattle.s39_words.specs.WordList.{IsLetter}
 use Rattle.s39_backup.specs.Plan.{IsPlan}
 use Rattle.s39_tool.specs.Input.{whole, is_line_feed, ended_line, parts_of, lines_of, is_skipped}
 use Rattle.s39_tool.specs.Lines.{Holds}
-use Rattle.s39_tool.specs.Create.{Asked, ArePrintedLines, IsCreateOutput}
+use Rattle.s39_backup.specs.Created.{Asked}
+use Rattle.s39_tool.specs.Create.{ArePrintedLines, IsCreateOutput}
 use Rattle.s39_tool.specs.OfBackup.{HoldsNothingOrOneOf, HoldsMnemonicsOf}
 
 -- lines without line feeds are the lines of the text that they make, and an empty one is behind them

@@ -3,7 +3,7 @@ use Rattle.std.proofs.lemmas.Bool.{false≢true, iff_false}
 use Rattle.std.proofs.lemmas.List.Elements.{All-contains}
 use Rattle.s39_set.specs.Names.{most_members}
 use Rattle.s39_set.specs.ShareSet.{has_name}
-use Rattle.s39_set.proofs.Finds.{Contains-find}
+use Rattle.s39_lists.proofs.Finds.{Contains-find}
 use Rattle.s39_backup.specs.Reissue.{IsOfPlan}
 use Rattle.s39_backup.proofs.Determined.{all_from_places}
 use Rattle.s39_backup.proofs.at_hand.is_of_plan.Goals as goal

@@ -2,6 +2,5 @@ use Rattle.s39_backup.proofs.Creations.{backup_once}
 use Rattle.s39_backup.proofs.laws.one_created_backup.Goals as goal
 
 pub returns : goal.returns
-returns c = λ secret passphrase group_threshold groups options random.
+returns c =
     backup_once c.needed_random_bytes.ensures c.shares_of_a_split.ensures.length c.one_split.ensures.one c.one_encryption.ensures.of_secrets
-    secret passphrase group_threshold groups options random

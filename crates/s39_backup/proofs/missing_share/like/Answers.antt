@@ -1,4 +1,4 @@
-use Rattle.std.proofs.Common.{rules, ◌≡◌, length, sym, subst, arith}
+use Rattle.std.proofs.Common.{rules, ◌≡◌, sym, subst, arith}
 use Rattle.std.proofs.lemmas.List.{get_or_default}
 use Rattle.s39_kdf.specs.Limits.{IsSecretLength}
 use Rattle.s39_words.specs.Share.{IsShare, IsValue}

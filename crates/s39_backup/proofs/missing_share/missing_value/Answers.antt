@@ -1,4 +1,4 @@
-use Rattle.std.proofs.Common.{length, sym, ◌∙◌, arith}
+use Rattle.std.proofs.Common.{sym, ◌∙◌, arith}
 use Rattle.s39_backup.specs.GroupShares.{value_bytes_of}
 use Rattle.s39_backup.proofs.MissingValues.{points_level, value_ok, value_err, all_counted}
 use Rattle.s39_backup.proofs.missing_share.missing_value.Goals as goal

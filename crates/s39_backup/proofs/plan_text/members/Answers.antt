@@ -1,27 +1,28 @@
-use Rattle.std.proofs.Common.{◌≡◌, ℕ, List, ◌∷◌, ◌++◌, refl, sym, subst, ◌∙◌}
-use Rattle.std.specs.Fmt.{decimal}
-use Rattle.s39_backup.specs.declared.plan.Members.{Members}
-use Rattle.s39_backup.specs.PlanText.{BeginsWithNumber, BeginsWithMembers}
-use Rattle.s39_backup.proofs.PlanNumbers.{number_once}
-use Rattle.s39_backup.proofs.PlanTexts.{behind_threshold, members-threshold, members-count}
+use Rattle.std.proofs.Common.{◌≡◌, ◌==◌, length, Some, None, refl, ap, ◌∙◌}
+use Rattle.std.proofs.lemmas.Bool.{false≢true}
+use Rattle.s39_backup.proofs.PlanTexts.{cut_of_members, rest_of_members, parts_of_members}
 use Rattle.s39_backup.proofs.plan_text.members.Goals as goal
 
--- what stands behind the threshold
-behind : (text : List ℕ) (n : ℕ) (after : List ℕ) (members : Members) (rest : List ℕ) → BeginsWithNumber text n after → BeginsWithMembers text members rest
-    → after ≡ behind_threshold members rest
-behind text n after members rest begins is =
-    (number_once text n members.threshold after (behind_threshold members rest) begins (members-threshold text members rest is)).rest_is
+pub returns-in_err-front-clause-none : goal.returns-in_err-front-clause-none
+returns-in_err-front-clause-none c = λ none members is. c.in_err-front.ensures.none refl _ _ (cut_of_members c.args.text.now members is)
 
-pub returns-in_err-rest-clause-none : goal.returns-in_err-rest-clause-none
-returns-in_err-rest-clause-none c = λ none members rest is.
-    c.in_err-rest.ensures.none refl (decimal members.count ++ rest)
-    (behind c.args.text.now c.in_ok-threshold.threshold c.in_ok-threshold.rest.now members rest c.in_ok-threshold.ensures.begins is)
+pub returns-in_err-between-clause-none : goal.returns-in_err-between-clause-none
+returns-in_err-between-clause-none c = λ none members is.
+    c.in_err-between.ensures.none refl _ _ (rest_of_members c.args.text.now _ _ c.in_ok-front.ensures.parts members is)
+
+pub returns-then-not-is_empty-clause-none : goal.returns-then-not-is_empty-clause-none
+returns-then-not-is_empty-clause-none c = λ none members is.
+    let parts = parts_of_members _ _ _ _ _ c.in_ok-front.ensures.parts c.in_ok-between.ensures.parts members is in
+    absurd (false≢true (c.if-not-is_empty.ensures ∙ ap (λ between. length between == 0) parts.1))
+
+pub returns-in_err-threshold-clause-none : goal.returns-in_err-threshold-clause-none
+returns-in_err-threshold-clause-none c = λ none members is.
+    let parts = parts_of_members _ _ _ _ _ c.in_ok-front.ensures.parts c.in_ok-between.ensures.parts members is in
+    let bad : None ≡ Some members.threshold = c.in_err-threshold.ensures.only members.threshold (record { number = is.numbers.0; text_is = parts.0 }) in
+    absurd (cc)
 
 pub returns-in_err-count-clause-none : goal.returns-in_err-count-clause-none
-returns-in_err-count-clause-none c = λ none members rest is.
-    let letters : c.in_ok-threshold.rest.now ≡ 111 ∷ 102 ∷ c.in_ok-rest.rest.now = c.in_ok-rest.ensures.rest in
-    let both = sym letters
-    ∙ behind c.args.text.now c.in_ok-threshold.threshold c.in_ok-threshold.rest.now members rest c.in_ok-threshold.ensures.begins is in
-    let same : decimal members.count ++ rest ≡ c.in_ok-rest.rest.now = cc in
-    c.in_err-count.ensures.none refl members.count rest
-    (subst (λ t. BeginsWithNumber t members.count rest) same (members-count c.args.text.now members rest is))
+returns-in_err-count-clause-none c = λ none members is.
+    let parts = parts_of_members _ _ _ _ _ c.in_ok-front.ensures.parts c.in_ok-between.ensures.parts members is in
+    let bad : None ≡ Some members.count = c.in_err-count.ensures.only members.count (record { number = is.numbers.1; text_is = parts.2 }) in
+    absurd (cc)

@@ -5,7 +5,7 @@ use Rattle.std.specs.List.{slice_get}
 use Rattle.s39_kdf.specs.Bytes.{AreBytes}
 use Rattle.s39_split.specs.Shares.{bytes_of}
 use Rattle.s39_split.specs.Sharing.{IsSplit}
-use Rattle.s39_split.proofs.Lists.{All-from_map}
+use Rattle.s39_lists.proofs.Pairs.{All-from_map}
 use Rattle.s39_set.specs.Names.{names_in_group}
 use Rattle.s39_backup.specs.Refitting.{AreKept, AreSameAt, StayTheSame}
 use Rattle.s39_backup.proofs.Chosen.{kept_stay}

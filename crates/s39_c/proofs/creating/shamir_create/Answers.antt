@@ -1,5 +1,5 @@
 use Rattle.std.proofs.Common.{inr, refl}
-use Rattle.s39_tool.specs.Create.{Asked}
+use Rattle.s39_backup.specs.Created.{Asked}
 use Rattle.s39_c.specs.Creating.{Asks}
 use Rattle.s39_c.proofs.creating.shamir_create.Goals as goal
 

@@ -5,7 +5,7 @@ use Rattle.std.proofs.lemmas.List.FromFn.{fill_by_all}
 use Rattle.s39_field.specs.FieldProduct.{byte_field, byte_modulus, product_modulo}
 use Rattle.s39_field.specs.Interpolation.{Interpolates, differences, weight, weighted_sum}
 use Rattle.s39_field.specs.Theory.Powers.{byte_field_is_field}
-use Rattle.s39_field.specs.Theory.Weights.{denominator-nonzero, weights_interpolate}
+use Rattle.s39_field.proofs.LagrangeWeights.{denominator-nonzero, weights_interpolate}
 use Rattle.s39_field.proofs.interpolation.weights.Goals as goal
 
 -- the denominator, by the place that the definition reads

@@ -1,4 +1,4 @@
-use Rattle.s39_field.specs.Theory.Strings.{strings_have_a_value, strings_have_one_value}
+use Rattle.s39_field.proofs.Strings.{strings_have_a_value, strings_have_one_value}
 use Rattle.s39_field.proofs.laws.one_byte_string.Goals as goal
 
 pub returns : goal.returns

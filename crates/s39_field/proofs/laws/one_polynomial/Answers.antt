@@ -1,4 +1,4 @@
-use Rattle.s39_field.specs.Theory.Roots.{places_determine_coefficients, places_determine_values, points_have_one_value}
+use Rattle.s39_field.proofs.Roots.{places_determine_coefficients, places_determine_values, points_have_one_value}
 use Rattle.s39_field.proofs.laws.one_polynomial.Goals as goal
 
 pub returns : goal.returns

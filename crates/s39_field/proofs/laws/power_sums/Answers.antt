@@ -1,4 +1,4 @@
-use Rattle.s39_field.specs.Theory.PowerSums.{power_sums_determine_values}
+use Rattle.s39_field.proofs.PowerSums.{power_sums_determine_values}
 use Rattle.s39_field.proofs.laws.power_sums.Goals as goal
 
 pub returns : goal.returns

@@ -1,4 +1,4 @@
-use Rattle.s39_field.specs.Theory.Products.{values_multiply, multiples_keep_roots, reversed_values_multiply, reversed_multiples_keep_roots}
+use Rattle.s39_field.proofs.Products.{values_multiply, multiples_keep_roots, reversed_values_multiply, reversed_multiples_keep_roots}
 use Rattle.s39_field.proofs.laws.values_multiply.Goals as goal
 
 pub returns : goal.returns

@@ -1,4 +1,4 @@
-use Rattle.s39_field.specs.Theory.Weights.{weights_interpolate}
+use Rattle.s39_field.proofs.LagrangeWeights.{weights_interpolate}
 use Rattle.s39_field.proofs.laws.weighted_values.Goals as goal
 
 pub returns : goal.returns

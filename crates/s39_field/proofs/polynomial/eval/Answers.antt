@@ -2,7 +2,7 @@ use Rattle.std.proofs.Common.{◌≡◌, List, [], ◌∷◌, ◌++◌, sym, ap,
 use Rattle.std.proofs.lemmas.List.{nil_from_length}
 use Rattle.s39_field.specs.Field.{Operations, IsField}
 use Rattle.s39_field.specs.Polynomial.{value_at}
-use Rattle.s39_field.specs.Theory.Values.{value_at-cons}
+use Rattle.s39_field.proofs.Values.{value_at-cons}
 use Rattle.s39_field.proofs.polynomial.eval.Goals as goal
 
 -- the value with one coefficient more in front

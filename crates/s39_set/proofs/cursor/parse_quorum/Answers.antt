@@ -5,11 +5,12 @@ use Rattle.std.proofs.lemmas.Bool.{false≢true}
 use Rattle.std.proofs.lemmas.List.{map_push}
 use Rattle.std.proofs.lemmas.Iterator.Consumers.{YieldsList-at}
 use Rattle.std.proofs.lemmas.Iterator.Splits.{YieldsList-from_slice_split}
-use Rattle.s39_words.proofs.TextWords.{turn, ended}
-use Rattle.s39_set.specs.Names.{name_cmp, AreNames}
+use Rattle.s39_lists.proofs.Loops.{turn, ended}
+use Rattle.s39_set.specs.Names.{Name, name_cmp, AreNames}
 use Rattle.s39_set.specs.Written.{name_text}
 use Rattle.s39_set.proofs.NamesBefore.{AreNames-push}
-use Rattle.s39_set.proofs.WrittenNames.{is_plus, written_from_parts, same_written, next_name, same_name}
+use Rattle.s39_set.proofs.NameText.{same_name}
+use Rattle.s39_set.proofs.WrittenNames.{is_plus, written_from_parts, same_written, next_name}
 use Rattle.s39_set.proofs.cursor.parse_quorum.Goals as goal
 
 pub returns-in_default-clause-only : goal.returns-in_default-clause-only
@@ -33,7 +34,7 @@ returns-then-not-is_before-clause-only c = λ names is.
     (λ x b q k. search (rules, tests)))) in
     let next = next_name c.args.text.now c.in-Some.name.now c.loop-name.quorum names _ is c.loop-name.invariant.are_names
     (c.loop-name.invariant.texts ∙ now.0) now.1 now.2 in
-    let read : ℕ × ℕ = (c.in-Some-parse_name.group, c.in-Some-parse_name.member) in
+    let read : Name = (c.in-Some-parse_name.group, c.in-Some-parse_name.member) in
     let same = same_name c.in-Some.name.now read
     (get_or names (length (map (λ w. w.now) c.loop-name.yielded)) (0, 0)) c.in-Some-parse_name.ensures.name next.text in
     absurd (false≢true (c.if-not-is_before.ensures.1 (subst (λ name. All (λ earlier. name_cmp earlier name ≡ Less) c.loop-name.quorum) (sym same) next.later)))
@@ -41,7 +42,7 @@ returns-then-not-is_before-clause-only c = λ names is.
 pub loop-name-preserved : goal.loop-name-preserved
 loop-name-preserved c =
     let is = c.in-Some-parse_name.ensures.name in
-    let read : ℕ × ℕ = (c.in-Some-parse_name.group, c.in-Some-parse_name.member) in
+    let read : Name = (c.in-Some-parse_name.group, c.in-Some-parse_name.member) in
     record {
       can_next = search rules;
       is_finite = search rules;

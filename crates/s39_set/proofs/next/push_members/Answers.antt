@@ -1,7 +1,7 @@
 use Rattle.std.proofs.Common.{◌≡◌, ◌+◌, ◌≤◌, ◌++◌, [], ◌∷◌, ℕ, List, length, map, filter, ◌-◌, true, All, Less, sym, ap, subst, ◌∙◌, arith}
 use Rattle.std.proofs.Common.{append_assoc}
 use Rattle.std.proofs.lemmas.List.{map_push, length_push, take-map}
-use Rattle.s39_set.specs.Names.{name_cmp, most_members}
+use Rattle.s39_set.specs.Names.{Name, Names, name_cmp, most_members}
 use Rattle.s39_set.specs.Masks.{is_in}
 use Rattle.s39_set.proofs.RangesFrom.{first_from, first_from_more, first_from_without, first_from_full, all_before_next}
 use Rattle.s39_set.proofs.next.push_members.Goals as goal
@@ -57,7 +57,7 @@ pub returns-clause-names : goal.returns-clause-names
 returns-clause-names c =
     let p = is_in c.args.masks.now c.args.group in
     let last : c.loop-member.member ≡ most_members = omega arith in
-    let pair : ℕ → ℕ × ℕ = λ member. (c.args.group, member) in
+    let pair : ℕ → Name = λ member. (c.args.group, member) in
     c.loop-member.invariant.names_are
     ∙ ap (λ n. c.args.quorum.now ++ map pair (first_from p c.args.wanted c.args.from n)) last
-    ∙ ap (λ (l : List (ℕ × ℕ)). c.args.quorum.now ++ l) (sym (take-map pair c.args.wanted (filter p (range_with_len c.args.from (most_members - c.args.from)))))
+    ∙ ap (λ (l : Names). c.args.quorum.now ++ l) (sym (take-map pair c.args.wanted (filter p (range_with_len c.args.from (most_members - c.args.from)))))

@@ -5,7 +5,7 @@ use Rattle.s39_set.specs.Names.{names_in_group, most_groups}
 use Rattle.s39_set.specs.Quorums.{group_threshold_of, member_threshold_of}
 use Rattle.s39_set.proofs.Flags.{flag-fallen, flag-stayed}
 use Rattle.s39_set.proofs.JustMembers.{has_members, AreExactBelow, exact_from_just, just_from_exact, groups_from_just}
-use Rattle.s39_set.proofs.Ranges.{length-filter-range_more_yes, length-filter-range_more_no, length-filter-range-le}
+use Rattle.s39_lists.proofs.Ranges.{length-filter-range_more_yes, length-filter-range_more_no, length-filter-range-le}
 use Rattle.s39_set.proofs.OptionTests.{same_from_option_eq, option_eq-same}
 use Rattle.s39_set.proofs.quorum.has_just_the_members.Goals as goal
 use Rattle.s39_set.proofs.quorum.has_just_the_members.Goals.{then-members-gt0+then-not-asks_for, then-members-gt0+else-not-asks_for, else-members-gt0}

@@ -4,7 +4,7 @@ use Rattle.std.specs.List.{All}
 use Rattle.std.proofs.lemmas.List.{length-map}
 use Rattle.arrayvec.specs.ArrayVec.{ArrayVec}
 use Rattle.s39_split.specs.Shares.{indexed_bytes}
-use Rattle.s39_split.proofs.Lists.{All-from_same}
+use Rattle.s39_lists.proofs.Pairs.{All-from_same}
 use Rattle.s39_split.proofs.Columns.{same_length}
 use Rattle.s39_split.proofs.Completions.{any_points_combine, any_points_complete, complete_once}
 use Rattle.s39_split.proofs.OneOutcome.{combine_once}

@@ -1,7 +1,6 @@
 use Rattle.std.proofs.Common.{◌≡◌, ◌≢◌, ℕ, List, ◌++◌, length, take, map, arith}
 use Rattle.std.proofs.lemmas.List.{take_all, take_at, length-map}
-use Rattle.s39_field.specs.Theory.Lists.{AllPairs-map}
-use Rattle.s39_split.proofs.Lists.{AllPairs-from_map}
+use Rattle.s39_lists.proofs.Pairs.{AllPairs-map, AllPairs-from_map}
 use Rattle.s39_split.proofs.interpolation.weights_at.Goals as goal
 
 pub weights-requires-clause-distinct : goal.weights-requires-clause-distinct

@@ -3,7 +3,7 @@ use Rattle.std.proofs.lemmas.List.{length-map, get_or-map}
 use Rattle.s39_kdf.specs.Limits.{shortest_secret}
 use Rattle.s39_split.specs.Shares.{indexed_bytes}
 use Rattle.s39_split.specs.Sharing.{digest_length, digest_of}
-use Rattle.s39_split.proofs.Lists.{All-from_same}
+use Rattle.s39_lists.proofs.Pairs.{All-from_same}
 use Rattle.s39_split.proofs.Columns.{all_rows, same_length}
 use Rattle.std.proofs.lemmas.Slice.Eq.{slice_eq-Decides}
 use Rattle.std.proofs.lemmas.Bool.Decides.{Decides-eqb}

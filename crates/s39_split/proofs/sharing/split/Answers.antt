@@ -2,7 +2,7 @@ use Rattle.std.proofs.Common.{◌≡◌, length, arith}
 use Rattle.std.proofs.lemmas.List.{nil_from_length}
 use Rattle.s39_split.specs.Sharing.{random_needed}
 use Rattle.s39_split.specs.Shares.{bytes_of}
-use Rattle.s39_split.proofs.Lists.{All-from_map}
+use Rattle.s39_lists.proofs.Pairs.{All-from_map}
 use Rattle.s39_split.proofs.Splits.{copies_are}
 use Rattle.s39_split.proofs.Choices.{length-shares}
 use Rattle.s39_split.proofs.sharing.split.Goals as goal

@@ -1,7 +1,7 @@
 use Rattle.std.proofs.Common.{ap, inl, inr, map}
 use Rattle.s39_backup.specs.Memo.{MemoState}
 use Rattle.std.proofs.lemmas.Bool.{cases_eq}
-use Rattle.s39_tool.proofs.Drills.Memos.{same_or_other, among_or_not}
+use Rattle.s39_lists.proofs.Decided.{same_or_other, among_or_not}
 use Rattle.s39_tool.proofs.drill.outcome_of.Goals as goal
 
 pub returns-clause-passphrase : goal.returns-clause-passphrase

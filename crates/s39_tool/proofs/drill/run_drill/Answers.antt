@@ -1,6 +1,7 @@
 use Rattle.std.proofs.Common.{◌∙◌, ℕ, List, [], refl, ap, ◌+◌, ◌++◌, sym, subst, arith, Option, None, Ok}
 use Rattle.std.specs.Option.{option_copied}
 use Rattle.std.proofs.lemmas.Result.{err_from_is_err_and}
+use Rattle.s39_set.specs.Names.{Names}
 use Rattle.s39_tool.specs.Drill.{last_line, IsNext, IsDrill, IsDrillOutput}
 use Rattle.s39_tool.specs.Steps.{gives, refuses}
 use Rattle.s39_tool.specs.Runs.{OfInput}
@@ -35,11 +36,11 @@ returns-in_err-start-clause-runs g c =
 
 -- what is known once it is known where the drill starts
 module _ (g : Over) (c : In_ok-start g) where
-  abbrev after : Option (List (ℕ × ℕ))
+  abbrev after : Option Names
   after = option_copied c.args.after
 
   -- a drill of the set is the output of the input
-  output : (lines : List ℕ) (more : Option (List (ℕ × ℕ))) (mismatches : ℕ)
+  output : (lines : List ℕ) (more : Option Names) (mismatches : ℕ)
       → IsDrill c.in_ok-set.set c.args.passphrase.now after c.args.limit lines more mismatches
       → OfInput g.R.Read.remaining c.args.input.now c.checked_set.new.input (λ input.
       IsDrillOutput c.args.passphrase.now after c.args.limit input (lines ++ last_line more) (Ok (record { mismatches = mismatches })))

@@ -1,11 +1,12 @@
 use Rattle.std.proofs.Common.{◌≡◌, ◌-◌, ◌⊎◌, ℕ, suc, List, [], Result, Option, Some, inl, inr, is_some, not, false, ap, ◌∙◌, subst, arith}
 use Rattle.std.proofs.lemmas.Result.{err_from_is_err_and}
 use Rattle.std.specs.Option.{option_copied}
+use Rattle.s39_set.specs.Names.{Names}
 use Rattle.s39_set.specs.Quorums.{IsFirstQuorumAfter}
 use Rattle.s39_backup.specs.declared.combination.Mismatch.{Mismatch}
 use Rattle.s39_backup.specs.Outcome.{IsOutcome}
 use Rattle.s39_tool.specs.Drill.{last_line, quorum_line, shown, IsDrill, IsNext}
-use Rattle.s39_tool.specs.Fitting.{more_after}
+use Rattle.s39_tool.specs.Slices.{more_after}
 use Rattle.s39_tool.proofs.Drills.Drilling.{IsDrilling, mismatch_most, drill_over, more_is}
 use Rattle.s39_tool.proofs.Drills.Drilling.{drilling_starts, drilling_fails, drilling_goes_on, drilling_ends, drilling_fails_last}
 use Rattle.s39_tool.proofs.drill.write_drill.Given.{Over}
@@ -45,7 +46,7 @@ module _ (g : Over) (c : After-write_text g) where
 
 -- what is known of the last line
 module _ (g : Over) (c : After-write_text-then-left-eq0 g) where
-  abbrev more : Option (List (ℕ × ℕ))
+  abbrev more : Option Names
   more = more_after c.loop-outcome.quorum c.following-next.result
 
   -- no line comes before it

@@ -1,7 +1,7 @@
-use Rattle.s39_tool.proofs.Sets.BackupSets.{read_as_set}
+use Rattle.s39_tool.proofs.Sets.BackupSets.{of_backup}
 use Rattle.s39_tool.proofs.laws.mnemonics_of_a_backup_are_a_set.Goals as goal
 
 pub returns : goal.returns
 returns c = λ passphrase secret input mnemonics.
-    let read = c.every_input_is_read.ensures input in
-    read_as_set c.one_reading.ensures c.shares_of_a_backup_agree.ensures passphrase secret input mnemonics read.0 read.1
+    let (set, read, belong) = c.mnemonics_are_read_as_their_shares.ensures passphrase secret input mnemonics in
+    (set, read, of_backup passphrase secret input mnemonics set belong)

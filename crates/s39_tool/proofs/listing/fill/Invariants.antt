@@ -1,7 +1,7 @@
 use Rattle.std.proofs.Common.{◌≡◌, ◌+◌, ◌-◌, ◌*◌, ◌≤◌}
 use Rattle.s39_set.specs.Looks.{most_step_looks}
 use Rattle.s39_backup.specs.Outcome.{AreParams}
-use Rattle.s39_tool.specs.Fitting.{IsFilling}
+use Rattle.s39_tool.specs.Slices.{IsFilling}
 use Rattle.s39_tool.proofs.listing.fill.Given as goal
 
 abbrev pub invariant-loop-left : goal.invariant-loop-left

@@ -1,6 +1,7 @@
 use Rattle.std.proofs.Common.{ℕ, ◌<◌, ◌∷◌, ◌++◌, [], All, take, get_or, sym, ap, ◌∙◌, subst, append_assoc, arith}
 use Rattle.std.proofs.lemmas.List.{take_more}
 use Rattle.std.proofs.lemmas.List.Elements.{All-tail}
+use Rattle.s39_set.specs.Names.{Name}
 use Rattle.s39_set.specs.Written.{name_text, quorum_text}
 use Rattle.s39_tool.proofs.Drills.Names.{quorum_text-more}
 use Rattle.s39_tool.proofs.output.push_names.Goals as goal
@@ -8,13 +9,13 @@ use Rattle.s39_tool.proofs.output.push_names.Goals as goal
 pub push_name-requires-in-loop-name-clause-group : goal.push_name-requires-in-loop-name-clause-group
 push_name-requires-in-loop-name-clause-group c =
     let inv = c.loop-name.invariant in
-    All-tail (λ (name : ℕ × ℕ). name.0 < 16) inv.first c.in-Some.others.now (subst (All (λ (name : ℕ × ℕ). name.0 < 16)) inv.names c.requires.groups)
+    All-tail (λ (name : Name). name.0 < 16) inv.first c.in-Some.others.now (subst (All (λ (name : Name). name.0 < 16)) inv.names c.requires.groups)
     c.loop-name.name-index (0, 0) c.loop-name-test.true
 
 pub push_name-requires-in-loop-name-clause-member : goal.push_name-requires-in-loop-name-clause-member
 push_name-requires-in-loop-name-clause-member c =
     let inv = c.loop-name.invariant in
-    All-tail (λ (name : ℕ × ℕ). name.1 < 16) inv.first c.in-Some.others.now (subst (All (λ (name : ℕ × ℕ). name.1 < 16)) inv.names c.requires.members)
+    All-tail (λ (name : Name). name.1 < 16) inv.first c.in-Some.others.now (subst (All (λ (name : Name). name.1 < 16)) inv.names c.requires.members)
     c.loop-name.name-index (0, 0) c.loop-name-test.true
 
 pub loop-name-preserved : goal.loop-name-preserved

@@ -1,4 +1,5 @@
 use Rattle.std.proofs.Common.{ℕ, List, Option, refl, subst, sym}
+use Rattle.s39_set.specs.Names.{Names}
 use Rattle.s39_tool.specs.Create.{IsCreateOutput}
 use Rattle.s39_tool.specs.Drill.{IsDrillOutput}
 use Rattle.s39_tool.specs.Recover.{IsRecoverOutput}
@@ -53,5 +54,5 @@ returns-in-Drill g c =
     let drill = c.in-Drill.drill in
     subst (λ (w : Work). Runs g.R.Read.remaining g.W.Write.contents (IsWorkOutput w) c.args.input.now c.run_drill.new.input c.args.output.now
     c.run_drill.new.output c.run_drill.result) (sym c.in-Drill.is)
-    (subst (λ (after : Option (List (ℕ × ℕ))). Runs g.R.Read.remaining g.W.Write.contents (IsDrillOutput drill.passphrase.now after drill.limit)
+    (subst (λ (after : Option Names). Runs g.R.Read.remaining g.W.Write.contents (IsDrillOutput drill.passphrase.now after drill.limit)
     c.args.input.now c.run_drill.new.input c.args.output.now c.run_drill.new.output c.run_drill.result) c.as_ref.ensures.value c.run_drill.ensures.runs)

@@ -2,7 +2,7 @@ use Rattle.std.proofs.Common.{◌<◌, ℕ, List, map, Contains, ⊎_elim, sym, 
 use Rattle.std.proofs.lemmas.Bool.{false≢true}
 use Rattle.std.proofs.lemmas.List.Elements.{All-contains}
 use Rattle.s39_words.specs.declared.share.ShareFields.{ShareFields}
-use Rattle.s39_set.specs.Names.{most_groups, most_members}
+use Rattle.s39_set.specs.Names.{Name, most_groups, most_members}
 use Rattle.s39_set.specs.ShareSet.{name_of}
 use Rattle.s39_set.specs.Slots.{shares_at}
 use Rattle.s39_set.proofs.SetQuorums.{groups-below, members-below}
@@ -21,7 +21,7 @@ returns-else-group-lt-MAX_GROUPS c = (
   λ h. absurd (false≢true h),
   λ among.
       let names = map name_of (shares_at c.self.inside.slots) in
-      let name : ℕ × ℕ = (c.args.group, c.args.member) in
+      let name : Name = (c.args.group, c.args.member) in
       let here = subst (λ (shares : List ShareFields). Contains (map name_of shares) name) (sym c.self.view_is) among in
       let group : c.args.group < most_groups = All-contains (λ n. n.0 < most_groups) names name (groups-below _ c.self.invariant.is_set) here in
       let member : c.args.member < most_members = All-contains (λ n. n.1 < most_members) names name (members-below _ c.self.invariant.is_set) here in

@@ -1,0 +1,78 @@
+-- Words that are written out.
+use Rattle.std.proofs.Common.{◌≡◌, ◌∙◌, ◌==◌, ◌++◌, ℕ, false, List, [], ◌∷◌, codes, pos, ap, arith, inl, inr, length, nat_lt, refl, rules, sym, true≢false}
+use Rattle.std.proofs.lemmas.Fmt.{decimal_digit}
+use Rattle.clap.specs.Words.{Text}
+use Rattle.clap.specs.declared.builder.value_parser.ValueParser.TheVariants as vp
+use Rattle.clap.proofs.ValueTestLemmas.{accepts-Accepts}
+use Rattle.s39_set.specs.Names.{Names}
+use Rattle.s39_clap.specs.Options.{HasNoDash}
+use Rattle.s39_set.specs.Written.{IsWrittenForm}
+use Rattle.s39_cli.specs.Headline.{ApartDrill, AreCreateWords, AreDrillWords, AreRecoverWords, IsLimit, JoinedDrill, drill_apart}
+
+pub joined_drill : JoinedDrill
+joined_drill program p q n = record {
+  program = program;
+  passphrase_words = (codes "--passphrase=" ++ p) ∷ [];
+  after_words = (codes "--after=" ++ q) ∷ [];
+  limit_words = (codes "--limit=" ++ n) ∷ [];
+  passphrase_given = inl refl;
+  after_given = inl refl;
+  limit_given = inl refl;
+  words_are = refl;
+}
+
+pub apart_drill : ApartDrill
+apart_drill program p q n no_p no_q no_n = record {
+  program = program;
+  passphrase_words = codes "--passphrase" ∷ p ∷ [];
+  after_words = codes "--after" ∷ q ∷ [];
+  limit_words = codes "--limit" ∷ n ∷ [];
+  passphrase_given = inr (no_p, refl);
+  after_given = inr (no_q, refl);
+  limit_given = inr (no_n, refl);
+  words_are = refl;
+}
+
+-- a text that begins with another letter
+abbrev begins : Text → ℕ
+begins [] = 0
+begins (x ∷ xs) = x
+
+no_dash : (text : Text) → (begins text == 45) ≡ false → HasNoDash text
+no_dash text differs rest same = true≢false (sym (ap (λ (t : Text). begins t == 45) same) ∙ differs)
+
+pub drill_literal : AreDrillWords (codes "TREZOR") (codes "0.0") (codes "5")
+    (drill_apart (codes "shamir") (codes "TREZOR") (codes "0.0") (codes "5"))
+drill_literal =
+    apart_drill (codes "shamir") (codes "TREZOR") (codes "0.0") (codes "5") (no_dash (codes "TREZOR") refl) (no_dash (codes "0.0") refl)
+    (no_dash (codes "5") refl)
+
+pub recover_literal : AreRecoverWords (codes "TREZOR") (codes "shamir" ∷ codes "recover" ∷ codes "--passphrase" ∷ codes "TREZOR" ∷ [])
+recover_literal = record {
+  program = codes "shamir";
+  passphrase_words = codes "--passphrase" ∷ codes "TREZOR" ∷ [];
+  passphrase_given = inr (no_dash (codes "TREZOR") refl, refl);
+  words_are = refl;
+}
+
+pub create_literal : AreCreateWords (codes "2of3") (codes "00ff") (codes "TREZOR")
+    (codes "shamir" ∷ codes "create" ∷ codes "--master-secret" ∷ codes "00ff" ∷ codes "--passphrase" ∷ codes "TREZOR" ∷ codes "2of3" ∷ [])
+create_literal = record {
+  program = codes "shamir";
+  secret_words = codes "--master-secret" ∷ codes "00ff" ∷ [];
+  passphrase_words = codes "--passphrase" ∷ codes "TREZOR" ∷ [];
+  secret_given = inr (no_dash (codes "00ff") refl, refl);
+  passphrase_given = inr (no_dash (codes "TREZOR") refl, refl);
+  plan_given = no_dash (codes "2of3") refl;
+  words_are = refl;
+}
+
+pub limit_literal : IsLimit (codes "5")
+limit_literal = accepts-Accepts false (vp.Signed (pos 1) (pos 4294967295)) (codes "5") refl
+
+pub names_literal : IsWrittenForm (codes "0.0") ((0, 0) ∷ [])
+names_literal = record {
+  some = λ same. absurd (true≢false (ap (λ (l : Names). nat_lt 0 (length l)) same));
+  are_names = record { ascending = search rules; groups = search rules; members = search rules };
+  text_is = ap (λ (t : Text). t ++ 46 ∷ t) (sym (decimal_digit 0 (omega arith)));
+}

@@ -1,0 +1,233 @@
+//! The program: a command line, a reader and two writers.
+ghost use Rattle.std.specs.Prelude.{◌≡◌, map};
+ghost use Rattle.s39_cli.specs.Ending.{Ends, EndsUnbegun, EndsWithoutJob, IsSilentAtNone, status_in};
+ghost use Rattle.s39_cli.specs.Outcome.{status_of, status_of_refusal};
+
+use crate::command::{NoJob, read_words};
+use crate::delivery::{Finished, by_buffer, by_lines, show, write_failed};
+use crate::work::{Unready, Work};
+use s39_text::FaultText;
+use s39_tool::{Done, Fault, Refusal};
+use std::alloc::Global;
+use std::io;
+use std::io::{ErrorKind, Read, Write};
+
+const DONE: u8 = 0;
+
+const REFUSED: u8 = 1;
+
+const NO_JOB: u8 = 2;
+
+const DEVICE_FAILED: u8 = 3;
+
+const NO_MEMORY: u8 = 4;
+
+/// Where the output of a command goes.
+#[derive(Clone, Copy, Debug, PartialEq, Eq)]
+pub enum Destination {
+    /// To a terminal, at which a person watches it.
+    Terminal,
+    /// To a file, or to another program.
+    Elsewhere,
+}
+
+/// How the program ended.
+#[derive(Drop)]
+pub enum Ended<R, W> {
+    /// With this exit status. The devices are given back.
+    With { status: u8, input: R, output: W },
+    /// For want of memory.
+    NoMemory,
+}
+
+impl<R: Drop, W: Drop> Ended<R, W> {
+    /// The exit status, which is 4 for want of memory.
+    pub fn status(self) -> u8
+        ensures { result ≡ status_in self }
+    {
+        match self {
+            Ended::With { status, .. } => status,
+            Ended::NoMemory => NO_MEMORY,
+        }
+    }
+}
+
+/// Runs the command that the words give, of which the first is the program's name, and gives the exit status.
+///
+/// | Status | When |
+/// |---|---|
+/// | 0 | the command is done, or help was asked for and written |
+/// | 1 | a refusal that isn't a device's, or a drill that listed a refused quorum |
+/// | 2 | the command line is refused, or the master secret isn't hexadecimal |
+/// | 3 | a read or a write failed |
+/// | 4 | there is no memory |
+///
+/// Results and help go to `output`: the lines of `drill`, and at a terminal those of `show`, as soon as each is known. A
+/// fault is a line on `errors`, where the text of a refused command line goes too. All memory is taken before the first
+/// byte of `input` is asked for. A failing `errors` changes no status.
+pub fn program<R: Read + Drop, W: Write + Drop, E: Write>(
+    alloc: Global,
+    words: &[&str],
+    input: R,
+    output: W,
+    errors: &mut E,
+    destination: Destination,
+) -> Ended<R, W>
+    // Of readers and writers that tell their bytes.
+    ensures ends { Ends R.remaining W.contents (map (λ word. word.now) words.now) input output
+        result }
+    // Of any.
+    ensures silent { IsSilentAtNone result errors.old errors.new }
+{
+    let job = match read_words(alloc, words) {
+        Ok(job) => job,
+        Err(no_job) => return without_job(no_job, input, output, errors),
+    };
+    let work = match Work::of(alloc, job) {
+        Ok(work) => work,
+        Err(unready) => return unbegun(unready, input, output, errors),
+    };
+    if work.goes_by_lines(destination) {
+        return answered(by_lines(&work, input, output), errors);
+    }
+    match by_buffer(alloc, &work, input, output) {
+        Some(finished) => answered(finished, errors),
+        None => no_memory_left(errors),
+    }
+}
+
+/// Answers words that give no job.
+fn without_job<R: Drop, W: Write + Drop, E: Write>(
+    no_job: NoJob,
+    input: R,
+    output: W,
+    errors: &mut E,
+) -> Ended<R, W>
+    ensures ends { EndsWithoutJob W.contents no_job input output result }
+    ensures silent { IsSilentAtNone result errors.old errors.new }
+{
+    match no_job {
+        NoJob::Help(text) => {
+            let (is_whole, output) = show(text.as_str(), output);
+            let status = if is_whole {
+                DONE
+            } else {
+                report(write_failed(), errors)
+            };
+            Ended::With {
+                status,
+                input,
+                output,
+            }
+        }
+        NoJob::Refused(text) => {
+            let _ = errors.write_all(text.as_bytes());
+            Ended::With {
+                status: NO_JOB,
+                input,
+                output,
+            }
+        }
+        NoJob::Memory => no_memory_left(errors),
+    }
+}
+
+/// Says why a command can't be begun.
+fn unbegun<R: Drop, W: Drop, E: Write>(
+    unready: Unready,
+    input: R,
+    output: W,
+    errors: &mut E,
+) -> Ended<R, W>
+    ensures ends { EndsUnbegun unready input output result }
+    ensures silent { IsSilentAtNone result errors.old errors.new }
+{
+    let status = match unready {
+        Unready::Secret => {
+            let _ = errors.write_all(b"shamir: master secret isn't hexadecimal\n");
+            NO_JOB
+        }
+        Unready::Plan(error) => {
+            let _ = writeln!(errors, "{}", FaultText::of(None, error.cause()));
+            REFUSED
+        }
+        Unready::Cursor(error) => {
+            let _ = writeln!(errors, "{}", FaultText::of(None, error.cause()));
+            REFUSED
+        }
+        Unready::Memory => return no_memory_left(errors),
+    };
+    Ended::With {
+        status,
+        input,
+        output,
+    }
+}
+
+/// Says what a command answered.
+fn answered<R: Drop, W: Drop, E: Write>(finished: Finished<R, W>, errors: &mut E) -> Ended<R, W>
+    ensures ends { result ≡ Ended.With (status_of finished.answer) finished.input finished.output }
+    ensures silent { IsSilentAtNone result errors.old errors.new }
+{
+    let Finished {
+        answer,
+        input,
+        output,
+    } = finished;
+    let status = status_of(answer, errors);
+    Ended::With {
+        status,
+        input,
+        output,
+    }
+}
+
+/// The exit status of an answer, whose fault is said.
+fn status_of<E: Write>(answer: Result<Done, Fault>, errors: &mut E) -> u8
+    ensures status { result ≡ status_of answer }
+    ensures silent { result ≡ 0 → errors.new ≡ errors.old }
+{
+    match answer {
+        Ok(done) => { if done.mismatches == 0 { DONE } else { REFUSED } }
+        Err(fault) => report(fault, errors),
+    }
+}
+
+/// Says the fault of a run, and gives the exit status.
+fn report<E: Write>(fault: Fault, errors: &mut E) -> u8
+    ensures { result ≡ status_of_refusal fault.refusal }
+{
+    let _ = writeln!(
+        errors,
+        "{}",
+        FaultText::of(fault.line, fault.refusal.cause())
+    );
+    match fault.refusal {
+        Refusal::Device(_) => DEVICE_FAILED,
+        _ => REFUSED,
+    }
+}
+
+/// Says why the arguments are no words, and gives the exit status: 4 where there is no memory for them, and 2 where
+/// they aren't UTF-8.
+pub fn no_words<E: Write>(error: &io::Error, errors: &mut E) -> u8 {
+    if error.kind() == ErrorKind::OutOfMemory {
+        return no_memory(errors);
+    }
+    let _ = errors.write_all(b"shamir: the arguments aren't UTF-8\n");
+    NO_JOB
+}
+
+/// Says that there is no memory.
+fn no_memory_left<R, W, E: Write>(errors: &mut E) -> Ended<R, W>
+    ensures { result ≡ Ended.NoMemory }
+{
+    no_memory(errors);
+    Ended::NoMemory
+}
+
+/// Says that there is no memory, without taking any, and gives the exit status.
+fn no_memory<E: Write>(errors: &mut E) -> u8 {
+    let _ = errors.write_all(b"shamir: out of memory\n");
+    NO_MEMORY
+}

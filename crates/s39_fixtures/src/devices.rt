@@ -1,0 +1,186 @@
+//! Readers and writers that give or take little, fail, or are interrupted.
+
+use std::alloc::Global;
+use std::io;
+use std::io::{ErrorKind, Read, Write};
+
+/// A reader that gives at most so many bytes a call, and fails once it has been called so often.
+#[derive(Drop)]
+pub struct Source<'a> {
+    bytes: &'a [u8],
+    piece: usize,
+    good_calls: usize,
+    pub calls: usize,
+}
+
+impl<'a> Source<'a> {
+    pub fn new(bytes: &'a [u8], piece: usize, good_calls: usize) -> Source<'a> {
+        Source {
+            bytes,
+            piece,
+            good_calls,
+            calls: 0,
+        }
+    }
+
+    /// A reader that gives its bytes one at a time.
+    pub fn slow(bytes: &'a [u8]) -> Source<'a> {
+        Source::new(bytes, 1, usize::MAX)
+    }
+
+    /// A reader that gives its bytes one at a time, and fails after them.
+    pub fn cut(bytes: &'a [u8]) -> Source<'a> {
+        Source::new(bytes, 1, bytes.len())
+    }
+}
+
+impl Read for Source<'_> {
+    fn read(&mut self, buf: &mut [u8]) -> io::Result<usize> {
+        self.calls = self.calls.saturating_add(1);
+        if self.calls > self.good_calls {
+            return Err(io::Error::from(ErrorKind::Other));
+        }
+        let count = self.piece.min(self.bytes.len()).min(buf.len());
+        let (now, rest) = self.bytes.split_at(count);
+        buf[..count].copy_from_slice(now);
+        self.bytes = rest;
+        Ok(count)
+    }
+}
+
+/// A reader of which the system interrupts the first call, and that has no bytes.
+#[derive(Drop)]
+pub struct InterruptedAtFirst {
+    pub calls: usize,
+}
+
+impl Read for InterruptedAtFirst {
+    fn read(&mut self, _buf: &mut [u8]) -> io::Result<usize> {
+        self.calls = self.calls.saturating_add(1);
+        if self.calls == 1 {
+            return Err(io::Error::from(ErrorKind::Interrupted));
+        }
+        Ok(0)
+    }
+}
+
+/// A writer that takes at most so many bytes a call, and fails once there is no room.
+#[derive(Drop)]
+pub struct Filling {
+    pub bytes: Vec<u8>,
+    piece: usize,
+    room: usize,
+    pub failed_calls: usize,
+}
+
+impl Filling {
+    pub fn new(alloc: Global, piece: usize, room: usize) -> Filling {
+        Filling {
+            bytes: Vec::new(alloc),
+            piece,
+            room,
+            failed_calls: 0,
+        }
+    }
+}
+
+impl Write for Filling {
+    fn write(&mut self, buf: &[u8]) -> io::Result<usize> {
+        let count = self.piece.min(self.room).min(buf.len());
+        if count == 0 {
+            self.failed_calls = self.failed_calls.saturating_add(1);
+            return Err(io::Error::from(ErrorKind::Other));
+        }
+        self.bytes.extend_from_slice(&buf[..count])?;
+        self.room -= count;
+        Ok(count)
+    }
+
+    fn flush(&mut self) -> io::Result<()> {
+        Ok(())
+    }
+}
+
+/// A writer that counts its flushes, which may fail.
+#[derive(Drop)]
+pub struct Flushing {
+    pub bytes: Vec<u8>,
+    pub flushes: usize,
+    pub fails: bool,
+}
+
+impl Flushing {
+    pub fn new(alloc: Global, fails: bool) -> Flushing {
+        Flushing {
+            bytes: Vec::new(alloc),
+            flushes: 0,
+            fails,
+        }
+    }
+}
+
+impl Write for Flushing {
+    fn write(&mut self, buf: &[u8]) -> io::Result<usize> {
+        self.bytes.extend_from_slice(buf)?;
+        Ok(buf.len())
+    }
+
+    fn flush(&mut self) -> io::Result<()> {
+        self.flushes = self.flushes.saturating_add(1);
+        if self.fails {
+            return Err(io::Error::from(ErrorKind::Other));
+        }
+        Ok(())
+    }
+}
+
+/// A writer of which the system interrupts so many calls before each that it takes.
+#[derive(Drop)]
+pub struct Interrupted {
+    pub bytes: Vec<u8>,
+    pub calls: usize,
+    before_each: usize,
+    left: usize,
+}
+
+impl Interrupted {
+    pub fn new(alloc: Global, before_each: usize) -> Interrupted {
+        Interrupted {
+            bytes: Vec::new(alloc),
+            calls: 0,
+            before_each,
+            left: before_each,
+        }
+    }
+}
+
+impl Write for Interrupted {
+    fn write(&mut self, buf: &[u8]) -> io::Result<usize> {
+        self.calls = self.calls.saturating_add(1);
+        if self.left > 0 {
+            self.left -= 1;
+            return Err(io::Error::from(ErrorKind::Interrupted));
+        }
+        self.bytes.extend_from_slice(buf)?;
+        self.left = self.before_each;
+        Ok(buf.len())
+    }
+
+    fn flush(&mut self) -> io::Result<()> {
+        Ok(())
+    }
+}
+
+/// A writer that takes nothing.
+#[derive(Drop)]
+pub struct Full;
+
+impl Write for Full {
+    fn write(&mut self, _buf: &[u8]) -> io::Result<usize> {
+        Ok(0)
+    }
+
+    fn flush(&mut self) -> io::Result<()> {
+        Ok(())
+    }
+}

@@ -1,0 +1,40 @@
+//! Mnemonics whose values are changed.
+
+use arrayvec::ArrayVec;
+use s39_kdf::check_secret;
+use s39_words::{MAX_TEXT_BYTES, Share, ShareFields, parse, print};
+
+/// The text is no mnemonic.
+#[derive(Clone, Copy, Debug, PartialEq, Eq)]
+pub struct NoForgery;
+
+/// A mnemonic of the fields of another, with the bits of `flip` changed in the first byte of its value.
+///
+/// # Errors
+/// The text is no mnemonic.
+pub fn forged(text: &str, flip: u8) -> Result<ArrayVec<u8, MAX_TEXT_BYTES>, NoForgery> {
+    let Ok(share) = parse(text.as_bytes()) else {
+        return Err(NoForgery);
+    };
+    let Ok(mut value) = check_secret(share.value()) else {
+        return Err(NoForgery);
+    };
+    if let Some(first) = value.first_mut() {
+        *first ^= flip;
+    }
+    let fields = ShareFields {
+        id: share.id(),
+        extendable: share.extendable(),
+        exponent: share.exponent(),
+        group_index: share.group_index(),
+        group_threshold: share.group_threshold(),
+        group_count: share.group_count(),
+        member_index: share.member_index(),
+        member_threshold: share.member_threshold(),
+        value,
+    };
+    match Share::new(fields) {
+        Some(share) => Ok(print(&share)),
+        None => Err(NoForgery),
+    }
+}

@@ -1,0 +1,167 @@
+//! Runs of the program.
+
+use crate::devices::Flushing;
+use s39_cli::Destination;
+use std::alloc::Global;
+use std::io::{Read, Write};
+use std::test::Fail;
+
+pub const SHOW: [&str; 2] = ["shamir", "show"];
+
+pub const RECOVER: [&str; 4] = ["shamir", "recover", "--passphrase", "TREZOR"];
+
+pub const DRILL: [&str; 4] = ["shamir", "drill", "--passphrase", "TREZOR"];
+
+/// What is said where a write fails, with status 3.
+pub const WRITE_FAILED_LINE: &str = "shamir: 73 write failed\n";
+
+/// Runs the program where no terminal is, and gives its exit status.
+pub fn program<R: Read + Drop, W: Write + Drop, E: Write + Drop>(
+    alloc: Global,
+    words: &[&str],
+    input: R,
+    output: W,
+    errors: E,
+) -> u8 {
+    let mut errors = errors;
+    s39_cli::program(
+        alloc,
+        words,
+        input,
+        output,
+        &mut errors,
+        Destination::Elsewhere,
+    )
+    .status()
+}
+
+/// Runs the program at a terminal, and gives its exit status.
+pub fn program_at_terminal<R: Read + Drop, W: Write + Drop, E: Write + Drop>(
+    alloc: Global,
+    words: &[&str],
+    input: R,
+    output: W,
+    errors: E,
+) -> u8 {
+    let mut errors = errors;
+    s39_cli::program(
+        alloc,
+        words,
+        input,
+        output,
+        &mut errors,
+        Destination::Terminal,
+    )
+    .status()
+}
+
+/// What a run wrote, what it said on standard error, and its exit status.
+#[derive(Drop)]
+pub struct Run {
+    pub written: Vec<u8>,
+    pub told: Vec<u8>,
+    pub status: u8,
+}
+
+/// Runs the words on an input.
+pub fn run_on(alloc: Global, words: &[&str], input: &[u8]) -> Run {
+    let mut written = Vec::new(alloc);
+    let mut told = Vec::new(alloc);
+    let status = program(alloc, words, input, &mut written, &mut told);
+    Run {
+        written,
+        told,
+        status,
+    }
+}
+
+/// Runs the words on the lines, and compares what is written, what is said on standard error, and the status.
+///
+/// # Errors
+/// One of them is another; the text tells the words and what it is.
+pub fn expect_run(
+    words: &[&str],
+    input: &str,
+    alloc: Global,
+    wanted: (&str, &str, u8),
+) -> Result<(), Fail> {
+    expect_bytes(words, input.as_bytes(), alloc, wanted)
+}
+
+/// Likewise on any bytes.
+///
+/// # Errors
+/// As of `expect_run`.
+pub fn expect_bytes(
+    words: &[&str],
+    input: &[u8],
+    alloc: Global,
+    wanted: (&str, &str, u8),
+) -> Result<(), Fail> {
+    let (output, errors, status) = wanted;
+    let run = run_on(alloc, words, input);
+    expect_text(words, "output", run.written.as_slice(), output)?;
+    expect_text(words, "message", run.told.as_slice(), errors)?;
+    expect_status(words, run.status, status)
+}
+
+/// Likewise over any reader and writer: what is said on standard error, and the status.
+///
+/// # Errors
+/// As of `expect_run`.
+pub fn expect_told<R: Read + Drop, W: Write + Drop>(
+    words: &[&str],
+    input: R,
+    output: W,
+    alloc: Global,
+    wanted: (&str, u8),
+) -> Result<(), Fail> {
+    let (errors, status) = wanted;
+    let mut told = Vec::new(alloc);
+    let answer = program(alloc, words, input, output, &mut told);
+    expect_text(words, "message", told.as_slice(), errors)?;
+    expect_status(words, answer, status)
+}
+
+/// Likewise over a writer of which each flush fails, or none: what is written and said, the status, and how often the
+/// writer is flushed.
+///
+/// # Errors
+/// As of `expect_run`.
+pub fn expect_flushed(
+    words: &[&str],
+    input: &[u8],
+    alloc: Global,
+    fails: bool,
+    wanted: (&str, &str, u8, usize),
+) -> Result<(), Fail> {
+    let (output, errors, status, flushes) = wanted;
+    let mut device = Flushing::new(alloc, fails);
+    expect_told(words, input, &mut device, alloc, (errors, status))?;
+    expect_text(words, "output", device.bytes.as_slice(), output)?;
+    if device.flushes == flushes {
+        Ok(())
+    } else {
+        Err(Fail::new(format_args!(
+            "flushes for {words:?}: {}, and not {flushes}",
+            device.flushes
+        )))
+    }
+}
+
+fn expect_status(words: &[&str], status: u8, wanted: u8) -> Result<(), Fail> {
+    if status == wanted {
+        Ok(())
+    } else {
+        Err(Fail::new(format_args!("the status for {words:?}: {status}, and not {wanted}")))
+    }
+}
+
+/// Compares what a run wrote to a device with a text.
+fn expect_text(words: &[&str], what: &str, written: &[u8], wanted: &str) -> Result<(), Fail> {
+    if written == wanted.as_bytes() {
+        return Ok(());
+    }
+    let text = std::str::from_utf8(written).unwrap_or("no UTF-8");
+    Err(Fail::new(format_args!("the {what} for {words:?}: {text}\nwanted: {wanted}")))
+}

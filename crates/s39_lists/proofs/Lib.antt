@@ -1,0 +1,10 @@
+pub mod Pairs
+pub mod Sublists
+pub mod Orders
+pub mod Images
+pub mod Finds
+pub mod Decided
+pub mod Ranges
+pub mod Pushes
+pub mod Loops
+pub mod Splits

@@ -1,0 +1,13 @@
+//! Tests of what backups are made to and what comes of them: creation, recovery, drills, and the published vectors.
+#![tactic(auto)]
+
+#[cfg(test)]
+mod create;
+#[cfg(test)]
+mod drill;
+#[cfg(test)]
+mod many;
+#[cfg(test)]
+mod published;
+#[cfg(test)]
+mod recover;

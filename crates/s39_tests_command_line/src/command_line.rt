@@ -1,0 +1,198 @@
+//! The command line.
+
+use s39_cli::{Job, NoJob, read_words};
+use s39_fixtures::devices::Full;
+use s39_fixtures::{ONE_OF_ONE, WRITE_FAILED_LINE, expect_told, run_on};
+use std::alloc::Global;
+use std::process::Abort;
+use std::test::Fail;
+
+/// Each of the command lines gives this job.
+fn expect_jobs(rt: &impl Abort, alloc: Global, cases: &[(&[&str], Job)]) {
+    for (words, job) in cases {
+        assert_eq!(rt; read_words(alloc, words).ok(), Some(*job));
+    }
+}
+
+/// Each of the command lines is refused, with a message and no output.
+fn expect_refusals(rt: &impl Abort, alloc: Global, cases: &[&[&str]]) {
+    for words in cases {
+        assert!(rt; matches!(read_words(alloc, words), Err(NoJob::Refused(_))));
+        let run = run_on(alloc, words, ONE_OF_ONE.as_bytes());
+        let says_error = run.told.as_slice().starts_with(b"error: ");
+        assert_eq!(rt; (run.status, run.written.len(), says_error), (2, 0, true));
+    }
+}
+
+#[test]
+fn reads_show_and_recover(rt: HostRuntime) {
+    let empty = Job::Recover { passphrase: "" };
+    let trezor = Job::Recover {
+        passphrase: "TREZOR",
+    };
+    let dashed = Job::Recover { passphrase: "-x" };
+    let cases: [(&[&str], Job); 7] = [
+        (&["shamir", "show"], Job::Show),
+        (&["shamir", "recover"], empty),
+        (&["shamir", "recover", "--passphrase", "TREZOR"], trezor),
+        (&["shamir", "recover", "--passphrase=TREZOR"], trezor),
+        (&["shamir", "recover", "--passphrase="], empty),
+        (&["shamir", "recover", "--passphrase", ""], empty),
+        (&["shamir", "recover", "--passphrase=-x"], dashed),
+    ];
+    expect_jobs(&rt, rt.alloc(), &cases);
+    let refused: [&[&str]; 9] = [
+        &["shamir", "show", "--verbose"],
+        &["shamir", "show", "file"],
+        &["shamir", "show", "--passphrase", "TREZOR"],
+        &["shamir", "--passphrase", "TREZOR", "recover"],
+        &["shamir", "recover", "file"],
+        &["shamir", "recover", "--extendable"],
+        &["shamir", "recover", "--passphrase"],
+        &[
+            "shamir",
+            "recover",
+            "--passphrase",
+            "TREZOR",
+            "--passphrase",
+            "TREZOR",
+        ],
+        &["shamir", "reveal"],
+    ];
+    expect_refusals(&rt, rt.alloc(), &refused);
+}
+
+const FULL: [&str; 10] = [
+    "shamir",
+    "create",
+    "--extendable",
+    "--exponent",
+    "15",
+    "2of3",
+    "--passphrase",
+    "TREZOR",
+    "--master-secret",
+    "zz",
+];
+
+#[test]
+fn reads_create(rt: HostRuntime) {
+    let plain = Job::Create {
+        plan: "1of1",
+        secret: "00",
+        passphrase: "",
+        exponent: 0,
+        extendable: false,
+    };
+    let full = Job::Create {
+        plan: "2of3",
+        secret: "zz",
+        passphrase: "TREZOR",
+        exponent: 15,
+        extendable: true,
+    };
+    let cases: [(&[&str], Job); 3] = [
+        (
+            &["shamir", "create", "1of1", "--master-secret", "00"],
+            plain,
+        ),
+        (
+            &[
+                "shamir",
+                "create",
+                "--exponent=0",
+                "--master-secret=00",
+                "1of1",
+            ],
+            plain,
+        ),
+        (&FULL, full),
+    ];
+    expect_jobs(&rt, rt.alloc(), &cases);
+}
+
+#[test]
+fn refuses_words_of_create(rt: HostRuntime) {
+    let refused: [&[&str]; 7] = [
+        &["shamir", "create"],
+        &["shamir", "create", "1of1"],
+        &["shamir", "create", "--master-secret", "00"],
+        &["shamir", "create", "1of1", "1of1", "--master-secret", "00"],
+        &[
+            "shamir",
+            "create",
+            "1of1",
+            "--master-secret",
+            "00",
+            "--exponent",
+            "16",
+        ],
+        &[
+            "shamir",
+            "create",
+            "1of1",
+            "--master-secret",
+            "00",
+            "--exponent=-1",
+        ],
+        &[
+            "shamir",
+            "create",
+            "1of1",
+            "--master-secret",
+            "00",
+            "--extendable=true",
+        ],
+    ];
+    expect_refusals(&rt, rt.alloc(), &refused);
+}
+
+#[test]
+fn reads_drill(rt: HostRuntime) {
+    let first = Job::Drill {
+        passphrase: "",
+        after: None,
+        limit: 1000,
+    };
+    let rest = Job::Drill {
+        passphrase: "TREZOR",
+        after: Some("0.0+1.0"),
+        limit: 4_294_967_295,
+    };
+    let cases: [(&[&str], Job); 2] = [
+        (&["shamir", "drill"], first),
+        (
+            &[
+                "shamir",
+                "drill",
+                "--limit=4294967295",
+                "--after",
+                "0.0+1.0",
+                "--passphrase",
+                "TREZOR",
+            ],
+            rest,
+        ),
+    ];
+    expect_jobs(&rt, rt.alloc(), &cases);
+    let refused: [&[&str]; 3] = [
+        &["shamir", "drill", "--limit", "0"],
+        &["shamir", "drill", "--limit", "4294967296"],
+        &["shamir", "drill", "--after"],
+    ];
+    expect_refusals(&rt, rt.alloc(), &refused);
+}
+
+#[test]
+fn answers_without_a_command(rt: HostRuntime) -> Result<(), Fail> {
+    let alloc = rt.alloc();
+    expect_refusals(&rt, alloc, &[&["shamir"]]);
+    let help = ["shamir", "--help"];
+    assert!(rt; matches!(read_words(alloc, &help), Err(NoJob::Help(_))));
+    let run = run_on(alloc, &help, b"");
+    assert_eq!(rt;
+        (run.status, run.written.is_empty(), run.told.len()),
+        (0, false, 0)
+    );
+    expect_told(&help, b"".as_slice(), Full, alloc, (WRITE_FAILED_LINE, 3))
+}

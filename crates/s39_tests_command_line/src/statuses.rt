@@ -1,0 +1,175 @@
+//! Exit statuses: help, the version, refused command lines, flushing, a failing standard error, and no memory.
+
+use s39_cli::no_words;
+use s39_fixtures::devices::Full;
+use s39_fixtures::{
+    ONE_OF_ONE, ONE_OF_ONE_BAD_CHECKSUM, SHOW, SHOWN, WRITE_FAILED_LINE, expect_flushed,
+    expect_run, program,
+};
+use std::alloc::Global;
+use std::io;
+use std::io::{ErrorKind, Write};
+use std::test::Fail;
+
+const HELP: &str = "SLIP-0039 backups of a secret
+
+Usage: shamir <COMMAND>
+
+Commands:
+  show     Shows the fields of the mnemonics on standard input, a line for each
+  create   Creates a backup from a secret and the random bytes on standard input
+  recover  Recovers the secret from the mnemonics on standard input
+  drill    Tries the quorums of the mnemonics on standard input, a line for each
+
+Options:
+  -h, --help     Print help
+  -V, --version  Print version
+";
+
+const HELP_OF_CREATE: &str = "Creates a backup from a secret and the random bytes on standard input
+
+Usage: shamir create [OPTIONS] --master-secret <HEX> <PLAN>
+
+Arguments:
+  <PLAN>  The plan of the groups: TofN, or GT/T1ofN1,T2ofN2,..
+
+Options:
+      --master-secret <HEX>  The secret in hexadecimal, 16 to 128 bytes and an even number of them
+      --passphrase <TEXT>    The passphrase of the backup, by default empty
+      --exponent <E>         The iteration exponent, 0 to 15: a recovery takes 10,000 * 2^E iterations, twice that for over 64 bytes [default: 0]
+      --extendable           Leaves the identifier out of the encryption
+  -h, --help                 Print help
+";
+
+const HELP_OF_RECOVER: &str = "Recovers the secret from the mnemonics on standard input
+
+Usage: shamir recover [OPTIONS]
+
+Options:
+      --passphrase <TEXT>  The passphrase of the backup, by default empty
+  -h, --help               Print help
+";
+
+const HELP_OF_DRILL: &str = "Tries the quorums of the mnemonics on standard input, a line for each
+
+Usage: shamir drill [OPTIONS]
+
+Options:
+      --passphrase <TEXT>  The passphrase of the backup, by default empty
+      --after <Q>          Goes on after this quorum, by default from the first
+      --limit <N>          How many quorums are tried at most [default: 1000]
+  -h, --help               Print help
+";
+
+#[test]
+fn answers_help_and_the_version(rt: HostRuntime) -> Result<(), Fail> {
+    let alloc = rt.alloc();
+    let cases: [(&[&str], &str); 7] = [
+        (&["shamir", "create", "--help"], HELP_OF_CREATE),
+        (&["shamir", "drill", "--help"], HELP_OF_DRILL),
+        (&["shamir", "--help"], HELP),
+        (&["shamir", "-h"], HELP),
+        (&["shamir", "recover", "--help"], HELP_OF_RECOVER),
+        (&["shamir", "--version"], "shamir 1.0.0\n"),
+        (&["shamir", "-V"], "shamir 1.0.0\n"),
+    ];
+    for (words, text) in cases {
+        expect_run(words, "", alloc, (text, "", 0))?;
+        expect_flushed(words, b"", alloc, false, (text, "", 0, 1))?;
+        expect_flushed(words, b"", alloc, true, (text, WRITE_FAILED_LINE, 3, 1))?;
+    }
+    Ok(())
+}
+
+const WRONG_EXPONENT: [&str; 7] = [
+    "shamir",
+    "create",
+    "1of1",
+    "--master-secret",
+    "00",
+    "--exponent",
+    "16",
+];
+
+#[test]
+fn says_why_words_are_refused(rt: HostRuntime) -> Result<(), Fail> {
+    let alloc = rt.alloc();
+    let cases: [(&[&str], &str); 6] = [
+        (
+            &["shamir", "create", "1of1"],
+            "error: the following required arguments were not provided:\n  --master-secret <HEX>\n\nUsage: shamir create --master-secret <HEX> <PLAN>\n\nFor more information, try '--help'.\n",
+        ),
+        (
+            &WRONG_EXPONENT,
+            "error: invalid value '16' for '--exponent <E>': 16 is not in 0..=15\n\nFor more information, try '--help'.\n",
+        ),
+        (
+            &["shamir"],
+            "error: 'shamir' requires a subcommand but one was not provided\n  [subcommands: show, create, recover, drill]\n\nUsage: shamir <COMMAND>\n\nFor more information, try '--help'.\n",
+        ),
+        (
+            &["shamir", "list"],
+            "error: unrecognized subcommand 'list'\n\nUsage: shamir <COMMAND>\n\nFor more information, try '--help'.\n",
+        ),
+        (
+            &["shamir", "show", "file"],
+            "error: unexpected argument 'file' found\n\nUsage: shamir show\n\nFor more information, try '--help'.\n",
+        ),
+        (
+            &["shamir", "recover", "--passphrase"],
+            "error: a value is required for '--passphrase <TEXT>' but none was supplied\n\nFor more information, try '--help'.\n",
+        ),
+    ];
+    for (words, text) in cases {
+        expect_run(words, ONE_OF_ONE, alloc, ("", text, 2))?;
+    }
+    Ok(())
+}
+
+#[test]
+fn flushes_what_it_wrote(rt: HostRuntime) -> Result<(), Fail> {
+    let bad_checksum = "shamir: line 1: 13 bad checksum\n";
+    let cases = [
+        (ONE_OF_ONE, false, (SHOWN, "", 0, 1)),
+        // A flush that fails after a run without a fault is a failed write.
+        (ONE_OF_ONE, true, (SHOWN, WRITE_FAILED_LINE, 3, 1)),
+        // After a fault before which nothing was written it isn't asked.
+        (ONE_OF_ONE_BAD_CHECKSUM, true, ("", bad_checksum, 1, 0)),
+    ];
+    for (input, fails, wanted) in cases {
+        expect_flushed(&SHOW, input.as_bytes(), rt.alloc(), fails, wanted)?;
+    }
+    Ok(())
+}
+
+/// The status where nothing can be said on standard error.
+fn untold<W: Write + Drop>(alloc: Global, words: &[&str], input: &str, output: W) -> u8 {
+    program(alloc, words, input.as_bytes(), output, Full)
+}
+
+#[test]
+fn keeps_its_status_where_the_errors_fail(rt: HostRuntime) {
+    let alloc = rt.alloc();
+    let no_job = untold(alloc, &["shamir", "reveal"], "", Vec::new(alloc));
+    let refused = untold(alloc, &SHOW, ONE_OF_ONE_BAD_CHECKSUM, Vec::new(alloc));
+    let unwritten = untold(alloc, &SHOW, ONE_OF_ONE, Full);
+    assert_eq!(rt; [no_job, refused, unwritten], [2, 1, 3]);
+}
+
+#[test]
+fn says_why_there_are_no_words(rt: HostRuntime) {
+    let alloc = rt.alloc();
+    let cases: [(ErrorKind, u8, &[u8]); 2] = [
+        (ErrorKind::OutOfMemory, 4, b"shamir: out of memory\n"),
+        (
+            ErrorKind::InvalidData,
+            2,
+            b"shamir: the arguments aren't UTF-8\n",
+        ),
+    ];
+    for (kind, status, message) in cases {
+        let mut told = Vec::new(alloc);
+        assert_eq!(rt; no_words(&io::Error::from(kind), &mut told), status);
+        assert_eq!(rt; told.as_slice(), message);
+    }
+}

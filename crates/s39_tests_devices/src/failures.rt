@@ -1,0 +1,394 @@
+//! Runs over devices that fail at one of their calls, give or take single bytes, or take none.
+
+ghost use Rattle.std.specs.Prelude.{◌<◌};
+
+use s39_fixtures::devices::{Filling, Full, Interrupted, InterruptedAtFirst, Source};
+use s39_fixtures::{
+    FIVE, ONE_OF_ONE, ONE_OF_ONE_BAD_CHECKSUM, ONE_OF_ONE_BAD_PADDING, ONE_OF_ONE_SECRET, RANDOM,
+    SHOW, SHOWN, WRITE_FAILED_LINE, drilled, expect_told, lines,
+};
+use s39_kdf::check_secret;
+use s39_tool::{
+    Counting, DeviceFailure, Done, Fault, LineRefusal, Options, Plan, Refusal, run_create,
+    run_drill, run_recover, run_show,
+};
+use s39_words::WordError;
+use std::alloc::{AllocError, Global};
+use std::io::{Read, Write};
+use std::process::Abort;
+use std::test::Fail;
+
+const READ_FAILED: Fault = Fault {
+    line: None,
+    refusal: Refusal::Device(DeviceFailure::Read),
+};
+
+const WRITE_FAILED: Fault = Fault {
+    line: None,
+    refusal: Refusal::Device(DeviceFailure::Write),
+};
+
+/// A command of the worked examples.
+#[derive(Clone, Copy, Debug)]
+enum Command {
+    Show,
+    Create,
+    Recover,
+    Drill,
+}
+
+/// What a command answers, how many calls of the reader and of the writer failed, and the devices.
+#[derive(Drop)]
+struct Outcome<R, W> {
+    answer: Result<u32, Fault>,
+    failures: (u64, u64),
+    input: R,
+    output: W,
+}
+
+/// Creates the backup of the five mnemonics.
+fn create_five<R: Read, W: Write>(
+    input: &mut Counting<R>,
+    output: &mut Counting<W>,
+) -> Result<(), Fault>
+    requires readable { input.old.failures < u64.MAX }
+    requires writable { output.old.failures < u64.MAX }
+{
+    let (Ok(plan), Ok(secret)) = (
+        Plan::parse("2/2of3,1of1,1of1"),
+        check_secret(b"\xbb\x54\xaa\xc4\xb8\x9d\xc8\x68\xba\x37\xd9\xcc\x21\xb2\xce\xce"),
+    ) else {
+        return Err(Fault::from(Refusal::NotAQuorum));
+    };
+    let options = Options {
+        exponent: 0,
+        extendable: false,
+    };
+    run_create(&plan, &secret, b"TREZOR", options, input, output)
+}
+
+fn outcome_of<R: Read + Drop, W: Write + Drop>(
+    command: Command,
+    input: R,
+    output: W,
+) -> Outcome<R, W> {
+    let mut input = Counting::new(input);
+    let mut output = Counting::new(output);
+    let answer = match command {
+        Command::Show => run_show(&mut input, &mut output).map(|()| 0),
+        Command::Create => create_five(&mut input, &mut output).map(|()| 0),
+        Command::Recover => run_recover(b"TREZOR", &mut input, &mut output).map(|()| 0),
+        Command::Drill => run_drill(b"TREZOR", None, 1000, &mut input, &mut output).map(|Done {
+            mismatches,
+        }| mismatches),
+    };
+    Outcome {
+        answer,
+        failures: (input.failures(), output.failures()),
+        input: input.into_inner(),
+        output: output.into_inner(),
+    }
+}
+
+/// The input of a command, and what it writes.
+#[derive(Drop)]
+struct Example {
+    command: Command,
+    input: Vec<u8>,
+    output: String,
+}
+
+fn example_of(alloc: Global, command: Command) -> Result<Example, AllocError> {
+    let (input, output) = match command {
+        Command::Show => (
+            Vec::from_slice(alloc, ONE_OF_ONE.as_bytes())?,
+            String::from_str(alloc, SHOWN)?,
+        ),
+        Command::Create => (Vec::from_slice(alloc, &RANDOM)?, lines(alloc, &FIVE)?),
+        Command::Recover => (
+            Vec::from_slice(alloc, ONE_OF_ONE.as_bytes())?,
+            String::from_str(alloc, ONE_OF_ONE_SECRET)?,
+        ),
+        Command::Drill => (lines(alloc, &FIVE)?.into_bytes(), drilled(alloc)?),
+    };
+    Ok(Example {
+        command,
+        input,
+        output,
+    })
+}
+
+const COMMANDS: [Command; 4] = [
+    Command::Show,
+    Command::Create,
+    Command::Recover,
+    Command::Drill,
+];
+
+/// A refusal of the first line.
+fn at_line_1(refusal: LineRefusal) -> Result<u32, Fault> {
+    Err(Fault {
+        line: Some(1),
+        refusal: Refusal::Line(refusal),
+    })
+}
+
+#[test]
+fn shows_the_lines_before_a_failed_read(rt: HostRuntime) -> Result<(), Fail> {
+    let alloc = rt.alloc();
+    let line = format!(in alloc; "{ONE_OF_ONE}\n")?;
+    let started = format!(in alloc; "{ONE_OF_ONE}\n{ONE_OF_ONE_BAD_CHECKSUM}")?;
+    for text in [line.as_str(), started.as_str()] {
+        let device = Source::cut(text.as_bytes());
+        let outcome = outcome_of(Command::Show, device, Vec::new(alloc));
+        assert_eq!(rt; outcome.answer, Err(READ_FAILED));
+        assert_eq!(rt; outcome.failures, (1, 0));
+        assert_eq!(rt; outcome.output.as_slice(), SHOWN.as_bytes());
+    }
+    Ok(())
+}
+
+#[test]
+fn says_which_device_failed(rt: HostRuntime) -> Result<(), Fail> {
+    let alloc = rt.alloc();
+    let line = format!(in alloc; "{ONE_OF_ONE}\n")?;
+    let mut written = Vec::new(alloc);
+    let cut = Source::cut(line.as_bytes());
+    let read_failed = ("shamir: 72 read failed\n", 3);
+    expect_told(&SHOW, cut, &mut written, alloc, read_failed)?;
+    assert_eq!(rt; written.as_slice(), SHOWN.as_bytes());
+    let mut narrow = Filling::new(alloc, 1, 0);
+    let input = ONE_OF_ONE.as_bytes();
+    expect_told(&SHOW, input, &mut narrow, alloc, (WRITE_FAILED_LINE, 3))?;
+    assert_eq!(rt; narrow.failed_calls, 1);
+    Ok(())
+}
+
+#[test]
+fn shows_beginnings_of_a_mnemonic(rt: HostRuntime) -> Result<(), Fail> {
+    let alloc = rt.alloc();
+    let text = ONE_OF_ONE.as_bytes();
+    for end in 0..=text.len() {
+        let (begun, rest) = text.split_at(end);
+        let words = std::str::from_utf8(begun)?.split_ascii_whitespace().count();
+        let is_inside = !begun.ends_with(b" ") && !rest.starts_with(b" ") && !rest.is_empty();
+        let (wanted, shown) = match words {
+            0 => (Ok(0), ""),
+            20 if !is_inside => (Ok(0), SHOWN),
+            words if is_inside => (
+                at_line_1(LineRefusal::Word(WordError::UnknownWord { position: words })),
+                "",
+            ),
+            words => (
+                at_line_1(LineRefusal::Word(WordError::WordCount { words })),
+                "",
+            ),
+        };
+        let ended = outcome_of(Command::Show, begun, Vec::new(alloc));
+        assert_eq!(rt; ended.answer, wanted, "ended after {end} bytes");
+        assert_eq!(rt; ended.output.as_slice(), shown.as_bytes());
+        let failed = outcome_of(Command::Show, Source::cut(begun), Vec::new(alloc));
+        assert_eq!(rt; failed.answer, Err(READ_FAILED), "failed after {end} bytes");
+        assert_eq!(rt; failed.failures, (1, 0));
+        assert!(rt; failed.output.is_empty());
+    }
+    Ok(())
+}
+
+/// So many of a byte.
+fn repeated(alloc: Global, byte: u8, count: usize) -> Result<Vec<u8>, AllocError> {
+    let mut bytes = Vec::new(alloc);
+    for _ in 0..count {
+        bytes.push(byte)?;
+    }
+    Ok(bytes)
+}
+
+#[test]
+fn shows_lines_of_any_bytes(rt: HostRuntime) -> Result<(), Fail> {
+    let alloc = rt.alloc();
+    let unknown = at_line_1(LineRefusal::Word(WordError::UnknownWord { position: 1 }));
+    for other in [0, 195] {
+        let mut bytes = Vec::from_slice(alloc, ONE_OF_ONE.as_bytes())?;
+        bytes[3] = other;
+        let outcome = outcome_of(Command::Show, bytes.as_slice(), Vec::new(alloc));
+        assert_eq!(rt; outcome.answer, unknown, "byte {other}");
+        assert!(rt; outcome.output.is_empty());
+    }
+    let mut longest = Vec::from_slice(alloc, ONE_OF_ONE.as_bytes())?;
+    for _ in longest.len()..1024 {
+        longest.push(b' ')?;
+    }
+    longest.push(b'\n')?;
+    let outcome = outcome_of(Command::Show, longest.as_slice(), Vec::new(alloc));
+    assert_eq!(rt; outcome.answer, Ok(0));
+    assert_eq!(rt; outcome.output.as_slice(), SHOWN.as_bytes());
+    let mut comment = repeated(alloc, b'#', 1024)?;
+    let letters = repeated(alloc, b'a', 1024)?;
+    for bytes in [comment.as_slice(), letters.as_slice()] {
+        let outcome = outcome_of(Command::Show, Source::cut(bytes), Vec::new(alloc));
+        assert_eq!(rt; outcome.answer, Err(READ_FAILED));
+        assert!(rt; outcome.output.is_empty());
+    }
+    comment.push(b'x')?;
+    let bytes = comment.as_slice();
+    let outcome = outcome_of(Command::Show, Source::cut(bytes), Vec::new(alloc));
+    assert_eq!(rt; outcome.answer, at_line_1(LineRefusal::TooLong));
+    assert_eq!(rt; outcome.failures, (0, 0));
+    assert!(rt; outcome.output.is_empty());
+    Ok(())
+}
+
+/// The command over a writer that takes so many bytes in all, at most so many a call: a beginning of the output is
+/// written, and the answer is 73 exactly where that isn't all.
+fn expect_beginning(rt: &impl Abort, alloc: Global, example: &Example, piece: usize, room: usize) {
+    let command = example.command;
+    let whole = example.output.as_bytes();
+    let outcome = outcome_of(
+        command,
+        example.input.as_slice(),
+        Filling::new(alloc, piece, room),
+    );
+    let is_whole = room >= whole.len();
+    let (wanted, failures) = if is_whole {
+        (Ok(0), 0)
+    } else {
+        (Err(WRITE_FAILED), 1)
+    };
+    assert_eq!(rt;
+        outcome.answer,
+        wanted,
+        "{command:?} with room for {room} bytes"
+    );
+    assert_eq!(rt; outcome.failures, (0, failures));
+    let written = outcome.output.bytes.as_slice();
+    assert_eq!(rt; written.len(), room.min(whole.len()));
+    assert!(rt;
+        whole.starts_with(written),
+        "{command:?} with room for {room} bytes"
+    );
+    // No other write follows the failed one.
+    assert_eq!(rt; outcome.output.failed_calls as u64, failures);
+}
+
+#[test]
+fn writes_beginnings(rt: HostRuntime) -> Result<(), Fail> {
+    let alloc = rt.alloc();
+    let cases: [(Command, usize, &[usize]); 3] = [
+        (Command::Show, 147, &[0, 1, 146, 147]),
+        (Command::Create, 715, &[0, 141, 714, 715]),
+        (Command::Recover, 33, &[0, 1, 32, 33]),
+    ];
+    for (command, length, rooms) in cases {
+        let example = example_of(alloc, command)?;
+        assert_eq!(rt; example.output.len(), length);
+        for room in rooms {
+            for piece in [1, 100] {
+                expect_beginning(&rt, alloc, &example, piece, *room);
+            }
+        }
+    }
+    Ok(())
+}
+
+#[test]
+fn writes_each_beginning_of_a_drill(rt: HostRuntime) -> Result<(), Fail> {
+    let alloc = rt.alloc();
+    let example = example_of(alloc, Command::Drill)?;
+    assert_eq!(rt; example.output.len(), 315);
+    for room in 0..=315 {
+        expect_beginning(&rt, alloc, &example, 100, room);
+    }
+    Ok(())
+}
+
+#[test]
+fn answers_a_write_of_nothing(rt: HostRuntime) -> Result<(), Fail> {
+    for command in COMMANDS {
+        let example = example_of(rt.alloc(), command)?;
+        let outcome = outcome_of(command, example.input.as_slice(), Full);
+        assert_eq!(rt; outcome.answer, Err(WRITE_FAILED), "{command:?}");
+        assert_eq!(rt; outcome.failures, (0, 1));
+    }
+    Ok(())
+}
+
+#[test]
+fn tries_no_interrupted_call_again(rt: HostRuntime) -> Result<(), Fail> {
+    let alloc = rt.alloc();
+    for command in COMMANDS {
+        let input = InterruptedAtFirst { calls: 0 };
+        let read = outcome_of(command, input, Vec::new(alloc));
+        assert_eq!(rt; read.answer, Err(READ_FAILED), "{command:?}");
+        assert_eq!(rt; (read.failures, read.input.calls), ((1, 0), 1));
+        assert!(rt; read.output.is_empty());
+        let example = example_of(alloc, command)?;
+        let pipe = Interrupted::new(alloc, 1);
+        let written = outcome_of(command, example.input.as_slice(), pipe);
+        assert_eq!(rt; written.answer, Err(WRITE_FAILED), "{command:?}");
+        assert_eq!(rt; (written.failures, written.output.calls), ((0, 1), 1));
+        assert!(rt; written.output.bytes.is_empty());
+    }
+    Ok(())
+}
+
+#[test]
+fn answers_each_failed_read(rt: HostRuntime) -> Result<(), Fail> {
+    let alloc = rt.alloc();
+    for command in COMMANDS {
+        let example = example_of(alloc, command)?;
+        let input = example.input.as_slice();
+        for piece in [7, 4096] {
+            // The last of these calls is the one that gives no byte.
+            let calls = input.len().div_ceil(piece) + 1;
+            for good_calls in 0..calls {
+                let device = Source::new(input, piece, good_calls);
+                let outcome = outcome_of(command, device, Vec::new(alloc));
+                assert_eq!(rt;
+                    outcome.answer,
+                    Err(READ_FAILED),
+                    "{command:?} {piece} {good_calls}"
+                );
+                assert_eq!(rt; outcome.failures, (1, 0));
+                assert!(rt; outcome.output.is_empty());
+                // No other read follows the failed one.
+                assert_eq!(rt; outcome.input.calls, good_calls + 1);
+            }
+        }
+    }
+    Ok(())
+}
+
+#[test]
+fn takes_and_gives_single_bytes(rt: HostRuntime) -> Result<(), Fail> {
+    let alloc = rt.alloc();
+    for command in COMMANDS {
+        let example = example_of(alloc, command)?;
+        let device = Source::slow(example.input.as_slice());
+        let outcome = outcome_of(command, device, Filling::new(alloc, 1, 4096));
+        assert_eq!(rt; outcome.answer, Ok(0), "{command:?}");
+        assert_eq!(rt; outcome.failures, (0, 0));
+        assert_eq!(rt; outcome.output.bytes.as_slice(), example.output.as_bytes());
+    }
+    Ok(())
+}
+
+#[test]
+fn counts_a_write_of_nothing_as_a_failure(rt: HostRuntime) -> Result<(), Fail> {
+    let mut output = Counting::new(Full);
+    assert!(rt; output.write(b"a").is_err());
+    assert_eq!(rt; output.failures(), 1);
+    assert_eq!(rt; output.write(b"")?, 0);
+    assert_eq!(rt; output.failures(), 1);
+    let mut input = Counting::new(b"ab".as_slice());
+    let mut buf = [0; 4];
+    assert_eq!(rt; input.read(&mut buf)?, 2);
+    assert_eq!(rt; input.failures(), 0);
+    let mut input = Counting::new(ONE_OF_ONE_BAD_PADDING.as_bytes());
+    let bad_padding = Fault {
+        line: Some(1),
+        refusal: Refusal::Line(LineRefusal::Word(WordError::BadPadding)),
+    };
+    assert_eq!(rt; run_show(&mut input, &mut output), Err(bad_padding));
+    Ok(())
+}

@@ -1,0 +1,140 @@
+//! What is handed on: a failed flush, a write that the system interrupts, whole pieces; and that nothing behind a line is
+//! asked for before the line is taken.
+
+use s39_cli::Destination;
+use s39_fixtures::devices::{Filling, Full, Interrupted, Source};
+use s39_fixtures::{
+    DRILL, FIVE, ONE_OF_ONE, ONE_OF_ONE_SECRET, RANDOM, RECOVER, SECRET, SHOW, SHOWN,
+    WRITE_FAILED_LINE, create, drilled, expect_flushed, expect_told, lines, program,
+    program_at_terminal,
+};
+use s39_tool::Counting;
+use std::alloc::Global;
+use std::process::Abort;
+use std::test::Fail;
+
+#[test]
+fn answers_a_failed_flush(rt: HostRuntime) -> Result<(), Fail> {
+    let alloc = rt.alloc();
+    let five = lines(alloc, &FIVE)?;
+    let drilled = drilled(alloc)?;
+    let create = create("2/2of3,1of1,1of1", SECRET);
+    let cases: [(&[&str], &[u8], &str); 4] = [
+        (&SHOW, ONE_OF_ONE.as_bytes(), SHOWN),
+        (&create, &RANDOM, five.as_str()),
+        (&RECOVER, ONE_OF_ONE.as_bytes(), ONE_OF_ONE_SECRET),
+        (&DRILL, five.as_bytes(), drilled.as_str()),
+    ];
+    for (words, input, output) in cases {
+        expect_flushed(words, input, alloc, false, (output, "", 0, 1))?;
+        expect_flushed(words, input, alloc, true, (output, WRITE_FAILED_LINE, 3, 1))?;
+    }
+    Ok(())
+}
+
+/// The words over a writer that is interrupted so often before each call that it takes: the output, and the calls.
+fn expect_calls(
+    rt: &impl Abort,
+    alloc: Global,
+    interruptions: usize,
+    case: (Destination, &[&str], &str),
+    wanted: (&str, usize),
+) {
+    let (destination, words, input) = case;
+    let (output, calls) = wanted;
+    let mut device = Interrupted::new(alloc, interruptions);
+    let told = Vec::new(alloc);
+    let status = match destination {
+        Destination::Terminal => {
+            program_at_terminal(alloc, words, input.as_bytes(), &mut device, told)
+        }
+        Destination::Elsewhere => program(alloc, words, input.as_bytes(), &mut device, told),
+    };
+    assert_eq!(rt; (status, device.calls), (0, calls), "{words:?}");
+    assert_eq!(rt; device.bytes.as_slice(), output.as_bytes(), "{words:?}");
+}
+
+/// Two mnemonics shown in a pipe and at a terminal, and a drill: in as many pieces each.
+fn expect_pieces(
+    rt: &impl Abort,
+    alloc: Global,
+    interruptions: usize,
+    calls: [usize; 3],
+) -> Result<(), Fail> {
+    let two = lines(alloc, &[ONE_OF_ONE, ONE_OF_ONE])?;
+    let shown = SHOWN.repeat(alloc, 2)?;
+    let five = lines(alloc, &FIVE)?;
+    let drilled = drilled(alloc)?;
+    let cases: [((Destination, &[&str], &str), &str); 3] = [
+        (
+            (Destination::Elsewhere, &SHOW, two.as_str()),
+            shown.as_str(),
+        ),
+        ((Destination::Terminal, &SHOW, two.as_str()), shown.as_str()),
+        (
+            (Destination::Elsewhere, &DRILL, five.as_str()),
+            drilled.as_str(),
+        ),
+    ];
+    for ((case, output), calls) in cases.into_iter().zip(calls) {
+        expect_calls(rt, alloc, interruptions, case, (output, calls));
+    }
+    Ok(())
+}
+
+#[test]
+fn writes_again_after_each_interruption(rt: HostRuntime) -> Result<(), Fail> {
+    expect_pieces(&rt, rt.alloc(), 3, [4, 8, 32])
+}
+
+#[test]
+fn hands_lines_on_as_they_are_known(rt: HostRuntime) -> Result<(), Fail> {
+    expect_pieces(&rt, rt.alloc(), 1, [2, 4, 16])
+}
+
+#[test]
+fn reads_and_writes_whole_pieces(rt: HostRuntime) -> Result<(), Fail> {
+    let mut input = Counting::new(ONE_OF_ONE.as_bytes());
+    let mut buf = [0; 64];
+    assert_eq!(rt; input.read(&mut buf)?, 64);
+    assert_eq!(rt; buf.as_slice(), &ONE_OF_ONE.as_bytes()[..64]);
+    let mut output = Counting::new(Vec::new(rt.alloc()));
+    assert_eq!(rt; output.write(ONE_OF_ONE.as_bytes())?, ONE_OF_ONE.len());
+    Ok(())
+}
+
+#[test]
+fn takes_a_line_before_it_reads_on(rt: HostRuntime) -> Result<(), Fail> {
+    let alloc = rt.alloc();
+    let two = lines(alloc, &[ONE_OF_ONE, ONE_OF_ONE])?;
+    let line = ONE_OF_ONE.len() + 1;
+    // A line of the first piece that can't be written.
+    for piece in [line, line + 1, 4096] {
+        let mut input = Source::new(two.as_bytes(), piece, usize::MAX);
+        let status = program_at_terminal(alloc, &SHOW, &mut input, Full, Vec::new(alloc));
+        assert_eq!(rt; (status, input.calls), (3, 1));
+    }
+    // One that is refused, beside what a reader would give next.
+    let mut refused = String::new(alloc);
+    refused.push_str("ducklin\n")?;
+    refused.push_str(two.as_str())?;
+    for words in [SHOW.as_slice(), &RECOVER, &DRILL] {
+        let mut input = Source::new(refused.as_bytes(), 8, usize::MAX);
+        let status = program(alloc, words, &mut input, Vec::new(alloc), Vec::new(alloc));
+        assert_eq!(rt; (status, input.calls), (1, 1), "{words:?}");
+    }
+    Ok(())
+}
+
+#[test]
+fn writes_nothing_after_a_failed_write(rt: HostRuntime) -> Result<(), Fail> {
+    let alloc = rt.alloc();
+    let five = lines(alloc, &FIVE)?;
+    for room in [0, 1, 44, 45, 46] {
+        let mut narrow = Filling::new(alloc, 1, room);
+        let input = five.as_bytes();
+        expect_told(&DRILL, input, &mut narrow, alloc, (WRITE_FAILED_LINE, 3))?;
+        assert_eq!(rt; (narrow.bytes.len(), narrow.failed_calls), (room, 1));
+    }
+    Ok(())
+}

@@ -1,0 +1,7 @@
+//! Tests of runs over devices that fail, give or take little, or are interrupted, and of what is handed on, and when.
+#![tactic(auto)]
+
+#[cfg(test)]
+mod failures;
+#[cfg(test)]
+mod hands;

@@ -1,0 +1,7 @@
+//! Tests of refusals: which of two causes is answered, and the texts.
+#![tactic(auto)]
+
+#[cfg(test)]
+mod orders;
+#[cfg(test)]
+mod texts;

@@ -1,0 +1,103 @@
+//! The texts of faults.
+
+use s39_kdf::BadPassphrase;
+use s39_set::{SetError, SetLack};
+use s39_text::FaultText;
+use s39_tool::{LineRefusal, Mismatch, PlanError, Refusal};
+use std::alloc::Global;
+use std::process::Abort;
+use std::test::Fail;
+
+/// The refusal of a run has this text, with line 7 where it has a line.
+fn expect_text(rt: &impl Abort, alloc: Global, refusal: Refusal, text: &str) -> Result<(), Fail> {
+    let line = if refusal.has_line() { Some(7) } else { None };
+    let told = format!(in alloc; "{}", FaultText::of(line, refusal.cause()))?;
+    let wanted = format!(in alloc; "shamir: {text}")?;
+    assert_eq!(rt; told.as_str(), wanted.as_str());
+    Ok(())
+}
+
+#[test]
+fn names_refusals_of_shares(rt: HostRuntime) -> Result<(), Fail> {
+    let conflicting = SetError::ConflictingShare {
+        group: 3,
+        member: 12,
+    };
+    let cases = [
+        (SetError::OtherIdentifier, "line 7: 21 other identifier"),
+        (
+            SetError::OtherExtendable,
+            "line 7: 22 other extendable flag",
+        ),
+        (SetError::OtherExponent, "line 7: 23 other exponent"),
+        (
+            SetError::OtherGroupThreshold,
+            "line 7: 24 other group threshold",
+        ),
+        (SetError::OtherGroupCount, "line 7: 25 other group count"),
+        (SetError::OtherLength, "line 7: 26 other length"),
+        (
+            SetError::OtherMemberThreshold { group: 15 },
+            "line 7: 27 other member threshold in group 15",
+        ),
+        (conflicting, "line 7: 28 conflicting share 3.12"),
+    ];
+    for (error, text) in cases {
+        let refusal = Refusal::Line(LineRefusal::Set(error));
+        expect_text(&rt, rt.alloc(), refusal, text)?;
+    }
+    Ok(())
+}
+
+#[test]
+fn names_refusals_of_sets(rt: HostRuntime) -> Result<(), Fail> {
+    let incomplete = SetLack::Incomplete {
+        complete: 1,
+        required: 2,
+    };
+    let cases = [
+        (Refusal::Lack(SetLack::NoShares), "29 no shares"),
+        (Refusal::Lack(incomplete), "30 incomplete: 1 of 2 groups"),
+        (Refusal::NotAQuorum, "62 cursor is no quorum"),
+        (
+            Refusal::Passphrase(BadPassphrase { position: 5 }),
+            "41 passphrase byte 5 not printable",
+        ),
+        (
+            Refusal::DigestMismatch(Mismatch::InGroup { group: 2 }),
+            "51 digest mismatch in group 2",
+        ),
+        (
+            Refusal::DigestMismatch(Mismatch::OfGroups),
+            "51 digest mismatch of groups",
+        ),
+    ];
+    for (refusal, text) in cases {
+        expect_text(&rt, rt.alloc(), refusal, text)?;
+    }
+    Ok(())
+}
+
+#[test]
+fn names_refusals_of_plans(rt: HostRuntime) -> Result<(), Fail> {
+    let alloc = rt.alloc();
+    for (error, text) in [
+        (PlanError::BadPlan, "shamir: 31 bad plan"),
+        (
+            PlanError::PlanGroups,
+            "shamir: 32 bad number of groups in plan",
+        ),
+        (
+            PlanError::PlanMembers { group: 15 },
+            "shamir: 33 bad number of members in plan group 15",
+        ),
+        (
+            PlanError::OneOfMany { group: 9 },
+            "shamir: 34 one of many in plan group 9",
+        ),
+    ] {
+        let told = format!(in alloc; "{}", FaultText::of(None, error.cause()))?;
+        assert_eq!(rt; told.as_str(), text);
+    }
+    Ok(())
+}

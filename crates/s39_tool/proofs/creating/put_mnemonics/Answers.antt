@@ -1,0 +1,11 @@
+use Rattle.std.proofs.Common.{◌≡◌, ◌∙◌, length, ap, arith}
+use Rattle.s39_tool.proofs.Runs.OneCreate.{text_once}
+use Rattle.s39_tool.proofs.creating.put_mnemonics.Goals as goal
+
+pub returns-clause-put : goal.returns-clause-put
+returns-clause-put c =
+    let (text, printed, is) = c.copy_mnemonics.ensures in
+    let (all, every, counted) = c.length_of-needed.ensures in
+    let needed : c.length_of-needed.result ≡ length text =
+    counted ∙ ap length (text_once c.one_printed_form.ensures c.args.shares.now all text every printed) in
+    (text, printed, record { fits = omega (arith, needed, c.if-text-needed.false); bytes = is }, needed)

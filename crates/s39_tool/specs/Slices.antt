@@ -1,0 +1,116 @@
+-- Texts that are put into slices.
+use Rattle.std.specs.Prelude.{◌≡◌, ℕ, ◌+◌, ◌<◌, ◌≤◌, List, ◌++◌, length, drop, [], Option, Some, None, Result, Ok, Err}
+use Rattle.s39_words.specs.declared.ShareFields.{ShareFields}
+use Rattle.s39_set.specs.Names.{Names}
+use Rattle.s39_backup.specs.declared.combination.Mismatch.{Mismatch}
+use Rattle.s39_backup.specs.Outcome.{IsOutcome}
+use Rattle.s39_set.specs.Quorums.{IsFirstQuorumAfter}
+use Rattle.s39_tool.specs.declared.drill.Done.{Done}
+use Rattle.s39_tool.specs.declared.fault.Fault.{Fault}
+use Rattle.s39_tool.specs.declared.listing.Listing.{Listing}
+use Rattle.s39_tool.specs.declared.slices.TooShort.{TooShort}
+use Rattle.s39_tool.specs.declared.slices.Unwritten.{Unwritten}
+use Rattle.s39_tool.specs.declared.slices.Unwritten.TheVariants.{Refused, TooShort as SliceTooShort}
+use Rattle.s39_tool.specs.Drill.{last_line, quorum_line, mismatch_in, IsDrill, IsNext}
+
+-- a text stands at the front of a slice, and behind it what was there
+pub record IsInFront (text old new : List ℕ) : Type 0 where
+  pub fits : length text ≤ length old
+  pub bytes : new ≡ text ++ drop (length text) old
+
+-- What a drill writes stands at the front of a slice: with the limit, or with the first lower one after which what it
+-- writes of one quorum more doesn't fit there. The drill has these outputs with each limit.
+pub record ListsWhatFits (IsOutput : ℕ → List ℕ → Result Done Fault → Type 0) (limit : ℕ) (old new : List ℕ) (listing : Listing) : Type 0 where
+  pub listed : ℕ
+  pub text : List ℕ
+  pub some : 1 ≤ listed
+  pub few : listed ≤ limit
+  pub output : IsOutput listed text (Ok (record { mismatches = listing.mismatches }))
+  pub in_front : IsInFront text old new
+  pub written : listing.written ≡ length text
+  pub less_fits : (n : ℕ) → 1 ≤ n → n < listed → (shorter : List ℕ) × (mismatches : ℕ)
+      × IsOutput n shorter (Ok (record { mismatches = mismatches })) × (length shorter ≤ length old)
+  pub more_is_too_long : listed < limit → (longer : List ℕ) × (mismatches : ℕ)
+      × IsOutput (listed + 1) longer (Ok (record { mismatches = mismatches })) × (length old < length longer)
+
+-- What it writes with a limit of 1 doesn't fit into so many bytes; it has as many as are needed.
+abbrev pub IsTooShort : (ℕ → List ℕ → Result Done Fault → Type 0) → ℕ → TooShort → Type 0
+IsTooShort IsOutput room short =
+    (text : List ℕ) × (mismatches : ℕ) × IsOutput 1 text (Ok (record { mismatches = mismatches }))
+    × (short.needed ≡ length text) × (room < length text)
+
+-- the listing in a slice; or that it is too short, or the refusal, and then nothing changes
+abbrev pub Lists : (ℕ → List ℕ → Result Done Fault → Type 0) → ℕ → List ℕ → List ℕ → Result Listing Unwritten → Type 0
+Lists IsOutput limit old new (Ok listing) = ListsWhatFits IsOutput limit old new listing
+Lists IsOutput limit old new (Err (SliceTooShort short)) = IsTooShort IsOutput (length old) short × (new ≡ old)
+Lists IsOutput limit old new (Err (Refused fault)) = IsOutput limit [] (Err fault) × (new ≡ old)
+
+-- Of a command with these outputs: its text stands at the front of a slice, and the answer is its length; or it doesn't
+-- fit, or is refused, and then nothing changes.
+abbrev pub Puts : (List ℕ → Result (Unit {0}) Fault → Type 0) → List ℕ → List ℕ → Result ℕ Unwritten → Type 0
+Puts IsOutput old new (Ok written) = (text : List ℕ) × IsOutput text (Ok tt) × IsInFront text old new × (written ≡ length text)
+Puts IsOutput old new (Err (SliceTooShort short)) =
+    (text : List ℕ) × IsOutput text (Ok tt) × (short.needed ≡ length text) × (length old < length text) × (new ≡ old)
+Puts IsOutput old new (Err (Refused fault)) = IsOutput [] (Err fault) × (new ≡ old)
+
+-- Within a drill in a slice; no public contract cites this.
+
+-- after which quorum more remain
+abbrev pub more_after : Names → Option Names → Option Names
+more_after names None = None
+more_after names (Some next) = Some names
+
+-- a quorum is tried: its line, the last line of a drill that ends with it, and what comes next
+pub record IsTried (set : List ShareFields) (passphrase : List ℕ) (names : Names) (line last : List ℕ)
+    (next : Option Names) (mismatches : ℕ) : Type 0 where
+  pub outcome : Result (List ℕ) Mismatch
+  pub is_outcome : IsOutcome set names passphrase outcome
+  pub line_is : line ≡ quorum_line (names, outcome)
+  pub mismatches_are : mismatches ≡ mismatch_in outcome
+  pub is_next : IsNext set (Some names) next
+  pub last_is : last ≡ last_line (more_after names next)
+
+-- a drill of a set with this limit fits into so many bytes
+abbrev pub DrillFits : List ShareFields → List ℕ → Option Names → ℕ → ℕ → Type 0
+DrillFits set passphrase after n room =
+    (lines : List ℕ) × (more : Option Names) × (mismatches : ℕ) × IsDrill set passphrase after n lines more mismatches
+    × (length (lines ++ last_line more) ≤ room)
+
+-- A drill of a set in a slice: with the limit, or with the first lower one after which one quorum more doesn't fit.
+pub record FillsSlice (set : List ShareFields) (passphrase : List ℕ) (after : Option Names) (limit : ℕ) (old new : List ℕ)
+    (listing : Listing) : Type 0 where
+  pub listed : ℕ
+  pub lines : List ℕ
+  pub more : Option Names
+  pub some : 1 ≤ listed
+  pub few : listed ≤ limit
+  pub drill : IsDrill set passphrase after listed lines more listing.mismatches
+  pub in_front : IsInFront (lines ++ last_line more) old new
+  pub written : listing.written ≡ length (lines ++ last_line more)
+  pub less_fits : (n : ℕ) → 1 ≤ n → n < listed → DrillFits set passphrase after n (length old)
+  pub more_is_too_long : listed < limit → (longer : List ℕ) × (rest : Option Names) × (mismatches : ℕ)
+      × IsDrill set passphrase after (listed + 1) longer rest mismatches × (length old < length (longer ++ last_line rest))
+
+-- the drill of a set in a slice, or that its first line doesn't fit, and then nothing changes
+abbrev pub Fills : List ShareFields → List ℕ → Option Names → ℕ → List ℕ → List ℕ → Result Listing TooShort → Type 0
+Fills set passphrase after limit old new (Ok listing) = FillsSlice set passphrase after limit old new listing
+Fills set passphrase after limit old new (Err short) =
+    ((lines : List ℕ) × (more : Option Names) × (mismatches : ℕ) × IsDrill set passphrase after 1 lines more mismatches
+    × (short.needed ≡ length (lines ++ last_line more)) × (length old < length (lines ++ last_line more)))
+    × (new ≡ old)
+
+-- of a drill that starts at a quorum, so many lines stand at the front of a slice, up to the line of another quorum
+pub record IsFilling (set : List ShareFields) (passphrase : List ℕ) (start : Names) (listed : ℕ) (old new last : List ℕ)
+    (written : ℕ) (next : Option Names) (mismatches : ℕ) : Type 0 where
+  pub lines : List ℕ
+  pub reached : Names
+  pub bytes : new ≡ lines ++ drop (length lines) old
+  pub written_is : written ≡ length lines
+  pub fits : written + length last ≤ length old
+  pub is_next : IsNext set (Some reached) next
+  pub last_is : last ≡ last_line (more_after reached next)
+  pub less_fits : (after : Option Names) → IsFirstQuorumAfter set after start
+      → (n : ℕ) → 1 ≤ n → n < listed → DrillFits set passphrase after n (length old)
+  pub goes_on : (after : Option Names) → IsFirstQuorumAfter set after start
+      → (limit : ℕ) (rest : List ℕ) (more : Option Names) (m : ℕ) → IsDrill set passphrase (Some reached) limit rest more m
+      → IsDrill set passphrase after (listed + limit) (lines ++ rest) more (mismatches + m)
