@@ -33,6 +33,8 @@ SONAME = libshamir.so.1
 override PREFIX := $(abspath $(PREFIX))
 override LIBDIR := $(abspath $(LIBDIR))
 override INCLUDEDIR := $(abspath $(INCLUDEDIR))
+# Plain x86-64, so that program and library run on every such processor: old machines off the network are good for secrets.
+CPU = x86-64
 # The crate of the program: the one that has a main, but for the bench and the examples over arrays.
 PROGRAM = $(filter-out s39_bench s39_allocations,$(patsubst crates/%/src/main.rt,%,$(wildcard crates/*/src/main.rt)))
 DOCUMENTS = README.md CHANGELOG.md CONTRIBUTING.md SECURITY.md NOTICE
@@ -46,14 +48,14 @@ all: shamir
 
 # Proves every crate that the program stands on, builds it, and runs it once on its stored input.
 shamir: $(SOURCES)
-	cd crates/$(PROGRAM) && $(RT) run -- show < stdin > /dev/null
+	cd crates/$(PROGRAM) && $(RT) run --cpu=$(CPU) -- show < stdin > /dev/null
 	cp crates/$(PROGRAM)/out/$(PROGRAM) $@
 
 lib: libshamir.so
 
 # Proves every crate that the library stands on, and builds it.
 libshamir.a: $(SOURCES)
-	cd crates/s39_c && $(RT) lib > /dev/null
+	cd crates/s39_c && $(RT) lib --cpu=$(CPU) > /dev/null
 	cp crates/s39_c/out/libs39_c.a $@
 
 libshamir.so: libshamir.a packaging/libshamir.map

@@ -1,5 +1,5 @@
 # Completion of shamir for bash: source this file, or install it as PREFIX/share/bash-completion/completions/shamir.
-# A plan, a secret, a passphrase and a cursor are the owner's to say: for them bash offers its variables, and no files.
+# A plan, names, a secret, a passphrase and a cursor are the owner's to say: for them bash offers its variables, and no files.
 # Files are offered behind a redirection.
 
 _shamir() {
@@ -29,11 +29,11 @@ _shamir() {
     --master-secret | --passphrase | --after | --limit) return ;;
     esac
     case $command in
-    '') options='create show drill recover --help --version' ;;
+    '') options='create show drill recover status reissue --help --version' ;;
     create) options='--master-secret --passphrase --exponent --extendable --help' ;;
     drill) options='--passphrase --after --limit --help' ;;
     recover) options='--passphrase --help' ;;
-    show) options='--help' ;;
+    show | status | reissue) options='--help' ;;
     *) return ;;
     esac
     for at in $options; do

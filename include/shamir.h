@@ -3,8 +3,8 @@
  *
  * Each function works on memory of its caller. It takes no memory, makes no system call, keeps nothing between calls, and
  * returns whatever bytes it is given. Calls share nothing, so they may run on any threads at once. A call takes at most
- * SHAMIR_STACK_BYTES bytes of stack. The main thread has them. In one that was made with less, shamir_create,
- * shamir_recover and shamir_drill may end the program; the others take little.
+ * SHAMIR_STACK_BYTES bytes of stack. The main thread has them. In one that was made with less, shamir_create and the calls
+ * that take lines may end the program; the others take little.
  *
  * A slice is a pointer and the number of bytes there. What a call writes, a slice or a struct, overlaps nothing else that
  * the call is given. Where the number of bytes is 0, the pointer isn't used, and may be NULL; a pointer to a struct may not.
@@ -43,11 +43,14 @@ extern "C" {
 /* The most mnemonics of a backup. */
 #define SHAMIR_MNEMONICS_MAX 256
 
-/* The most bytes of a line of shamir_recover and shamir_drill, be it a comment, its line feed not counted. */
+/* The most bytes of a line of calls that take lines, be it a comment, its line feed not counted. */
 #define SHAMIR_LINE_BYTES_MAX 1024
 
 /* The most bytes of a list of names, as of a quorum: enough to keep the text to go on after. */
 #define SHAMIR_NAMES_BYTES_MAX 1215
+
+/* The most bytes that shamir_status writes. shamir_reissue writes SHAMIR_MNEMONICS_BYTES_MAX at most. */
+#define SHAMIR_STATUS_BYTES_MAX 1638
 
 /* So many bytes are enough for the longest line of a quorum and the last line, and so for each call of a drill. */
 #define SHAMIR_LISTING_BYTES_ENOUGH 2700
@@ -59,7 +62,7 @@ extern "C" {
 #define SHAMIR_EXPONENT_MAX 15
 
 /* The most bytes of stack that a call takes. */
-#define SHAMIR_STACK_BYTES 393216
+#define SHAMIR_STACK_BYTES 524288
 
 /* In the place of a group in a digest's mismatch: the digest of the group shares. */
 #define SHAMIR_OF_GROUPS 16
@@ -105,8 +108,12 @@ typedef enum shamir_code {
     SHAMIR_SECRET_LENGTH = 42,          /* a secret may not have so many bytes; first: their number */
     SHAMIR_RANDOM_LENGTH = 43,          /* another number of random bytes is needed; first: the number that is needed */
     SHAMIR_DIGEST_MISMATCH = 51,        /* a digest doesn't match; first: the group, or SHAMIR_OF_GROUPS */
-    SHAMIR_BAD_CURSOR = 61,             /* the text is no list of names */
+    SHAMIR_BAD_CURSOR = 61,             /* the cursor is no list of names */
     SHAMIR_NOT_A_QUORUM = 62,           /* the names are no quorum */
+    SHAMIR_BAD_NAMES = 63,              /* the text is no list of names */
+    SHAMIR_NOT_IN_PLAN = 64,            /* the plan doesn't have a name; first: the group, second: the member */
+    SHAMIR_OTHER_PLAN = 65,             /* the mnemonics are of another plan */
+    SHAMIR_UNDETERMINED = 66,           /* a mnemonic isn't determined; first: 256 * group + member, second: see shamir_reissue */
     SHAMIR_LINE_TOO_LONG = 71           /* a line has more than SHAMIR_LINE_BYTES_MAX bytes */
 } shamir_code;
 
@@ -202,6 +209,39 @@ SHAMIR_CALL
 shamir_answer shamir_drill(
     const char *lines, size_t lines_bytes, const char *passphrase, size_t passphrase_bytes, uint32_t max_exponent, const char *after,
     size_t after_bytes, uint32_t limit, char *text, size_t text_bytes);
+
+/*
+ * Tells what lines, as of shamir_recover, have of each group. What the command status writes of them goes to the front of
+ * text: a line "groups C of R", where C groups are complete and R are needed, and then for each group of which a mnemonic is
+ * there, in order, a line "group G members N of T NAMES", where N members are there, T are needed, and NAMES are their names,
+ * as 0.0+0.2; a line feed ends each. A mnemonic that stands there twice counts once. No passphrase has a part in it.
+ *
+ * first of the answer is C and second is R: the mnemonics are enough for shamir_recover exactly where first is at least
+ * second. Where they are fewer the code is 0 too, as that is no refusal. SHAMIR_STATUS_BYTES_MAX bytes are always enough.
+ * Refused: the first refused line (11 to 28, 71), then 29, and then 1.
+ */
+SHAMIR_CALL
+shamir_answer shamir_status(const char *lines, size_t lines_bytes, char *text, size_t text_bytes);
+
+/*
+ * Computes mnemonics of a backup from others of it, in lines as of shamir_recover. plan is the text of the plan that the
+ * backup was created by, or of one with more members in some groups, which then are new members of this backup. names lists
+ * the names of the mnemonics, in order, as 0.1+2.0. They go to the front of mnemonics, in this order, each with a line feed
+ * behind it. No passphrase has a part in it, and nothing is deciphered.
+ *
+ * Of each name it is the mnemonic that is there; else what follows from as many members of its group as are needed; else from
+ * one member fewer, where as many other groups are complete as groups are needed. Where neither is there, the answer is 66:
+ * first is 256 * group + member of the name, and second has four bytes, the highest first: how many members of the group are
+ * there, how many are needed, how many other groups are complete, and how many groups are needed. A mnemonic that may be in
+ * other hands isn't made safe so: that takes a new backup, and a new secret where a quorum could be there.
+ *
+ * Refused: 31 to 34, then 63, 64, then the first refused line (11 to 28, 71), then 29, 65, then name by name 66 or 51, and
+ * then 1, with the bytes of all these mnemonics. SHAMIR_MNEMONICS_BYTES_MAX bytes are always enough.
+ */
+SHAMIR_CALL
+shamir_answer shamir_reissue(
+    const char *plan, size_t plan_bytes, const char *names, size_t names_bytes, const char *lines, size_t lines_bytes, char *mnemonics,
+    size_t mnemonics_bytes);
 
 /*
  * The text of an answer's code and details, as the command shamir prints it behind the number: it goes to the front of

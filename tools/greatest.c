@@ -2,9 +2,10 @@
  * Makes the calls of libshamir that are greatest, in memory of the sizes that shamir.h names and on a stack that is no
  * longer than it says: a call that takes more meets pages that may not be touched, and ends the program.
  *
- * It creates backups of sixteen groups, all needed, of a secret of the most bytes, reads each mnemonic, recovers, drills in
- * parts of one quorum, and asks for the text of each code. The backups and drills go to standard output, as the commands
- * print them, and how many bytes of the stack were touched to standard error. tools/library compares them with the program.
+ * It creates backups of sixteen groups, all needed, of a secret of the most bytes, reads each mnemonic, tells the status,
+ * computes mnemonics again, recovers, drills in parts of one quorum, and asks for the text of each code. The backups, statuses,
+ * mnemonics and drills go to standard output, as the commands print them, and how many bytes of the stack were touched to
+ * standard error. tools/library compares them with the program.
  */
 #define _DEFAULT_SOURCE
 #include <pthread.h>
@@ -25,10 +26,13 @@ static const char passphrase[] = "TREZOR";
 static uint8_t secret[SHAMIR_SECRET_BYTES_MAX];
 static uint8_t random_bytes[SHAMIR_RANDOM_BYTES_MAX];
 static char mnemonics[SHAMIR_MNEMONICS_BYTES_MAX];
+static char again[SHAMIR_MNEMONICS_BYTES_MAX];
 static char mnemonic[SHAMIR_MNEMONIC_BYTES_MAX];
 static uint8_t value[SHAMIR_SECRET_BYTES_MAX];
 static char listing[SHAMIR_LISTING_BYTES_ENOUGH];
 static char cursor[SHAMIR_NAMES_BYTES_MAX];
+static char names[SHAMIR_NAMES_BYTES_MAX + 1];
+static char status[SHAMIR_STATUS_BYTES_MAX];
 static char text[SHAMIR_TEXT_BYTES_MAX];
 
 /* Ends the program where a call refused. */
@@ -59,6 +63,58 @@ static void parse_each(size_t bytes)
             begin = end + 1;
         }
     }
+}
+
+/* Lists the names of all members of sixteen groups; gives how many bytes they have. */
+static size_t list_names(void)
+{
+    char *end = names;
+    unsigned group;
+    unsigned member;
+
+    for (group = 0; group < 16; group++) {
+        for (member = 0; member < 16; member++) {
+            end += sprintf(end, "%s%u.%u", end == names ? "" : "+", group, member);
+        }
+    }
+    return (size_t)(end - names);
+}
+
+/* Creates a backup by a plan; gives how many bytes its mnemonics have. */
+static size_t create(const char *plan)
+{
+    size_t plan_bytes = strlen(plan);
+    shamir_answer needed = shamir_random_needed(plan, plan_bytes, sizeof secret);
+    size_t bytes;
+
+    done("shamir_random_needed", needed);
+    if (needed.first > sizeof random_bytes) {
+        fprintf(stderr, "%lu random bytes\n", (unsigned long)needed.first);
+        exit(1);
+    }
+    bytes = done("shamir_create", shamir_create(
+        plan, plan_bytes, secret, sizeof secret, passphrase, strlen(passphrase), 0, 0, random_bytes, (size_t)needed.first, mnemonics, sizeof mnemonics));
+    fwrite(mnemonics, 1, bytes, stdout);
+    return bytes;
+}
+
+/* Tells the status of a backup, gives all its mnemonics again, and computes its last one from the others, of all groups. */
+static void status_and_reissue(void)
+{
+    static const char plan[] = "15/16of16," GROUPS;
+    static const char last[] = "15.15";
+    size_t bytes = create(plan);
+    size_t names_bytes = list_names();
+    size_t begin = bytes - 1;
+
+    fwrite(status, 1, done("shamir_status", shamir_status(mnemonics, bytes, status, sizeof status)), stdout);
+    fwrite(again, 1, done("shamir_reissue", shamir_reissue(
+        plan, strlen(plan), names, names_bytes, mnemonics, bytes, again, sizeof again)), stdout);
+    while (begin > 0 && mnemonics[begin - 1] != '\n') {
+        begin--;
+    }
+    fwrite(again, 1, done("shamir_reissue", shamir_reissue(
+        plan, strlen(plan), last, sizeof last - 1, mnemonics, begin, again, sizeof again)), stdout);
 }
 
 /* Drills a backup in parts, for each of which the listing has room. */
@@ -96,9 +152,9 @@ static void text_of_each(void)
 
     memset(&answer, 0, sizeof answer);
     for (answer.code = 0; answer.code < 100; answer.code++) {
-        for (detail = 0; detail < 2; detail++) {
-            answer.first = detail == 0 ? UINT64_MAX : UINT8_MAX;
-            answer.second = answer.first;
+        for (detail = 0; detail < 3; detail++) {
+            answer.first = detail == 0 ? UINT64_MAX : detail == 1 ? UINT8_MAX : UINT16_MAX;
+            answer.second = detail == 2 ? UINT32_MAX : answer.first;
             done("shamir_text", shamir_text(&answer, text, sizeof text));
         }
     }
@@ -106,24 +162,11 @@ static void text_of_each(void)
 
 static void *calls(void *unused)
 {
-    const char *plan;
-    shamir_answer needed;
-    size_t plan_bytes;
     size_t bytes;
     size_t i;
 
     for (i = 0; i < sizeof plans / sizeof plans[0]; i++) {
-        plan = plans[i];
-        plan_bytes = strlen(plans[i]);
-        needed = shamir_random_needed(plan, plan_bytes, sizeof secret);
-        done("shamir_random_needed", needed);
-        if (needed.first > sizeof random_bytes) {
-            fprintf(stderr, "%lu random bytes\n", (unsigned long)needed.first);
-            exit(1);
-        }
-        bytes = done("shamir_create", shamir_create(
-            plan, plan_bytes, secret, sizeof secret, passphrase, strlen(passphrase), 0, 0, random_bytes, (size_t)needed.first, mnemonics, sizeof mnemonics));
-        fwrite(mnemonics, 1, bytes, stdout);
+        bytes = create(plans[i]);
         parse_each(bytes);
         if (done("shamir_recover", shamir_recover(mnemonics, bytes, passphrase, strlen(passphrase), SHAMIR_EXPONENT_MAX, value, sizeof value)) != sizeof secret
             || memcmp(value, secret, sizeof secret) != 0) {
@@ -132,6 +175,7 @@ static void *calls(void *unused)
         }
         drill_parts(bytes);
     }
+    status_and_reissue();
     text_of_each();
     done("shamir_version", shamir_version(text, sizeof text));
     return unused;

@@ -51,6 +51,17 @@
     "academic aluminum ceramic leader cylinder decorate mobile devote echo finger program firm starting dwarf grumpy harvest enforce raisin sprinkle phantom"
 #define FIVE FIVE_0, FIVE_1, FIVE_2, FIVE_3, FIVE_4
 
+/* Member 3 of group 0, where the plan gives this group four members. */
+#define FIVE_LARGER_PLAN "2/2of4,1of1,1of1"
+#define FIVE_0_3 \
+    "academic aluminum acrobat marathon crisis luxury step activity teammate unfair fumes endorse always ranked alto problem mailman ounce teacher bumpy"
+
+/* Members 0 and 2 of group 0 with the first byte of the values exchanged. */
+#define FORGED_0 \
+    "academic aluminum acrobat leaf civil drink heat negative damage union purchase photo inmate training amazing yield bucket lend glance junk"
+#define FORGED_2 \
+    "academic aluminum acrobat lungs alcohol behavior mobile ting perfect ultimate weapon join paper involve clinic acrobat jerky pencil username device"
+
 /* Two members of a group, and a member of each of two groups, that are no parts of one secret; another program made them. */
 #define UNEVEN_0 \
     "academic academic academic acid disease prepare husky home result arcade lunar cover shame email oven tension nylon carpet prospect hand"
@@ -119,6 +130,20 @@ typedef struct drill_example {
     uint32_t mismatches;
     const char *text;
 } drill_example;
+
+typedef struct status_example {
+    const char *lines[LINES_MAX];
+    wanted answer;
+    const char *text;
+} status_example;
+
+typedef struct reissue_example {
+    const char *plan;
+    const char *names;
+    const char *lines[LINES_MAX];
+    wanted answer;
+    const char *mnemonics[LINES_MAX];
+} reissue_example;
 
 #define DONE {0, 0, 0, 0, "done"}
 /* The vector of two mnemonics has the exponent 2. */
@@ -207,6 +232,39 @@ static const drill_example drill_examples[] = {
     {{NULL}, NULL, 0, "0.1", 1, ROOM_BYTES, {29, 0, 0, 0, "no shares"}, 0, ""},
     {{TWO_2}, NULL, 0, "0.1", 1, ROOM_BYTES, {30, 0, 0, 1, "incomplete: 0 of 1 groups"}, 0, ""},
     {{FIVE}, NULL, SHAMIR_EXPONENT_MAX, "0.1", 1, ROOM_BYTES, {62, 0, 0, 0, "cursor is no quorum"}, 0, ""}
+};
+
+/* Of a status first and second are the complete groups and those that are needed. */
+static const status_example status_examples[] = {
+    {{ONE}, {0, 0, 1, 1, "done"}, "groups 1 of 1\ngroup 0 members 1 of 1 0.0\n"},
+    {{TWO_2}, {0, 0, 0, 1, "done"}, "groups 0 of 1\ngroup 0 members 1 of 2 0.2\n"},
+    {{FIVE_0, FIVE_3, FIVE_0}, {0, 0, 1, 2, "done"}, "groups 1 of 2\ngroup 0 members 1 of 2 0.0\ngroup 1 members 1 of 1 1.0\n"},
+    {{FIVE}, {0, 0, 3, 2, "done"},
+     "groups 3 of 2\ngroup 0 members 3 of 2 0.0+0.1+0.2\ngroup 1 members 1 of 1 1.0\ngroup 2 members 1 of 1 2.0\n"},
+    {{FIVE_3, ONE_WRONG}, {13, 2, 0, 0, "bad checksum"}, ""},
+    {{TWO_0, ONE}, {21, 2, 0, 0, "other identifier"}, ""},
+    {{NULL}, {29, 0, 0, 0, "no shares"}, ""}
+};
+
+/* Of 66 first is 256 * group + member, and second four counts. */
+static const reissue_example reissue_examples[] = {
+    {FIVE_PLAN, "0.1", {FIVE_0, FIVE_2}, DONE, {FIVE_1}},
+    {FIVE_PLAN, "0.0+0.1", {FIVE_2, FIVE_3, FIVE_4}, DONE, {FIVE_0, FIVE_1}},
+    {FIVE_PLAN, "2.0", {FIVE_0, FIVE_1, FIVE_3}, DONE, {FIVE_4}},
+    {FIVE_PLAN, "0.0", {FIVE_0}, DONE, {FIVE_0}},
+    {FIVE_LARGER_PLAN, "0.3", {FIVE_0, FIVE_1}, DONE, {FIVE_0_3}},
+    {FIVE_PLAN, "0.1", {FIVE_3, FIVE_4}, {66, 0, 1, 0x00020202, "cannot tell 0.1: 0 of 2 members, 2 of 2 other groups"}, {NULL}},
+    {FIVE_PLAN, "0.1", {FIVE_0, FIVE_3}, {66, 0, 1, 0x01020102, "cannot tell 0.1: 1 of 2 members, 1 of 2 other groups"}, {NULL}},
+    {FIVE_PLAN, "2.0", {FIVE_0, FIVE_1}, {66, 0, 512, 0x00010102, "cannot tell 2.0: 0 of 1 members, 1 of 2 other groups"}, {NULL}},
+    {FIVE_PLAN, "0.3", {FIVE_0, FIVE_1}, {64, 0, 0, 3, "name 0.3 not in plan"}, {NULL}},
+    {"2/3of3,1of1,1of1", "0.2", {FIVE_0, FIVE_1}, {65, 0, 0, 0, "other plan"}, {NULL}},
+    {FIVE_PLAN, "0.1+0.0", {FIVE_0, FIVE_1}, {63, 0, 0, 0, "bad list of names"}, {NULL}},
+    {FIVE_PLAN, NULL, {ONE_WRONG}, {63, 0, 0, 0, "bad list of names"}, {NULL}},
+    {NULL, "0.1+0.0", {ONE_WRONG}, {31, 0, 0, 0, "bad plan"}, {NULL}},
+    {FIVE_PLAN, "3.0", {ONE_WRONG}, {64, 0, 3, 0, "name 3.0 not in plan"}, {NULL}},
+    {FIVE_PLAN, "0.0", {FIVE_0, ONE_WRONG}, {13, 2, 0, 0, "bad checksum"}, {NULL}},
+    {FIVE_PLAN, "0.0", {NULL}, {29, 0, 0, 0, "no shares"}, {NULL}},
+    {FIVE_PLAN, "0.1", {FORGED_0, FORGED_2}, {51, 0, 0, 0, "digest mismatch in group 0"}, {NULL}}
 };
 
 /* What is being tried, an example of a table from 0, for messages; and how often something differed. */
@@ -449,6 +507,51 @@ static void check_drill(const drill_example *example)
     check_text(found, example->answer.told);
 }
 
+static void check_status(const status_example *example)
+{
+    char kept[ROOM_BYTES];
+    slice lines = joined(example->lines, kept);
+    slice text = slice_of(example->text);
+    slice nothing = {NULL, 0};
+    size_t bytes = text.length == 0 ? ROOM_BYTES : text.length;
+    shamir_answer found = shamir_status(lines.bytes, lines.length, fresh(bytes), bytes);
+
+    compare(found, answer_of(&example->answer, text.length, 0), text);
+    check_text(found, example->answer.told);
+    if (text.length > 0) {
+        compare(shamir_status(lines.bytes, lines.length, fresh(bytes), bytes - 1), too_short(bytes), nothing);
+        compare(shamir_status(lines.bytes, lines.length, fresh(0), 0), too_short(bytes), nothing);
+    }
+}
+
+static void check_reissue(const reissue_example *example)
+{
+    char lines_kept[ROOM_BYTES];
+    char kept[ROOM_BYTES];
+    slice plan = slice_of(example->plan);
+    slice names = slice_of(example->names);
+    slice lines = joined(example->lines, lines_kept);
+    slice text = joined(example->mnemonics, kept);
+    slice nothing = {NULL, 0};
+    size_t bytes[3] = {0, 0, 0};
+    size_t i;
+    shamir_answer found;
+
+    /* The right room, one byte less, and none; only the first where the call is refused. */
+    bytes[0] = text.length == 0 ? ROOM_BYTES : text.length;
+    bytes[1] = text.length - 1;
+    for (i = 0; i < (text.length == 0 ? 1 : 3); i++) {
+        found = shamir_reissue(
+            plan.bytes, plan.length, names.bytes, names.length, lines.bytes, lines.length, fresh(bytes[i]), bytes[i]);
+        if (i == 0) {
+            compare(found, answer_of(&example->answer, text.length, 0), text);
+            check_text(found, example->answer.told);
+        } else {
+            compare(found, too_short(text.length), nothing);
+        }
+    }
+}
+
 /* The library has the header's version, and says so in a slice of just its bytes, or refuses a shorter one. */
 static void check_version(void)
 {
@@ -483,6 +586,8 @@ int main(void)
     CHECK_EACH("shamir_create", create_examples, check_create)
     CHECK_EACH("shamir_recover", recover_examples, check_recover)
     CHECK_EACH("shamir_drill", drill_examples, check_drill)
+    CHECK_EACH("shamir_status", status_examples, check_status)
+    CHECK_EACH("shamir_reissue", reissue_examples, check_reissue)
     check_version();
     check_unknown();
     return differences != 0;

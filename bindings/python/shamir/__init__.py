@@ -3,7 +3,7 @@
 Each function hands its arguments to the library and what it answers back; no rule of the format stands here. The library
 is the file that the environment variable SHAMIR_LIBRARY names, or libshamir.so in this package's folder (`make lib`
 puts it there), or the system's libshamir.so.1. Calls share nothing, so they may run on any threads; one takes at most
-384 kB of stack, which is more than a thread of a small `threading.stack_size` has.
+512 kB of stack, which is more than a thread of a small `threading.stack_size` has.
 """
 from __future__ import annotations
 
@@ -17,8 +17,8 @@ import pathlib
 from dataclasses import dataclass, field
 from typing import Any, Callable, Iterable, Iterator, List, Optional, Tuple, Union, cast
 
-__all__ = ["Code", "Data", "EXPONENT_MAX", "Lines", "OF_GROUPS", "Outcome", "Refusal", "Share", "Text"]
-__all__ += ["create", "drill", "library_version", "parse", "random_needed", "recover"]
+__all__ = ["Code", "Data", "EXPONENT_MAX", "GroupStatus", "Lines", "OF_GROUPS", "Outcome", "Refusal", "Share", "Status", "Text"]
+__all__ += ["create", "drill", "library_version", "parse", "random_needed", "recover", "reissue", "status"]
 
 __version__ = "1.0.0"
 
@@ -31,6 +31,7 @@ Lines = Union[Text, Iterable[Text]]
 # Rooms that are long enough, as shamir.h names them.
 SECRET_BYTES_MAX = 128
 MNEMONICS_BYTES_MAX = 253440
+STATUS_BYTES_MAX = 1638
 TEXT_BYTES_MAX = 64
 
 # The greatest iteration exponent.
@@ -76,6 +77,10 @@ class Code(enum.IntEnum):
     DIGEST_MISMATCH = 51
     BAD_CURSOR = 61
     NOT_A_QUORUM = 62
+    BAD_NAMES = 63
+    NOT_IN_PLAN = 64
+    OTHER_PLAN = 65
+    UNDETERMINED = 66
     LINE_TOO_LONG = 71
 
 
@@ -131,6 +136,8 @@ def _declared(library: ctypes.CDLL) -> ctypes.CDLL:
         ("shamir_create", _SLICE * 3 + [ctypes.c_uint32] * 2 + _SLICE + _ROOM),
         ("shamir_recover", _SLICE * 2 + [ctypes.c_uint32] + _ROOM),
         ("shamir_drill", _SLICE * 2 + [ctypes.c_uint32] + _SLICE + [ctypes.c_uint32] + _ROOM),
+        ("shamir_status", _SLICE + _ROOM),
+        ("shamir_reissue", _SLICE * 3 + _ROOM),
         ("shamir_text", [ctypes.POINTER(_Answer)] + _ROOM),
         ("shamir_version", _ROOM),
     ]:
@@ -178,6 +185,29 @@ class Outcome:
     names: str
     secret: Optional[bytes] = field(repr=False)
     mismatch: Optional[int] = None
+
+
+@dataclass(frozen=True)
+class GroupStatus:
+    """What there is of a group: how many members are needed, and the names of those that are there, as `0.2`, in order."""
+
+    group: int
+    threshold: int
+    names: Tuple[str, ...]
+
+
+@dataclass(frozen=True)
+class Status:
+    """What mnemonics have: how many groups are complete, how many are needed, and each group of which a mnemonic is there."""
+
+    complete: int
+    required: int
+    groups: Tuple[GroupStatus, ...]
+
+    @property
+    def enough(self) -> bool:
+        """Whether they have a quorum, so that `recover` doesn't lack one."""
+        return self.complete >= self.required
 
 
 def _data(data: Data) -> bytes:
@@ -322,3 +352,31 @@ def _outcome(line: bytes) -> Outcome:
     if len(found) == 1:
         return Outcome(names, bytes.fromhex(found[0]))
     return Outcome(names, None, OF_GROUPS if found[-1] == "groups" else int(found[-1]))
+
+
+def status(lines: Lines) -> Status:
+    """What mnemonics, given as by `recover`, have of each group, and whether that is enough. A repeat counts once.
+
+    Raises `Refusal` 11 to 29 or 71. That there are too few is no refusal.
+    """
+    given = _slice(_joined(lines))
+    first, *groups = _filled(lambda out, room: _library.shamir_status(*given, out, room), STATUS_BYTES_MAX).decode().splitlines()
+    _, complete, _, required = first.split(" ")
+    return Status(int(complete), int(required), tuple(map(_group_status, groups)))
+
+
+def _group_status(line: str) -> GroupStatus:
+    """What a line `group G members N of T NAMES` says."""
+    _, group, _, _, _, threshold, names = line.split(" ")
+    return GroupStatus(int(group), int(threshold), tuple(names.split("+")))
+
+
+def reissue(plan: Text, names: Text, lines: Lines) -> List[str]:
+    """The mnemonics of these names of a backup, in order, computed from others of it, which are given as by `recover`.
+
+    `plan` is the text of the backup's plan, or of one with more members in some groups, which then are new members of this
+    backup; `names` are joined by plus signs, as `0.1+2.0`. No passphrase has a part in it.
+    Raises `Refusal` 11 to 29, 31 to 34, 51, 63 to 66 or 71.
+    """
+    given = _slice(_bytes(plan)) + _slice(_bytes(names)) + _slice(_joined(lines))
+    return _filled(lambda out, room: _library.shamir_reissue(*given, out, room), MNEMONICS_BYTES_MAX).decode().splitlines()

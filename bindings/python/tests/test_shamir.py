@@ -38,6 +38,8 @@ MISMATCHED_GROUPS = [
     "academic academic acrobat easy disease prepare husky home result arcade lunar cover shame email oven tension nylon lawsuit smear antenna",
     "academic academic beard easy dragon mineral broken simple lips custody flame cylinder ending prune party scout beaver presence thank adapt",
 ]
+# Member 3 of group 0, where the plan gives this group four members; another program made it.
+FOURTH = "academic aluminum acrobat marathon crisis luxury step activity teammate unfair fumes endorse always ranked alto problem mailman ounce teacher bumpy"
 # With these random bytes 2of3 gives the two mnemonics TWO, and one between them.
 TWO_RANDOM = bytes.fromhex("64359164e7a006aadd75179d6d5c")
 ROOT = pathlib.Path(__file__).resolve().parents[3]
@@ -157,6 +159,39 @@ class WorkedExamples(unittest.TestCase):
         self.assertEqual(list(shamir.drill(MISMATCHED)), [shamir.Outcome("0.0+0.1", None, 0)])
         self.assertEqual(list(shamir.drill(MISMATCHED_GROUPS)), [shamir.Outcome("0.0+1.0", None, shamir.OF_GROUPS)])
 
+    def test_reissue(self):
+        for held, names, wanted in [
+            ([0, 2], "0.1", FIVE[1:2]),
+            ([2, 3, 4], "0.0+0.1", FIVE[:2]),
+            ([3, 1, 0], "2.0", FIVE[4:]),
+            ([0], "0.0", FIVE[:1]),
+            (range(5), "0.0+0.1+0.2+1.0+2.0", FIVE),
+        ]:
+            self.assertEqual(shamir.reissue(PLAN, names, [FIVE[index] for index in held]), wanted)
+        self.assertEqual(shamir.reissue(b"2/2of4,1of1,1of1", bytearray(b"0.3"), "\n".join(FIVE[:2])), [FOURTH])
+        self.refused(66, None, (1, 0x00020202), shamir.reissue, PLAN, "0.1", FIVE[3:])
+        self.refused(66, None, (1, 0x01020102), shamir.reissue, PLAN, "0.1", [FIVE[0], FIVE[3]])
+        self.refused(66, None, (512, 0x00010102), shamir.reissue, PLAN, "2.0", FIVE[:2])
+        self.refused(64, None, (0, 3), shamir.reissue, PLAN, "0.3", FIVE)
+        self.refused(65, None, (0, 0), shamir.reissue, "2/3of3,1of1,1of1", "0.2", FIVE)
+        self.refused(63, None, (0, 0), shamir.reissue, PLAN, "0.1+0.0", "x")
+        self.refused(31, None, (0, 0), shamir.reissue, "", "", "x")
+        self.refused(11, 1, (1, 0), shamir.reissue, PLAN, "0.0", "x")
+        self.refused(29, None, (0, 0), shamir.reissue, PLAN, "0.0", "")
+        self.refused(51, None, (0, 0), shamir.reissue, "2of3", "0.2", MISMATCHED)
+        with self.assertRaisesRegex(shamir.Refusal, "^66 cannot tell 0.1: 1 of 2 members, 1 of 2 other groups$"):
+            shamir.reissue(PLAN, "0.1", [FIVE[0], FIVE[3]])
+
+    def test_status(self):
+        found = shamir.status([FIVE[4], FIVE[2], FIVE[0], FIVE[2]])
+        group = shamir.GroupStatus(0, 2, ("0.0", "0.2"))
+        self.assertEqual(found, shamir.Status(2, 2, (group, shamir.GroupStatus(2, 1, ("2.0",)))))
+        self.assertTrue(found.enough)
+        self.assertEqual(shamir.status(TWO[:1]), shamir.Status(0, 1, (shamir.GroupStatus(0, 2, ("0.2",)),)))
+        self.assertFalse(shamir.status(TWO[:1]).enough)
+        self.refused(29, None, (0, 0), shamir.status, "# a note")
+        self.refused(21, 2, (0, 0), shamir.status, [ONE, TWO[0]])
+
     def test_max_exponent(self):
         """Mnemonics of exponent 2 are refused below it, before all else and before any work, and taken from it on."""
         for most, key in [(0, "TREZOR"), (1, "TREZOR"), (1, "a\x07")]:
@@ -189,6 +224,8 @@ class WorkedExamples(unittest.TestCase):
             (16, lambda *room: library.shamir_parse(one, len(one), shamir._Share(), *room)),
             (715, lambda *room: library.shamir_create(PLAN.encode(), 16, SECRET, 16, *key, 0, 0, bytes(range(26)), 26, *room)),
             (16, lambda *room: library.shamir_recover(text, len(text), *key, 0, *room)),
+            (41, lambda *room: library.shamir_status(one, len(one), *room)),
+            (144, lambda *room: library.shamir_reissue(PLAN.encode(), 16, b"0.1", 3, text, len(text), *room)),
             (68, lambda *room: library.shamir_drill(text, len(text), *key, 0, None, 0, 1, *room)),
             (5, library.shamir_version),
             (14, lambda *room: library.shamir_text(shamir._Answer(code=11, first=2), *room)),
@@ -307,7 +344,7 @@ class WorkedExamples(unittest.TestCase):
     def test_threads(self):
         """Calls run on threads at once, of a stack as docs/LIBRARY.md says."""
         found = []
-        before = threading.stack_size(524288)
+        before = threading.stack_size(1048576)
         self.addCleanup(threading.stack_size, before)
         threads = [threading.Thread(target=lambda: found.append(list(shamir.drill(FIVE, passphrase="TREZOR")))) for _ in range(3)]
         for act in (threading.Thread.start, threading.Thread.join):
@@ -360,7 +397,7 @@ class WorkedExamples(unittest.TestCase):
     @unittest.skipUnless(HEADER.exists(), "the header isn't here")
     def test_sizes(self):
         sizes = dict(re.findall(r"^#define SHAMIR_(\w+) (\d+)$", HEADER.read_text(), re.MULTILINE))
-        for name in ["SECRET_BYTES_MAX", "MNEMONICS_BYTES_MAX", "TEXT_BYTES_MAX", "EXPONENT_MAX"]:
+        for name in ["SECRET_BYTES_MAX", "MNEMONICS_BYTES_MAX", "STATUS_BYTES_MAX", "TEXT_BYTES_MAX", "EXPONENT_MAX"]:
             self.assertEqual(getattr(shamir, name), int(sizes[name]))
         self.assertEqual(ctypes.sizeof(shamir._Answer), 40)
 
@@ -371,6 +408,9 @@ class WorkedExamples(unittest.TestCase):
         self.assertEqual(library.shamir_random_needed(None, 0, 16).code, 31)
         self.assertEqual(library.shamir_parse(None, 0, shamir._Share(), None, 0).code, 12)
         self.assertEqual(library.shamir_drill(None, 0, None, 0, 0, None, 0, 1, None, 0).code, 29)
+        self.assertEqual(library.shamir_status(None, 0, None, 0).code, 29)
+        self.assertEqual(library.shamir_reissue(None, 0, None, 0, None, 0, None, 0).code, 31)
+        self.assertEqual(library.shamir_reissue(b"2of2", 4, None, 0, None, 0, None, 0).code, 63)
         self.assertEqual(library.shamir_text(shamir._Answer(), None, 0).first, 4)
         answer = library.shamir_create(b"1of1", 4, SECRET, 16, None, 0, 0, 0, b"\x1f\x09", 2, None, 0)
         self.assertEqual((answer.code, answer.first), (1, 152))

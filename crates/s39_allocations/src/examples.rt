@@ -2,7 +2,11 @@
 ghost use Rattle.std.specs.Prelude.{◌<◌};
 
 use s39_kdf::check_secret;
-use s39_tool::{Counting, Fault, Options, Plan, run_create, run_drill, run_recover, run_show};
+use s39_set::parse_names;
+use s39_tool::{
+    Counting, Fault, Options, Plan, SecretForm, run_create, run_drill, run_recover, run_reissue,
+    run_show, run_status,
+};
 use std::io::{Read, Write};
 
 /// A vector of SLIP-0039, whose passphrase is `TREZOR`.
@@ -69,6 +73,22 @@ const DRILL: Example = Example {
     status: 0,
 };
 
+const STATUS: Example = Example {
+    words: &["shamir", "status"],
+    input: FIVE,
+    output: b"groups 3 of 2\ngroup 0 members 3 of 2 0.0+0.1+0.2\ngroup 1 members 1 of 1 1.0\ngroup 2 members 1 of 1 2.0\n",
+    errors: b"",
+    status: 0,
+};
+
+const REISSUE: Example = Example {
+    words: &["shamir", "reissue", "2/2of4,1of1,1of1", "0.3"],
+    input: FIVE,
+    output: b"academic aluminum acrobat marathon crisis luxury step activity teammate unfair fumes endorse always ranked alto problem mailman ounce teacher bumpy\n",
+    errors: b"",
+    status: 0,
+};
+
 const REFUSED_PLAN: Example = Example {
     words: &["shamir", "create", "1of3", "--master-secret", SECRET],
     input: b"",
@@ -92,6 +112,8 @@ pub fn example_of(letter: u8) -> Option<Example> {
         b'r' => Some(RECOVER),
         b'c' => Some(CREATE),
         b'd' => Some(DRILL),
+        b't' => Some(STATUS),
+        b'i' => Some(REISSUE),
         b'p' => Some(REFUSED_PLAN),
         b'w' => Some(REFUSED_WORDS),
         _ => None,
@@ -118,15 +140,30 @@ fn create_one<R: Read, W: Write>(
     run_create(&plan, &secret, b"TREZOR", options, input, output)
 }
 
+fn reissue_one<R: Read, W: Write>(
+    input: &mut Counting<R>,
+    output: &mut Counting<W>,
+) -> Result<(), Fault>
+    requires readable { input.old.failures < u64.MAX }
+    requires writable { output.old.failures < u64.MAX }
+{
+    let (Ok(plan), Ok(names)) = (Plan::parse("2/2of4,1of1,1of1"), parse_names(b"0.3")) else {
+        return Ok(());
+    };
+    run_reissue(&plan, &names, input, output)
+}
+
 /// Runs the command of a letter; whether it ends without a fault.
 pub fn run_of<R: Read + Drop, W: Write + Drop>(letter: u8, input: R, output: W) -> bool {
     let mut input = Counting::new(input);
     let mut output = Counting::new(output);
     match letter {
         b'S' => run_show(&mut input, &mut output).is_ok(),
-        b'R' => run_recover(b"TREZOR", &mut input, &mut output).is_ok(),
+        b'R' => run_recover(SecretForm::Digits, b"TREZOR", &mut input, &mut output).is_ok(),
         b'C' => create_one(&mut input, &mut output).is_ok(),
-        b'D' => run_drill(b"TREZOR", None, 1000, &mut input, &mut output).is_ok(),
+        b'D' => run_drill(SecretForm::Digits, b"TREZOR", None, 1000, &mut input, &mut output).is_ok(),
+        b'T' => run_status(&mut input, &mut output).is_ok(),
+        b'I' => reissue_one(&mut input, &mut output).is_ok(),
         _ => false,
     }
 }

@@ -66,7 +66,8 @@ module _ (asked : Asked) (random : List ℕ) where
 
     cause_once : (error other : CreateError) → IsCreation asked random (Err error)
         → IsCreation asked random (Err other) → error ≡ other
-    cause_once (Passphrase a) (Passphrase b) r s = ap (λ (p : ℕ). Passphrase (record { position = p })) (one_position asked.passphrase a.position b.position r s)
+    cause_once (Passphrase a) (Passphrase b) r s =
+        ap (λ (p : ℕ). Passphrase (record { position = p })) (one_position asked.passphrase a.position b.position r s)
     cause_once (Passphrase a) (SecretLength b) r s = absurd (no_position asked.passphrase a.position s.0 r)
     cause_once (Passphrase a) (BadRandomLength n) r s = absurd (no_position asked.passphrase a.position s.0 r)
     cause_once (SecretLength a) (Passphrase b) r s = absurd (no_position asked.passphrase b.position r.0 s)

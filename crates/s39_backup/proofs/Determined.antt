@@ -1,5 +1,6 @@
 -- Which points determine a member, and the share of a name that a set has or hasn't.
-use Rattle.std.proofs.Common.{◌≡◌, ℕ, ◌+◌, ◌*◌, ◌/◌, ◌%◌, ◌<◌, ◌≤◌, ◌==◌, false, List, [], ◌∷◌, length, get_or, take, find, map, All, Contains, Option, Some, None}
+use Rattle.std.proofs.Common.{◌≡◌, ℕ, ◌+◌, ◌*◌, ◌/◌, ◌%◌, ◌<◌, ◌≤◌, ◌==◌, false, List, [], ◌∷◌, length, get_or, take, find, map, All, Contains, Option, Some}
+use Rattle.std.proofs.Common.{None}
 use Rattle.std.proofs.Common.{Result, Ok, Err, inl, inr, ◌⊎◌, refl, sym, ap, subst, ◌∙◌, arith}
 use Rattle.std.specs.Prelude.{IfSome}
 use Rattle.std.specs.List.{slice_get}
@@ -19,7 +20,8 @@ use Rattle.s39_backup.specs.declared.combination.Mismatch.TheVariants.{InGroup}
 use Rattle.s39_backup.specs.declared.reissue_error.ReissueError.{ReissueError}
 use Rattle.s39_backup.specs.declared.reissue_error.ReissueError.TheVariants.{Undetermined, DigestMismatch}
 use Rattle.s39_backup.specs.Reissuing.{IsValueBy}
-use Rattle.s39_backup.specs.Reissue.{members_at_hand, least_members, other_groups, IsOneShort, AreByOthers, ArePoints, IsValue, IsMissing, IsReissue, share_like}
+use Rattle.s39_backup.specs.Reissue.{members_at_hand, least_members, other_groups, IsOneShort, AreByOthers, ArePoints, IsValue, IsMissing, IsReissue}
+use Rattle.s39_backup.specs.Reissue.{share_like}
 
 -- ---- points
 

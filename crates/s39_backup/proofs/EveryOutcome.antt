@@ -47,7 +47,7 @@ record HaveGroupShares (set : List ShareFields) (names : Names) (groups : List �
   pub bytes : All (λ share. AreBytes share.1) shares
 
 -- What a quorum combines to, as long as the values of the set.
-record HasCombination (set : List ShareFields) (names : Names) : Type 0 where
+pub record HasCombination (set : List ShareFields) (names : Names) : Type 0 where
   pub combination : Result (List ℕ) Mismatch
   pub is_combination : IsCombination set names combination
   pub as_long : IfOk combination (λ encrypted. length encrypted ≡ value_bytes_of set)
@@ -154,7 +154,7 @@ module _ (set : List ShareFields) (names : Names) (quorum : IsExactQuorum set na
       }
 
   -- a quorum combines to something
-  has_combination : HasCombination set names
+  pub has_combination : HasCombination set names
   has_combination =
       let have : All (λ group. 0 < length (names_in_group group names)) (groups_of names) =
       λ k d within. ltb-true 0 _ (filter_passes (λ group. nat_lt 0 (length (names_in_group group names))) (range_with_len 0 most_groups) k d within) in

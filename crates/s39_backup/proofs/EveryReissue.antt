@@ -37,7 +37,8 @@ use Rattle.s39_backup.proofs.Determined.{points_enough, points_short, at_hand_is
 -- the values of a set are of one length
 values_as_long : (set : List ShareFields) → IsShareSet set → (s : ShareFields) → Contains set s → length s.value.items ≡ value_bytes_of set
 values_as_long [] is s among = absurd (Contains-nil s among)
-values_as_long (t ∷ ts) is s among = (All-contains (Agrees s) (t ∷ ts) t (All-contains (λ x. All (Agrees x) (t ∷ ts)) (t ∷ ts) s is.agree among) (0, omega arith, refl)).value_length
+values_as_long (t ∷ ts) is s among =
+    (All-contains (Agrees s) (t ∷ ts) t (All-contains (λ x. All (Agrees x) (t ∷ ts)) (t ∷ ts) s is.agree among) (0, omega arith, refl)).value_length
 
 -- points of bytes, at least one, each at a place of its own and all of one length, complete to something
 module _ (complete : PointsComplete) (bytes : ℕ) (points : List (ℕ × List ℕ)) (level : ArePointsOfOneLevel bytes points)
@@ -151,7 +152,8 @@ module _ (combine : SharesCombine) (complete : PointsComplete) (like : SecretsAr
       by : AreShares others ⊎ Refuses others → HasGroupShare others group
       by (inr (index, refused)) = record { result = Err (InGroup index); is = refused; as_long = tt; bytes = tt }
       by (inl shares) =
-          let ready = groups_level set others shares.shares complete_others some shares.each shares.lengths (groups_long set others is_set complete_others some) in
+          let ready =
+          groups_level set others shares.shares complete_others some shares.each shares.lengths (groups_long set others is_set complete_others some) in
           let (outcome, is) = completion complete (value_bytes_of set) shares.shares ready shares.bytes group in
           told outcome is ready
         where

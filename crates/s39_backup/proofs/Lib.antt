@@ -30,3 +30,4 @@ pub mod OneReissue
 pub mod MissingValues
 pub mod EveryReissue
 pub mod DeterminedNames
+pub mod OutcomeRanges

@@ -61,11 +61,13 @@ module _ (group : ℕ) where
   as_below index share other = elim (cases_Bool (share.group_index == group)) [
     | inl same ↦ (
         let differs : share.member_index ≢ index = λ here.
-        let b : has_name group index share ≡ true = and_from (share.group_index == group) (share.member_index == index) same (eq-eqb share.member_index index here) in
+        let b : has_name group index share ≡ true =
+        and_from (share.group_index == group) (share.member_index == index) same (eq-eqb share.member_index index here) in
         let both : true ≡ false = sym b ∙ other in
         cc in
         elim (cases_lt share.member_index index) [
-          | inl less ↦ ap (λ b. (share.group_index == group) && b) (lt-ltb share.member_index (index + 1) (omega arith) ∙ sym (lt-ltb share.member_index index less))
+          | inl less ↦
+              ap (λ b. (share.group_index == group) && b) (lt-ltb share.member_index (index + 1) (omega arith) ∙ sym (lt-ltb share.member_index index less))
           | inr more ↦
               let above : index + 1 ≤ share.member_index = omega (arith, differs) in
               ap (λ b. (share.group_index == group) && b) (le-ltb share.member_index (index + 1) above ∙ sym (le-ltb share.member_index index more))
@@ -87,7 +89,8 @@ module _ (group : ℕ) where
         and_from (s.group_index == group) (nat_lt s.member_index (index + 1)) parts.0 (lt-ltb s.member_index (index + 1) (omega arith)) in
         let before : is_below index s ≡ false =
         and_right (s.group_index == group) (nat_lt s.member_index index) (le-ltb s.member_index index (omega arith)) in
-        let none_more : filter (is_below (index + 1)) ss ≡ [] = filter-none (is_below (index + 1)) ss (none_later index (index + 1) s ss (omega arith) here later) in
+        let none_more : filter (is_below (index + 1)) ss ≡ [] =
+        filter-none (is_below (index + 1)) ss (none_later index (index + 1) s ss (omega arith) here later) in
         let none_before : filter (is_below index) ss ≡ [] = filter-none (is_below index) ss (none_later index index s ss (omega arith) here later) in
         let left : filter (is_below (index + 1)) (s ∷ ss) ≡ s ∷ [] =
         cond-true (is_below (index + 1) s) (s ∷ filter (is_below (index + 1)) ss) (filter (is_below (index + 1)) ss) more ∙ ap (λ xs. s ∷ xs) none_more in
@@ -124,14 +127,16 @@ module _ (group : ℕ) where
   pub below_none : (set : List ShareFields) → members_below set group 0 ≡ []
   below_none set =
       ap (map point_of) (filter-none (is_below 0) set
-      (λ k d within. and_right ((get_or set k d).group_index == group) (nat_lt (get_or set k d).member_index 0) (le-ltb (get_or set k d).member_index 0 (omega arith))))
+      (λ k d within.
+      and_right ((get_or set k d).group_index == group) (nat_lt (get_or set k d).member_index 0) (le-ltb (get_or set k d).member_index 0 (omega arith))))
 
   pub below_all : (set : List ShareFields) → All IsShare set → members_below set group most_members ≡ members_at_hand set group
   below_all set each =
       ap (map point_of) (filter_alike (is_below most_members) (is_in_group group) set
       (λ k d within.
       let low = (each k d within).member_index in
-      ap (λ b. ((get_or set k d).group_index == group) && b) (lt-ltb (get_or set k d).member_index most_members low) ∙ and_true ((get_or set k d).group_index == group)))
+      ap (λ b. ((get_or set k d).group_index == group) && b) (lt-ltb (get_or set k d).member_index most_members low)
+      ∙ and_true ((get_or set k d).group_index == group)))
     where
       and_true : (b : Bool) → (b && true) ≡ b
       and_true true = refl

@@ -22,7 +22,8 @@ use Rattle.s39_backup.specs.declared.combination.Mismatch.TheVariants.{InGroup, 
 use Rattle.s39_backup.specs.declared.reissue_error.ReissueError.{ReissueError}
 use Rattle.s39_backup.specs.declared.reissue_error.ReissueError.TheVariants.{Undetermined, DigestMismatch}
 use Rattle.s39_backup.specs.Plan.{IsPlan, IsGroup}
-use Rattle.s39_backup.specs.Reissue.{members_at_hand, least_members, is_at_hand, other_groups, LeastCombine, EachCombines, TellGroup, IsRefusedFirst, IsGroupShare}
+use Rattle.s39_backup.specs.Reissue.{members_at_hand, least_members, is_at_hand, other_groups, LeastCombine, EachCombines, TellGroup, IsRefusedFirst}
+use Rattle.s39_backup.specs.Reissue.{IsGroupShare}
 use Rattle.s39_backup.specs.Reissue.{IsOneShort, AreByOthers, ArePoints, IsValue, share_like, IsMissing, IsReissue}
 use Rattle.s39_backup.specs.Reissuing.{AreComplete}
 use Rattle.s39_backup.specs.GroupShares.{AreOfOneLevel}
@@ -228,7 +229,8 @@ module _ (combine_once : SharesCombineOnce) (complete_once : PointsCompleteOnce)
           let positive = is_group.positive in
           let most = is_group.enough.few in
           let counted = is_group.enough.enough in
-          let level : AreOfOneLevel _ (least_members set (group, members)) = least_level set is_set group members.threshold (omega arith) enough (omega arith) in
+          let level : AreOfOneLevel _ (least_members set (group, members)) =
+          least_level set is_set group members.threshold (omega arith) enough (omega arith) in
           subst (λ ps. (0 < length ps) × All (λ p. p.0 < 256) ps × AllPairs (λ p q. p.0 ≢ q.0) ps) (sym are)
           (level.some, (λ k d within. let l = level.indices k d within in omega arith), level.distinct))
     ]

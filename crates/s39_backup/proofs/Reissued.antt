@@ -5,7 +5,8 @@ use Rattle.std.specs.Prelude.{IsSomeAnd}
 use Rattle.std.specs.List.{enumerate_from, slice_get}
 use Rattle.std.proofs.lemmas.Bool.{and_parts, cases_eq, cases_lt, eqb-true, leb-true}
 use Rattle.std.proofs.lemmas.List.{length-take-le}
-use Rattle.std.proofs.lemmas.List.Elements.{All-nil, All-cons, All-head, All-tail, All-map, All-take, All-filter, All-contains, All-contains_itself, filter_passes}
+use Rattle.std.proofs.lemmas.List.Elements.{All-nil, All-cons, All-head, All-tail, All-map, All-take, All-filter, All-contains, All-contains_itself}
+use Rattle.std.proofs.lemmas.List.Elements.{filter_passes}
 use Rattle.std.proofs.lemmas.List.Elements.{Contains-append_right}
 use Rattle.std.proofs.lemmas.List.FromFn.{length-enumerate_from, get_or-enumerate_from}
 use Rattle.std.proofs.lemmas.Option.{slice_get-get_or, slice_get_within}
@@ -301,7 +302,8 @@ module _ (set : List ShareFields) (is_set : IsShareSet set) (passphrase secret :
         | inl few ↦ elim short_or_not [
           | inl short ↦ (
               let (share, is_share, points_are) = are.one_short short in
-              let same : Some share ≡ Some (split group members group_is).share = told complete as_points group members group_is short.1 (Some share) is_share in
+              let same : Some share ≡ Some (split group members group_is).share =
+              told complete as_points group members group_is short.1 (Some share) is_share in
               let share_is : share ≡ (split group members group_is).share = some_same share (split group members group_is).share same in
               by_share short.0 (subst AreBytes share_is (told_bytes complete as_points group members group_is short.1 share low is_share)) outcome
               (subst (λ s. Completes members.threshold ((secret_place, s) ∷ at_hand) member outcome) share_is

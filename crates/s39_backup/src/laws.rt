@@ -1,5 +1,5 @@
 //! Facts about the definitions, each the contract of a function that does nothing.
-ghost use Rattle.std.specs.Prelude.{◌≡◌, ℕ, List, length, map, All, Contains, Result, Ok, Err, None, replicate};
+ghost use Rattle.std.specs.Prelude.{◌≡◌, ℕ, ◌<◌, List, length, map, All, Contains, Result, Ok, Err, None, replicate};
 ghost use Rattle.s39_kdf.specs.Bytes.{AreBytes};
 ghost use Rattle.s39_kdf.specs.Limits.{longest_secret, IsSecretLength};
 ghost use Rattle.s39_set.specs.Names.{Name, Names, most_groups, most_members};
@@ -14,6 +14,7 @@ ghost use Rattle.s39_words.specs.Share.{IsShare};
 ghost use Rattle.s39_set.specs.ShareSet.{IsShareSet, name_of, refusal_of};
 ghost use Rattle.s39_set.specs.Quorums.{IsQuorum, MeetsThresholds};
 ghost use Rattle.s39_backup.specs.declared.combination.Mismatch.{Mismatch};
+ghost use Rattle.s39_backup.specs.declared.combination.Mismatch.TheVariants.{InGroup};
 ghost use Rattle.s39_backup.specs.Combination.{IsCombination};
 ghost use Rattle.s39_backup.specs.Outcome.{IsOutcome};
 ghost use Rattle.s39_backup.specs.Memo.{most_kept};
@@ -175,6 +176,21 @@ pub fn every_quorum_has_an_outcome()
     shares_combine();
     secrets_are_like_their_shares();
     one_encryption();
+}
+
+/// What a quorum of a share set recovers is as long as a secret may be, and a mismatch names a group that there may be.
+pub fn outcomes_in_range()
+    ensures secret { (set : List ShareFields) (names : Names) (passphrase secret : List ℕ)
+        → IsShareSet set → IsQuorum set names → IsOutcome set names passphrase (Ok secret)
+        → IsSecretLength (length secret) }
+    ensures group { (set : List ShareFields) (names : Names) (passphrase : List ℕ) (group : ℕ)
+        → IsOutcome set names passphrase (Err (InGroup group)) → group < most_groups }
+{
+    quorums_are_exact();
+    one_combination();
+    shares_combine();
+    secrets_are_like_their_shares();
+    encryption_keeps_length_and_bytes();
 }
 
 /// Every quorum of shares of a created backup combines to its encrypted secret.

@@ -1,3 +1,5 @@
 mod Outputs
 mod OneAnswer
+mod OneReissue
 mod MostExponents
+mod Rooms

@@ -1,5 +1,6 @@
 -- What calls give of the same things, and of what was in memory, is one answer and one memory.
-use Rattle.std.proofs.Common.{◌≡◌, ◌≢◌, ℕ, ◌<◌, ◌^◌, Bool, true, List, [], ◌∷◌, ◌++◌, length, drop, length-append, refl, sym, ap, ap₂, subst, ◌∙◌, inl, inr, arith}
+use Rattle.std.proofs.Common.{◌≡◌, ◌≢◌, ℕ, ◌<◌, ◌^◌, Bool, true, List, [], ◌∷◌, ◌++◌, length, drop, length-append, refl, sym, ap, ap₂, subst, ◌∙◌, inl, inr}
+use Rattle.std.proofs.Common.{arith}
 use Rattle.std.proofs.Common.{Option, Some, None, Result, Ok, Err}
 use Rattle.std.proofs.Math.Bridge.{le_prop}
 use Rattle.std.proofs.lemmas.List.{get_or_append_left}
@@ -22,6 +23,7 @@ use Rattle.s39_tool.specs.declared.fault.Fault.{Fault}
 use Rattle.s39_tool.specs.declared.listing.Listing.{Listing}
 use Rattle.s39_tool.specs.declared.slices.Unwritten.{Unwritten}
 use Rattle.s39_tool.specs.declared.slices.Unwritten.TheVariants.{Refused, TooShort as SliceTooShort}
+use Rattle.s39_tool.specs.declared.secret_form.SecretForm.TheVariants.{Digits}
 use Rattle.s39_tool.specs.Input.{Input, whole}
 use Rattle.s39_tool.specs.Create.{IsCreateOutput}
 use Rattle.s39_tool.specs.Drill.{IsDrillOutput}
@@ -37,7 +39,7 @@ use Rattle.s39_c.specs.Recovering.{GivesSecret}
 use Rattle.s39_c.specs.Drilling.{GivesListing, IsCursor, GivesDrill}
 
 -- the same bytes are given in one way
-gives_once : (bytes old new other : List ℕ) (answer another : ShamirAnswer) → Gives bytes old new answer → Gives bytes old other another
+pub gives_once : (bytes old new other : List ℕ) (answer another : ShamirAnswer) → Gives bytes old new answer → Gives bytes old other another
     → (new ≡ other) × (answer ≡ another)
 gives_once bytes old new other answer another (inl (fits, is, says)) (inl (also, same, too)) = (is ∙ sym same, says ∙ sym too)
 gives_once bytes old new other answer another (inl (fits, is, says)) (inr (long, same, too)) = absurd (omega (arith, fits, long))
@@ -74,7 +76,8 @@ module _ (one_reading : (text : List ℕ) (r s : Result ShareFields WordError) �
       → (first ≡ second) × (new ≡ other) × (answer ≡ another)
   share_once line header first second old new other answer another (inl (f, reads, has, gives)) (inl (g, reads', has', gives')) =
       let same : g ≡ f = same_fields g f (one_reading line (Ok g) (Ok f) reads' reads) in
-      let given = gives_once f.value.items old new other answer another gives (subst (λ (h : ShareFields). Gives h.value.items old other another) same gives') in (
+      let given =
+      gives_once f.value.items old new other answer another gives (subst (λ (h : ShareFields). Gives h.value.items old other another) same gives') in (
         same_header f old header first second has (subst (λ (h : ShareFields). HasHeader h old header second) same has'),
         given.0,
         given.1,
@@ -199,7 +202,7 @@ front_bytes : (front rest : List ℕ) → AreBytes (front ++ rest) → AreBytes 
 front_bytes front rest bytes k d within =
     subst (λ (b : ℕ). b < 256) (get_or_append_left front rest d k within) (bytes k d (omega (arith, within, length-append front rest)))
 
-secret_given_once : (s t old new other : List ℕ) (answer another : ShamirAnswer) → AreBytes new → AreBytes other → secret_line s ≡ secret_line t
+secret_given_once : (s t old new other : List ℕ) (answer another : ShamirAnswer) → AreBytes new → AreBytes other → secret_line Digits s ≡ secret_line Digits t
     → Gives s old new answer → Gives t old other another → (new ≡ other) × (answer ≡ another)
 secret_given_once s t old new other answer another bytes others same (inl (fits, is, says)) (inl (fits', is', says')) =
     let secrets : t ≡ s = same_secret t s (front_bytes t (drop (length t) old) (subst AreBytes is' others))
@@ -214,18 +217,18 @@ secret_given_once s t old new other answer another bytes others same (inr (long,
     (is ∙ sym is', says ∙ ap too_short (same_size s t same) ∙ sym says')
 
 module _ (one_recover_output : (passphrase : List ℕ) (input : Input) (text other : List ℕ) (answer another : Result (Unit {0}) Fault)
-    → IsRecoverOutput passphrase input text answer → IsRecoverOutput passphrase input other another → (text ≡ other) × (answer ≡ another)) where
+    → IsRecoverOutput Digits passphrase input text answer → IsRecoverOutput Digits passphrase input other another → (text ≡ other) × (answer ≡ another)) where
   pub secret_once : (passphrase lines old new other : List ℕ) (answer another : ShamirAnswer) → AreBytes new → AreBytes other
-      → GivesSecret (IsRecoverOutput passphrase (whole lines)) old new answer
-      → GivesSecret (IsRecoverOutput passphrase (whole lines)) old other another → (new ≡ other) × (answer ≡ another)
+      → GivesSecret (IsRecoverOutput Digits passphrase (whole lines)) old new answer
+      → GivesSecret (IsRecoverOutput Digits passphrase (whole lines)) old other another → (new ≡ other) × (answer ≡ another)
   secret_once passphrase lines old new other answer another bytes others (inl (s, output, gives)) (inl (t, output', gives')) =
-      let same = (one_recover_output passphrase (whole lines) (secret_line s) (secret_line t) (Ok tt) (Ok tt) output output').0 in
+      let same = (one_recover_output passphrase (whole lines) (secret_line Digits s) (secret_line Digits t) (Ok tt) (Ok tt) output output').0 in
       secret_given_once s t old new other answer another bytes others same gives gives'
   secret_once passphrase lines old new other answer another bytes others (inl (s, output, gives)) (inr (fault, output', is, says)) =
-      let same = (one_recover_output passphrase (whole lines) (secret_line s) [] (Ok tt) (Err fault) output output').1 in
+      let same = (one_recover_output passphrase (whole lines) (secret_line Digits s) [] (Ok tt) (Err fault) output output').1 in
       absurd (cc)
   secret_once passphrase lines old new other answer another bytes others (inr (fault, output', is, says)) (inl (s, output, gives)) =
-      let same = (one_recover_output passphrase (whole lines) (secret_line s) [] (Ok tt) (Err fault) output output').1 in
+      let same = (one_recover_output passphrase (whole lines) (secret_line Digits s) [] (Ok tt) (Err fault) output output').1 in
       absurd (cc)
   secret_once passphrase lines old new other answer another bytes others (inr (fault, output, is, says)) (inr (fault', output', is', says')) =
       let same = (one_recover_output passphrase (whole lines) [] [] (Err fault) (Err fault') output output').1 in
@@ -255,22 +258,22 @@ answer_of (Err cause) = unwritten cause
 
 module _ (one_listing_in_a_slice : (passphrase : List ℕ) (after : Option Names) (limit : ℕ) (input : Input) (old new other : List ℕ)
     (answer another : Result Listing Unwritten)
-    → Lists (λ n. IsDrillOutput passphrase after n input) limit old new answer
-    → Lists (λ n. IsDrillOutput passphrase after n input) limit old other another → (new ≡ other) × (answer ≡ another))
+    → Lists (λ n. IsDrillOutput Digits passphrase after n input) limit old new answer
+    → Lists (λ n. IsDrillOutput Digits passphrase after n input) limit old other another → (new ≡ other) × (answer ≡ another))
     (written_once : (text : List ℕ) (names others : Names) → IsWrittenForm text names → IsWrittenForm text others → names ≡ others)
     (passphrase lines : List ℕ) where
   -- what is put into a slice, and the answer for it
   puts : (after : Option Names) (limit : ℕ) (old new : List ℕ) (answer : ShamirAnswer)
-      → GivesListing (λ n. IsDrillOutput passphrase after n (whole lines)) limit old new answer
-      → (result : Result Listing Unwritten) × Lists (λ n. IsDrillOutput passphrase after n (whole lines)) limit old new result
+      → GivesListing (λ n. IsDrillOutput Digits passphrase after n (whole lines)) limit old new answer
+      → (result : Result Listing Unwritten) × Lists (λ n. IsDrillOutput Digits passphrase after n (whole lines)) limit old new result
       × (answer ≡ answer_of result)
   puts after limit old new answer (inl (listing, fits, says)) = (Ok listing, fits, says)
   puts after limit old new answer (inr (inl (short, is_short, is, says))) = (Err (SliceTooShort short), (is_short, is), says)
   puts after limit old new answer (inr (inr (fault, output, is, says))) = (Err (Refused fault), (output, is), says)
 
   listing_once : (after : Option Names) (limit : ℕ) (old new other : List ℕ) (answer another : ShamirAnswer)
-      → GivesListing (λ n. IsDrillOutput passphrase after n (whole lines)) limit old new answer
-      → GivesListing (λ n. IsDrillOutput passphrase after n (whole lines)) limit old other another → (new ≡ other) × (answer ≡ another)
+      → GivesListing (λ n. IsDrillOutput Digits passphrase after n (whole lines)) limit old new answer
+      → GivesListing (λ n. IsDrillOutput Digits passphrase after n (whole lines)) limit old other another → (new ≡ other) × (answer ≡ another)
   listing_once after limit old new other answer another is also =
       let (result, lists, says) = puts after limit old new answer is in
       let (result', lists', says') = puts after limit old other another also in
@@ -290,8 +293,8 @@ module _ (one_listing_in_a_slice : (passphrase : List ℕ) (after : Option Names
   no_form cursor (Some names) is some none = none names is
 
   pub drill_once : (cursor : List ℕ) (limit : ℕ) (old new other : List ℕ) (answer another : ShamirAnswer)
-      → GivesDrill (λ names n. IsDrillOutput passphrase names n (whole lines)) cursor limit old new answer
-      → GivesDrill (λ names n. IsDrillOutput passphrase names n (whole lines)) cursor limit old other another → (new ≡ other) × (answer ≡ another)
+      → GivesDrill (λ names n. IsDrillOutput Digits passphrase names n (whole lines)) cursor limit old new answer
+      → GivesDrill (λ names n. IsDrillOutput Digits passphrase names n (whole lines)) cursor limit old other another → (new ≡ other) × (answer ≡ another)
   drill_once cursor limit old new other answer another (inl (zero, is, says)) (inl (zero', is', says')) = (is ∙ sym is', says ∙ sym says')
   drill_once cursor limit old new other answer another (inl (zero, is, says)) (inr (inl some)) = absurd (omega (arith, zero, some.0))
   drill_once cursor limit old new other answer another (inl (zero, is, says)) (inr (inr some)) = absurd (omega (arith, zero, some.0))
@@ -305,5 +308,5 @@ module _ (one_listing_in_a_slice : (passphrase : List ℕ) (after : Option Names
       absurd (no_form cursor after is_cursor full none)
   drill_once cursor limit old new other answer another (inr (inr (some, after, is_cursor, gives))) (inr (inr (some', after', is_cursor', gives'))) =
       listing_once after limit old new other answer another gives
-      (subst (λ (a : Option Names). GivesListing (λ n. IsDrillOutput passphrase a n (whole lines)) limit old other another)
+      (subst (λ (a : Option Names). GivesListing (λ n. IsDrillOutput Digits passphrase a n (whole lines)) limit old other another)
       (cursor_once cursor after' after is_cursor' is_cursor) gives')

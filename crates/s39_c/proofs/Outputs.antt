@@ -1,17 +1,49 @@
--- What a drill gives where it is refused, and of mnemonics of a created backup.
-use Rattle.std.proofs.Common.{◌≡◌, ◌+◌, ℕ, List, [], inl, inr}
+-- What calls give, by what is put into a slice; and what a drill gives where it is refused, and of mnemonics of a created backup.
+use Rattle.std.proofs.Common.{◌≡◌, ◌+◌, ℕ, List, [], ap, ◌∙◌, inl, inr}
 use Rattle.std.specs.Prelude.{Option, Result, Ok, Err}
 use Rattle.s39_set.specs.Names.{Names}
 use Rattle.s39_tool.specs.declared.drill.Done.{Done}
 use Rattle.s39_tool.specs.declared.fault.Fault.{Fault}
 use Rattle.s39_tool.specs.declared.slices.Unwritten.{Unwritten}
 use Rattle.s39_tool.specs.declared.slices.Unwritten.TheVariants.{Refused, TooShort}
-use Rattle.s39_tool.specs.Slices.{Lists}
+use Rattle.s39_tool.specs.declared.status.WrittenStatus.{WrittenStatus}
+use Rattle.s39_set.specs.declared.status.Status.{Status}
+use Rattle.s39_tool.specs.declared.secret_form.SecretForm.TheVariants.{Digits}
+use Rattle.s39_tool.specs.Slices.{Puts, PutsStatus, Lists}
 use Rattle.s39_tool.specs.Input.{Input}
 use Rattle.s39_tool.specs.Drill.{IsDrillOutput, DrillsCreated}
 use Rattle.s39_c.specs.declared.answer.ShamirAnswer.{ShamirAnswer}
-use Rattle.s39_c.specs.Answers.{unwritten}
+use Rattle.s39_c.specs.Answers.{GivesOutput, done, counted, too_short, unwritten}
 use Rattle.s39_c.specs.Drilling.{GivesListing}
+use Rattle.s39_c.specs.Status.{GivesStatus}
+
+-- the answer for what is put into a slice, or isn't
+abbrev pub answer_of : Result ℕ Unwritten → ShamirAnswer
+answer_of (Ok written) = done written
+answer_of (Err cause) = unwritten cause
+
+-- what a command writes
+pub gives_puts : (IsOutput : List ℕ → Result (Unit {0}) Fault → Type 0) (old new : List ℕ) (result : Result ℕ Unwritten) (answer : ShamirAnswer)
+    → Puts IsOutput old new result → answer ≡ answer_of result → GivesOutput IsOutput old new answer
+gives_puts IsOutput old new (Ok written) answer (text, output, front, bytes) is =
+    inl (text, output, inl (front.fits, front.bytes, is ∙ ap done bytes))
+gives_puts IsOutput old new (Err (TooShort short)) answer (text, output, needed, long, same) is =
+    inl (text, output, inr (long, same, is ∙ ap too_short needed))
+gives_puts IsOutput old new (Err (Refused fault)) answer (output, same) is = inr (fault, output, same, is)
+
+-- the answer for a status that is put into a slice, or isn't
+abbrev pub status_answer_of : Result WrittenStatus Unwritten → ShamirAnswer
+status_answer_of (Ok told) = counted told.written told.status
+status_answer_of (Err cause) = unwritten cause
+
+-- a status
+pub gives_status : (IsOutput : List ℕ → Result Status Fault → Type 0) (old new : List ℕ) (result : Result WrittenStatus Unwritten)
+    (answer : ShamirAnswer) → PutsStatus IsOutput old new result → answer ≡ status_answer_of result → GivesStatus IsOutput old new answer
+gives_status IsOutput old new (Ok told) answer (text, output, front, bytes) is =
+    inl (text, told.status, output, front, is ∙ ap (λ n. counted n told.status) bytes)
+gives_status IsOutput old new (Err (TooShort short)) answer (text, status, output, needed, long, same) is =
+    inr (inl (text, status, output, long, same, is ∙ ap too_short needed))
+gives_status IsOutput old new (Err (Refused fault)) answer (output, same) is = inr (inr (fault, output, same, is))
 
 -- why nothing is listed, as it is answered
 pub gives_refusal : (IsOutput : ℕ → List ℕ → Result Done Fault → Type 0) (limit : ℕ) (old new : List ℕ) (cause : Unwritten) (answer : ShamirAnswer)
@@ -20,14 +52,14 @@ gives_refusal IsOutput limit old new (Refused fault) answer (output, same) is = 
 gives_refusal IsOutput limit old new (TooShort short) answer (is_short, same) is = inr (inl (short, is_short, same, is))
 
 module _ (created_backups_drill : (passphrase : List ℕ) (after : Option Names) (limit : ℕ) (input : Input) (text : List ℕ)
-    (answer : Result Done Fault) → IsDrillOutput passphrase after limit input text answer → DrillsCreated passphrase after limit input text answer)
+    (answer : Result Done Fault) → IsDrillOutput Digits passphrase after limit input text answer → DrillsCreated Digits passphrase after limit input text answer)
     (passphrase : List ℕ) (after : Option Names) (input : Input) (limit : ℕ) (old new : List ℕ) (answer : ShamirAnswer) where
-  created : (n : ℕ) (text : List ℕ) (answer : Result Done Fault) → IsDrillOutput passphrase after n input text answer
-      → DrillsCreated passphrase after n input text answer
+  created : (n : ℕ) (text : List ℕ) (answer : Result Done Fault) → IsDrillOutput Digits passphrase after n input text answer
+      → DrillsCreated Digits passphrase after n input text answer
   created n = created_backups_drill passphrase after n input
 
-  pub gives_created : GivesListing (λ n. IsDrillOutput passphrase after n input) limit old new answer
-      → GivesListing (λ n. DrillsCreated passphrase after n input) limit old new answer
+  pub gives_created : GivesListing (λ n. IsDrillOutput Digits passphrase after n input) limit old new answer
+      → GivesListing (λ n. DrillsCreated Digits passphrase after n input) limit old new answer
   gives_created (inl (listing, fits, is)) = inl (
     listing,
     record {

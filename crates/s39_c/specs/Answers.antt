@@ -1,11 +1,12 @@
 -- What calls answer, and what memory has after them.
-use Rattle.std.specs.Prelude.{◌≡◌, ◌⊎◌, ℕ, ◌<◌, ◌≤◌, List, ◌++◌, length, drop, Option, Some, None}
+use Rattle.std.specs.Prelude.{◌≡◌, ◌⊎◌, ℕ, ◌<◌, ◌≤◌, List, [], ◌++◌, length, drop, Option, Some, None, Result, Ok, Err}
 use Rattle.s39_refusal.specs.declared.cause.Cause.{Cause}
 use Rattle.s39_refusal.specs.Causes.{cause}
 use Rattle.s39_kdf.specs.Causes.{length_cause}
 use Rattle.s39_words.specs.declared.word_error.WordError.{WordError}
 use Rattle.s39_words.specs.Reading.{cause_of as word_cause_of}
-use Rattle.s39_set.specs.Causes.{cursor_cause}
+use Rattle.s39_set.specs.Causes.{cursor_cause, names_cause}
+use Rattle.s39_set.specs.declared.status.Status.{Status}
 use Rattle.s39_backup.specs.declared.plan_error.PlanError.{PlanError}
 use Rattle.s39_backup.specs.Plan.{plan_cause_of}
 use Rattle.s39_tool.specs.declared.fault.Fault.{Fault}
@@ -58,6 +59,14 @@ length_refused n = refusal (length_cause n) 0
 abbrev pub cursor_refused : ShamirAnswer
 cursor_refused = refusal cursor_cause 0
 
+-- a text is no list of names
+abbrev pub names_refused : ShamirAnswer
+names_refused = refusal names_cause 0
+
+-- nothing is refused, so many bytes are written, and so many groups are complete of so many that are needed
+abbrev pub counted : ℕ → Status → ShamirAnswer
+counted n status = record { code = 0; mismatches = 0; line = 0; first = status.complete; second = status.required; written = n }
+
 -- nothing is refused, so many bytes are written, and so many of the quorums in them are refused for a digest
 abbrev pub listed : ℕ → ℕ → ShamirAnswer
 listed n mismatches = record { code = 0; mismatches = mismatches; line = 0; first = 0; second = 0; written = n }
@@ -76,3 +85,9 @@ abbrev pub Gives : List ℕ → List ℕ → List ℕ → ShamirAnswer → Type 
 Gives bytes old new answer =
     ((length bytes ≤ length old) × (new ≡ bytes ++ drop (length bytes) old) × (answer ≡ done (length bytes)))
     ⊎ ((length old < length bytes) × (new ≡ old) × (answer ≡ too_short (length bytes)))
+
+-- What a command with these outputs writes, or the refusal that it answers, and then the slice is as it was.
+abbrev pub GivesOutput : (List ℕ → Result (Unit {0}) Fault → Type 0) → List ℕ → List ℕ → ShamirAnswer → Type 0
+GivesOutput IsOutput old new answer =
+    ((text : List ℕ) × IsOutput text (Ok tt) × Gives text old new answer)
+    ⊎ ((fault : Fault) × IsOutput [] (Err fault) × (new ≡ old) × (answer ≡ refused fault))

@@ -4,5 +4,7 @@ pub mod Creating
 pub mod Exponents
 pub mod Recovering
 pub mod Drilling
+pub mod Reissuing
+pub mod Status
 pub mod Telling
 pub mod Version

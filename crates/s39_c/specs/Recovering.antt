@@ -1,6 +1,7 @@
 -- What `shamir_recover` gives.
 use Rattle.std.specs.Prelude.{◌≡◌, ◌⊎◌, ℕ, List, [], Result, Ok, Err}
 use Rattle.s39_tool.specs.declared.fault.Fault.{Fault}
+use Rattle.s39_tool.specs.declared.secret_form.SecretForm.TheVariants.{Digits}
 use Rattle.s39_tool.specs.Recover.{secret_line}
 use Rattle.s39_c.specs.declared.answer.ShamirAnswer.{ShamirAnswer}
 use Rattle.s39_c.specs.Answers.{Gives, refused}
@@ -9,5 +10,5 @@ use Rattle.s39_c.specs.Answers.{Gives, refused}
 -- recovery with these outputs.
 abbrev pub GivesSecret : (List ℕ → Result (Unit {0}) Fault → Type 0) → List ℕ → List ℕ → ShamirAnswer → Type 0
 GivesSecret IsOutput old new answer =
-    ((secret : List ℕ) × IsOutput (secret_line secret) (Ok tt) × Gives secret old new answer)
+    ((secret : List ℕ) × IsOutput (secret_line Digits secret) (Ok tt) × Gives secret old new answer)
     ⊎ ((fault : Fault) × IsOutput [] (Err fault) × (new ≡ old) × (answer ≡ refused fault))

@@ -1,11 +1,11 @@
 //! What a call answers.
 ghost use Rattle.std.specs.Prelude.{◌≡◌, ℕ};
-ghost use Rattle.s39_c.specs.Answers.{done, number, too_short, out_of_range, high_exponent, refusal, plan_refused, cursor_refused, word_refused, refused};
+ghost use Rattle.s39_c.specs.Answers.{done, number, counted, too_short, out_of_range, high_exponent, refusal, plan_refused, cursor_refused, names_refused, word_refused, refused};
 
 use s39_backup::PlanError;
 use s39_refusal::Cause;
-use s39_set::BadCursor;
-use s39_tool::{Fault, Unwritten};
+use s39_set::{BadCursor, BadNames};
+use s39_tool::{Fault, Unwritten, WrittenStatus};
 use s39_words::WordError;
 
 /// The code of a slice that is too short for what would be written.
@@ -28,9 +28,9 @@ pub struct ShamirAnswer {
     /// The line that is refused, counted from 1, or 0.
     pub line: u64,
     /// The first detail of the refusal: a position, a number, or a group, of a digest's mismatch 16 for the group shares;
-    /// or the number that is asked for; or 0.
+    /// or the number that is asked for; or, of a status, how many groups are complete; or 0.
     pub first: u64,
-    /// Its second detail, or 0.
+    /// Its second detail; or, of a status, how many groups are needed; or 0.
     pub second: u64,
     /// How many bytes are written.
     pub written: u64,
@@ -81,6 +81,17 @@ impl ShamirAnswer {
             ..ShamirAnswer::done(0)
         }
     }
+
+    /// The status of lines is written, and these are the numbers of its first line.
+    pub(crate) fn counted(told: WrittenStatus) -> ShamirAnswer
+        ensures { result ≡ counted told.written told.status }
+    {
+        ShamirAnswer {
+            first: u64::from(told.status.complete),
+            second: u64::from(told.status.required),
+            ..ShamirAnswer::done(told.written)
+        }
+    }
 }
 
 impl From<PlanError> for ShamirAnswer {
@@ -95,6 +106,14 @@ impl From<BadCursor> for ShamirAnswer {
     ghost from_gives = { λ error answer. answer ≡ cursor_refused };
 
     fn from(error: BadCursor) -> ShamirAnswer {
+        refusal(error.cause(), 0)
+    }
+}
+
+impl From<BadNames> for ShamirAnswer {
+    ghost from_gives = { λ error answer. answer ≡ names_refused };
+
+    fn from(error: BadNames) -> ShamirAnswer {
         refusal(error.cause(), 0)
     }
 }

@@ -1,6 +1,7 @@
 //! The drill.
 ghost use Rattle.std.specs.Option.{option_copied};
 ghost use Rattle.std.specs.Prelude.{◌≤◌};
+ghost use Rattle.s39_tool.specs.declared.secret_form.SecretForm.TheVariants.{Digits};
 ghost use Rattle.s39_tool.specs.Drill.{IsDrillOutput, DrillsCreated};
 ghost use Rattle.s39_tool.specs.Input.{whole};
 ghost use Rattle.s39_c.specs.Drilling.{GivesListing, GivesDrill};
@@ -30,11 +31,11 @@ pub extern "C" fn shamir_drill(
     text: &mut [u8],
 ) -> ShamirAnswer
     ensures drills { UpTo max_exponent lines.now text.old text.new result
-        (GivesDrill (λ names n. IsDrillOutput passphrase.now names n (whole lines.now))
+        (GivesDrill (λ names n. IsDrillOutput Digits passphrase.now names n (whole lines.now))
         after.now limit text.old text.new result) }
     // Of mnemonics of a created backup, with the passphrase of the creation: just the quorums, each with its secret.
     ensures complete { UpTo max_exponent lines.now text.old text.new result
-        (GivesDrill (λ names n. DrillsCreated passphrase.now names n (whole lines.now))
+        (GivesDrill (λ names n. DrillsCreated Digits passphrase.now names n (whole lines.now))
         after.now limit text.old text.new result) }
 {
     match exponent_above(max_exponent, lines) {
@@ -45,9 +46,9 @@ pub extern "C" fn shamir_drill(
 
 /// Drills lines, whatever their exponent.
 fn drill(lines: &[u8], passphrase: &[u8], after: &[u8], limit: u32, text: &mut [u8]) -> ShamirAnswer
-    ensures drills { GivesDrill (λ names n. IsDrillOutput passphrase.now names n (whole lines.now))
+    ensures drills { GivesDrill (λ names n. IsDrillOutput Digits passphrase.now names n (whole lines.now))
         after.now limit text.old text.new result }
-    ensures complete { GivesDrill (λ names n. DrillsCreated passphrase.now names n (whole lines.now))
+    ensures complete { GivesDrill (λ names n. DrillsCreated Digits passphrase.now names n (whole lines.now))
         after.now limit text.old text.new result }
 {
     created_backups_drill();
@@ -73,7 +74,7 @@ fn give_listing(
 ) -> ShamirAnswer
     requires { 1 ≤ limit }
     ensures { GivesListing
-        (λ n. IsDrillOutput passphrase.now (option_copied after.entry) n (whole lines.now))
+        (λ n. IsDrillOutput Digits passphrase.now (option_copied after.entry) n (whole lines.now))
         limit text.old text.new result }
 {
     match drill_lines(passphrase, after, limit, lines, text) {

@@ -58,13 +58,3 @@ fn looks_at_the_exponent_of_a_quorum_alone(rt: HostRuntime) {
     let none = shamir_recover(b"", b"", 0, &mut secret);
     assert_eq!(rt; none, answer(29, 0, 0, 0));
 }
-
-#[test]
-fn tells_its_version(rt: HostRuntime) {
-    let mut text = [7; 6];
-    let done = shamir_version(&mut text);
-    assert_eq!(rt; done, answer(0, 0, 0, 5));
-    assert_eq!(rt; text, *b"1.0.0\x07");
-    let short = shamir_version(&mut text[..4]);
-    assert_eq!(rt; short, answer(1, 5, 0, 0));
-}

@@ -7,9 +7,12 @@ mod creating;
 mod drilling;
 mod exponent;
 pub mod laws;
+pub mod lengths;
 mod memory;
 mod parsing;
 mod recovering;
+mod reissuing;
+mod status;
 mod telling;
 mod version;
 
@@ -18,10 +21,16 @@ pub use creating::{shamir_create, shamir_random_needed};
 pub use drilling::shamir_drill;
 pub use parsing::{ShamirShare, shamir_parse};
 pub use recovering::shamir_recover;
+pub use reissuing::shamir_reissue;
+pub use status::shamir_status;
 pub use telling::shamir_text;
 pub use version::shamir_version;
 
 #[cfg(test)]
 mod exponent_tests;
+#[cfg(test)]
+mod reissue_tests;
+#[cfg(test)]
+mod telling_tests;
 #[cfg(test)]
 mod tests;

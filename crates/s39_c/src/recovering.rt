@@ -1,4 +1,5 @@
 //! The recovery of a secret.
+ghost use Rattle.s39_tool.specs.declared.secret_form.SecretForm.TheVariants.{Digits};
 ghost use Rattle.s39_tool.specs.Input.{whole};
 ghost use Rattle.s39_tool.specs.OfBackup.{RecoversCreated};
 ghost use Rattle.s39_tool.specs.Recover.{IsRecoverOutput};
@@ -23,10 +24,10 @@ pub extern "C" fn shamir_recover(
     secret: &mut [u8],
 ) -> ShamirAnswer
     ensures recovers { UpTo max_exponent lines.now secret.old secret.new result
-        (GivesSecret (IsRecoverOutput passphrase.now (whole lines.now)) secret.old secret.new result) }
+        (GivesSecret (IsRecoverOutput Digits passphrase.now (whole lines.now)) secret.old secret.new result) }
     // Of mnemonics of a created backup, with the passphrase of the creation: its secret, or why they have no quorum.
     ensures created { UpTo max_exponent lines.now secret.old secret.new result
-        (GivesSecret (RecoversCreated passphrase.now (whole lines.now)) secret.old secret.new result) }
+        (GivesSecret (RecoversCreated Digits passphrase.now (whole lines.now)) secret.old secret.new result) }
 {
     match exponent_above(max_exponent, lines) {
         Some(exponent) => ShamirAnswer::high_exponent(exponent),
@@ -36,9 +37,9 @@ pub extern "C" fn shamir_recover(
 
 /// Recovers the secret of lines, whatever their exponent.
 fn recover(lines: &[u8], passphrase: &[u8], secret: &mut [u8]) -> ShamirAnswer
-    ensures recovers { GivesSecret (IsRecoverOutput passphrase.now (whole lines.now))
+    ensures recovers { GivesSecret (IsRecoverOutput Digits passphrase.now (whole lines.now))
         secret.old secret.new result }
-    ensures created { GivesSecret (RecoversCreated passphrase.now (whole lines.now))
+    ensures created { GivesSecret (RecoversCreated Digits passphrase.now (whole lines.now))
         secret.old secret.new result }
 {
     created_backups_recover();

@@ -48,9 +48,8 @@ fn answer_text(answer: &ShamirAnswer) -> AnswerText {
         TOO_SHORT => AnswerText::TooShort(answer.first),
         OUT_OF_RANGE => AnswerText::OutOfRange,
         HIGH_EXPONENT => AnswerText::HighExponent(answer.first),
-        // The library reads and writes by no device, and no call of it computes missing shares.
+        // The library reads and writes by no device.
         code::READ_FAILED | code::WRITE_FAILED => AnswerText::Unknown,
-        code::NOT_IN_PLAN | code::OTHER_PLAN | code::UNDETERMINED => AnswerText::Unknown,
         _ => match RefusalText::of(Cause::new(code, answer.first, answer.second)) {
             Some(text) => AnswerText::Refused(text),
             None => AnswerText::Unknown,

@@ -244,66 +244,6 @@ fn refuses_lines(rt: HostRuntime) {
 }
 
 #[test]
-fn tells(rt: HostRuntime) {
-    let cases: [(ShamirAnswer, &[u8]); 35] = [
-        (refusal(0, 0, 0, 0), b"done"),
-        (refusal(1, 0, 715, 0), b"slice too short: 715 bytes needed"),
-        (refusal(2, 0, 0, 0), b"number out of range"),
-        (refusal(3, 0, 15, 0), b"exponent 15 above the most"),
-        (refusal(11, 3, 2, 0), b"unknown word 2"),
-        (refusal(12, 3, 19, 0), b"19 words make no share"),
-        (refusal(13, 3, 0, 0), b"bad checksum"),
-        (refusal(14, 3, 0, 0), b"bad padding"),
-        (refusal(15, 3, 0, 0), b"group threshold above group count"),
-        (refusal(21, 2, 0, 0), b"other identifier"),
-        (refusal(22, 2, 0, 0), b"other extendable flag"),
-        (refusal(23, 2, 0, 0), b"other exponent"),
-        (refusal(24, 2, 0, 0), b"other group threshold"),
-        (refusal(25, 2, 0, 0), b"other group count"),
-        (refusal(26, 2, 0, 0), b"other length"),
-        (refusal(27, 2, 15, 0), b"other member threshold in group 15"),
-        (refusal(28, 2, 3, 12), b"conflicting share 3.12"),
-        (refusal(29, 0, 0, 0), b"no shares"),
-        (refusal(30, 0, 0, 1), b"incomplete: 0 of 1 groups"),
-        (refusal(31, 0, 0, 0), b"bad plan"),
-        (refusal(32, 0, 0, 0), b"bad number of groups in plan"),
-        (
-            refusal(33, 0, 14, 0),
-            b"bad number of members in plan group 14",
-        ),
-        (refusal(34, 0, 13, 0), b"one of many in plan group 13"),
-        (refusal(41, 0, 5, 0), b"passphrase byte 5 not printable"),
-        (refusal(42, 0, 17, 0), b"secret of 17 bytes"),
-        (refusal(43, 0, 26, 0), b"random bytes: 26 needed"),
-        (refusal(51, 0, 15, 0), b"digest mismatch in group 15"),
-        (refusal(51, 0, 16, 0), b"digest mismatch of groups"),
-        (refusal(61, 0, 0, 0), b"bad cursor"),
-        (refusal(62, 0, 0, 0), b"cursor is no quorum"),
-        (refusal(71, 4, 0, 0), b"line too long"),
-        (refusal(4, 0, 0, 0), b"unknown answer"),
-        (refusal(65, 0, 0, 0), b"unknown answer"),
-        (refusal(72, 0, 0, 0), b"unknown answer"),
-        (refusal(27, 2, 256, 0), b"unknown answer"),
-        (refusal(28, 2, 3, 256), b"unknown answer"),
-    ];
-    for (answer, told) in cases {
-        let mut text = [7; 64];
-        let written = told.len() as u64;
-        let none = shamir_text(&answer, &mut []);
-        assert_eq!(rt; none, refusal(1, 0, written, 0));
-        let given = shamir_text(&answer, &mut text);
-        assert_eq!(rt;
-            given,
-            ShamirAnswer {
-                written,
-                ..refusal(0, 0, 0, 0)
-            }
-        );
-        assert!(rt; text.starts_with(told));
-    }
-}
-
-#[test]
 fn drills(rt: HostRuntime) {
     let parts: [(&[u8], u32, &[u8]); 4] = [
         (

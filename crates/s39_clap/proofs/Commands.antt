@@ -1,11 +1,14 @@
 -- The words of a subcommand, from those of its arguments.
-use Rattle.std.proofs.Common.{◌≡◌, ℕ, ◌∙◌, ◌&&◌, Bool, cond, true, false, List, [], ◌∷◌, ◌++◌, find, Option, Some, ap, append-nil, is_some, option_map, refl, sym}
+use Rattle.std.proofs.Common.{◌≡◌, ℕ, ◌∙◌, ◌&&◌, Bool, cond, true, false, List, [], ◌∷◌, ◌++◌, find, Option, Some, ap, append-nil, is_some, option_map, refl}
+use Rattle.std.proofs.Common.{sym}
 use Rattle.std.specs.List.{fold, list_all}
 use Rattle.std.specs.Option.{option_map_or}
 use Rattle.std.proofs.lemmas.Bool.{and_from}
-use Rattle.clap.specs.Walk.{Names, Row, Text, Walk, after_step, answers_to, finished, idle, nothing_held, rows_after, subcommand_met, subcommand_or_other, walk, walk_from, walked, with_default}
+use Rattle.clap.specs.Walk.{Names, Row, Text, Walk, after_step, answers_to, finished, idle, nothing_held, rows_after, subcommand_met, subcommand_or_other, walk}
+use Rattle.clap.specs.Walk.{walk_from, walked, with_default}
 use Rattle.clap.specs.Simple.{App, Shape, built, entered, is_simple, label_of, names_of, rows_at, subcommand_of}
-use Rattle.clap.specs.Takes.{built_takes, default_passes, entered_passes, is_valid, level_passes, other_passes, settle_passes, step_passes, takes, turn_passes, walk_passes}
+use Rattle.clap.specs.Takes.{built_takes, default_passes, entered_passes, is_valid, level_passes, other_passes, settle_passes, step_passes, takes, turn_passes}
+use Rattle.clap.specs.Takes.{walk_passes}
 use Rattle.clap.proofs.WalkLemmas.{walk_stopped}
 use Rattle.s39_clap.proofs.Options.{Leads, standing}
 use Rattle.s39_clap.proofs.Readings.{Reads}

@@ -1,14 +1,17 @@
 -- How the words of an option are read, in front of any others.
-use Rattle.std.proofs.Common.{◌≡◌, ◌∙◌, ◌==◌, ◌&&◌, ◌||◌, ℕ, Bool, cond, true, false, not, List, [], ◌∷◌, ◌++◌, codes, Option, Some, None, ap, append_assoc, inl, inr, is_some, nat_lt, refl, subst, sym}
+use Rattle.std.proofs.Common.{◌≡◌, ◌∙◌, ◌==◌, ◌&&◌, ◌||◌, ℕ, Bool, cond, true, false, not, List, [], ◌∷◌, ◌++◌, codes, Option, Some, None, ap, append_assoc}
+use Rattle.std.proofs.Common.{inl, inr, is_some, nat_lt, refl, subst, sym}
 use Rattle.std.specs.List.{fold}
 use Rattle.std.specs.Option.{option_map_or}
 use Rattle.std.specs.Str.{bytes_eq}
 use Rattle.std.proofs.lemmas.Bool.{and_from, eqb-true}
 use Rattle.std.proofs.lemmas.Slice.Eq.{bytes_eq-Decides}
 use Rattle.clap.specs.Lexer.{long_of, short_of}
-use Rattle.clap.specs.Walk.{Held, Rule, Step, Text, Waiting, Walk, after_flag, after_step, arg_by_id, arg_by_long, flag_met, idle, long_met, long_or_other, most_values, next, option, option_met, option_word, reacted, settled, short_or_plain, trailing, used, used_by_id, walked, word_met}
+use Rattle.clap.specs.Walk.{Held, Rule, Step, Text, Waiting, Walk, after_flag, after_step, arg_by_id, arg_by_long, flag_met, idle, long_met, long_or_other}
+use Rattle.clap.specs.Walk.{most_values, next, option, option_met, option_word, reacted, settled, short_or_plain, trailing, used, used_by_id, walked, word_met}
 use Rattle.clap.specs.Simple.{Shape}
-use Rattle.clap.specs.Takes.{bundle_passes, flag_word_passes, long_passes, option_passes, react_passes, settle_passes, step_passes, turn_passes, use_passes, walk_passes, word_passes}
+use Rattle.clap.specs.Takes.{bundle_passes, flag_word_passes, long_passes, option_passes, react_passes, settle_passes, step_passes, turn_passes, use_passes}
+use Rattle.clap.specs.Takes.{walk_passes, word_passes}
 use Rattle.s39_clap.specs.Options.{AreOptionWords, HasNoDash, joined_word, name_word}
 
 -- between two words, where nothing waits for a value

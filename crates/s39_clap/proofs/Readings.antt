@@ -2,7 +2,9 @@
 use Rattle.std.proofs.Common.{◌≡◌, ◌∙◌, ◌+◌, ◌&&◌, ◌||◌, ℕ, Bool, cond, true, false, List, [], ◌∷◌, ◌++◌, Option, Some, None, ap, min, refl}
 use Rattle.std.specs.Option.{option_map_or}
 use Rattle.clap.specs.Lexer.{long_of, usize_max}
-use Rattle.clap.specs.Walk.{Held, Row, Rule, Step, Text, Walk, after_step, arg_by_id, arg_by_index, idle, is_multiple, is_pending, long_or_other, nothing_held, positional, pushed, settled, short_or_plain, takes_several, to_positional, trailing, used, used_by_id, value, walk_from, walked, word_met}
+use Rattle.clap.specs.Walk.{Held, Row, Rule, Step, Text, Walk, after_step, arg_by_id, arg_by_index, idle, is_multiple, is_pending, long_or_other, nothing_held}
+use Rattle.clap.specs.Walk.{positional, pushed, settled, short_or_plain, takes_several, to_positional, trailing, used, used_by_id, value, walk_from, walked}
+use Rattle.clap.specs.Walk.{word_met}
 use Rattle.clap.specs.Simple.{Shape}
 use Rattle.clap.specs.Takes.{bundle_passes, flag_word_passes, settle_passes, step_passes, turn_passes, use_passes, word_passes}
 use Rattle.s39_clap.specs.Options.{AreOptionWords, HasNoDash}

@@ -1,47 +1,49 @@
 -- What the program gives by its words, from how it ends.
-use Rattle.std.proofs.Common.{◌≡◌, ◌≢◌, ◌∙◌, ℕ, suc, List, [], codes, Option, Some, None, IfSome, arith, inl, inr, refl, subst, sym, true}
-use Rattle.std.proofs.lemmas.Option.{IfSome_then}
+use Rattle.std.proofs.Common.{◌≡◌, ◌≢◌, ◌∙◌, ℕ, suc, List, [], codes, Option, Some, None, arith, inl, inr, refl, subst, sym, true}
 use Rattle.std.specs.Io.KnownBytes.{Appends}
 use Rattle.clap.specs.Words.{Row, Text, takes}
 use Rattle.s39_set.specs.Names.{Names}
 use Rattle.s39_set.specs.Written.{IsWrittenForm}
-use Rattle.s39_backup.specs.declared.plan_error.PlanError.{PlanError}
 use Rattle.s39_tool.specs.Input.{whole}
 use Rattle.s39_cli.specs.declared.command.Job.{Job}
 use Rattle.s39_cli.specs.declared.command.Job.TheVariants as job
 use Rattle.s39_cli.specs.declared.runner.Ended.{Ended}
 use Rattle.s39_cli.specs.declared.runner.Ended.TheVariants.{With, NoMemory}
 use Rattle.s39_cli.specs.Command.{Gives, GivesJob, shamir_app}
-use Rattle.s39_cli.specs.Ending.{Delivers, DoesJob, Ends, EndsAs, IsOutcome, OnEnd}
-use Rattle.s39_cli.specs.Headline.{AreCreateWords, AreDrillWords, AreRecoverWords, CreatedWordsRecover, DrillWordsList, DrillsBackup, GivesSecret, IsLimit, RecoverWordsRecover, RecoversBackup, WordsWrite, limit_of}
-use Rattle.s39_cli.specs.Outcome.{HasBadCursor, HasBadPlan, HasBadSecret}
+use Rattle.s39_cli.specs.Ending.{AreAllOf, Delivers, DoesJob, Ends, EndsAs, IsOutcome, OnEnd}
+use Rattle.s39_cli.specs.Headline.{AreCreateWords, AreDrillWords, AreRecoverWords, CreatedWordsRecover, DrillWordsList, DrillsBackup, GivesSecret, IsLimit}
+use Rattle.s39_cli.specs.Headline.{RecoverWordsRecover, RecoversBackup, WordsWrite, limit_of}
+use Rattle.s39_cli.specs.Outcome.{IsReady}
 use Rattle.s39_cli.proofs.Deliveries.{Delivers-map}
 use Rattle.s39_cli.proofs.Headlines.{other_text}
-use Rattle.s39_cli.proofs.Words.{IsDrillFound, IsRecoverFound, create_words_are_taken, drill_found, drill_words_are_taken, recover_found, recover_words_are_taken}
-
--- the job can be begun
-abbrev IsReady : Job → Type 0
-IsReady j = (HasBadSecret j → ⊥) × (((error : PlanError) × HasBadPlan j error) → ⊥) × (HasBadCursor j → ⊥)
+use Rattle.s39_cli.proofs.Words.{IsDrillFound, IsRecoverFound, create_words_are_taken, drill_found, drill_words_are_taken, recover_found}
+use Rattle.s39_cli.proofs.Words.{recover_words_are_taken}
 
 drill_ready : (p q n name : Text) (rows : List Row) (names : Names) → IsDrillFound p q n name rows → IsWrittenForm q names → (j : Job)
     → Gives name rows j → IsReady j
-drill_ready p q n name rows names found form job.Show gives = (λ b. b, λ b. b.1, λ b. b)
+drill_ready p q n name rows names found form job.Show gives = (λ b. b, λ b. b.1, λ b. b, λ b. b)
 drill_ready p q n name rows names found form (job.Create t s w e x) gives =
     absurd (other_text (codes "drill") (codes "create") refl (sym found.name_is ∙ gives.0))
-drill_ready p q n name rows names found form (job.Recover t) gives = (λ b. b, λ b. b.1, λ b. b)
-drill_ready p q n name rows names found form (job.Drill t None k) gives = (λ b. b, λ b. b.1, λ b. b)
+drill_ready p q n name rows names found form (job.Recover t) gives = (λ b. b, λ b. b.1, λ b. b, λ b. b)
+drill_ready p q n name rows names found form (job.Drill t None k) gives = (λ b. b, λ b. b.1, λ b. b, λ b. b)
 drill_ready p q n name rows names found form (job.Drill t (Some after) k) gives =
     let given : Some after.now ≡ Some q = gives.2 ∙ found.after_is in
     let same : after.now ≡ q = cc in
-    (λ b. b, λ b. b.1, λ b. b names (subst (λ (x : Text). IsWrittenForm x names) (sym same) form))
+    (λ b. b, λ b. b.1, λ b. b names (subst (λ (x : Text). IsWrittenForm x names) (sym same) form), λ b. b)
+drill_ready p q n name rows names found form job.Status gives = (λ b. b, λ b. b.1, λ b. b, λ b. b)
+drill_ready p q n name rows names found form (job.Reissue t g) gives =
+    absurd (other_text (codes "drill") (codes "reissue") refl (sym found.name_is ∙ gives.0))
 
 recover_ready : (p name : Text) (rows : List Row) → IsRecoverFound p name rows → (j : Job) → Gives name rows j → IsReady j
-recover_ready p name rows found job.Show gives = (λ b. b, λ b. b.1, λ b. b)
+recover_ready p name rows found job.Show gives = (λ b. b, λ b. b.1, λ b. b, λ b. b)
 recover_ready p name rows found (job.Create t s w e x) gives =
     absurd (other_text (codes "recover") (codes "create") refl (sym found.name_is ∙ gives.0))
-recover_ready p name rows found (job.Recover t) gives = (λ b. b, λ b. b.1, λ b. b)
+recover_ready p name rows found (job.Recover t) gives = (λ b. b, λ b. b.1, λ b. b, λ b. b)
 recover_ready p name rows found (job.Drill t after k) gives =
     absurd (other_text (codes "recover") (codes "drill") refl (sym found.name_is ∙ gives.0))
+recover_ready p name rows found job.Status gives = (λ b. b, λ b. b.1, λ b. b, λ b. b)
+recover_ready p name rows found (job.Reissue t g) gives =
+    absurd (other_text (codes "recover") (codes "reissue") refl (sym found.name_is ∙ gives.0))
 
 not_zero : (s m : ℕ) → s ≡ 0 → s ≡ suc m → ⊥
 not_zero s m none some = omega arith
@@ -64,7 +66,8 @@ module _ {R W : Type 0} (remaining : R → Option (List ℕ)) (contents : W → 
         go j gives (inl bad) = absurd ((is_ready j gives).0 bad.0)
         go j gives (inr (inl bad)) = absurd ((is_ready j gives).1 bad.0)
         go j gives (inr (inr (inl bad))) = absurd ((is_ready j gives).2 bad.0)
-        go j gives (inr (inr (inr delivers))) = by_job j gives delivers
+        go j gives (inr (inr (inr (inl bad)))) = absurd ((is_ready j gives).3 bad.0)
+        go j gives (inr (inr (inr (inr does)))) = by_job j gives does.1
 
     -- words of a job that is done
     done : status ≡ 0 → Delivers remaining contents (WordsWrite words) reader writer status read_to written_to
@@ -75,7 +78,8 @@ module _ {R W : Type 0} (remaining : R → Option (List ℕ)) (contents : W → 
         go j gives (inl bad) = absurd (not_zero status 1 none bad.1.0)
         go j gives (inr (inl bad)) = absurd (not_zero status 0 none bad.1.0)
         go j gives (inr (inr (inl bad))) = absurd (not_zero status 0 none bad.1.0)
-        go j gives (inr (inr (inr delivers))) = by_job j gives delivers
+        go j gives (inr (inr (inr (inl bad)))) = absurd (not_zero status 0 none bad.1.0)
+        go j gives (inr (inr (inr (inr does)))) = by_job j gives does.1
 
     recovery : (p : Text) → AreRecoverWords p words → Delivers remaining contents (WordsWrite words) reader writer status read_to written_to
     recovery p are = ready (λ j gives. recover_ready p gives.0 gives.1 (recover_found p words gives.0 gives.1 are gives.2) j gives.3)
@@ -103,19 +107,20 @@ pub created_recovers : {R V S W : Type 0} (remaining : R → Option (List ℕ)) 
     (empty filled : V) (backup backup_left : S) (output written : W) (status : ℕ) (text : List ℕ) → AreCreateWords plan secret passphrase creating
     → AreRecoverWords passphrase recovering → EndsAs remaining held creating random empty 0 random_left filled
     → EndsAs left contents recovering backup output status backup_left written → held empty ≡ Some [] → held filled ≡ Some text → left backup ≡ Some text
-    → IfSome (remaining random) (λ bytes. status ≢ 3 → (line : List ℕ) × GivesSecret secret line status × Appends (contents output) (contents written) line)
+    → status ≢ 3 → (line : List ℕ) × GivesSecret secret line status × Appends (contents output) (contents written) line
 created_recovers remaining held left contents law plan secret passphrase creating recovering random random_left empty filled backup backup_left output written
-    status text are also created recovered is_empty is_filled is_left =
+    status text are also created recovered is_empty is_filled is_left other =
     let creation = done remaining held creating random empty 0 random_left filled created (create_words_are_taken plan secret passphrase creating are) refl in
     let recovery_is = recovery left contents recovering backup output status backup_left written recovered
     (recover_words_are_taken passphrase recovering also) passphrase also in
-    IfSome_then (remaining random) (creation.done (λ three. not_zero 0 2 refl three)) (λ bytes w other.
-    let same : Appends (Some []) (Some text) w.0 = subst (λ (a : Option (List ℕ)). Appends a (Some text) w.0) is_empty
-    (subst (λ (b : Option (List ℕ)). Appends (held empty) b w.0) is_filled w.2) in
-    let got = subst (λ (l : Option (List ℕ)). IfSome l (λ given. (line : List ℕ) × WordsWrite recovering (whole given) line status
-    × Appends (contents output) (contents written) line)) is_left (recovery_is.done other) in
-    let wrote = subst (λ (t : List ℕ). WordsWrite creating (whole bytes) t 0) (sym same) w.1 in
-    (got.0, law plan secret passphrase creating recovering (whole bytes) text got.0 status are also wrote got.1, got.2))
+    let w = creation.done (λ three. not_zero 0 2 refl three) in
+    let same : Appends (Some []) (Some text) w.2.0 = subst (λ (a : Option (List ℕ)). Appends a (Some text) w.2.0) is_empty
+    (subst (λ (b : Option (List ℕ)). Appends (held empty) b w.2.0) is_filled w.2.2) in
+    let got = recovery_is.done other in
+    let given : got.0 ≡ text = subst (λ (l : Option (List ℕ)). AreAllOf l got.0) is_left got.1 in
+    let reads = subst (λ (t : List ℕ). WordsWrite recovering (whole t) got.2.0 status) given got.2.1 in
+    let wrote = subst (λ (t : List ℕ). WordsWrite creating (whole w.0) t 0) (sym same) w.2.1 in
+    (got.2.0, law plan secret passphrase creating recovering (whole w.0) text got.2.0 status are also wrote reads, got.2.2)
 
 -- a creation that is done, and the program with the words of a recovery, which reads what that wrote
 pub created_then_recovers : {R V W : Type 0} (remaining : R → Option (List ℕ)) (held : V → Option (List ℕ)) (contents : W → Option (List ℕ))
@@ -123,8 +128,8 @@ pub created_then_recovers : {R V W : Type 0} (remaining : R → Option (List ℕ
     → EndsAs remaining held creating random empty status random_left filled → status ≡ 0 → held empty ≡ Some [] → held filled ≡ Some text
     → (recovery : Ended V W) → Ends held contents recovering filled output recovery → (plan secret passphrase : Text)
     → AreCreateWords plan secret passphrase creating → AreRecoverWords passphrase recovering
-    → OnEnd recovery (λ ended read_to written_to. IfSome (remaining random) (λ bytes. ended ≢ 3
-    → (line : List ℕ) × GivesSecret secret line ended × Appends (contents output) (contents written_to) line))
+    → OnEnd recovery (λ ended read_to written_to. ended ≢ 3
+    → (line : List ℕ) × GivesSecret secret line ended × Appends (contents output) (contents written_to) line)
 created_then_recovers remaining held contents law creating recovering random random_left empty filled output status text created none is_empty is_filled
     NoMemory recovered plan secret passphrase are also = tt
 created_then_recovers remaining held contents law creating recovering random random_left empty filled output status text created none is_empty is_filled

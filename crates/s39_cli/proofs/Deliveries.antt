@@ -1,6 +1,6 @@
 -- What a run leaves in the writer behind a buffer.
-use Rattle.std.proofs.Common.{◌≡◌, ◌≢◌, ◌⊎◌, ◌++◌, ◌∙◌, ℕ, suc, zero, List, [], Option, Some, None, IfSome, Result, Ok, Err, ap, arith, inl, inr, refl, subst, sym, append_assoc, append-nil, false}
-use Rattle.std.proofs.lemmas.Option.{IfSome_then}
+use Rattle.std.proofs.Common.{◌≡◌, ◌≢◌, ◌⊎◌, ◌++◌, ◌∙◌, ℕ, suc, zero, Bool, List, [], Option, Some, None, IfSome, Result, Ok, Err, ap, arith, inl, inr, refl}
+use Rattle.std.proofs.Common.{subst, sym, append_assoc, append-nil, false, true}
 use Rattle.std.specs.Io.KnownBytes.{Appends, Consumes, Keeps, append_known}
 use Rattle.std.specs.Io.Buffered.{writer_buffer, writer_contents, writer_inner}
 use Rattle.std.specs.declared.io.buffered.BufWriter.{BufWriter}
@@ -8,18 +8,17 @@ use Rattle.std.proofs.KnownBytes.{Keeps-refl}
 use Rattle.s39_tool.specs.declared.fault.Refusal.{Refusal}
 use Rattle.s39_tool.specs.declared.fault.Refusal.TheVariants.{Device}
 use Rattle.s39_tool.specs.declared.fault.Fault.{Fault}
-use Rattle.s39_tool.specs.declared.drill.Done.{Done}
 use Rattle.s39_tool.specs.Device.{Counted}
 use Rattle.s39_tool.specs.Fault.{read_failures, read_failures_in, write_failures, write_failures_in}
 use Rattle.s39_tool.specs.Input.{Input, whole}
-use Rattle.s39_tool.specs.Runs.{Runs, Writes}
+use Rattle.s39_tool.specs.Runs.{OfInput, Runs, Writes}
 use Rattle.s39_tool.proofs.Runs.Devices.{of_known, of_cut_off}
 use Rattle.s39_cli.specs.Outcome.{status_of, status_of_refusal}
-use Rattle.s39_cli.specs.Ending.{Delivers, HandsOn, HasStatus, HoldsBeginning, IsFrom}
+use Rattle.s39_cli.specs.Ending.{AreAllOf, Delivers, HandsOn, HasStatus, HoldsBeginning, IsFrom}
 
 -- an answer with another status than 3 is of no failed device
-no_failures : (a : Result Done Fault) → status_of a ≢ 3 → (read_failures a ≡ 0) × (write_failures a ≡ 0)
-no_failures (Ok done) other = (refl, refl)
+no_failures : (a : Result Bool Fault) → status_of a ≢ 3 → (read_failures a ≡ 0) × (write_failures a ≡ 0)
+no_failures (Ok is_well) other = (refl, refl)
 no_failures (Err fault) other = by_refusal fault.refusal other
   where
     by_refusal : (r : Refusal) → status_of_refusal r ≢ 3 → (read_failures_in r ≡ 0) × (write_failures_in r ≡ 0)
@@ -63,17 +62,24 @@ empty_buffer {W} {A} contents output buffered device same inner empty =
     subst (λ (b : BufWriter W A). Keeps (contents output) (writer_contents contents b)) (sym same)
     (subst (λ (w : W). Keeps (contents w) (writer_contents contents buffered)) inner kept)
 
--- what holds of all bytes, or of those that came, holds of the input
-of_input : (known left : Option (List ℕ)) (P : Input → Type 0)
-    → (IfSome known (λ bytes. P (whole bytes)) ⊎ ((came : List ℕ) × Consumes known left came × P (record { bytes = came; ended = false })))
-    → IfSome known (λ bytes. (input : Input) × IsFrom bytes left input × P input)
-of_input None left P holds = tt
-of_input (Some bytes) left P (inl all) = (whole bytes, inl refl, all)
-of_input (Some bytes) left P (inr part) = (record { bytes = part.0; ended = false }, inr (refl, part.1), part.2)
+-- what holds of all bytes that are told holds of some bytes, which are all that are told
+of_told : (told : Option (List ℕ)) (P : List ℕ → Type 0) → IfSome told P → ((bytes : List ℕ) × P bytes) → (bytes : List ℕ) × AreAllOf told bytes × P bytes
+of_told None P all some = (some.0, tt, some.1)
+of_told (Some bytes) P all some = (bytes, refl, all)
+
+-- where no read failed, it is so of all bytes
+of_all : {R : Type 0} (remaining : R → Option (List ℕ)) (first reader : Counted R) (P : Input → Type 0) → OfInput remaining first reader P
+    → reader.failures ≡ first.failures → (bytes : List ℕ) × AreAllOf (remaining first.device) bytes × P (whole bytes)
+of_all remaining first reader P of same =
+    of_told (remaining first.device) (λ bytes. P (whole bytes)) (of_known remaining first reader P of same) (elim of.so [
+      | inl d ↦ (of.came ++ [], d.whatever_follows [] true)
+      | inr (inl e) ↦ (of.came, e.of_whole)
+      | inr (inr f) ↦ (let more = f.one_failure in absurd (omega arith))
+    ])
 
 module _ {R B W : Type 0} (remaining : R → Option (List ℕ)) (held : B → Option (List ℕ)) (contents : W → Option (List ℕ))
-    (IsOutput : Input → List ℕ → Result Done Fault → Type 0) (reader read_to : Counted R) (writer written_to : Counted B)
-    (first last : W) (answer given : Result Done Fault) (runs : Runs remaining held IsOutput reader read_to writer written_to answer)
+    (IsOutput : Input → List ℕ → Result Bool Fault → Type 0) (reader read_to : Counted R) (writer written_to : Counted B)
+    (first last : W) (answer given : Result Bool Fault) (runs : Runs remaining held IsOutput reader read_to writer written_to answer)
     (start : Keeps (contents first) (held writer.device)) (hands : HandsOn (held written_to.device) (contents last) answer given) where
   beginning_of : (input : Input) → Writes held (IsOutput input) writer written_to answer
       → (text : List ℕ) × ((full : ℕ) × HasStatus IsOutput input text full) × HoldsBeginning (contents first) (contents last) text
@@ -84,54 +90,57 @@ module _ {R B W : Type 0} (remaining : R → Option (List ℕ)) (held : B → Op
   )
     where
       through : HandsOn (held written_to.device) (contents last) answer given → HoldsBeginning (contents first) (contents last) (w.written ++ w.unwritten)
-      through (inl h) = beginning_through (contents first) (held writer.device) (held written_to.device) (contents last) w.written w.unwritten [] start w.appends
+      through (inl h) =
+          beginning_through (contents first) (held writer.device) (held written_to.device) (contents last) w.written w.unwritten [] start w.appends
           (kept_whole (held written_to.device) (contents last) h.1)
-      through (inr h) = beginning_through (contents first) (held writer.device) (held written_to.device) (contents last) w.written w.unwritten h.1 start w.appends h.2
+      through (inr h) =
+          beginning_through (contents first) (held writer.device) (held written_to.device) (contents last) w.written w.unwritten h.1 start w.appends h.2
 
   all_of : given ≡ answer → Keeps (held written_to.device) (contents last) → status_of given ≢ 3
-      → IfSome (remaining reader.device) (λ bytes.
-      (text : List ℕ) × HasStatus IsOutput (whole bytes) text (status_of given) × Appends (contents first) (contents last) text)
+      → (bytes : List ℕ) × AreAllOf (remaining reader.device) bytes
+      × ((text : List ℕ) × HasStatus IsOutput (whole bytes) text (status_of given) × Appends (contents first) (contents last) text)
   all_of same kept other =
       let none = no_failures answer (λ three. other (ap status_of same ∙ three)) in
       let reads : read_to.failures ≡ reader.failures = omega (arith, runs.read_failures_are, none.0) in
       let writes : written_to.failures ≡ writer.failures = omega (arith, runs.write_failures_are, none.1) in
-      IfSome_then (remaining reader.device) (of_known remaining reader read_to (λ input. Writes held (IsOutput input) writer written_to answer) runs.output reads) (λ bytes w.
+      let all = of_all remaining reader read_to (λ input. Writes held (IsOutput input) writer written_to answer) runs.output reads in
+      let w = all.2 in
       let both = w.whole writes in
       let text_is : w.text ≡ w.written = w.parts ∙ ap (λ rest. w.written ++ rest) both.0 ∙ append-nil w.written in (
-        w.text,
-        (w.full_answer, w.output, ap status_of (same ∙ both.1)),
-        subst (Appends (contents first) (contents last)) (sym text_is)
-            (appends_through (contents first) (held writer.device) (held written_to.device) (contents last) w.written start w.appends kept),
-      ))
+        all.0,
+        all.1,
+        (
+          w.text,
+          (w.full_answer, w.output, ap status_of (same ∙ both.1)),
+          subst (Appends (contents first) (contents last)) (sym text_is)
+              (appends_through (contents first) (held writer.device) (held written_to.device) (contents last) w.written start w.appends kept),
+        ),
+      )
 
   -- a run whose output is handed on delivers it
   pub delivers : Delivers remaining contents (HasStatus IsOutput) reader.device first (status_of given) read_to.device last
   delivers = record {
     done = λ other. by_hands other hands;
-    failed = λ _. of_input (remaining reader.device) (remaining read_to.device)
-        (λ (input : Input). (text : List ℕ) × ((full : ℕ) × HasStatus IsOutput input text full) × HoldsBeginning (contents first) (contents last) text)
-        (by_reads (none_or_some (read_failures answer)));
+    failed = λ _. by_reads (none_or_some (read_failures answer));
   }
     where
       by_hands : status_of given ≢ 3 → HandsOn (held written_to.device) (contents last) answer given
-          → IfSome (remaining reader.device) (λ bytes.
-          (text : List ℕ) × HasStatus IsOutput (whole bytes) text (status_of given) × Appends (contents first) (contents last) text)
+          → (bytes : List ℕ) × AreAllOf (remaining reader.device) bytes
+          × ((text : List ℕ) × HasStatus IsOutput (whole bytes) text (status_of given) × Appends (contents first) (contents last) text)
       by_hands other (inl h) = all_of h.0 h.1 other
       by_hands other (inr h) = absurd (other (ap status_of h.0))
 
       by_reads : (read_failures answer ≡ 0) ⊎ (read_failures answer ≢ 0)
-          → IfSome (remaining reader.device) (λ bytes.
-          (text : List ℕ) × ((full : ℕ) × HasStatus IsOutput (whole bytes) text full) × HoldsBeginning (contents first) (contents last) text)
-          ⊎ ((came : List ℕ) × Consumes (remaining reader.device) (remaining read_to.device) came
-          × ((text : List ℕ) × ((full : ℕ) × HasStatus IsOutput (record { bytes = came; ended = false }) text full)
-          × HoldsBeginning (contents first) (contents last) text))
+          → (input : Input) × IsFrom (remaining reader.device) (remaining read_to.device) input
+          × ((text : List ℕ) × ((full : ℕ) × HasStatus IsOutput input text full) × HoldsBeginning (contents first) (contents last) text)
       by_reads (inl none) =
           let same : read_to.failures ≡ reader.failures = omega (arith, runs.read_failures_are, none) in
-          inl (IfSome_then (remaining reader.device) (of_known remaining reader read_to (λ input. Writes held (IsOutput input) writer written_to answer) runs.output same) (λ bytes w. beginning_of (whole bytes) w))
+          let all = of_all remaining reader read_to (λ input. Writes held (IsOutput input) writer written_to answer) runs.output same in
+          (whole all.0, inl (refl, all.1), beginning_of (whole all.0) all.2)
       by_reads (inr some) =
           let cut = of_cut_off remaining reader read_to (λ input. Writes held (IsOutput input) writer written_to answer) runs.output
           (λ same. some (omega (arith, runs.read_failures_are, same))) in
-          inr (cut.0, cut.1, beginning_of (record { bytes = cut.0; ended = false }) cut.2)
+          (record { bytes = cut.0; ended = false }, inr (refl, cut.1), beginning_of (record { bytes = cut.0; ended = false }) cut.2)
 
   -- the same of the devices behind what counts their calls
   pub delivers_behind : (input input' : R) → reader.device ≡ input → input' ≡ read_to.device
@@ -146,7 +155,6 @@ pub Delivers-map : {R W : Type 0} (remaining : R → Option (List ℕ)) (content
     → ((input : Input) (text : List ℕ) (full : ℕ) → IsOutput input text full → Follows input text full)
     → Delivers remaining contents Follows reader writer status read_to written_to
 Delivers-map remaining contents IsOutput Follows reader writer status read_to written_to delivered then = record {
-  done = λ other. IfSome_then (remaining reader) (delivered.done other) (λ bytes w. (w.0, then (whole bytes) w.0 status w.1, w.2));
-  failed = λ three. IfSome_then (remaining reader) (delivered.failed three) (λ bytes w.
-      (w.0, w.1, (w.2.0, (w.2.1.0, then w.0 w.2.0 w.2.1.0 w.2.1.1), w.2.2)));
+  done = λ other. (let w = delivered.done other in (w.0, w.1, (w.2.0, then (whole w.0) w.2.0 status w.2.1, w.2.2)));
+  failed = λ three. (let w = delivered.failed three in (w.0, w.1, (w.2.0, (w.2.1.0, then w.0 w.2.0 w.2.1.0 w.2.1.1), w.2.2)));
 }

@@ -2,19 +2,17 @@
 use Rattle.std.proofs.Common.{◌≡◌, ◌∙◌, ℕ, List, [], Option, true, true≢false, inl, inr, subst, sym}
 use Rattle.clap.specs.Words.{Text, fault_of, takes}
 use Rattle.s39_cli.specs.declared.command.Job.{Job}
-use Rattle.s39_cli.specs.declared.command.NoJob.{NoJob}
-use Rattle.s39_cli.specs.declared.command.NoJob.TheVariants as no_job
 use Rattle.s39_cli.specs.declared.runner.Ended.{Ended}
 use Rattle.s39_cli.specs.declared.runner.Ended.TheVariants.{With, NoMemory}
 use Rattle.s39_cli.specs.declared.work.Unready.{Unready}
 use Rattle.s39_cli.specs.declared.work.Unready.TheVariants as unready
 use Rattle.s39_cli.specs.declared.work.Work.{Work}
-use Rattle.s39_cli.specs.Command.{AnswersWords, AsksForText, GivesJob, shamir_app}
-use Rattle.s39_cli.specs.Ending.{Delivers, DoesJob, Ends, EndsAs, EndsUnbegun, EndsWithoutJob, HasStatus}
+use Rattle.s39_cli.specs.Command.{AsksForText, GivesJob, shamir_app}
+use Rattle.s39_cli.specs.Ending.{Delivers, DoesJob, Ends, EndsAs, EndsUnbegun, HasStatus}
 use Rattle.s39_cli.specs.Unready.{IsUnready}
 use Rattle.s39_cli.specs.Work.{IsWorkOf, IsWorkOutput}
 use Rattle.s39_cli.proofs.Deliveries.{Delivers-map}
-use Rattle.s39_cli.proofs.Works.{output_of_job}
+use Rattle.s39_cli.proofs.Works.{output_of_job, ready_of_work}
 
 -- words in which no step fails ask for no text
 asks_none : (words : List Text) → fault_of shamir_app words ≡ [] → AsksForText words → ⊥
@@ -24,21 +22,6 @@ asks_none words none (inr version) = cc
 module _ {R W : Type 0} (remaining : R → Option (List ℕ)) (contents : W → Option (List ℕ)) (words : List Text) (reader : R) (writer : W) where
   pub without_memory : (ended : Ended R W) → ended ≡ NoMemory → Ends remaining contents words reader writer ended
   without_memory ended none = subst (Ends remaining contents words reader writer) (sym none) tt
-
-  pub ends_without_job : (none : NoJob) (ended : Ended R W) → (takes shamir_app words ≡ true → none ≡ no_job.Memory) → AnswersWords none words
-      → EndsWithoutJob contents none reader writer ended → Ends remaining contents words reader writer ended
-  ends_without_job no_job.Memory ended memory answers ends = without_memory ended ends
-  ends_without_job none NoMemory memory answers ends = tt
-  ends_without_job (no_job.Help text) (With status read_to written_to) memory answers ends = record {
-    asked = λ _. ends;
-    refused = λ _ none. absurd (none answers);
-    taken = λ taken. (let bad : ⊥ = (let same = memory taken in cc) in absurd bad);
-  }
-  ends_without_job (no_job.Refused text) (With status read_to written_to) memory answers ends = record {
-    asked = λ asks. absurd (answers.1 asks);
-    refused = λ _ _. ends;
-    taken = λ taken. absurd (true≢false (sym taken ∙ answers.0));
-  }
 
   module _ (job : Job) (gives : GivesJob words job) (taken : takes shamir_app words ≡ true) (faultless : fault_of shamir_app words ≡ []) where
     pub ends_by_job : (status : ℕ) (read_to : R) (written_to : W) → DoesJob remaining contents job reader writer status read_to written_to
@@ -58,11 +41,13 @@ module _ {R W : Type 0} (remaining : R → Option (List ℕ)) (contents : W → 
         ends_by_job status read_to written_to (inr (inl ((error, is), ends)))
     ends_unbegun (unready.Cursor bad) (With status read_to written_to) is ends =
         ends_by_job status read_to written_to (inr (inr (inl (is, ends))))
+    ends_unbegun (unready.Names bad) (With status read_to written_to) is ends =
+        ends_by_job status read_to written_to (inr (inr (inr (inl (is, ends)))))
 
     pub ends_by_work : (w : Work) (status : ℕ) (read_to : R) (written_to : W) (ended : Ended R W) → IsWorkOf job w
         → Delivers remaining contents (HasStatus (IsWorkOutput w)) reader writer status read_to written_to → ended ≡ With status read_to written_to
         → Ends remaining contents words reader writer ended
     ends_by_work w status read_to written_to ended is delivers same =
         subst (Ends remaining contents words reader writer) (sym same) (ends_by_job status read_to written_to
-        (inr (inr (inr (Delivers-map remaining contents _ _ reader writer status read_to written_to delivers
-        (λ input text full out. (out.0, output_of_job job w is input text out.0 out.1, out.2)))))))
+        (inr (inr (inr (inr (ready_of_work job w is, Delivers-map remaining contents _ _ reader writer status read_to written_to delivers
+        (λ input text full out. (out.0, output_of_job job w is input text out.0 out.1, out.2))))))))

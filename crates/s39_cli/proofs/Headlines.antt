@@ -1,5 +1,6 @@
 -- What is written for the words of a drill, of a recovery and of a creation.
-use Rattle.std.proofs.Common.{◌≡◌, ◌∙◌, ◌==◌, ℕ, Bool, List, [], Bor, codes, Option, Some, None, Result, Ok, Err, arith, ap, inl, inr, if◌then◌else◌, option_map, refl, subst, sym, unwrap_or, false, true≢false}
+use Rattle.std.proofs.Common.{◌≡◌, ◌∙◌, ◌==◌, ℕ, Bool, List, [], Bor, codes, Option, Some, None, Result, Ok, Err, arith, ap, inl, inr, if◌then◌else◌}
+use Rattle.std.proofs.Common.{option_map, refl, subst, sym, unwrap_or, false, true≢false}
 use Rattle.std.specs.Str.{bytes_eq}
 use Rattle.std.specs.Str.Parse.{digits_value, without_leading_plus}
 use Rattle.std.proofs.lemmas.Slice.Eq.{bytes_eq-Decides}
@@ -15,6 +16,7 @@ use Rattle.s39_tool.specs.declared.drill.Undrilled.TheVariants.{Lack, NotAQuorum
 use Rattle.s39_tool.specs.declared.fault.Refusal.{Refusal}
 use Rattle.s39_tool.specs.declared.fault.Refusal.TheVariants.{Device}
 use Rattle.s39_tool.specs.declared.fault.Fault.{Fault}
+use Rattle.s39_tool.specs.declared.secret_form.SecretForm.TheVariants.{Digits}
 use Rattle.s39_tool.specs.Input.{Input, whole}
 use Rattle.s39_tool.specs.Accepted.{IsReadAs}
 use Rattle.s39_backup.specs.Created.{Asked}
@@ -25,8 +27,9 @@ use Rattle.s39_tool.specs.Drill.{DrillsCreated, IsDrillOutput, ListsSecretOrCaus
 use Rattle.s39_cli.specs.declared.command.Job.{Job}
 use Rattle.s39_cli.specs.declared.command.Job.TheVariants as job
 use Rattle.s39_cli.specs.Command.{Gives}
-use Rattle.s39_cli.specs.Outcome.{CreatesFrom, IsCursor, IsJobOutput, status_of, status_of_refusal, without_mismatches}
-use Rattle.s39_cli.specs.Headline.{AreRecoverWords, CreatedWordsRecover, DrillWordsList, ListsOrRefuses, RecoverWordsRecover, RecoversOrRefuses, WordsWrite, limit_of}
+use Rattle.s39_cli.specs.Outcome.{CreatesFrom, IsCursor, IsJobOutput, judged, status_of, status_of_refusal, where_done, without_mismatches}
+use Rattle.s39_cli.specs.Headline.{AreRecoverWords, CreatedWordsRecover, DrillWordsList, ListsOrRefuses, RecoverWordsRecover, RecoversOrRefuses, WordsWrite}
+use Rattle.s39_cli.specs.Headline.{limit_of}
 use Rattle.s39_cli.proofs.Words.{IsCreateFound, IsDrillFound, IsRecoverFound, create_found, drill_found, recover_found}
 
 pub other_text : (a b : Text) → bytes_eq a b ≡ false → a ≡ b → ⊥
@@ -44,22 +47,26 @@ cursor_given o t text names some same cursor =
     let c = subst (λ (x : Option (Bor Text)). IsCursor x names) some cursor in
     (c.0, c.1, subst (λ (x : Text). IsWrittenForm x c.0) same c.2)
 
-undrilled_status : (cause : Undrilled) → status_of (Err (fault_of_undrilled cause)) ≡ 1
+-- the exit status of a drill that answers so
+abbrev drill_status : Result Done Fault → ℕ
+drill_status answer = status_of (judged without_mismatches answer)
+
+undrilled_status : (cause : Undrilled) → drill_status (Err (fault_of_undrilled cause)) ≡ 1
 undrilled_status (Lack lack) = refl
 undrilled_status NotAQuorum = refl
 
 drilled : (set : List ShareFields) (secret : List ℕ) (names : Names) (limit : ℕ) (text : List ℕ) (answer : Result Done Fault) (status : ℕ)
-    → ListsSecretOrCause set secret (Some names) limit text answer → status ≡ status_of answer → ListsOrRefuses set secret names limit text status
+    → ListsSecretOrCause Digits set secret (Some names) limit text answer → status ≡ status_of (judged without_mismatches answer) → ListsOrRefuses set secret names limit text status
 drilled set secret names limit text (Ok done) status lists is =
     inl (lists.1, lists.2, is ∙ ap (λ (n : ℕ). if n == 0 then 0 else 1) lists.3)
 drilled set secret names limit text (Err fault) status lists is =
-    inr ((lists.1.0, lists.1.1), lists.0, is ∙ ap (λ (f : Fault). status_of (Err f)) lists.1.2 ∙ undrilled_status lists.1.0)
+    inr ((lists.1.0, lists.1.1), lists.0, is ∙ ap (λ (f : Fault). drill_status (Err f)) lists.1.2 ∙ undrilled_status lists.1.0)
 
 module _ (created : (passphrase : List ℕ) (after : Option Names) (limit : ℕ) (input : Input) (text : List ℕ) (answer : Result Done Fault)
-    → IsDrillOutput passphrase after limit input text answer → DrillsCreated passphrase after limit input text answer) where
+    → IsDrillOutput Digits passphrase after limit input text answer → DrillsCreated Digits passphrase after limit input text answer) where
   of_drill : (passphrase secret after limit : List ℕ) (input : Input) (text : List ℕ) (status : ℕ) (name : Text) (rows : List Row) (j : Job)
       → HoldsMnemonicsOf passphrase secret input → IsDrillFound passphrase after limit name rows → Gives name rows j
-      → (answer : Result Done Fault) → IsJobOutput j input text answer → status ≡ status_of answer
+      → (answer : Result Bool Fault) → IsJobOutput j input text answer → status ≡ status_of answer
       → (set : List ShareFields) × IsReadAs input (Ok set)
       × ((names : Names) × IsWrittenForm after names × ListsOrRefuses set secret names (limit_of limit) text status)
   of_drill passphrase secret after limit input text status name rows job.Show holds found gives answer output is =
@@ -68,6 +75,10 @@ module _ (created : (passphrase : List ℕ) (after : Option Names) (limit : ℕ)
       absurd (other_text (codes "drill") (codes "create") refl (sym found.name_is ∙ gives.0))
   of_drill passphrase secret after limit input text status name rows (job.Recover p) holds found gives answer output is =
       absurd (other_text (codes "drill") (codes "recover") refl (sym found.name_is ∙ gives.0))
+  of_drill passphrase secret after limit input text status name rows job.Status holds found gives answer output is =
+      absurd (other_text (codes "drill") (codes "status") refl (sym found.name_is ∙ gives))
+  of_drill passphrase secret after limit input text status name rows (job.Reissue p g) holds found gives answer output is =
+      absurd (other_text (codes "drill") (codes "reissue") refl (sym found.name_is ∙ gives.0))
   of_drill passphrase secret after limit input text status name rows (job.Drill p q n) holds found gives answer output is =
       let same : p.now ≡ passphrase = gives.1 ∙ ap (λ (o : Option Text). unwrap_or o []) found.passphrase_is in
       let given = some_now q _ after gives.2 found.after_is in
@@ -75,47 +86,53 @@ module _ (created : (passphrase : List ℕ) (after : Option Names) (limit : ℕ)
       let counted : Some (limit_of limit) ≡ Some n =
       sym (ap (option_map (λ (t : Text). digits_value 10 (without_leading_plus t))) found.limit_is) ∙ gives.3 in
       let number : n ≡ limit_of limit = cc in
-      let asked = subst (λ (o : Option Names). IsDrillOutput passphrase o (limit_of limit) input text answer) cursor.1
-      (subst (λ (k : ℕ). IsDrillOutput passphrase output.0 k input text answer) number
-      (subst (λ (t : Text). IsDrillOutput t output.0 n input text answer) same output.2)) in
-      let drill = created passphrase (Some cursor.0) (limit_of limit) input text answer asked secret holds in
-      (drill.0, drill.1, (cursor.0, cursor.2, drilled drill.0 secret cursor.0 (limit_of limit) text answer status drill.2 is))
+      let done = output.2.0 in
+      let asked = subst (λ (o : Option Names). IsDrillOutput Digits passphrase o (limit_of limit) input text done) cursor.1
+      (subst (λ (k : ℕ). IsDrillOutput Digits passphrase output.0 k input text done) number
+      (subst (λ (t : Text). IsDrillOutput Digits t output.0 n input text done) same output.2.1)) in
+      let drill = created passphrase (Some cursor.0) (limit_of limit) input text done asked secret holds in
+      let judged_is : status ≡ drill_status done = is ∙ ap status_of output.2.2 in
+      (drill.0, drill.1, (cursor.0, cursor.2, drilled drill.0 secret cursor.0 (limit_of limit) text done status drill.2 judged_is))
 
   pub drill_words_list : DrillWordsList
   drill_words_list passphrase after limit words input text status are writes secret holds =
       of_drill passphrase secret after limit input text status writes.1.0 writes.1.1 writes.0 holds
       (drill_found passphrase after limit words writes.1.0 writes.1.1 are writes.1.2) writes.1.3 writes.2.0 writes.2.1 writes.2.2
 
-recovered : (set : List ShareFields) (secret text : List ℕ) (plain : Result (Unit {0}) Fault) (status : ℕ) → IsSecretOrLack set secret text plain
-    → status ≡ status_of (without_mismatches plain) → RecoversOrRefuses set secret text status
+recovered : (set : List ShareFields) (secret text : List ℕ) (plain : Result (Unit {0}) Fault) (status : ℕ) → IsSecretOrLack Digits set secret text plain
+    → status ≡ status_of (judged where_done plain) → RecoversOrRefuses set secret text status
 recovered set secret text (Ok _) status so is = inl (so.0, so.1, is)
 recovered set secret text (Err fault) status so is = inr ((so.1.0, so.1.1), so.0, is ∙ ap (λ (f : Fault). status_of (Err f)) so.1.2)
 
 -- the job of the words of a recovery recovers with their passphrase
 recovery_of : (passphrase : Text) (input : Input) (text : List ℕ) (name : Text) (rows : List Row) (j : Job) → IsRecoverFound passphrase name rows
-    → Gives name rows j → (answer : Result Done Fault) → IsJobOutput j input text answer
-    → (plain : Result (Unit {0}) Fault) × IsRecoverOutput passphrase input text plain × (answer ≡ without_mismatches plain)
+    → Gives name rows j → (answer : Result Bool Fault) → IsJobOutput j input text answer
+    → (plain : Result (Unit {0}) Fault) × IsRecoverOutput Digits passphrase input text plain × (answer ≡ judged where_done plain)
 recovery_of passphrase input text name rows job.Show found gives answer output =
     absurd (other_text (codes "recover") (codes "show") refl (sym found.name_is ∙ gives))
 recovery_of passphrase input text name rows (job.Create p s w e x) found gives answer output =
     absurd (other_text (codes "recover") (codes "create") refl (sym found.name_is ∙ gives.0))
 recovery_of passphrase input text name rows (job.Drill p q n) found gives answer output =
     absurd (other_text (codes "recover") (codes "drill") refl (sym found.name_is ∙ gives.0))
+recovery_of passphrase input text name rows job.Status found gives answer output =
+    absurd (other_text (codes "recover") (codes "status") refl (sym found.name_is ∙ gives))
+recovery_of passphrase input text name rows (job.Reissue p g) found gives answer output =
+    absurd (other_text (codes "recover") (codes "reissue") refl (sym found.name_is ∙ gives.0))
 recovery_of passphrase input text name rows (job.Recover p) found gives answer output =
     let same : p.now ≡ passphrase = gives.1 ∙ ap (λ (o : Option Text). unwrap_or o []) found.passphrase_is in
-    (output.0, subst (λ (t : Text). IsRecoverOutput t input text output.0) same output.1, output.2)
+    (output.0, subst (λ (t : Text). IsRecoverOutput Digits t input text output.0) same output.1, output.2)
 
 -- so do the words
 recovery_by_words : (passphrase : Text) (words : List Text) (input : Input) (text : List ℕ) (status : ℕ) → AreRecoverWords passphrase words
     → WordsWrite words input text status
-    → (plain : Result (Unit {0}) Fault) × IsRecoverOutput passphrase input text plain × (status ≡ status_of (without_mismatches plain))
+    → (plain : Result (Unit {0}) Fault) × IsRecoverOutput Digits passphrase input text plain × (status ≡ status_of (judged where_done plain))
 recovery_by_words passphrase words input text status are writes =
     let found = recover_found passphrase words writes.1.0 writes.1.1 are writes.1.2 in
     let recovery = recovery_of passphrase input text writes.1.0 writes.1.1 writes.0 found writes.1.3 writes.2.0 writes.2.1 in
     (recovery.0, recovery.1, writes.2.2 ∙ ap status_of recovery.2)
 
 pub recover_words_recover : ((passphrase : List ℕ) (input : Input) (text : List ℕ) (answer : Result (Unit {0}) Fault)
-    → IsRecoverOutput passphrase input text answer → RecoversCreated passphrase input text answer) → RecoverWordsRecover
+    → IsRecoverOutput Digits passphrase input text answer → RecoversCreated Digits passphrase input text answer) → RecoverWordsRecover
 recover_words_recover created passphrase words input text status are writes secret holds =
     let recovery = recovery_by_words passphrase words input text status are writes in
     let so = created passphrase input text recovery.0 recovery.1 secret holds in
@@ -136,7 +153,7 @@ refusal_not_done (Device failure) is = omega arith
 refusal_not_done _ is = omega arith
 
 creation_done : (secret passphrase : Text) (random : Input) (text : List ℕ) (p s w : Text) (e : ℕ) (x : Bool) (plain : Result (Unit {0}) Fault)
-    → s ≡ secret → w ≡ passphrase → CreatesFrom p s w e x random text plain → 0 ≡ status_of (without_mismatches plain) → IsDone secret passphrase random text
+    → s ≡ secret → w ≡ passphrase → CreatesFrom p s w e x random text plain → 0 ≡ status_of (judged where_done plain) → IsDone secret passphrase random text
 creation_done secret passphrase random text p s w e x (Err fault) same_secret same_passphrase creates done =
     absurd (refusal_not_done fault.refusal done)
 creation_done secret passphrase random text p s w e x (Ok unit) same_secret same_passphrase creates done = record {
@@ -154,7 +171,7 @@ creation_done secret passphrase random text p s w e x (Ok unit) same_secret same
 }
 
 creation_of : (secret passphrase : Text) (random : Input) (text : List ℕ) (name : Text) (rows : List Row) (j : Job)
-    → IsCreateFound secret passphrase name rows → Gives name rows j → (answer : Result Done Fault) → IsJobOutput j random text answer → 0 ≡ status_of answer
+    → IsCreateFound secret passphrase name rows → Gives name rows j → (answer : Result Bool Fault) → IsJobOutput j random text answer → 0 ≡ status_of answer
     → IsDone secret passphrase random text
 creation_of secret passphrase random text name rows job.Show found gives answer output done =
     absurd (other_text (codes "create") (codes "show") refl (sym found.name_is ∙ gives))
@@ -162,6 +179,10 @@ creation_of secret passphrase random text name rows (job.Recover p) found gives 
     absurd (other_text (codes "create") (codes "recover") refl (sym found.name_is ∙ gives.0))
 creation_of secret passphrase random text name rows (job.Drill p q n) found gives answer output done =
     absurd (other_text (codes "create") (codes "drill") refl (sym found.name_is ∙ gives.0))
+creation_of secret passphrase random text name rows job.Status found gives answer output done =
+    absurd (other_text (codes "create") (codes "status") refl (sym found.name_is ∙ gives))
+creation_of secret passphrase random text name rows (job.Reissue p g) found gives answer output done =
+    absurd (other_text (codes "create") (codes "reissue") refl (sym found.name_is ∙ gives.0))
 creation_of secret passphrase random text name rows (job.Create p s w e x) found gives answer output done =
     let given : Some secret ≡ Some s.now = sym found.secret_is ∙ gives.1.secret_given in
     let same_secret : s.now ≡ secret = cc in
@@ -169,15 +190,15 @@ creation_of secret passphrase random text name rows (job.Create p s w e x) found
     creation_done secret passphrase random text p.now s.now w.now e x output.0 same_secret same_passphrase output.1 (done ∙ ap status_of output.2)
 
 module _ (written : (asked : Asked) (random text : List ℕ) → IsPlan asked.group_threshold asked.groups → IsCreateOutput asked (whole random) text (Ok tt)
-    → IsRecoverOutput asked.passphrase (whole text) (secret_line asked.secret) (Ok tt))
+    → IsRecoverOutput Digits asked.passphrase (whole text) (secret_line Digits asked.secret) (Ok tt))
     (one : (passphrase : List ℕ) (input : Input) (text other : List ℕ) (answer another : Result (Unit {0}) Fault)
-    → IsRecoverOutput passphrase input text answer → IsRecoverOutput passphrase input other another → (text ≡ other) × (answer ≡ another)) where
+    → IsRecoverOutput Digits passphrase input text answer → IsRecoverOutput Digits passphrase input other another → (text ≡ other) × (answer ≡ another)) where
   pub created_words_recover : CreatedWordsRecover
   created_words_recover plan secret passphrase creating recovering random text output status are_creating are_recovering created recovers =
       let found = create_found plan secret passphrase creating created.1.0 created.1.1 are_creating created.1.2 in
       let done = creation_of secret passphrase random text created.1.0 created.1.1 created.0 found created.1.3 created.2.0 created.2.1 created.2.2 in
       let recovery = recovery_by_words passphrase recovering (whole text) output status are_recovering recovers in
-      let right = subst (λ (t : Text). IsRecoverOutput t (whole text) (secret_line done.asked.secret) (Ok tt)) done.passphrase_is
+      let right = subst (λ (t : Text). IsRecoverOutput Digits t (whole text) (secret_line Digits done.asked.secret) (Ok tt)) done.passphrase_is
       (written done.asked random.bytes text done.plan_is done.output) in
-      let same = one passphrase (whole text) (secret_line done.asked.secret) output (Ok tt) recovery.0 right recovery.1 in
-      (done.asked.secret, done.secret_is, sym same.0, recovery.2 ∙ ap (λ (r : Result (Unit {0}) Fault). status_of (without_mismatches r)) (sym same.1))
+      let same = one passphrase (whole text) (secret_line Digits done.asked.secret) output (Ok tt) recovery.0 right recovery.1 in
+      (done.asked.secret, done.secret_is, sym same.0, recovery.2 ∙ ap (λ (r : Result (Unit {0}) Fault). status_of (judged where_done r)) (sym same.1))

@@ -24,7 +24,8 @@ use Rattle.s39_clap.specs.Found.{EntersOne, HasNumber, IsFilled}
 use Rattle.s39_clap.proofs.Agreement.{faultless_taken, one_request_or_mistakes, request_alone}
 use Rattle.s39_clap.proofs.Entered.{enters_some, taken_enters_one}
 use Rattle.s39_clap.proofs.Values.{flag_said, has_value, number_read}
-use Rattle.s39_cli.specs.Command.{AnswersKind, AnswersWords, AsksForText, commands, exponent_rule, extendable_rule, flag_text, limit_rule, plan_rule}
+use Rattle.s39_cli.specs.Command.{AnswersKind, AnswersWords, AsksForText, commands, exponent_rule, extendable_rule, flag_text, limit_rule, names_rule}
+use Rattle.s39_cli.specs.Command.{plan_rule}
 use Rattle.s39_cli.specs.Command.{secret_rule, shamir_app, text_or_empty}
 use Rattle.s39_cli.specs.declared.command.NoJob.{NoJob}
 use Rattle.s39_cli.specs.declared.command.NoJob.TheVariants.{Help, Refused, Memory}
@@ -79,6 +80,11 @@ drill_rules : List Rule
 unfolding shamir_app
 drill_rules = option_map_or (λ s. s.rules) (slice_get commands 3) []
 
+-- and those of `reissue`
+reissue_rules : List Rule
+unfolding shamir_app
+reissue_rules = option_map_or (λ s. s.rules) (slice_get commands 5) []
+
 -- words that enter `create` have values for its arguments
 create_filled : (rows : List Row) → EntersOne commands (Some (codes "create", rows)) → IsFilled create_rules rows
 unfolding shamir_app create_rules
@@ -86,7 +92,9 @@ create_filled rows (inl show) = absurd (other_name (codes "create") (codes "show
 create_filled rows (inr (inl create)) = subst (IsFilled create_rules) (sym (same_entered _ _ create.1).1) create.2
 create_filled rows (inr (inr (inl recover))) = absurd (other_name (codes "create") (codes "recover") refl (same_entered _ _ recover.1).0)
 create_filled rows (inr (inr (inr (inl drill)))) = absurd (other_name (codes "create") (codes "drill") refl (same_entered _ _ drill.1).0)
-create_filled rows (inr (inr (inr (inr none)))) = absurd none
+create_filled rows (inr (inr (inr (inr (inl status))))) = absurd (other_name (codes "create") (codes "status") refl (same_entered _ _ status.1).0)
+create_filled rows (inr (inr (inr (inr (inr (inl reissue)))))) = absurd (other_name (codes "create") (codes "reissue") refl (same_entered _ _ reissue.1).0)
+create_filled rows (inr (inr (inr (inr (inr (inr none)))))) = absurd none
 
 -- and those that enter `drill`
 drill_filled : (rows : List Row) → EntersOne commands (Some (codes "drill", rows)) → IsFilled drill_rules rows
@@ -95,7 +103,20 @@ drill_filled rows (inl show) = absurd (other_name (codes "drill") (codes "show")
 drill_filled rows (inr (inl create)) = absurd (other_name (codes "drill") (codes "create") refl (same_entered _ _ create.1).0)
 drill_filled rows (inr (inr (inl recover))) = absurd (other_name (codes "drill") (codes "recover") refl (same_entered _ _ recover.1).0)
 drill_filled rows (inr (inr (inr (inl drill)))) = subst (IsFilled drill_rules) (sym (same_entered _ _ drill.1).1) drill.2
-drill_filled rows (inr (inr (inr (inr none)))) = absurd none
+drill_filled rows (inr (inr (inr (inr (inl status))))) = absurd (other_name (codes "drill") (codes "status") refl (same_entered _ _ status.1).0)
+drill_filled rows (inr (inr (inr (inr (inr (inl reissue)))))) = absurd (other_name (codes "drill") (codes "reissue") refl (same_entered _ _ reissue.1).0)
+drill_filled rows (inr (inr (inr (inr (inr (inr none)))))) = absurd none
+
+-- and those that enter `reissue`
+reissue_filled : (rows : List Row) → EntersOne commands (Some (codes "reissue", rows)) → IsFilled reissue_rules rows
+unfolding shamir_app reissue_rules
+reissue_filled rows (inl show) = absurd (other_name (codes "reissue") (codes "show") refl (same_entered _ _ show.1).0)
+reissue_filled rows (inr (inl create)) = absurd (other_name (codes "reissue") (codes "create") refl (same_entered _ _ create.1).0)
+reissue_filled rows (inr (inr (inl recover))) = absurd (other_name (codes "reissue") (codes "recover") refl (same_entered _ _ recover.1).0)
+reissue_filled rows (inr (inr (inr (inl drill)))) = absurd (other_name (codes "reissue") (codes "drill") refl (same_entered _ _ drill.1).0)
+reissue_filled rows (inr (inr (inr (inr (inl status))))) = absurd (other_name (codes "reissue") (codes "status") refl (same_entered _ _ status.1).0)
+reissue_filled rows (inr (inr (inr (inr (inr (inl reissue)))))) = subst (IsFilled reissue_rules) (sym (same_entered _ _ reissue.1).1) reissue.2
+reissue_filled rows (inr (inr (inr (inr (inr (inr none)))))) = absurd none
 
 -- what was found enters `create`
 abbrev EntersCreate : Found → Type 0
@@ -118,6 +139,24 @@ unfolding shamir_app create_rules
 secret_there f got enters given =
     let value = has_value create_rules (rows_of f) (with_index 2 (filled secret_rule)) (codes "master-secret") refl refl (create_filled (rows_of f) enters) in
     some_of_rows f (codes "master-secret") got value.0 given value.1.first
+
+-- what was found enters `reissue`
+abbrev EntersReissue : Found → Type 0
+EntersReissue f = EntersOne commands (Some (codes "reissue", rows_of f))
+
+pub reissue_plan_there : (f : Found) (got : Option (Bor Text)) → EntersReissue f → option_map (λ t. t.now) got ≡ first_value f (codes "plan")
+    → is_some got ≡ true
+unfolding shamir_app reissue_rules
+reissue_plan_there f got enters given =
+    let value = has_value reissue_rules (rows_of f) (with_index 1 (filled plan_rule)) (codes "plan") refl refl (reissue_filled (rows_of f) enters) in
+    some_of_rows f (codes "plan") got value.0 given value.1.first
+
+pub names_there : (f : Found) (got : Option (Bor Text)) → EntersReissue f → option_map (λ t. t.now) got ≡ first_value f (codes "names")
+    → is_some got ≡ true
+unfolding shamir_app reissue_rules
+names_there f got enters given =
+    let value = has_value reissue_rules (rows_of f) (with_index 2 (filled names_rule)) (codes "names") refl refl (reissue_filled (rows_of f) enters) in
+    some_of_rows f (codes "names") got value.0 given value.1.first
 
 -- the number that a getter of a `u8` reads of the exponent
 pub exponent_there : (f : Found) (got : Option ℕ) → EntersCreate f

@@ -1,5 +1,6 @@
 -- Words that are taken, and what is found in them.
-use Rattle.std.proofs.Common.{◌≡◌, ◌∙◌, ◌++◌, ℕ, true, false, List, [], ◌∷◌, codes, pos, Option, Some, ap, option_map, option_and_then, refl, slice_get, sym, unwrap_or}
+use Rattle.std.proofs.Common.{◌≡◌, ◌∙◌, ◌++◌, ℕ, true, false, List, [], ◌∷◌, codes, pos, Option, Some, ap, option_map, option_and_then, refl, slice_get, sym}
+use Rattle.std.proofs.Common.{unwrap_or}
 use Rattle.std.specs.List.{fold}
 use Rattle.clap.specs.Lexer.{without_minus}
 use Rattle.clap.specs.ValueTests.{is_signed_in}

@@ -1,7 +1,11 @@
 -- What a work writes is what its job writes.
-use Rattle.std.proofs.Common.{◌≡◌, ◌+◌, ◌∙◌, ℕ, List, Option, Result, Ok, Err, ap, refl, sym, subst}
+use Rattle.std.proofs.Common.{◌≡◌, ◌+◌, ◌∙◌, ℕ, Bool, List, Option, None, Some, Result, Ok, Err, ap, refl, sym, subst}
+use Rattle.hex.specs.Hex.{decode_of}
+use Rattle.s39_backup.specs.declared.plan.Members.{Members}
+use Rattle.s39_backup.specs.declared.plan_error.PlanError.{PlanError}
+use Rattle.s39_backup.proofs.PlanReadings.{reading_once}
 use Rattle.s39_tool.specs.declared.fault.Fault.{Fault}
-use Rattle.s39_tool.specs.declared.drill.Done.{Done}
+use Rattle.s39_tool.specs.declared.secret_form.SecretForm.TheVariants.{Digits}
 use Rattle.s39_tool.specs.Device.{Counted}
 use Rattle.s39_tool.specs.Fault.{read_failures, write_failures}
 use Rattle.s39_tool.specs.Input.{Input}
@@ -13,43 +17,72 @@ use Rattle.s39_tool.specs.Drill.{IsDrillOutput}
 use Rattle.s39_cli.specs.declared.command.Job.{Job}
 use Rattle.s39_cli.specs.declared.command.Job.TheVariants as job
 use Rattle.s39_cli.specs.declared.work.Work.{Work}
-use Rattle.s39_cli.specs.Outcome.{IsJobOutput, without_mismatches}
+use Rattle.s39_cli.specs.Outcome.{IsJobOutput, IsReady, judged}
 use Rattle.s39_cli.specs.Work.{IsWorkOf, IsWorkOutput}
 
-same_reads : (answer : Result (Unit {0}) Fault) → read_failures (without_mismatches answer) ≡ read_failures answer
-same_reads (Ok _) = refl
-same_reads (Err fault) = refl
+same_reads : {T : Type 0} (is_well : T → Bool) (answer : Result T Fault) → read_failures (judged is_well answer) ≡ read_failures answer
+same_reads is_well (Ok found) = refl
+same_reads is_well (Err fault) = refl
 
-same_writes : (answer : Result (Unit {0}) Fault) → write_failures (without_mismatches answer) ≡ write_failures answer
-same_writes (Ok _) = refl
-same_writes (Err fault) = refl
+same_writes : {T : Type 0} (is_well : T → Bool) (answer : Result T Fault) → write_failures (judged is_well answer) ≡ write_failures answer
+same_writes is_well (Ok found) = refl
+same_writes is_well (Err fault) = refl
 
--- a run that looks for no mismatches, as one that answers how many there are
-pub Runs-without_mismatches : {R W : Type 0} (remaining : R → Option (List ℕ)) (contents : W → Option (List ℕ))
-    (IsOutput : Input → List ℕ → Result (Unit {0}) Fault → Type 0) (Follows : Input → List ℕ → Result Done Fault → Type 0)
-    (reader read_to : Counted R) (writer written_to : Counted W) (answer : Result (Unit {0}) Fault) (given : Result Done Fault)
-    → Runs remaining contents IsOutput reader read_to writer written_to answer → given ≡ without_mismatches answer
-    → ((input : Input) (text : List ℕ) (full : Result (Unit {0}) Fault) → IsOutput input text full → Follows input text (without_mismatches full))
+-- a run, as one that answers whether all is well
+pub Runs-judged : {R W T : Type 0} (remaining : R → Option (List ℕ)) (contents : W → Option (List ℕ)) (is_well : T → Bool)
+    (IsOutput : Input → List ℕ → Result T Fault → Type 0) (Follows : Input → List ℕ → Result Bool Fault → Type 0)
+    (reader read_to : Counted R) (writer written_to : Counted W) (answer : Result T Fault) (given : Result Bool Fault)
+    → Runs remaining contents IsOutput reader read_to writer written_to answer → given ≡ judged is_well answer
+    → ((input : Input) (text : List ℕ) (full : Result T Fault) → IsOutput input text full → Follows input text (judged is_well full))
     → Runs remaining contents Follows reader read_to writer written_to given
-Runs-without_mismatches remaining contents IsOutput Follows reader read_to writer written_to answer given runs is then =
+Runs-judged remaining contents is_well IsOutput Follows reader read_to writer written_to answer given runs is then =
     subst (Runs remaining contents Follows reader read_to writer written_to) (sym is) (record {
       output = OfInput-map runs.output (λ input w. record {
         text = w.text;
-        full_answer = without_mismatches w.full_answer;
+        full_answer = judged is_well w.full_answer;
         output = then input w.text w.full_answer w.output;
         written = w.written;
         unwritten = w.unwritten;
         parts = w.parts;
         appends = w.appends;
-        whole = λ same. (let both = w.whole same in (both.0, ap without_mismatches both.1));
-        cut_short = λ other. ap without_mismatches (w.cut_short other);
+        whole = λ same. (let both = w.whole same in (both.0, ap (judged is_well) both.1));
+        cut_short = λ other. ap (judged is_well) (w.cut_short other);
       });
-      read_failures_are = runs.read_failures_are ∙ ap (λ n. reader.failures + n) (sym (same_reads answer));
-      write_failures_are = runs.write_failures_are ∙ ap (λ n. writer.failures + n) (sym (same_writes answer));
+      read_failures_are = runs.read_failures_are ∙ ap (λ n. reader.failures + n) (sym (same_reads is_well answer));
+      write_failures_are = runs.write_failures_are ∙ ap (λ n. writer.failures + n) (sym (same_writes is_well answer));
     })
 
+ok_or_err : {T E : Type 0} (r : Result T E) (t : T) (e : E) → r ≡ Ok t → r ≡ Err e → ⊥
+ok_or_err r t e good bad = cc
+
+plan_or_error : (p : ℕ × List Members) (error : PlanError) → Ok p ≡ Err error → ⊥
+plan_or_error p error same = cc
+
+-- a job that a work is of can be begun
+pub ready_of_work : (j : Job) (w : Work) → IsWorkOf j w → IsReady j
+ready_of_work job.Show w is = (λ b. b, λ b. b.1, λ b. b, λ b. b)
+ready_of_work (job.Create plan secret passphrase exponent extendable) w is = (
+  λ bad. ok_or_err (decode_of secret.now) is.0.secret.items bad.0 is.2.read.secret_is bad.1,
+  λ bad. plan_or_error (is.0.plan.group_threshold, is.0.plan.groups.items) bad.0
+      (reading_once plan.now (Ok (is.0.plan.group_threshold, is.0.plan.groups.items)) (Err bad.0) is.2.read.plan_is bad.1.1),
+  λ bad. bad,
+  λ bad. bad,
+)
+ready_of_work (job.Recover passphrase) w is = (λ b. b, λ b. b.1, λ b. b, λ b. b)
+ready_of_work (job.Drill passphrase None limit) w is = (λ b. b, λ b. b.1, λ b. b, λ b. b)
+ready_of_work (job.Drill passphrase (Some after) limit) w is =
+    (λ b. b, λ b. b.1, λ bad. bad is.2.cursor.0 is.2.cursor.2, λ b. b)
+ready_of_work job.Status w is = (λ b. b, λ b. b.1, λ b. b, λ b. b)
+ready_of_work (job.Reissue plan names) w is = (
+  λ b. b,
+  λ bad. plan_or_error (is.0.plan.group_threshold, is.0.plan.groups.items) bad.0
+      (reading_once plan.now (Ok (is.0.plan.group_threshold, is.0.plan.groups.items)) (Err bad.0) is.2.plan_is bad.1),
+  λ bad. bad,
+  λ bad. bad.1 is.0.names is.2.names_are,
+)
+
 -- what a work writes is what its job writes
-pub output_of_job : (j : Job) (w : Work) → IsWorkOf j w → (input : Input) (text : List ℕ) (answer : Result Done Fault) → IsWorkOutput w input text answer
+pub output_of_job : (j : Job) (w : Work) → IsWorkOf j w → (input : Input) (text : List ℕ) (answer : Result Bool Fault) → IsWorkOutput w input text answer
     → IsJobOutput j input text answer
 output_of_job job.Show w is input text answer output = subst (λ (x : Work). IsWorkOutput x input text answer) is output
 output_of_job (job.Create plan secret passphrase exponent extendable) w is input text answer output =
@@ -75,12 +108,31 @@ output_of_job (job.Create plan secret passphrase exponent extendable) w is input
     )
 output_of_job (job.Recover passphrase) w is input text answer output =
     let written = subst (λ (x : Work). IsWorkOutput x input text answer) is.1 output in
-    (written.0, subst (λ (given : List ℕ). IsRecoverOutput given input text written.0) is.2 written.1, written.2)
+    (written.0, subst (λ (given : List ℕ). IsRecoverOutput Digits given input text written.0) is.2 written.1, written.2)
 output_of_job (job.Drill passphrase after limit) w is input text answer output =
     let drill = is.0 in
     let written = subst (λ (x : Work). IsWorkOutput x input text answer) is.1 output in (
       drill.after,
       is.2.cursor,
-      subst (λ (n : ℕ). IsDrillOutput passphrase.now drill.after n input text answer) is.2.limit_is
-          (subst (λ (given : List ℕ). IsDrillOutput given drill.after drill.limit input text answer) is.2.passphrase_is written),
+      (
+        written.0,
+        subst (λ (n : ℕ). IsDrillOutput Digits passphrase.now drill.after n input text written.0) is.2.limit_is
+            (subst (λ (given : List ℕ). IsDrillOutput Digits given drill.after drill.limit input text written.0) is.2.passphrase_is written.1),
+        written.2,
+      ),
+    )
+output_of_job job.Status w is input text answer output = subst (λ (x : Work). IsWorkOutput x input text answer) is output
+output_of_job (job.Reissue plan names) w is input text answer output =
+    let reissue = is.0 in
+    let written = subst (λ (x : Work). IsWorkOutput x input text answer) is.1 output in (
+      written.0,
+      record {
+        group_threshold = reissue.plan.group_threshold;
+        groups = reissue.plan.groups.items;
+        names = reissue.names;
+        plan_is = is.2.plan_is;
+        names_are = is.2.names_are;
+        output = written.1;
+      },
+      written.2,
     )

@@ -9,7 +9,7 @@ use Rattle.clap.specs.declared.error.kind.ErrorKind.TheVariants.{DisplayHelp, Di
 use Rattle.s39_clap.specs.Found.{HasNumber}
 use Rattle.s39_kdf.specs.Limits.{exponent_bits}
 use Rattle.s39_cli.specs.declared.command.Job.{Job}
-use Rattle.s39_cli.specs.declared.command.Job.TheVariants.{Show, Create, Recover, Drill}
+use Rattle.s39_cli.specs.declared.command.Job.TheVariants.{Show, Create, Recover, Drill, Status, Reissue}
 use Rattle.s39_cli.specs.declared.command.NoJob.{NoJob}
 use Rattle.s39_cli.specs.declared.command.NoJob.TheVariants.{Help, Refused, Memory}
 
@@ -80,6 +80,21 @@ abbrev pub drill_app : App
 drill_app = with_rule (with_rule (with_rule (new_app (codes "drill")) passphrase_rule) after_rule)
     limit_rule
 
+-- the command `status`
+abbrev pub status_app : App
+status_app = new_app (codes "status")
+
+-- the names of mnemonics, which have to be given
+abbrev pub names_rule : Rule
+names_rule = record (new_rule (codes "names")) {
+  value_names = 1;
+  required = true;
+}
+
+-- the command `reissue`, with a plan and these
+abbrev pub reissue_app : App
+reissue_app = with_rule (with_rule (new_app (codes "reissue")) plan_rule) names_rule
+
 -- the program, which has a version and has to be given a command
 abbrev pub shamir_top : Shape
 shamir_top = record (new_app (codes "shamir")).top {
@@ -90,9 +105,9 @@ shamir_top = record (new_app (codes "shamir")).top {
 
 -- the program with its commands
 unfoldable pub shamir_app : App
-shamir_app = with_subcommand (with_subcommand (with_subcommand (with_subcommand
-    (record { top = shamir_top; subs = [] }) show_app.top) create_app.top) recover_app.top)
-    drill_app.top
+shamir_app = with_subcommand (with_subcommand (with_subcommand (with_subcommand (with_subcommand
+    (with_subcommand (record { top = shamir_top; subs = [] }) show_app.top) create_app.top)
+    recover_app.top) drill_app.top) status_app.top) reissue_app.top
 
 -- its commands, built
 abbrev pub commands : List Shape
@@ -126,6 +141,10 @@ Gives name rows (Drill passphrase after limit) =
     (name ≡ codes "drill") × (passphrase.now ≡ text_or_empty (codes "passphrase") rows)
     × (option_map (λ text. text.now) after ≡ first_of (codes "after") rows)
     × HasNumber (codes "limit") rows limit
+Gives name rows Status = name ≡ codes "status"
+Gives name rows (Reissue plan names) = (name ≡ codes "reissue")
+    × (first_of (codes "plan") rows ≡ Some plan.now)
+    × (first_of (codes "names") rows ≡ Some names.now)
 
 -- the words give the job, by the definition of a simple command
 abbrev pub GivesJob : List Text → Job → Type 0

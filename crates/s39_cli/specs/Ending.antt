@@ -6,7 +6,6 @@ use Rattle.s39_backup.specs.declared.plan_error.PlanError.{PlanError}
 use Rattle.s39_tool.specs.declared.fault.DeviceFailure.TheVariants.{Write}
 use Rattle.s39_tool.specs.declared.fault.Refusal.TheVariants.{Device}
 use Rattle.s39_tool.specs.declared.fault.Fault.{Fault}
-use Rattle.s39_tool.specs.declared.drill.Done.{Done}
 use Rattle.s39_tool.specs.Fault.{fault_of}
 use Rattle.s39_tool.specs.Input.{Input, whole}
 use Rattle.s39_cli.specs.declared.command.Job.{Job}
@@ -17,19 +16,23 @@ use Rattle.s39_cli.specs.declared.runner.Ended.TheVariants.{With, NoMemory}
 use Rattle.s39_cli.specs.declared.work.Unready.{Unready}
 use Rattle.s39_cli.specs.declared.work.Unready.TheVariants as unready
 use Rattle.s39_cli.specs.Command.{AsksForText, GivesJob, shamir_app}
-use Rattle.s39_cli.specs.Outcome.{HasBadSecret, HasBadPlan, HasBadCursor, IsJobOutput, status_of}
+use Rattle.s39_cli.specs.Outcome.{HasBadSecret, HasBadPlan, HasBadCursor, HasBadNames, IsJobOutput, IsReady, status_of}
 
 -- the text is written for the input by an answer with this exit status
-abbrev pub HasStatus : (Input → List ℕ → Result Done Fault → Type 0) → Input → List ℕ → ℕ → Type 0
-HasStatus IsOutput input text status = (answer : Result Done Fault) × IsOutput input text answer × (status ≡ status_of answer)
+abbrev pub HasStatus : (Input → List ℕ → Result Bool Fault → Type 0) → Input → List ℕ → ℕ → Type 0
+HasStatus IsOutput input text status = (answer : Result Bool Fault) × IsOutput input text answer × (status ≡ status_of answer)
 
 -- what the job writes for the input, and the exit status
 abbrev pub IsOutcome : Job → Input → List ℕ → ℕ → Type 0
 IsOutcome job = HasStatus (IsJobOutput job)
 
--- the input is what came from a reader that had these bytes, of which these are left: all, or those before a read failed
-abbrev pub IsFrom : List ℕ → Option (List ℕ) → Input → Type 0
-IsFrom bytes left input = (input ≡ whole bytes) ⊎ ((input.ended ≡ false) × Consumes (Some bytes) left input.bytes)
+-- these are all bytes of a reader, where it tells them
+abbrev pub AreAllOf : Option (List ℕ) → List ℕ → Type 0
+AreAllOf told bytes = IfSome told (λ all. bytes ≡ all)
+
+-- the input is what came from a reader, of which these bytes are left: all that it had, or those before a read failed
+abbrev pub IsFrom : Option (List ℕ) → Option (List ℕ) → Input → Type 0
+IsFrom told left input = ((input.ended ≡ true) × AreAllOf told input.bytes) ⊎ ((input.ended ≡ false) × Consumes told left input.bytes)
 
 -- the writer holds a beginning of what it held with this text behind it
 abbrev pub HoldsBeginning : Option (List ℕ) → Option (List ℕ) → List ℕ → Type 0
@@ -65,22 +68,22 @@ module _ {R W : Type 0} (contents : W → Option (List ℕ)) where
 
 module _ {R W : Type 0} (remaining : R → Option (List ℕ)) (contents : W → Option (List ℕ)) where
   -- The text that is so of the reader's bytes goes out. With any exit status but 3, all of it does, of all bytes. With 3 a device
-  -- failed: a beginning does, of the text of the bytes that came.
+  -- failed: a beginning does, of the text of the bytes that came. Where the reader doesn't tell its bytes, that is so of some bytes.
   pub record Delivers (IsOutput : Input → List ℕ → ℕ → Type 0) (reader : R) (writer : W) (status : ℕ) (read_to : R) (written_to : W) : Type 0 where
-    pub done : status ≢ 3 → IfSome (remaining reader) (λ bytes.
-        (text : List ℕ) × IsOutput (whole bytes) text status × Appends (contents writer) (contents written_to) text)
-    pub failed : status ≡ 3 → IfSome (remaining reader) (λ bytes.
-        (input : Input) × IsFrom bytes (remaining read_to) input
-        × ((text : List ℕ) × ((full : ℕ) × IsOutput input text full) × HoldsBeginning (contents writer) (contents written_to) text))
+    pub done : status ≢ 3 → (bytes : List ℕ) × AreAllOf (remaining reader) bytes
+        × ((text : List ℕ) × IsOutput (whole bytes) text status × Appends (contents writer) (contents written_to) text)
+    pub failed : status ≡ 3 → (input : Input) × IsFrom (remaining reader) (remaining read_to) input
+        × ((text : List ℕ) × ((full : ℕ) × IsOutput input text full) × HoldsBeginning (contents writer) (contents written_to) text)
 
-  -- The job is done. In this order: a secret that isn't hexadecimal is 2, and a plan or a cursor that is none is 1, with nothing
-  -- read or written; else the job's output goes out.
+  -- The job is done. In this order: a secret that isn't hexadecimal is 2, and a plan, a cursor or a list of names that is none is
+  -- 1, with nothing read or written; else the job's output goes out.
   abbrev pub DoesJob : Job → R → W → ℕ → R → W → Type 0
   DoesJob job reader writer status read_to written_to =
       (HasBadSecret job × EndsAtOnce 2 reader writer status read_to written_to)
       ⊎ (((error : PlanError) × HasBadPlan job error) × EndsAtOnce 1 reader writer status read_to written_to)
       ⊎ (HasBadCursor job × EndsAtOnce 1 reader writer status read_to written_to)
-      ⊎ Delivers (IsOutcome job) reader writer status read_to written_to
+      ⊎ (HasBadNames job × EndsAtOnce 1 reader writer status read_to written_to)
+      ⊎ (IsReady job × Delivers (IsOutcome job) reader writer status read_to written_to)
 
   -- how the program ends with these words: with help or the version where they ask for it; with 2 where they are no command; else
   -- by the job that they give
@@ -96,7 +99,7 @@ module _ {R W : Type 0} (remaining : R → Option (List ℕ)) (contents : W → 
 -- ---- within the program; no public contract cites this
 
 -- What a device held at the end of a run that answered so is in the writer behind it; or a beginning is, and the writer failed.
-abbrev pub HandsOn : Option (List ℕ) → Option (List ℕ) → Result Done Fault → Result Done Fault → Type 0
+abbrev pub HandsOn : Option (List ℕ) → Option (List ℕ) → Result Bool Fault → Result Bool Fault → Type 0
 HandsOn held last answer given = ((given ≡ answer) × Keeps held last)
     ⊎ ((given ≡ Err (fault_of (Device Write))) × (lost : List ℕ) × Keeps held (append_known last lost))
 
@@ -124,4 +127,5 @@ module _ {R W : Type 0} where
   EndsUnbegun unready.Secret reader writer ended = OnEnd ended (EndsAtOnce 2 reader writer)
   EndsUnbegun (unready.Plan error) reader writer ended = OnEnd ended (EndsAtOnce 1 reader writer)
   EndsUnbegun (unready.Cursor error) reader writer ended = OnEnd ended (EndsAtOnce 1 reader writer)
+  EndsUnbegun (unready.Names error) reader writer ended = OnEnd ended (EndsAtOnce 1 reader writer)
   EndsUnbegun unready.Memory reader writer ended = ended ≡ NoMemory

@@ -12,6 +12,7 @@ use Rattle.s39_set.specs.Lack.{IsLack}
 use Rattle.s39_set.specs.Written.{IsWrittenForm}
 use Rattle.s39_set.specs.declared.set_lack.SetLack.{SetLack}
 use Rattle.s39_tool.specs.declared.drill.Undrilled.{Undrilled}
+use Rattle.s39_tool.specs.declared.secret_form.SecretForm.TheVariants.{Digits}
 use Rattle.s39_tool.specs.Input.{Input, whole}
 use Rattle.s39_tool.specs.Accepted.{IsReadAs}
 use Rattle.s39_tool.specs.OfBackup.{HoldsMnemonicsOf}
@@ -103,7 +104,7 @@ WordsWrite words input text status = (job : Job) × GivesJob words job × IsOutc
 -- the set has no quorum, or these are none
 abbrev pub ListsOrRefuses : List ShareFields → List ℕ → Names → ℕ → List ℕ → ℕ → Type 0
 ListsOrRefuses set secret names limit text status =
-    (IsQuorum set names × ListsSecret set secret (Some names) limit text × (status ≡ 0))
+    (IsQuorum set names × ListsSecret Digits set secret (Some names) limit text × (status ≡ 0))
     ⊎ (((cause : Undrilled) × IsUndrilled set (Some names) cause) × (text ≡ []) × (status ≡ 1))
 
 -- That is so where the input holds mnemonics of a backup that was created with this passphrase: the cursor's text is that of
@@ -122,7 +123,7 @@ DrillWordsList = (passphrase after limit : Text) (words : List Text) (input : In
 -- the digits of the secret are written, and the exit status is 0; or nothing is written, and it is 1, as the set has no quorum
 abbrev pub RecoversOrRefuses : List ShareFields → List ℕ → List ℕ → ℕ → Type 0
 RecoversOrRefuses set secret text status =
-    (((names : Names) × IsQuorum set names) × (text ≡ secret_line secret) × (status ≡ 0))
+    (((names : Names) × IsQuorum set names) × (text ≡ secret_line Digits secret) × (status ≡ 0))
     ⊎ (((lack : SetLack) × IsLack set lack) × (text ≡ []) × (status ≡ 1))
 
 -- that is so of such an input
@@ -137,7 +138,7 @@ RecoverWordsRecover = (passphrase : Text) (words : List Text) (input : Input) (t
 
 -- the line of the secret that these digits write is written, and the exit status is 0
 abbrev pub GivesSecret : Text → List ℕ → ℕ → Type 0
-GivesSecret digits text status = (secret : List ℕ) × (decode_of digits ≡ Ok secret) × (text ≡ secret_line secret) × (status ≡ 0)
+GivesSecret digits text status = (secret : List ℕ) × (decode_of digits ≡ Ok secret) × (text ≡ secret_line Digits secret) × (status ≡ 0)
 
 -- What the words of a creation write with exit status 0 is an input of which the words of a recovery with the same passphrase
 -- write the secret.

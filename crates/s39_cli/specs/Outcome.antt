@@ -1,11 +1,13 @@
 -- What a job gives of an input: its output, and the exit status.
-use Rattle.std.specs.Prelude.{◌≡◌, ◌==◌, ℕ, Bool, List, Option, Some, None, Result, Ok, Err, if◌then◌else◌}
+use Rattle.std.specs.Prelude.{◌≡◌, ◌==◌, ℕ, Bool, List, Option, Some, None, Result, Ok, Err, if◌then◌else◌, true}
 use Rattle.std.specs.Borrow.{Bor}
 use Rattle.hex.specs.Hex.{decode_of}
 use Rattle.hex.specs.declared.error.FromHexError.{FromHexError}
 use Rattle.clap.specs.Words.{Text}
 use Rattle.s39_set.specs.Names.{Names}
 use Rattle.s39_set.specs.Written.{IsWrittenForm}
+use Rattle.s39_set.specs.Status.{is_enough}
+use Rattle.s39_set.specs.declared.status.Status.{Status as SetStatus}
 use Rattle.s39_backup.specs.declared.plan.Members.{Members}
 use Rattle.s39_backup.specs.declared.plan_error.PlanError.{PlanError}
 use Rattle.s39_backup.specs.declared.options.Options.{Options}
@@ -14,13 +16,16 @@ use Rattle.s39_tool.specs.declared.fault.Refusal.{Refusal}
 use Rattle.s39_tool.specs.declared.fault.Refusal.TheVariants.{Device}
 use Rattle.s39_tool.specs.declared.fault.Fault.{Fault}
 use Rattle.s39_tool.specs.declared.drill.Done.{Done}
+use Rattle.s39_tool.specs.declared.secret_form.SecretForm.TheVariants.{Digits}
 use Rattle.s39_tool.specs.Input.{Input}
 use Rattle.s39_tool.specs.Show.{IsShowOutput}
 use Rattle.s39_tool.specs.Create.{IsCreateOutput}
 use Rattle.s39_tool.specs.Recover.{IsRecoverOutput}
 use Rattle.s39_tool.specs.Drill.{IsDrillOutput}
+use Rattle.s39_tool.specs.Status.{IsStatusOutput}
+use Rattle.s39_tool.specs.Reissue.{IsReissueOutput}
 use Rattle.s39_cli.specs.declared.command.Job.{Job}
-use Rattle.s39_cli.specs.declared.command.Job.TheVariants.{Show, Create, Recover, Drill}
+use Rattle.s39_cli.specs.declared.command.Job.TheVariants.{Show, Create, Recover, Drill, Status, Reissue}
 
 -- ---- a job that isn't begun
 
@@ -29,24 +34,38 @@ abbrev pub IsNotHexadecimal : Text → Type 0
 IsNotHexadecimal text = (error : FromHexError) × (decode_of text ≡ Err error)
 
 -- the text is the written form of no names
-abbrev pub IsNoCursor : Text → Type 0
-IsNoCursor text = (names : Names) → ¬ IsWrittenForm text names
+abbrev pub WritesNoNames : Text → Type 0
+WritesNoNames text = (names : Names) → ¬ IsWrittenForm text names
+
+-- the text gives a plan
+abbrev pub GivesPlan : Text → Type 0
+GivesPlan text = (group_threshold : ℕ) × (groups : List Members) × IsPlanReading text (Ok (group_threshold, groups))
 
 -- the text of the job's secret isn't hexadecimal
 abbrev pub HasBadSecret : Job → Type 0
 HasBadSecret (Create plan secret passphrase exponent extendable) = IsNotHexadecimal secret.now
 HasBadSecret _ = ⊥
 
--- the text of the job's secret is hexadecimal, and that of its plan gives none for this cause
+-- the text of the job's secret is hexadecimal, where it has one, and that of its plan gives none for this cause
 abbrev pub HasBadPlan : Job → PlanError → Type 0
 HasBadPlan (Create plan secret passphrase exponent extendable) error =
     ((bytes : List ℕ) × (decode_of secret.now ≡ Ok bytes)) × IsPlanReading plan.now (Err error)
+HasBadPlan (Reissue plan names) error = IsPlanReading plan.now (Err error)
 HasBadPlan _ error = ⊥
 
 -- the text after whose quorum the job goes on is the written form of no names
 abbrev pub HasBadCursor : Job → Type 0
-HasBadCursor (Drill passphrase (Some after) limit) = IsNoCursor after.now
+HasBadCursor (Drill passphrase (Some after) limit) = WritesNoNames after.now
 HasBadCursor _ = ⊥
+
+-- the text of the job's plan gives one, and that of its names is the written form of none
+abbrev pub HasBadNames : Job → Type 0
+HasBadNames (Reissue plan names) = GivesPlan plan.now × WritesNoNames names.now
+HasBadNames _ = ⊥
+
+-- none of these is so, and the job can be begun
+abbrev pub IsReady : Job → Type 0
+IsReady job = (HasBadSecret job → ⊥) × (((error : PlanError) × HasBadPlan job error) → ⊥) × (HasBadCursor job → ⊥) × (HasBadNames job → ⊥)
 
 -- ---- what is written
 
@@ -82,29 +101,52 @@ pub record CreatesFrom (plan_text secret_text passphrase : Text) (exponent : ℕ
     options = options;
   }) input text answer
 
--- the answer of a run that looks for no mismatches
-abbrev pub without_mismatches : Result (Unit {0}) Fault → Result Done Fault
-without_mismatches (Ok _) = Ok (record { mismatches = 0 })
-without_mismatches (Err fault) = Err fault
+-- `reissue` writes this text for these texts and the input, and answers so
+pub record Reissues (plan_text names_text : Text) (input : Input) (text : List ℕ) (answer : Result (Unit {0}) Fault) : Type 0 where
+  pub group_threshold : ℕ
+  pub groups : List Members
+  pub names : Names
+  pub plan_is : IsPlanReading plan_text (Ok (group_threshold, groups))
+  pub names_are : IsWrittenForm names_text names
+  pub output : IsReissueOutput group_threshold groups names input text answer
 
--- The job writes this text for the input, and answers so: each value is the job's, and its texts are read as above.
-abbrev pub IsJobOutput : Job → Input → List ℕ → Result Done Fault → Type 0
+-- whether all is well, by what a run answers that is done, or its fault
+abbrev pub judged : {T : Type 0} → (T → Bool) → Result T Fault → Result Bool Fault
+judged is_well (Ok found) = Ok (is_well found)
+judged is_well (Err fault) = Err fault
+
+-- all is well wherever a run is done that answers nothing
+abbrev pub where_done : Unit {0} → Bool
+where_done _ = true
+
+-- all is well with a drill that found no mismatch
+abbrev pub without_mismatches : Done → Bool
+without_mismatches done = done.mismatches == 0
+
+-- The job writes this text for the input, and answers so, whether all is well: each value is the job's, and its texts are
+-- read as above.
+abbrev pub IsJobOutput : Job → Input → List ℕ → Result Bool Fault → Type 0
 IsJobOutput Show input text answer =
-    (plain : Result (Unit {0}) Fault) × IsShowOutput input text plain × (answer ≡ without_mismatches plain)
+    (plain : Result (Unit {0}) Fault) × IsShowOutput input text plain × (answer ≡ judged where_done plain)
 IsJobOutput (Create plan secret passphrase exponent extendable) input text answer =
     (plain : Result (Unit {0}) Fault) × CreatesFrom plan.now secret.now passphrase.now exponent extendable input text plain
-    × (answer ≡ without_mismatches plain)
+    × (answer ≡ judged where_done plain)
 IsJobOutput (Recover passphrase) input text answer =
-    (plain : Result (Unit {0}) Fault) × IsRecoverOutput passphrase.now input text plain × (answer ≡ without_mismatches plain)
+    (plain : Result (Unit {0}) Fault) × IsRecoverOutput Digits passphrase.now input text plain × (answer ≡ judged where_done plain)
 IsJobOutput (Drill passphrase after limit) input text answer =
-    (names : Option Names) × IsCursor after names × IsDrillOutput passphrase.now names limit input text answer
+    (names : Option Names) × IsCursor after names
+    × ((found : Result Done Fault) × IsDrillOutput Digits passphrase.now names limit input text found × (answer ≡ judged without_mismatches found))
+IsJobOutput Status input text answer =
+    (found : Result SetStatus Fault) × IsStatusOutput input text found × (answer ≡ judged is_enough found)
+IsJobOutput (Reissue plan names) input text answer =
+    (plain : Result (Unit {0}) Fault) × Reissues plan.now names.now input text plain × (answer ≡ judged where_done plain)
 
 -- the exit status of a refusal: 3 where a device failed, else 1
 abbrev pub status_of_refusal : Refusal → ℕ
 status_of_refusal (Device _) = 3
 status_of_refusal _ = 1
 
--- the exit status of a run that answers so: 0, or 1 where it found a mismatch, or that of its refusal
-abbrev pub status_of : Result Done Fault → ℕ
-status_of (Ok done) = if done.mismatches == 0 then 0 else 1
+-- the exit status of a run that answers so: 0 where all is well, and else 1, or that of its refusal
+abbrev pub status_of : Result Bool Fault → ℕ
+status_of (Ok is_well) = if is_well then 0 else 1
 status_of (Err fault) = status_of_refusal fault.refusal

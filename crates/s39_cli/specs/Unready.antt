@@ -1,17 +1,20 @@
 -- Why a job isn't begun. No public contract cites this.
+use Rattle.std.specs.Prelude.{Err}
 use Rattle.hex.specs.declared.error.FromHexError.{FromHexError}
 use Rattle.hex.specs.declared.error.FromHexError.TheVariants.{OutOfMemory}
 use Rattle.clap.specs.Words.{Text}
+use Rattle.s39_backup.specs.Plan.{IsPlanReading}
 use Rattle.s39_cli.specs.declared.command.Job.{Job}
 use Rattle.s39_cli.specs.declared.work.Unready.{Unready}
-use Rattle.s39_cli.specs.declared.work.Unready.TheVariants.{Secret, Plan, Cursor, Memory}
-use Rattle.s39_cli.specs.Outcome.{IsNotHexadecimal, HasBadSecret, HasBadPlan, HasBadCursor}
+use Rattle.s39_cli.specs.declared.work.Unready.TheVariants.{Secret, Plan, Cursor, Names, Memory}
+use Rattle.s39_cli.specs.Outcome.{IsNotHexadecimal, HasBadSecret, HasBadPlan, HasBadCursor, HasBadNames, GivesPlan, WritesNoNames}
 
 -- the cause applies to the job
 abbrev pub IsUnready : Job → Unready → Type 0
 IsUnready job Secret = HasBadSecret job
 IsUnready job (Plan error) = HasBadPlan job error
 IsUnready job (Cursor bad) = HasBadCursor job
+IsUnready job (Names bad) = HasBadNames job
 IsUnready job Memory = Unit {0}
 
 -- why a text that is decoded so gives no secret
@@ -24,3 +27,9 @@ abbrev pub IsNoSecret : Text → Unready → Type 0
 IsNoSecret text Secret = IsNotHexadecimal text
 IsNoSecret text Memory = Unit {0}
 IsNoSecret text _ = ⊥
+
+-- the cause applies to the texts of a plan and of names
+abbrev pub IsNoReissue : Text → Text → Unready → Type 0
+IsNoReissue plan names (Plan error) = IsPlanReading plan (Err error)
+IsNoReissue plan names (Names bad) = GivesPlan plan × WritesNoNames names
+IsNoReissue plan names _ = ⊥

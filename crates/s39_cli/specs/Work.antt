@@ -1,21 +1,29 @@
 -- What is run for a job. No public contract cites this.
-use Rattle.std.specs.Prelude.{◌≡◌, ℕ, Bool, List, Option, Result}
+use Rattle.std.specs.Prelude.{◌≡◌, ℕ, Bool, List, Option, Result, Ok}
 use Rattle.std.specs.Borrow.{Bor}
 use Rattle.clap.specs.Words.{Text}
+use Rattle.s39_set.specs.Status.{is_enough}
+use Rattle.s39_set.specs.Written.{IsWrittenForm}
+use Rattle.s39_set.specs.declared.status.Status.{Status}
+use Rattle.s39_backup.specs.Plan.{IsPlanReading}
 use Rattle.s39_tool.specs.declared.fault.Fault.{Fault}
 use Rattle.s39_tool.specs.declared.drill.Done.{Done}
+use Rattle.s39_tool.specs.declared.secret_form.SecretForm.TheVariants.{Digits}
 use Rattle.s39_tool.specs.Input.{Input}
 use Rattle.s39_tool.specs.Show.{IsShowOutput}
 use Rattle.s39_tool.specs.Create.{IsCreateOutput}
 use Rattle.s39_tool.specs.Recover.{IsRecoverOutput}
 use Rattle.s39_tool.specs.Drill.{IsDrillOutput}
+use Rattle.s39_tool.specs.Status.{IsStatusOutput}
+use Rattle.s39_tool.specs.Reissue.{IsReissueOutput}
 use Rattle.s39_cli.specs.declared.command.Job.{Job}
 use Rattle.s39_cli.specs.declared.command.Job.TheVariants as job
 use Rattle.s39_cli.specs.declared.work.Creation.{Creation}
 use Rattle.s39_cli.specs.declared.work.Drill.{Drill}
+use Rattle.s39_cli.specs.declared.work.Reissue.{Reissue}
 use Rattle.s39_cli.specs.declared.work.Work.{Work}
 use Rattle.s39_cli.specs.declared.work.Work.TheVariants as work
-use Rattle.s39_cli.specs.Outcome.{AreRead, AreOptions, IsCursor, without_mismatches}
+use Rattle.s39_cli.specs.Outcome.{AreRead, AreOptions, IsCursor, judged, where_done, without_mismatches}
 
 -- the creation has what these texts, the exponent and the flag give
 pub record IsCreationOf (plan_text secret_text given_passphrase : Text) (exponent : ℕ) (extendable : Bool) (creation : Creation) : Type 0 where
@@ -29,6 +37,11 @@ pub record IsDrillOf (given_passphrase : Text) (given_after : Option (Bor Text))
   pub cursor : IsCursor given_after drill.after
   pub limit_is : drill.limit ≡ given_limit
 
+-- what is reissued is what the texts of a plan and of names give
+pub record IsReissueOf (plan_text names_text : Text) (reissue : Reissue) : Type 0 where
+  pub plan_is : IsPlanReading plan_text (Ok (reissue.plan.group_threshold, reissue.plan.groups.items))
+  pub names_are : IsWrittenForm names_text reissue.names
+
 -- the work is the job's
 abbrev pub IsWorkOf : Job → Work → Type 0
 IsWorkOf job.Show w = w ≡ work.Show
@@ -36,11 +49,13 @@ IsWorkOf (job.Create plan secret passphrase exponent extendable) w =
     (creation : Creation) × (w ≡ work.Create creation) × IsCreationOf plan.now secret.now passphrase.now exponent extendable creation
 IsWorkOf (job.Recover passphrase) w = (given : Bor Text) × (w ≡ work.Recover given) × (given.now ≡ passphrase.now)
 IsWorkOf (job.Drill passphrase after limit) w = (drill : Drill) × (w ≡ work.Drill drill) × IsDrillOf passphrase.now after limit drill
+IsWorkOf job.Status w = w ≡ work.Status
+IsWorkOf (job.Reissue plan names) w = (reissue : Reissue) × (w ≡ work.Reissue reissue) × IsReissueOf plan.now names.now reissue
 
--- the work writes this text for the input, and answers so
-abbrev pub IsWorkOutput : Work → Input → List ℕ → Result Done Fault → Type 0
+-- the work writes this text for the input, and answers so, whether all is well
+abbrev pub IsWorkOutput : Work → Input → List ℕ → Result Bool Fault → Type 0
 IsWorkOutput work.Show input text answer =
-    (plain : Result (Unit {0}) Fault) × IsShowOutput input text plain × (answer ≡ without_mismatches plain)
+    (plain : Result (Unit {0}) Fault) × IsShowOutput input text plain × (answer ≡ judged where_done plain)
 IsWorkOutput (work.Create creation) input text answer =
     (plain : Result (Unit {0}) Fault) × IsCreateOutput (record {
       secret = creation.secret.items;
@@ -48,7 +63,15 @@ IsWorkOutput (work.Create creation) input text answer =
       group_threshold = creation.plan.group_threshold;
       groups = creation.plan.groups.items;
       options = creation.options;
-    }) input text plain × (answer ≡ without_mismatches plain)
+    }) input text plain × (answer ≡ judged where_done plain)
 IsWorkOutput (work.Recover passphrase) input text answer =
-    (plain : Result (Unit {0}) Fault) × IsRecoverOutput passphrase.now input text plain × (answer ≡ without_mismatches plain)
-IsWorkOutput (work.Drill drill) input text answer = IsDrillOutput drill.passphrase.now drill.after drill.limit input text answer
+    (plain : Result (Unit {0}) Fault) × IsRecoverOutput Digits passphrase.now input text plain × (answer ≡ judged where_done plain)
+IsWorkOutput (work.Drill drill) input text answer =
+    (found : Result Done Fault) × IsDrillOutput Digits drill.passphrase.now drill.after drill.limit input text found
+    × (answer ≡ judged without_mismatches found)
+IsWorkOutput work.Status input text answer =
+    (found : Result Status Fault) × IsStatusOutput input text found × (answer ≡ judged is_enough found)
+IsWorkOutput (work.Reissue reissue) input text answer =
+    (plain : Result (Unit {0}) Fault)
+    × IsReissueOutput reissue.plan.group_threshold reissue.plan.groups.items reissue.names input text plain
+    × (answer ≡ judged where_done plain)

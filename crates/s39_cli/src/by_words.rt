@@ -1,5 +1,5 @@
 //! What the program gives by its words, from the words on: theorems, each the contract of a function that only calls it.
-ghost use Rattle.std.specs.Prelude.{◌≡◌, ◌≢◌, ℕ, List, [], map, Some, IfErr, IfOk, IfSome};
+ghost use Rattle.std.specs.Prelude.{◌≡◌, ◌≢◌, ℕ, List, [], map, Some, IfErr, IfOk};
 ghost use Rattle.std.specs.Io.KnownBytes.{Appends};
 ghost use Rattle.clap.specs.Words.{Text};
 ghost use Rattle.s39_set.specs.Names.{Names};
@@ -66,9 +66,9 @@ pub fn create_and_recover<R: Read + Drop, W: Write + Drop, E: Write>(
     ensures recovered { IfOk result (λ recovery. (plan secret passphrase : Text)
         → AreCreateWords plan secret passphrase (map (λ word. word.now) creating.now)
         → AreRecoverWords passphrase (map (λ word. word.now) recovering.now)
-        → OnEnd recovery (λ status read_to written_to. IfSome (R.remaining random) (λ bytes. status ≢ 3
+        → OnEnd recovery (λ status read_to written_to. status ≢ 3
         → (line : List ℕ) × GivesSecret secret line status
-        × Appends (W.contents output) (W.contents written_to) line))) }
+        × Appends (W.contents output) (W.contents written_to) line)) }
     ensures not_done { IfErr result (λ creation. status_in creation ≢ 0) }
     ensures first { IfErr result (λ creation. (empty : _) × (empty.items ≡ [])
         × Ends R.remaining (λ queue. Some queue.items) (map (λ word. word.now) creating.now)

@@ -4,7 +4,8 @@ ghost use Rattle.clap.specs.Words.{app_of, fault_of, found_of, kind_of, rows_of,
 ghost use Rattle.clap.specs.declared.builder.Command.TheViews.{out-Command};
 ghost use Rattle.s39_clap.specs.Found.{EntersOne};
 ghost use Rattle.s39_cli.specs.Command.{option_rule, plan_rule, secret_rule, passphrase_rule, exponent_rule, extendable_rule};
-ghost use Rattle.s39_cli.specs.Command.{after_rule, limit_rule, show_app, create_app, recover_app, drill_app, shamir_top, shamir_app, commands, text_or_empty};
+ghost use Rattle.s39_cli.specs.Command.{after_rule, limit_rule, names_rule, text_or_empty};
+ghost use Rattle.s39_cli.specs.Command.{show_app, create_app, recover_app, drill_app, status_app, reissue_app, shamir_top, shamir_app, commands};
 ghost use Rattle.s39_cli.specs.Command.{Gives, GivesJob, IsInRange, AnswersKind, AnswersWords};
 
 use clap::builder::ValueParser;
@@ -44,6 +45,15 @@ pub enum Job<'a> {
         after: Option<&'a str>,
         /// How many quorums are tried at most, from 1, and 1000 where no number was given.
         limit: u32,
+    },
+    /// Tells which members of each group are on standard input, and whether they are enough.
+    Status,
+    /// Computes mnemonics of a backup from others of it on standard input.
+    Reissue {
+        /// The text of the plan.
+        plan: &'a str,
+        /// The text of the names of the mnemonics.
+        names: &'a str,
     },
 }
 
@@ -195,6 +205,35 @@ fn show<'a>(alloc: Global) -> Command<'a>
     )
 }
 
+fn status<'a>(alloc: Global) -> Command<'a>
+    ensures app { app_of result ≡ status_app }
+    ensures local { (out-Command result).has_globals ≡ false }
+{
+    Command::new(alloc, "status").about(
+        "Tells which members of each group are on standard input, and whether they are enough",
+    )
+}
+
+fn names<'a>(alloc: Global) -> Arg<'a>
+    ensures rule { rule_of result ≡ names_rule }
+    ensures local { result.global ≡ false }
+{
+    Arg::new(alloc, "names")
+        .value_name("NAMES")
+        .required(true)
+        .help("The mnemonics to write, each by its group and its member, in order: G.M+G.M+..")
+}
+
+fn reissue<'a>(alloc: Global) -> Result<Command<'a>, AllocError>
+    ensures app { IfOk result (λ command. app_of command ≡ reissue_app) }
+    ensures local { IfOk result (λ command. (out-Command command).has_globals ≡ false) }
+{
+    Command::new(alloc, "reissue")
+        .about("Writes lost mnemonics again, from others of their backup on standard input")
+        .arg(plan(alloc))?
+        .arg(names(alloc))
+}
+
 /// The program without its commands.
 fn top<'a>(alloc: Global) -> Command<'a>
     ensures app { app_of result ≡ record { top = shamir_top; subs = [] } }
@@ -210,12 +249,24 @@ fn top<'a>(alloc: Global) -> Command<'a>
 /// The command with those that take the shares of one backup.
 fn with_recovery<'a>(alloc: Global, command: Command<'a>) -> Result<Command<'a>, AllocError>
     requires { (out-Command command).has_globals ≡ false }
-    ensures { IfOk result (λ whole. app_of whole ≡ with_subcommand
+    ensures app { IfOk result (λ whole. app_of whole ≡ with_subcommand
         (with_subcommand (app_of command.entry) recover_app.top) drill_app.top) }
+    ensures local { IfOk result (λ whole. (out-Command whole).has_globals ≡ false) }
 {
     command
         .subcommand(recover(alloc)?)?
         .subcommand(drill(alloc)?)
+}
+
+/// The command with those that tell what is missing, and compute it.
+fn with_missing<'a>(alloc: Global, command: Command<'a>) -> Result<Command<'a>, AllocError>
+    requires { (out-Command command).has_globals ≡ false }
+    ensures { IfOk result (λ whole. app_of whole ≡ with_subcommand
+        (with_subcommand (app_of command.entry) status_app.top) reissue_app.top) }
+{
+    command
+        .subcommand(status(alloc))?
+        .subcommand(reissue(alloc)?)
 }
 
 #[tactic(auto, unfolding(crate::specs::Command::shamir_app))]
@@ -225,7 +276,8 @@ fn shamir<'a>(alloc: Global) -> Result<Command<'a>, AllocError>
     let command = top(alloc)
         .subcommand(show(alloc))?
         .subcommand(create(alloc)?)?;
-    with_recovery(alloc, command)
+    let command = with_recovery(alloc, command)?;
+    with_missing(alloc, command)
 }
 
 fn no_job(alloc: Global, error: &Error) -> NoJob
@@ -279,6 +331,19 @@ fn drill_job<'a>(options: &ArgMatches<'a>) -> Job<'a>
     }
 }
 
+/// The job `reissue`, from what was found for its arguments.
+#[tactic(auto, unfolding(crate::specs::Command::shamir_app))]
+fn reissue_job<'a>(options: &ArgMatches<'a>) -> Job<'a>
+    requires { EntersOne commands (Some (codes "reissue", rows_of (found_of options.now))) }
+    ensures gives { Gives (codes "reissue") (rows_of (found_of options.now)) result }
+    ensures range { IsInRange result }
+{
+    Job::Reissue {
+        plan: options.get_str("plan").unwrap(),
+        names: options.get_str("names").unwrap(),
+    }
+}
+
 /// The job of the command with this name, from what was found for its arguments.
 #[tactic(auto, unfolding(crate::specs::Command::shamir_app))]
 fn job_of<'a>(name: &str, options: &ArgMatches<'a>) -> Job<'a>
@@ -293,6 +358,8 @@ fn job_of<'a>(name: &str, options: &ArgMatches<'a>) -> Job<'a>
             passphrase: passphrase_of(options),
         },
         "drill" => drill_job(options),
+        "status" => Job::Status,
+        "reissue" => reissue_job(options),
         _ => unreachable!(),
     }
 }

@@ -9,14 +9,14 @@ ghost use Rattle.s39_cli.specs.Work.{IsWorkOutput};
 
 use crate::patient::Patient;
 use crate::work::Work;
-use s39_tool::{Counting, DeviceFailure, Done, Fault, Refusal};
+use s39_tool::{Counting, DeviceFailure, Fault, Refusal};
 use std::alloc::Global;
 use std::io::{BufWriter, Read, Write};
 
-/// What a command answered, and its devices.
+/// What a command answered, whether all is well, and its devices.
 #[derive(Drop)]
 pub(crate) struct Finished<R, W> {
-    pub(crate) answer: Result<Done, Fault>,
+    pub(crate) answer: Result<bool, Fault>,
     pub(crate) input: R,
     pub(crate) output: W,
 }
@@ -48,9 +48,9 @@ pub(crate) fn by_buffer<R: Read + Drop, W: Write + Drop>(
 
 /// Hands on what a buffer keeps after a run that gave this answer, which becomes that the writer failed where that fails.
 fn handed_on<W: Write + Drop>(
-    answer: Result<Done, Fault>,
+    answer: Result<bool, Fault>,
     output: BufWriter<W>,
-) -> (Result<Done, Fault>, W)
+) -> (Result<bool, Fault>, W)
     ensures { HandsOn (writer_contents W.contents output) (W.contents result.1) answer result.0 }
 {
     let mut output = output;
@@ -66,7 +66,7 @@ fn handed_on<W: Write + Drop>(
 
 /// Hands on what a buffer keeps after a run that gave this answer; whether all of the output has gone then. Where nothing
 /// was written before a refusal, the writer isn't asked.
-fn hand_on<W: Write + Drop>(answer: &Result<Done, Fault>, output: &mut BufWriter<W>) -> bool
+fn hand_on<W: Write + Drop>(answer: &Result<bool, Fault>, output: &mut BufWriter<W>) -> bool
     ensures kept { Keeps (writer_contents W.contents output.old)
         (writer_contents W.contents output.new) }
     ensures whole { IsTrue result → writer_buffer output.new ≡ [] }
@@ -98,7 +98,7 @@ pub(crate) fn by_lines<R: Read + Drop, W: Write + Drop>(
 }
 
 /// Flushes a writer after a run that gave this answer, which becomes that the writer failed where that fails.
-fn flushed<W: Write>(answer: Result<Done, Fault>, output: Patient<W>) -> (Result<Done, Fault>, W)
+fn flushed<W: Write>(answer: Result<bool, Fault>, output: Patient<W>) -> (Result<bool, Fault>, W)
     ensures { HandsOn (W.contents output.output) (W.contents result.1) answer result.0 }
 {
     let mut output = output;
@@ -112,7 +112,7 @@ fn flushed<W: Write>(answer: Result<Done, Fault>, output: Patient<W>) -> (Result
 }
 
 /// Whether a write failed.
-fn has_failed(answer: &Result<Done, Fault>) -> bool {
+fn has_failed(answer: &Result<bool, Fault>) -> bool {
     match answer {
         Ok(_) => false,
         Err(fault) => fault.refusal == Refusal::Device(DeviceFailure::Write),

@@ -6,8 +6,9 @@ ghost use Rattle.s39_cli.specs.Outcome.{status_of, status_of_refusal};
 use crate::command::{NoJob, read_words};
 use crate::delivery::{Finished, by_buffer, by_lines, show, write_failed};
 use crate::work::{Unready, Work};
+use s39_refusal::Cause;
 use s39_text::FaultText;
-use s39_tool::{Done, Fault, Refusal};
+use s39_tool::{Fault, Refusal};
 use std::alloc::Global;
 use std::io;
 use std::io::{ErrorKind, Read, Write};
@@ -57,7 +58,7 @@ impl<R: Drop, W: Drop> Ended<R, W> {
 /// | Status | When |
 /// |---|---|
 /// | 0 | the command is done, or help was asked for and written |
-/// | 1 | a refusal that isn't a device's, or a drill that listed a refused quorum |
+/// | 1 | a refusal that isn't a device's, a drill that listed a refused quorum, or a status with too few complete groups |
 /// | 2 | the command line is refused, or the master secret isn't hexadecimal |
 /// | 3 | a read or a write failed |
 /// | 4 | there is no memory |
@@ -147,14 +148,9 @@ fn unbegun<R: Drop, W: Drop, E: Write>(
             let _ = errors.write_all(b"shamir: master secret isn't hexadecimal\n");
             NO_JOB
         }
-        Unready::Plan(error) => {
-            let _ = writeln!(errors, "{}", FaultText::of(None, error.cause()));
-            REFUSED
-        }
-        Unready::Cursor(error) => {
-            let _ = writeln!(errors, "{}", FaultText::of(None, error.cause()));
-            REFUSED
-        }
+        Unready::Plan(error) => refuse(error.cause(), errors),
+        Unready::Cursor(error) => refuse(error.cause(), errors),
+        Unready::Names(error) => refuse(error.cause(), errors),
         Unready::Memory => return no_memory_left(errors),
     };
     Ended::With {
@@ -162,6 +158,14 @@ fn unbegun<R: Drop, W: Drop, E: Write>(
         input,
         output,
     }
+}
+
+/// Says why a text of the command line gives nothing, and gives the exit status.
+fn refuse<E: Write>(cause: Cause, errors: &mut E) -> u8
+    ensures { result ≡ 1 }
+{
+    let _ = writeln!(errors, "{}", FaultText::of(None, cause));
+    REFUSED
 }
 
 /// Says what a command answered.
@@ -183,12 +187,12 @@ fn answered<R: Drop, W: Drop, E: Write>(finished: Finished<R, W>, errors: &mut E
 }
 
 /// The exit status of an answer, whose fault is said.
-fn status_of<E: Write>(answer: Result<Done, Fault>, errors: &mut E) -> u8
+fn status_of<E: Write>(answer: Result<bool, Fault>, errors: &mut E) -> u8
     ensures status { result ≡ status_of answer }
     ensures silent { result ≡ 0 → errors.new ≡ errors.old }
 {
     match answer {
-        Ok(done) => { if done.mismatches == 0 { DONE } else { REFUSED } }
+        Ok(is_well) => { if is_well { DONE } else { REFUSED } }
         Err(fault) => report(fault, errors),
     }
 }

@@ -1,17 +1,19 @@
 //! Commands that are ready to run.
 ghost use Rattle.std.specs.Prelude.{◌≡◌, ◌<◌, ◌≤◌, IfOk, IfErr, IsSomeAnd, Ok};
 ghost use Rattle.hex.specs.Hex.{decode_of};
+ghost use Rattle.s39_set.specs.Status.{is_enough};
 ghost use Rattle.s39_tool.specs.Runs.{Runs};
 ghost use Rattle.s39_cli.specs.Command.{IsInRange};
-ghost use Rattle.s39_cli.specs.Outcome.{IsCursor, IsNoCursor, without_mismatches};
-ghost use Rattle.s39_cli.specs.Unready.{IsNoSecret, IsUnready};
+ghost use Rattle.s39_cli.specs.Outcome.{IsCursor, WritesNoNames, judged, where_done, without_mismatches};
+ghost use Rattle.s39_cli.specs.Unready.{IsNoReissue, IsNoSecret, IsUnready};
 
 use crate::command::Job;
 use crate::runner::Destination;
 use hex::FromHexError;
-use s39_set::{BadCursor, Quorum, parse_quorum};
+use s39_set::{BadCursor, BadNames, Quorum, Status, parse_names, parse_quorum};
 use s39_tool::{
-    Counting, Done, Fault, Options, Plan, PlanError, run_create, run_drill, run_recover, run_show,
+    Counting, Done, Fault, Options, Plan, PlanError, SecretForm, run_create, run_drill,
+    run_recover, run_reissue, run_show, run_status,
 };
 use std::alloc::Global;
 use std::io::{Read, Write};
@@ -34,6 +36,13 @@ pub(crate) struct Drill<'a> {
     ghost some: { 1 ≤ limit },
 }
 
+/// What is reissued, beside the mnemonics that it is computed from.
+#[derive(Debug, Drop)]
+pub(crate) struct Reissue {
+    plan: Plan,
+    names: Quorum,
+}
+
 /// A command that is ready to run: it needs no more memory.
 #[derive(Debug, Drop)]
 pub(crate) enum Work<'a> {
@@ -45,6 +54,10 @@ pub(crate) enum Work<'a> {
     Recover { passphrase: &'a [u8] },
     /// Tries quorums.
     Drill(Drill<'a>),
+    /// Tells what is at hand of each group.
+    Status,
+    /// Computes mnemonics from others.
+    Reissue(Reissue),
 }
 
 /// Why a command can't be begun.
@@ -56,6 +69,8 @@ pub(crate) enum Unready {
     Plan(PlanError),
     /// The text of a quorum is none.
     Cursor(BadCursor),
+    /// The text of names is no list of names.
+    Names(BadNames),
     /// There is no memory.
     Memory,
 }
@@ -77,6 +92,16 @@ impl From<BadCursor> for Unready {
 
     fn from(error: BadCursor) -> Unready {
         Unready::Cursor(error)
+    }
+}
+
+impl From<BadNames> for Unready {
+    ghost use Rattle.s39_cli.specs.declared.work.Unready.TheVariants.{Names};
+
+    ghost from_gives = { λ error unready. unready ≡ Names error };
+
+    fn from(error: BadNames) -> Unready {
+        Unready::Names(error)
     }
 }
 
@@ -104,7 +129,7 @@ fn secret_of(alloc: Global, text: &str) -> Result<Vec<u8>, Unready>
 /// The names after which a drill goes on, where a text gives some.
 fn cursor_of(text: Option<&str>) -> Result<Option<Quorum>, BadCursor>
     ensures cursor { IfOk result (IsCursor text.entry) }
-    ensures refused { IfErr result (λ bad. IsSomeAnd text.entry (λ text. IsNoCursor text.now)) }
+    ensures refused { IfErr result (λ bad. IsSomeAnd text.entry (λ text. WritesNoNames text.now)) }
 {
     match text {
         Some(text) => Ok(Some(parse_quorum(text.as_bytes())?)),
@@ -112,10 +137,25 @@ fn cursor_of(text: Option<&str>) -> Result<Option<Quorum>, BadCursor>
     }
 }
 
+impl Reissue {
+    ghost use Rattle.s39_cli.specs.Work.{IsReissueOf};
+
+    /// The plan and the names of which these are the texts: the plan is read first.
+    fn of(plan: &str, names: &str) -> Result<Reissue, Unready>
+        ensures reissue { IfOk result (IsReissueOf plan.now names.now) }
+        ensures refused { IfErr result (IsNoReissue plan.now names.now) }
+    {
+        let plan = Plan::parse(plan)?;
+        let names = parse_names(names.as_bytes())?;
+        Ok(Reissue { plan, names })
+    }
+}
+
 impl<'a> Work<'a> {
     ghost use Rattle.s39_cli.specs.Work.{IsWorkOf, IsWorkOutput};
 
-    /// The work of a job, whose texts are read here: of `create` first the secret and then the plan.
+    /// The work of a job, whose texts are read here: of `create` first the secret and then the plan, and of `reissue` first
+    /// the plan and then the names.
     pub(crate) fn of(alloc: Global, job: Job<'a>) -> Result<Work<'a>, Unready>
         requires { IsInRange job }
         ensures work { IfOk result (IsWorkOf job.entry) }
@@ -157,6 +197,8 @@ impl<'a> Work<'a> {
                     limit,
                 }))
             }
+            Job::Status => Ok(Work::Status),
+            Job::Reissue { plan, names } => Ok(Work::Reissue(Reissue::of(plan, names)?)),
         }
     }
 
@@ -165,24 +207,25 @@ impl<'a> Work<'a> {
         match self {
             Work::Show => destination == Destination::Terminal,
             Work::Drill(_) => true,
-            Work::Create(_) | Work::Recover { .. } => false,
+            Work::Create(_) | Work::Recover { .. } | Work::Status | Work::Reissue(_) => false,
         }
     }
 
-    /// Runs the command, and gives how many quorums were refused.
+    /// Runs the command, and gives whether all is well: no quorum was refused, and enough groups are complete, where the
+    /// command looks for that.
     pub(crate) fn run<R: Read, W: Write>(
         &self,
         input: &mut Counting<R>,
         output: &mut Counting<W>,
-    ) -> Result<Done, Fault>
+    ) -> Result<bool, Fault>
         requires readable { input.old.failures < u64.MAX }
         requires writable { output.old.failures < u64.MAX }
         ensures { Runs R.remaining W.contents (IsWorkOutput self.now)
             input.old input.new output.old output.new result }
     {
         match self {
-            Work::Show => without_mismatches(run_show(input, output)),
-            Work::Create(creation) => without_mismatches(run_create(
+            Work::Show => where_done(run_show(input, output)),
+            Work::Create(creation) => where_done(run_create(
                 &creation.plan,
                 creation.secret.as_slice(),
                 creation.passphrase,
@@ -191,25 +234,50 @@ impl<'a> Work<'a> {
                 output,
             )),
             Work::Recover { passphrase } => {
-                without_mismatches(run_recover(passphrase, input, output))
+                where_done(run_recover(SecretForm::Digits, passphrase, input, output))
             }
-            Work::Drill(drill) => run_drill(
+            Work::Drill(drill) => without_mismatches(run_drill(
+                SecretForm::Digits,
                 drill.passphrase,
                 drill.after.as_ref(),
                 drill.limit,
                 input,
                 output,
-            ),
+            )),
+            Work::Status => with_enough(run_status(input, output)),
+            Work::Reissue(reissue) => {
+                where_done(run_reissue(&reissue.plan, &reissue.names, input, output))
+            }
         }
     }
 }
 
-/// The answer of a run that looks for no mismatches.
-fn without_mismatches(answer: Result<(), Fault>) -> Result<Done, Fault>
-    ensures { result ≡ without_mismatches answer }
+/// All is well where this run is done.
+fn where_done(answer: Result<(), Fault>) -> Result<bool, Fault>
+    ensures { result ≡ judged where_done answer }
 {
     match answer {
-        Ok(()) => Ok(Done { mismatches: 0 }),
+        Ok(()) => Ok(true),
+        Err(fault) => Err(fault),
+    }
+}
+
+/// All is well with a drill that found no mismatch.
+fn without_mismatches(answer: Result<Done, Fault>) -> Result<bool, Fault>
+    ensures { result ≡ judged without_mismatches answer }
+{
+    match answer {
+        Ok(done) => Ok(done.mismatches == 0),
+        Err(fault) => Err(fault),
+    }
+}
+
+/// All is well where enough groups are complete.
+fn with_enough(answer: Result<Status, Fault>) -> Result<bool, Fault>
+    ensures { result ≡ judged is_enough answer }
+{
+    match answer {
+        Ok(status) => Ok(status.is_enough()),
         Err(fault) => Err(fault),
     }
 }

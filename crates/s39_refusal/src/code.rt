@@ -72,11 +72,14 @@ pub const DIGEST_MISMATCH: u8 = 51;
 /// In the place of a group in the details of `DIGEST_MISMATCH`: the digest of the group shares.
 pub const OF_GROUPS: u64 = 16;
 
-/// A text is no list of names.
+/// A cursor is no list of names.
 pub const BAD_CURSOR: u8 = 61;
 
 /// Names are no quorum.
 pub const NOT_A_QUORUM: u8 = 62;
+
+/// A text is no list of names.
+pub const BAD_NAMES: u8 = 63;
 
 /// A plan doesn't have a name. The details are the group and the member, counted from 0.
 pub const NOT_IN_PLAN: u8 = 64;

@@ -18,7 +18,8 @@ use Rattle.s39_set.specs.Groups.{complete_groups}
 use Rattle.s39_set.specs.ShareSet.{IsShareSet, name_of}
 use Rattle.s39_set.specs.Quorums.{group_threshold_of, member_threshold_of, ComesAfter, HasJustTheMembers}
 use Rattle.s39_set.specs.Listing.{AreAllQuorumsAfter, IsListing}
-use Rattle.s39_lists.proofs.Sublists.{IsSublist, none, keeps, leaves, nil-sublist, Contains-head, Contains-cons, Contains-filter, Contains-sublist, filter_kept, AllPairs-append, AllPairs-sublist}
+use Rattle.s39_lists.proofs.Sublists.{IsSublist, none, keeps, leaves, nil-sublist, Contains-head, Contains-cons, Contains-filter, Contains-sublist, filter_kept}
+use Rattle.s39_lists.proofs.Sublists.{AllPairs-append, AllPairs-sublist}
 use Rattle.s39_lists.proofs.Pairs.{AllPairs-nil, AllPairs-head, AllPairs-tail, AllPairs-map}
 use Rattle.s39_set.proofs.Ascending.{name_cmp_total, names-sublist}
 use Rattle.s39_set.proofs.NamesOrder.{first-less}

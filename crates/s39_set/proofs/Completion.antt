@@ -11,7 +11,8 @@ use Rattle.std.proofs.lemmas.List.Kept.{AllPairs-filter}
 use Rattle.s39_set.specs.Names.{Name, Names, name_cmp, names_cmp, IsAscending, names_in_group, most_groups}
 use Rattle.s39_set.specs.Groups.{is_complete, complete_groups, first_members}
 use Rattle.s39_set.proofs.Thresholds.{HasJust}
-use Rattle.s39_lists.proofs.Sublists.{IsSublist, each, one_of, of_filter, in_whole, take-sublist, Contains-head, Contains-cons, Contains-nil, Contains-filter, Contains-cases, filter-none, AllPairs-append, AllPairs-sublist}
+use Rattle.s39_lists.proofs.Sublists.{IsSublist, each, one_of, of_filter, in_whole, take-sublist, Contains-head, Contains-cons, Contains-nil, Contains-filter}
+use Rattle.s39_lists.proofs.Sublists.{Contains-cases, filter-none, AllPairs-append, AllPairs-sublist}
 use Rattle.s39_lists.proofs.Pairs.{AllPairs-nil, AllPairs-head, AllPairs-tail}
 use Rattle.s39_lists.proofs.Orders.{taken_before}
 use Rattle.s39_set.proofs.Ascending.{Precedes, name_cmp_groups, same_names}

@@ -10,7 +10,8 @@ use Rattle.std.proofs.lemmas.List.Kept.{AllPairs-cons}
 use Rattle.s39_set.specs.Names.{Name, Names, name_cmp, names_cmp, IsAscending, names_in_group, most_groups}
 use Rattle.s39_set.specs.Groups.{is_complete, complete_groups, first_members, groups_above}
 use Rattle.s39_set.proofs.Thresholds.{HasJust}
-use Rattle.s39_lists.proofs.Sublists.{IsSublist, each, one_of, of_filter, in_whole, length_less, length-sublist, filter_weaker, take-sublist, filter-all, Contains-filter, Contains-head, Contains-cons, Contains-cases, Contains-nil, AllPairs-append, AllPairs-sublist}
+use Rattle.s39_lists.proofs.Sublists.{IsSublist, each, one_of, of_filter, in_whole, length_less, length-sublist, filter_weaker, take-sublist, filter-all}
+use Rattle.s39_lists.proofs.Sublists.{Contains-filter, Contains-head, Contains-cons, Contains-cases, Contains-nil, AllPairs-append, AllPairs-sublist}
 use Rattle.s39_lists.proofs.Pairs.{AllPairs-nil, AllPairs-head}
 use Rattle.s39_lists.proofs.Orders.{All-append_left, AllPairs-append_left, AllPairs-append_right, across}
 use Rattle.s39_set.proofs.Ascending.{Precedes, name_cmp_groups, name_cmp_one_way, names-sublist, same_names, less_than, groups-in_order}

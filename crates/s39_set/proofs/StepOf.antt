@@ -16,7 +16,8 @@ use Rattle.s39_set.specs.Groups.{is_complete, complete_groups, first_members, gr
 use Rattle.s39_set.specs.ShareSet.{IsShareSet, name_of}
 use Rattle.s39_set.specs.Quorums.{group_threshold_of, member_threshold_of, IsQuorum, IsFirstQuorumAfter, HasNoQuorumAfter}
 use Rattle.s39_set.specs.Masks.{is_in}
-use Rattle.s39_set.specs.Steps.{AreMasksOf, AreCompleteGroups, Knows, members_from, members_taken, IsReplacementFor, groups_used, replacement_names, groups_taken}
+use Rattle.s39_set.specs.Steps.{AreMasksOf, AreCompleteGroups, Knows, members_from, members_taken, IsReplacementFor, groups_used, replacement_names}
+use Rattle.s39_set.specs.Steps.{groups_taken}
 use Rattle.s39_set.specs.Steps.{groups_from}
 use Rattle.s39_set.proofs.Thresholds.{HasJust}
 use Rattle.s39_lists.proofs.Sublists.{Contains-head}
@@ -153,7 +154,8 @@ module _ (shares : List ShareFields) (is : IsShareSet shares) where
     abbrev pub IsFullAt : ℕ → Type 0
     IsFullAt i = IsFull (IsQuorum shares) apart Q i
 
-    pub full_at : (context : StepContext) → Knows shares Q context → (i : ℕ) → i < length Q → IsReplacementFor context (take i Q) (get_or Q i (0, 0)) None → IsFullAt i
+    pub full_at : (context : StepContext) → Knows shares Q context → (i : ℕ) → i < length Q
+        → IsReplacementFor context (take i Q) (get_or Q i (0, 0)) None → IsFullAt i
     full_at context knows i inside =
         full context (take i Q) (drop (suc i) Q) (get_or Q i (0, 0)) (subst (IsQuorum shares) (parts i inside) quorum)
         (subst (λ q. Knows shares q context) (parts i inside) knows)
@@ -171,14 +173,17 @@ module _ (shares : List ShareFields) (is : IsShareSet shares) where
         (subst (λ q. Knows shares q context) (parts i inside) knows) replacement can).later
 
     -- what stands at the last position that isn't full makes the first quorum after it
-    pub first_next : (context : StepContext) → Knows shares Q context → (i : ℕ) → i < length Q → ((j : ℕ) → i < j → j < length Q → IsFullAt j) → (replacement : Replacement)
+    pub first_next : (context : StepContext) → Knows shares Q context → (i : ℕ) → i < length Q
+        → ((j : ℕ) → i < j → j < length Q → IsFullAt j) → (replacement : Replacement)
         → IsReplacementFor context (take i Q) (get_or Q i (0, 0)) (Some replacement)
         → IsFirstQuorumAfter shares (Some Q) (take i Q ++ replacement_names shares context (get_or Q i (0, 0)) replacement)
     first_next context knows i inside all replacement can =
         let P = take i Q in
         let S = drop (suc i) Q in
         let x = get_or Q i (0, 0) in
-        let s = stands context P S x (subst (IsQuorum shares) (parts i inside) quorum) (subst (λ q. Knows shares q context) (parts i inside) knows) replacement can in
+        let s =
+        stands context P S x (subst (IsQuorum shares) (parts i inside) quorum)
+        (subst (λ q. Knows shares q context) (parts i inside) knows) replacement can in
         record {
           quorum = s.is_quorum;
           after = subst (λ q. names_cmp q (P ++ replacement_names shares context x replacement) ≡ Less) (sym (parts i inside))

@@ -1,7 +1,7 @@
-//! The written form of names, which a listing goes on from.
+//! The written form of names, which shares are asked for by, and which a listing goes on from.
 ghost use Rattle.std.specs.Prelude.{◌≡◌, ◌<◌, ◌==◌, ℕ, List, IfOk, Ok, IfSome, Some};
 ghost use Rattle.std.specs.Fmt.{decimal};
-ghost use Rattle.s39_set.specs.Causes.{cursor_cause};
+ghost use Rattle.s39_set.specs.Causes.{cursor_cause, names_cause};
 ghost use Rattle.s39_set.specs.Names.{Name, Names, most_groups};
 ghost use Rattle.s39_set.specs.Written.{IsNameText, IsWrittenForm};
 
@@ -11,6 +11,19 @@ use crate::texts::{cut_at, small_number};
 use s39_refusal::{Cause, code};
 
 /// A text is not the written form of names.
+#[derive(Clone, Copy, Debug, PartialEq, Eq)]
+pub struct BadNames;
+
+impl BadNames {
+    /// What the refusal says: 63.
+    pub fn cause(&self) -> Cause
+        ensures { result ≡ names_cause }
+    {
+        Cause::of(code::BAD_NAMES)
+    }
+}
+
+/// A cursor is not the written form of names.
 #[derive(Clone, Copy, Debug, PartialEq, Eq)]
 pub struct BadCursor;
 
@@ -26,22 +39,35 @@ impl BadCursor {
 /// The names of which a text is the written form: at least one `G.M`, a group and a member index from 0 to 15 in
 /// decimal without leading zeros, joined by `+`, in strictly ascending order of the pairs of numbers.
 ///
-/// The error says that the text is no such form. Whether the names are a quorum depends on a set (`is_quorum`).
-pub fn parse_quorum(text: &[u8]) -> Result<Quorum, BadCursor>
+/// The error says that the text is no such form.
+pub fn parse_names(text: &[u8]) -> Result<Quorum, BadNames>
     ensures names { IfOk result (IsWrittenForm text.now) }
     ensures only { (names : Names) → IsWrittenForm text.now names → result ≡ Ok names }
 {
     let mut quorum = Quorum::new();
     for name in text.split(is_plus) {
         let Some((group, member)) = parse_name(name) else {
-            return Err(BadCursor);
+            return Err(BadNames);
         };
         if !quorum.is_before(group, member) {
-            return Err(BadCursor);
+            return Err(BadNames);
         }
         quorum.push(group, member);
     }
     Ok(quorum)
+}
+
+/// The names of which a cursor is the written form (`parse_names`).
+///
+/// Whether the names are a quorum depends on a set (`is_quorum`).
+pub fn parse_quorum(text: &[u8]) -> Result<Quorum, BadCursor>
+    ensures names { IfOk result (IsWrittenForm text.now) }
+    ensures only { (names : Names) → IsWrittenForm text.now names → result ≡ Ok names }
+{
+    match parse_names(text) {
+        Ok(names) => Ok(names),
+        Err(BadNames) => Err(BadCursor),
+    }
 }
 
 fn is_plus(byte: &u8) -> bool

@@ -16,7 +16,7 @@ mod share_set;
 mod status;
 mod texts;
 
-pub use cursor::{BadCursor, parse_quorum};
+pub use cursor::{BadCursor, BadNames, parse_names, parse_quorum};
 pub use first_quorum::first;
 pub use limits::{GROUPS, MAX_GROUPS, MAX_MEMBERS, MAX_NAMES, MAX_STEP_LOOKS, MAX_TEST_LOOKS};
 pub use looks::{Looks, has};

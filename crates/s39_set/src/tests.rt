@@ -1,6 +1,6 @@
 use crate::{
-    Added, BadCursor, Looks, SetError, SetLack, ShareSet, Status, first, group_status_of, has,
-    is_quorum, parse_quorum, share_at, status_of,
+    Added, BadCursor, BadNames, Looks, SetError, SetLack, ShareSet, Status, first, group_status_of,
+    has, is_quorum, parse_names, parse_quorum, share_at, status_of,
 };
 use s39_kdf::check_secret;
 use s39_words::{Share, ShareFields};
@@ -240,12 +240,14 @@ fn texts_that_are_no_names(rt: HostRuntime) -> Result<(), Fail> {
         "0.0 ", "0.1.2", "0.10+0.2", "1.0+0.0", "0.-1", "0,0", "0.0++0.1", "0.256",
     ] {
         assert!(rt; matches!(parse_quorum(text.as_bytes()), Err(BadCursor)));
+        assert!(rt; matches!(parse_names(text.as_bytes()), Err(BadNames)));
     }
-    assert_eq!(rt;
-        parse_quorum(b"0.2+0.10+9.15+10.0+15.9")?.pairs(),
-        [(0, 2), (0, 10), (9, 15), (10, 0), (15, 9)].as_slice()
-    );
+    let text = b"0.2+0.10+9.15+10.0+15.9";
+    let names = [(0, 2), (0, 10), (9, 15), (10, 0), (15, 9)];
+    assert_eq!(rt; parse_quorum(text)?.pairs(), names.as_slice());
+    assert_eq!(rt; parse_names(text)?.pairs(), names.as_slice());
     assert_eq!(rt; BadCursor.cause().code, 61);
+    assert_eq!(rt; BadNames.cause().code, 63);
     Ok(())
 }
 

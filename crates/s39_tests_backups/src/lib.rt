@@ -1,4 +1,4 @@
-//! Tests of what backups are made to and what comes of them: creation, recovery, drills, and the published vectors.
+//! Tests of what backups are made to and what comes of them: creation, recovery, drills, what is missing and is written again, and the published vectors.
 #![tactic(auto)]
 
 #[cfg(test)]
@@ -11,3 +11,5 @@ mod many;
 mod published;
 #[cfg(test)]
 mod recover;
+#[cfg(test)]
+mod reissue;

@@ -184,6 +184,34 @@ fn reads_drill(rt: HostRuntime) {
 }
 
 #[test]
+fn reads_status_and_reissue(rt: HostRuntime) {
+    let lost = Job::Reissue {
+        plan: "2of3",
+        names: "0.1+0.2",
+    };
+    let empty = Job::Reissue {
+        plan: "",
+        names: "",
+    };
+    let cases: [(&[&str], Job); 3] = [
+        (&["shamir", "status"], Job::Status),
+        (&["shamir", "reissue", "2of3", "0.1+0.2"], lost),
+        (&["shamir", "reissue", "", ""], empty),
+    ];
+    expect_jobs(&rt, rt.alloc(), &cases);
+    let refused: [&[&str]; 7] = [
+        &["shamir", "status", "file"],
+        &["shamir", "status", "--passphrase", "TREZOR"],
+        &["shamir", "reissue"],
+        &["shamir", "reissue", "2of3"],
+        &["shamir", "reissue", "2of3", "0.1", "0.2"],
+        &["shamir", "reissue", "2of3", "-0.1"],
+        &["shamir", "reissue", "2of3", "0.1", "--passphrase=x"],
+    ];
+    expect_refusals(&rt, rt.alloc(), &refused);
+}
+
+#[test]
 fn answers_without_a_command(rt: HostRuntime) -> Result<(), Fail> {
     let alloc = rt.alloc();
     expect_refusals(&rt, alloc, &[&["shamir"]]);

@@ -20,6 +20,8 @@ Commands:
   create   Creates a backup from a secret and the random bytes on standard input
   recover  Recovers the secret from the mnemonics on standard input
   drill    Tries the quorums of the mnemonics on standard input, a line for each
+  status   Tells which members of each group are on standard input, and whether they are enough
+  reissue  Writes lost mnemonics again, from others of their backup on standard input
 
 Options:
   -h, --help     Print help
@@ -61,15 +63,28 @@ Options:
   -h, --help               Print help
 ";
 
+const HELP_OF_REISSUE: &str = "Writes lost mnemonics again, from others of their backup on standard input
+
+Usage: shamir reissue <PLAN> <NAMES>
+
+Arguments:
+  <PLAN>   The plan of the groups: TofN, or GT/T1ofN1,T2ofN2,..
+  <NAMES>  The mnemonics to write, each by its group and its member, in order: G.M+G.M+..
+
+Options:
+  -h, --help  Print help
+";
+
 #[test]
 fn answers_help_and_the_version(rt: HostRuntime) -> Result<(), Fail> {
     let alloc = rt.alloc();
-    let cases: [(&[&str], &str); 7] = [
+    let cases: [(&[&str], &str); 8] = [
         (&["shamir", "create", "--help"], HELP_OF_CREATE),
         (&["shamir", "drill", "--help"], HELP_OF_DRILL),
         (&["shamir", "--help"], HELP),
         (&["shamir", "-h"], HELP),
         (&["shamir", "recover", "--help"], HELP_OF_RECOVER),
+        (&["shamir", "reissue", "--help"], HELP_OF_REISSUE),
         (&["shamir", "--version"], "shamir 1.0.0\n"),
         (&["shamir", "-V"], "shamir 1.0.0\n"),
     ];
@@ -105,7 +120,7 @@ fn says_why_words_are_refused(rt: HostRuntime) -> Result<(), Fail> {
         ),
         (
             &["shamir"],
-            "error: 'shamir' requires a subcommand but one was not provided\n  [subcommands: show, create, recover, drill]\n\nUsage: shamir <COMMAND>\n\nFor more information, try '--help'.\n",
+            "error: 'shamir' requires a subcommand but one was not provided\n  [subcommands: show, create, recover, drill, status, reissue]\n\nUsage: shamir <COMMAND>\n\nFor more information, try '--help'.\n",
         ),
         (
             &["shamir", "list"],

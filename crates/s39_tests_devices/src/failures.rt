@@ -9,8 +9,8 @@ use s39_fixtures::{
 };
 use s39_kdf::check_secret;
 use s39_tool::{
-    Counting, DeviceFailure, Done, Fault, LineRefusal, Options, Plan, Refusal, run_create,
-    run_drill, run_recover, run_show,
+    Counting, DeviceFailure, Done, Fault, LineRefusal, Options, Plan, Refusal, SecretForm,
+    run_create, run_drill, run_recover, run_show,
 };
 use s39_words::WordError;
 use std::alloc::{AllocError, Global};
@@ -77,8 +77,8 @@ fn outcome_of<R: Read + Drop, W: Write + Drop>(
     let answer = match command {
         Command::Show => run_show(&mut input, &mut output).map(|()| 0),
         Command::Create => create_five(&mut input, &mut output).map(|()| 0),
-        Command::Recover => run_recover(b"TREZOR", &mut input, &mut output).map(|()| 0),
-        Command::Drill => run_drill(b"TREZOR", None, 1000, &mut input, &mut output).map(|Done {
+        Command::Recover => run_recover(SecretForm::Digits, b"TREZOR", &mut input, &mut output).map(|()| 0),
+        Command::Drill => run_drill(SecretForm::Digits, b"TREZOR", None, 1000, &mut input, &mut output).map(|Done {
             mismatches,
         }| mismatches),
     };

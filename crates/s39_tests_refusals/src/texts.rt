@@ -1,9 +1,9 @@
 //! The texts of faults.
 
 use s39_kdf::BadPassphrase;
-use s39_set::{SetError, SetLack};
+use s39_set::{BadNames, SetError, SetLack};
 use s39_text::FaultText;
-use s39_tool::{LineRefusal, Mismatch, PlanError, Refusal};
+use s39_tool::{LineRefusal, Mismatch, PlanError, Refusal, TooFew};
 use std::alloc::Global;
 use std::process::Abort;
 use std::test::Fail;
@@ -55,10 +55,30 @@ fn names_refusals_of_sets(rt: HostRuntime) -> Result<(), Fail> {
         complete: 1,
         required: 2,
     };
+    let few = TooFew {
+        group: 15,
+        member: 14,
+        members: 1,
+        threshold: 13,
+        others: 2,
+        required: 12,
+    };
     let cases = [
         (Refusal::Lack(SetLack::NoShares), "29 no shares"),
         (Refusal::Lack(incomplete), "30 incomplete: 1 of 2 groups"),
         (Refusal::NotAQuorum, "62 cursor is no quorum"),
+        (
+            Refusal::NotInPlan {
+                group: 12,
+                member: 3,
+            },
+            "64 name 12.3 not in plan",
+        ),
+        (Refusal::OtherPlan, "65 other plan"),
+        (
+            Refusal::Undetermined(few),
+            "66 cannot tell 15.14: 1 of 13 members, 2 of 12 other groups",
+        ),
         (
             Refusal::Passphrase(BadPassphrase { position: 5 }),
             "41 passphrase byte 5 not printable",
@@ -75,6 +95,13 @@ fn names_refusals_of_sets(rt: HostRuntime) -> Result<(), Fail> {
     for (refusal, text) in cases {
         expect_text(&rt, rt.alloc(), refusal, text)?;
     }
+    Ok(())
+}
+
+#[test]
+fn names_the_refusal_of_names(rt: HostRuntime) -> Result<(), Fail> {
+    let told = format!(in rt.alloc(); "{}", FaultText::of(None, BadNames.cause()))?;
+    assert_eq!(rt; told.as_str(), "shamir: 63 bad list of names");
     Ok(())
 }
 

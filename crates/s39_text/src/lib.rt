@@ -59,6 +59,8 @@ pub enum RefusalText {
     DigestMismatchOfGroups,
     #[error("cursor is no quorum")]
     NotAQuorum,
+    #[error("bad list of names")]
+    BadNames,
     #[error("name {0}.{1} not in plan")]
     NotInPlan(u8, u8),
     #[error("other plan")]
@@ -114,6 +116,7 @@ impl RefusalText {
             code::DIGEST_MISMATCH => RefusalText::DigestMismatchInGroup(group?),
             code::BAD_CURSOR => RefusalText::BadCursor,
             code::NOT_A_QUORUM => RefusalText::NotAQuorum,
+            code::BAD_NAMES => RefusalText::BadNames,
             code::NOT_IN_PLAN => RefusalText::NotInPlan(group?, second?),
             code::OTHER_PLAN => RefusalText::OtherPlan,
             code::UNDETERMINED => undetermined(cause)?,

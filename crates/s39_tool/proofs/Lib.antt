@@ -6,3 +6,4 @@ pub mod Runs
 pub mod Drills
 pub mod Statuses
 pub mod Reissues
+pub mod Lengths

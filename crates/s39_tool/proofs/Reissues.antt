@@ -1,6 +1,8 @@
 -- The command `reissue`.
 pub mod Firsts
+pub mod Outputs
 pub mod Named
 pub mod OneReissued
 pub mod OfBackups
 pub mod Faults
+pub mod Written

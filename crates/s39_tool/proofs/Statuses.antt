@@ -1,9 +1,11 @@
 -- What `status` writes, group by group.
-use Rattle.std.proofs.Common.{◌≡◌, ℕ, ◌+◌, ◌-◌, ◌<◌, List, ◌++◌, refl, ap, ◌∙◌, append-nil, append_assoc, arith, zero-add, Err}
+use Rattle.std.proofs.Common.{◌≡◌, ℕ, ◌+◌, ◌-◌, ◌<◌, ◌≤◌, List, ◌++◌, length, take, drop, refl, ap, sym, ◌∙◌, append-nil, append_assoc, arith, zero-add, Err}
 use Rattle.std.specs.List.{range_with_len, flat_map}
 use Rattle.std.proofs.lemmas.Grind.{flat_map-append}
 use Rattle.s39_words.specs.declared.ShareFields.{ShareFields}
 use Rattle.s39_lists.proofs.Ranges.{range-split}
+use Rattle.std.proofs.lemmas.List.{length-append}
+use Rattle.s39_tool.proofs.Drills.Filling.{put_at}
 use Rattle.s39_tool.specs.declared.fault.LineRefusal.{LineRefusal}
 use Rattle.s39_tool.specs.declared.fault.Stop.{Stop}
 use Rattle.s39_tool.specs.declared.fault.Stop.TheVariants.{AtLine, ReadFailed}
@@ -34,3 +36,33 @@ module _ (f : ℕ → List ℕ) where
         ap below long ∙ ap (flat_map f) (range-split 0 (n + 1) (m - (n + 1))) ∙ flat_map-append f (range_with_len 0 (n + 1)) others
             ∙ ap (λ l. l ++ flat_map f others) (below-more n) ∙ append_assoc (below n) (f n) (flat_map f others),
       )
+
+  -- a text, and what is written behind it for the numbers below one
+  module _ (first : List ℕ) where
+    abbrev pub upto : ℕ → List ℕ
+    upto n = first ++ below n
+
+    -- the text for one number more
+    pub upto-more : (n : ℕ) → upto (n + 1) ≡ upto n ++ f n
+    upto-more n = ap (λ l. first ++ l) (below-more n) ∙ sym (append_assoc first (below n) (f n))
+
+    -- how long it is
+    pub upto-length : (n : ℕ) → length (upto (n + 1)) ≡ length (upto n) + length (f n)
+    upto-length n = ap length (upto-more n) ∙ length-append (upto n) (f n)
+
+    -- it is no longer than the text for more numbers
+    pub upto-fits : (n m : ℕ) → n < m → length (upto n) + length (f n) ≤ length (upto m)
+    upto-fits n m less =
+        let (rest, whole) = below-rest n m less in
+        let all : length (upto m) ≡ length first + (length (below n) + (length (f n) + length rest)) =
+        length-append first (below m) ∙ ap (λ l. length first + length l) whole
+        ∙ ap (λ k. length first + k) (length-append (below n) (f n ++ rest) ∙ ap (λ k. length (below n) + k) (length-append (f n) rest)) in
+        omega (arith, all, length-append first (below n))
+
+    -- it is put to the front of a slice, number by number
+    pub put_upto : (n : ℕ) (line old new after : List ℕ) (at : ℕ) → line ≡ f n → at ≡ length (upto n) → new ≡ upto n ++ drop (length (upto n)) old
+        → after ≡ take at new ++ line ++ drop (at + length line) new → after ≡ upto (n + 1) ++ drop (length (upto (n + 1))) old
+    put_upto n line old new after at is place front put =
+        put_at (upto n) line old new after at front place put
+        ∙ ap (λ l. (upto n ++ l) ++ drop (length (upto n ++ l)) old) is
+        ∙ ap (λ t. t ++ drop (length t) old) (sym (upto-more n))

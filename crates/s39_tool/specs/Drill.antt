@@ -3,7 +3,6 @@ use Rattle.std.specs.Prelude.{◌≡◌, ◌↔◌, ℕ, suc, List, [], ◌∷�
 use Rattle.std.specs.Fmt.{decimal}
 use Rattle.std.specs.List.{flat_map}
 use Rattle.arrayvec.specs.ArrayVec.{ArrayVec}
-use Rattle.hex.specs.Hex.{encode_lower}
 use Rattle.s39_words.specs.declared.ShareFields.{ShareFields}
 use Rattle.s39_set.specs.Names.{Names}
 use Rattle.s39_set.specs.declared.set_lack.SetLack.{SetLack}
@@ -20,27 +19,33 @@ use Rattle.s39_tool.specs.declared.fault.Fault.{Fault}
 use Rattle.s39_tool.specs.declared.drill.Done.{Done}
 use Rattle.s39_tool.specs.declared.drill.Undrilled.{Undrilled}
 use Rattle.s39_tool.specs.declared.drill.Undrilled.TheVariants.{Lack, NotAQuorum}
+use Rattle.s39_tool.specs.declared.secret_form.SecretForm.{SecretForm}
 use Rattle.s39_tool.specs.Device.{Counted}
 use Rattle.s39_tool.specs.Output.{WritesWhole, WritesPart}
 use Rattle.s39_tool.specs.Input.{Input, ended_line}
 use Rattle.s39_tool.specs.Fault.{fault_of}
 use Rattle.s39_tool.specs.Accepted.{IsReadAs, IsCheckedSet}
 use Rattle.s39_tool.specs.OfBackup.{HoldsMnemonicsOf}
+use Rattle.s39_tool.specs.SecretForm.{secret_in}
 use Rattle.s39_tool.specs.Steps.{Then, nothing_for}
 
 -- a quorum that is listed, and its outcome
 abbrev pub Listed : Type 0
 Listed = Names × Result (List ℕ) Mismatch
 
--- an outcome as it is shown: the secret in lower-case hexadecimal, or which digest isn't the right one
-abbrev pub outcome_text : Result (List ℕ) Mismatch → List ℕ
-outcome_text (Ok secret) = encode_lower secret
-outcome_text (Err (InGroup group)) = codes "digest mismatch in group " ++ decimal group
-outcome_text (Err OfGroups) = codes "digest mismatch of groups"
+-- which digest isn't the right one
+abbrev pub mismatch_text : Mismatch → List ℕ
+mismatch_text (InGroup group) = codes "digest mismatch in group " ++ decimal group
+mismatch_text OfGroups = codes "digest mismatch of groups"
+
+-- an outcome as it is written: the secret in this form, or which digest isn't the right one
+abbrev pub outcome_text : SecretForm → Result (List ℕ) Mismatch → List ℕ
+outcome_text form (Ok secret) = secret_in form secret
+outcome_text form (Err mismatch) = mismatch_text mismatch
 
 -- the line of a quorum: the quorum, a space, its outcome, and a line feed
-abbrev pub quorum_line : Listed → List ℕ
-quorum_line listed = ended_line (quorum_text listed.0 ++ 32 ∷ outcome_text listed.1)
+abbrev pub quorum_line : SecretForm → Listed → List ℕ
+quorum_line form listed = ended_line (quorum_text listed.0 ++ 32 ∷ outcome_text form listed.1)
 
 -- the last line: that no more quorums remain, or after which one more do
 abbrev pub last_line : Option Names → List ℕ
@@ -63,12 +68,12 @@ GoesOn set reached (Some names) = (reached ≡ Some names) × ¬ HasNoQuorumAfte
 
 -- The drill of a set: the text of the lines of the quorums after a given one, or of all, in order, at most as many as
 -- the limit, each with its outcome; whether more remain; and how many of the outcomes are mismatches.
-pub record IsDrill (set : List ShareFields) (passphrase : List ℕ) (after : Option Names) (limit : ℕ)
+pub record IsDrill (form : SecretForm) (set : List ShareFields) (passphrase : List ℕ) (after : Option Names) (limit : ℕ)
     (text : List ℕ) (more : Option Names) (mismatches : ℕ) : Type 0 where
   pub lines : List Listed
   pub listing : IsListing set after limit (map (λ line. line.0) lines)
   pub outcomes : All (λ line. IsOutcome set line.0 passphrase line.1) lines
-  pub text_is : text ≡ flat_map quorum_line lines
+  pub text_is : text ≡ flat_map (quorum_line form) lines
   pub goes_on : GoesOn set (last_reached after (map (λ line. line.0) lines)) more
   pub mismatches_are : mismatches ≡ mismatches_in lines
 
@@ -90,46 +95,46 @@ IsDrillable set after (Ok _) = ((lack : SetLack) → ¬ IsLack set lack) × IfSo
 IsDrillable set after (Err cause) = IsUndrilled set after cause
 
 -- the lines of the drill of a set are written, and the last line, and its mismatches are answered
-abbrev pub WritesLines : List ShareFields → List ℕ → Option Names → ℕ → List ℕ × Result Done Fault → Type 0
-WritesLines set passphrase after limit written =
-    (lines : List ℕ) × (more : Option Names) × (mismatches : ℕ) × IsDrill set passphrase after limit lines more mismatches
+abbrev pub WritesLines : SecretForm → List ShareFields → List ℕ → Option Names → ℕ → List ℕ × Result Done Fault → Type 0
+WritesLines form set passphrase after limit written =
+    (lines : List ℕ) × (more : Option Names) × (mismatches : ℕ) × IsDrill form set passphrase after limit lines more mismatches
     × (written ≡ (lines ++ last_line more, Ok (record { mismatches = mismatches })))
 
 -- the set is drilled; or nothing is written, and the answer is why it isn't
-abbrev pub WritesDrillOf : List ℕ → Option Names → ℕ → List ShareFields → List ℕ × Result Done Fault → Type 0
-WritesDrillOf passphrase after limit set =
-    Then (IsDrillable set after) (λ cause. nothing_for (fault_of_undrilled cause)) (λ _. WritesLines set passphrase after limit)
+abbrev pub WritesDrillOf : SecretForm → List ℕ → Option Names → ℕ → List ShareFields → List ℕ × Result Done Fault → Type 0
+WritesDrillOf form passphrase after limit set =
+    Then (IsDrillable set after) (λ cause. nothing_for (fault_of_undrilled cause)) (λ _. WritesLines form set passphrase after limit)
 
--- `drill` writes this text for the passphrase, the quorum after which it starts, the limit and the input, and answers
--- so: the passphrase is judged first, then the lines of the input, and then the set of their shares
-abbrev pub IsDrillOutput : List ℕ → Option Names → ℕ → Input → List ℕ → Result Done Fault → Type 0
-IsDrillOutput passphrase after limit input text answer =
-    Then (IsCheckedSet passphrase input) nothing_for (WritesDrillOf passphrase after limit) (text, answer)
+-- `drill` writes this text for the form of secrets, the passphrase, the quorum after which it starts, the limit and the input,
+-- and answers so: the passphrase is judged first, then the lines of the input, and then the set of their shares
+abbrev pub IsDrillOutput : SecretForm → List ℕ → Option Names → ℕ → Input → List ℕ → Result Done Fault → Type 0
+IsDrillOutput form passphrase after limit input text answer =
+    Then (IsCheckedSet passphrase input) nothing_for (WritesDrillOf form passphrase after limit) (text, answer)
 
 -- The drill of a set whose quorums all give this secret: those after a given one, or all, each once, in order, at most
 -- as many as the limit, each with that secret; and then the last line.
-pub record ListsSecret (set : List ShareFields) (secret : List ℕ) (after : Option Names) (limit : ℕ) (text : List ℕ) : Type 0 where
+pub record ListsSecret (form : SecretForm) (set : List ShareFields) (secret : List ℕ) (after : Option Names) (limit : ℕ) (text : List ℕ) : Type 0 where
   pub listed : List Names
   pub more : Option Names
   pub listing : IsListing set after limit listed
   pub goes_on : GoesOn set (last_reached after listed) more
-  pub text_is : text ≡ flat_map (λ names. quorum_line (names, Ok secret)) listed ++ last_line more
+  pub text_is : text ≡ flat_map (λ names. quorum_line form (names, Ok secret)) listed ++ last_line more
 
 -- Where the set has a quorum, and what is given is one, just the quorums and that secret are listed, and no mismatch is
 -- answered; else nothing is written, and the answer is which of both isn't so.
-abbrev pub ListsSecretOrCause : List ShareFields → List ℕ → Option Names → ℕ → List ℕ → Result Done Fault → Type 0
-ListsSecretOrCause set secret after limit text (Ok done) =
+abbrev pub ListsSecretOrCause : SecretForm → List ShareFields → List ℕ → Option Names → ℕ → List ℕ → Result Done Fault → Type 0
+ListsSecretOrCause form set secret after limit text (Ok done) =
     ((lack : SetLack) → ¬ IsLack set lack) × IfSome after (IsQuorum set)
-    × ListsSecret set secret after limit text × (done.mismatches ≡ 0)
-ListsSecretOrCause set secret after limit text (Err fault) =
+    × ListsSecret form set secret after limit text × (done.mismatches ≡ 0)
+ListsSecretOrCause form set secret after limit text (Err fault) =
     (text ≡ []) × ((cause : Undrilled) × IsUndrilled set after cause × (fault ≡ fault_of_undrilled cause))
 
 -- That is so of the set of the input's shares, where the input holds mnemonics of a backup that was created with this
 -- passphrase.
-abbrev pub DrillsCreated : List ℕ → Option Names → ℕ → Input → List ℕ → Result Done Fault → Type 0
-DrillsCreated passphrase after limit input text answer =
+abbrev pub DrillsCreated : SecretForm → List ℕ → Option Names → ℕ → Input → List ℕ → Result Done Fault → Type 0
+DrillsCreated form passphrase after limit input text answer =
     (secret : List ℕ) → HoldsMnemonicsOf passphrase secret input
-    → (set : List ShareFields) × IsReadAs input (Ok set) × ListsSecretOrCause set secret after limit text answer
+    → (set : List ShareFields) × IsReadAs input (Ok set) × ListsSecretOrCause form set secret after limit text answer
 
 -- Within a run; no public contract cites this.
 
@@ -151,9 +156,9 @@ IsNext set reached None = HasNoQuorumAfter set reached
 IsNext set reached (Some names) = IsFirstQuorumAfter set reached names
 
 -- an outcome in its bytes
-abbrev pub shown : Result (ArrayVec ℕ) Mismatch → Result (List ℕ) Mismatch
-shown (Ok secret) = Ok secret.items
-shown (Err mismatch) = Err mismatch
+abbrev pub in_bytes : Result (ArrayVec ℕ) Mismatch → Result (List ℕ) Mismatch
+in_bytes (Ok secret) = Ok secret.items
+in_bytes (Err mismatch) = Err mismatch
 
 -- 1 for a mismatch, else 0
 abbrev pub mismatch_in : Result (List ℕ) Mismatch → ℕ
@@ -167,11 +172,11 @@ pub record StartsAt (set : List ShareFields) (after next : Option Names) : Type 
   pub starts : IsNext set after next
 
 -- the text of a drill is written, or a write fails
-abbrev pub WritesDrill : {W E : Type 0} → (W → Option (List ℕ)) → Counted W → List ShareFields → List ℕ → Option Names → ℕ
-    → Result Done E → Counted W → Type 0
-WritesDrill contents old set passphrase after limit (Ok done) new =
-    (lines : List ℕ) × (more : Option Names) × IsDrill set passphrase after limit lines more done.mismatches
+abbrev pub WritesDrill : {W E : Type 0} → (W → Option (List ℕ)) → Counted W → SecretForm → List ShareFields → List ℕ
+    → Option Names → ℕ → Result Done E → Counted W → Type 0
+WritesDrill contents old form set passphrase after limit (Ok done) new =
+    (lines : List ℕ) × (more : Option Names) × IsDrill form set passphrase after limit lines more done.mismatches
     × WritesWhole contents old (lines ++ last_line more) new
-WritesDrill contents old set passphrase after limit (Err _) new =
-    (lines : List ℕ) × (more : Option Names) × (mismatches : ℕ) × IsDrill set passphrase after limit lines more mismatches
+WritesDrill contents old form set passphrase after limit (Err _) new =
+    (lines : List ℕ) × (more : Option Names) × (mismatches : ℕ) × IsDrill form set passphrase after limit lines more mismatches
     × WritesPart contents old (lines ++ last_line more) new

@@ -10,10 +10,12 @@ pub mod Show
 pub mod Accepted
 pub mod Collecting
 pub mod Exponent
+pub mod SecretForm
 pub mod Recover
 pub mod Reissue
 pub mod Create
 pub mod OfBackup
 pub mod Drill
 pub mod Slices
+pub mod Lengths
 pub mod Status

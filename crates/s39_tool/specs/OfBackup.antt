@@ -11,6 +11,7 @@ use Rattle.s39_backup.specs.Plan.{IsPlan}
 use Rattle.s39_backup.specs.Created.{IsCreation, asked_for}
 use Rattle.s39_tool.specs.declared.fault.Refusal.TheVariants.{Lack}
 use Rattle.s39_tool.specs.declared.fault.Fault.{Fault}
+use Rattle.s39_tool.specs.declared.secret_form.SecretForm.{SecretForm}
 use Rattle.s39_tool.specs.Input.{Input, lines_of}
 use Rattle.s39_tool.specs.Fault.{fault_of}
 use Rattle.s39_tool.specs.Lines.{Holds}
@@ -35,14 +36,14 @@ pub record HoldsMnemonicsOf (passphrase secret : List ℕ) (input : Input) : Typ
   pub ended : input.ended ≡ true
   pub lines : All (HoldsNothingOrOneOf shares) (lines_of input)
 
--- the secret is written where the set has a quorum; where it has none, nothing is, and the answer is why
-abbrev pub IsSecretOrLack : List ShareFields → List ℕ → List ℕ → Result (Unit {0}) Fault → Type 0
-IsSecretOrLack set secret text (Ok _) = ((names : Names) × IsQuorum set names) × (text ≡ secret_line secret)
-IsSecretOrLack set secret text (Err fault) = (text ≡ []) × ((lack : SetLack) × IsLack set lack × (fault ≡ fault_of (Lack lack)))
+-- the line of the secret is written where the set has a quorum; where it has none, nothing is, and the answer is why
+abbrev pub IsSecretOrLack : SecretForm → List ShareFields → List ℕ → List ℕ → Result (Unit {0}) Fault → Type 0
+IsSecretOrLack form set secret text (Ok _) = ((names : Names) × IsQuorum set names) × (text ≡ secret_line form secret)
+IsSecretOrLack form set secret text (Err fault) = (text ≡ []) × ((lack : SetLack) × IsLack set lack × (fault ≡ fault_of (Lack lack)))
 
 -- That is so of the set of the input's shares, where the input holds mnemonics of a backup that was created with this
 -- passphrase.
-abbrev pub RecoversCreated : List ℕ → Input → List ℕ → Result (Unit {0}) Fault → Type 0
-RecoversCreated passphrase input text answer =
+abbrev pub RecoversCreated : SecretForm → List ℕ → Input → List ℕ → Result (Unit {0}) Fault → Type 0
+RecoversCreated form passphrase input text answer =
     (secret : List ℕ) → HoldsMnemonicsOf passphrase secret input
-    → (set : List ShareFields) × IsReadAs input (Ok set) × IsSecretOrLack set secret text answer
+    → (set : List ShareFields) × IsReadAs input (Ok set) × IsSecretOrLack form set secret text answer

@@ -1,6 +1,5 @@
 -- The output of `recover`.
 use Rattle.std.specs.Prelude.{◌≡◌, ℕ, List, Result, Ok, Err}
-use Rattle.hex.specs.Hex.{encode_lower}
 use Rattle.s39_words.specs.declared.ShareFields.{ShareFields}
 use Rattle.s39_set.specs.Names.{Names}
 use Rattle.s39_set.specs.declared.set_lack.SetLack.{SetLack}
@@ -9,14 +8,16 @@ use Rattle.s39_set.specs.Lack.{IsLack}
 use Rattle.s39_backup.specs.Outcome.{IsOutcome}
 use Rattle.s39_tool.specs.declared.fault.Refusal.TheVariants.{Lack, DigestMismatch}
 use Rattle.s39_tool.specs.declared.fault.Fault.{Fault}
+use Rattle.s39_tool.specs.declared.secret_form.SecretForm.{SecretForm}
 use Rattle.s39_tool.specs.Input.{Input, ended_line}
 use Rattle.s39_tool.specs.Fault.{fault_of}
 use Rattle.s39_tool.specs.Accepted.{IsCheckedSet}
+use Rattle.s39_tool.specs.SecretForm.{secret_in}
 use Rattle.s39_tool.specs.Steps.{Then, nothing_for}
 
--- the line that shows a secret: lower-case hexadecimal, and a line feed
-abbrev pub secret_line : List ℕ → List ℕ
-secret_line secret = ended_line (encode_lower secret)
+-- the line that tells a secret in this form
+abbrev pub secret_line : SecretForm → List ℕ → List ℕ
+secret_line form secret = ended_line (secret_in form secret)
 
 -- the least quorum of the set, or why it has none
 abbrev pub IsLeastOrLack : List ShareFields → Result (Names) SetLack → Type 0
@@ -31,11 +32,12 @@ IsRecovered passphrase set =
     Then (IsOutcome set names passphrase) (λ mismatch. Err (fault_of (DigestMismatch mismatch))) (λ secret result. result ≡ Ok secret))
 
 -- the line of the secret is written; or nothing, and the fault is answered
-abbrev pub WritesSecret : List ℕ → List ShareFields → List ℕ × Result (Unit {0}) Fault → Type 0
-WritesSecret passphrase set = Then (IsRecovered passphrase set) nothing_for (λ secret written. written ≡ (secret_line secret, Ok tt))
+abbrev pub WritesSecret : SecretForm → List ℕ → List ShareFields → List ℕ × Result (Unit {0}) Fault → Type 0
+WritesSecret form passphrase set =
+    Then (IsRecovered passphrase set) nothing_for (λ secret written. written ≡ (secret_line form secret, Ok tt))
 
--- `recover` writes this text for the passphrase and the input, and answers so: the passphrase is judged first, then
+-- `recover` writes this text for the form of the secret, the passphrase and the input, and answers so: the passphrase is judged first, then
 -- the lines of the input, and then the set of their shares
-abbrev pub IsRecoverOutput : List ℕ → Input → List ℕ → Result (Unit {0}) Fault → Type 0
-IsRecoverOutput passphrase input text answer =
-    Then (IsCheckedSet passphrase input) nothing_for (WritesSecret passphrase) (text, answer)
+abbrev pub IsRecoverOutput : SecretForm → List ℕ → Input → List ℕ → Result (Unit {0}) Fault → Type 0
+IsRecoverOutput form passphrase input text answer =
+    Then (IsCheckedSet passphrase input) nothing_for (WritesSecret form passphrase) (text, answer)

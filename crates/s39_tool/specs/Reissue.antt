@@ -31,7 +31,7 @@ pub record IsFirstOther (groups : List Members) (names : Names) (name : Name) : 
   pub other : ¬ IsNameOfPlan groups name
 
 -- the plan has all of these names, or this is the first that it doesn't have
-abbrev pub AreNamesOfPlan : List Members → Names → Result (Unit {0}) (ℕ × ℕ) → Type 0
+abbrev pub AreNamesOfPlan : List Members → Names → Result (Unit {0}) Name → Type 0
 AreNamesOfPlan groups names (Ok _) = All (IsNameOfPlan groups) names
 AreNamesOfPlan groups names (Err name) = IsFirstOther groups names name
 

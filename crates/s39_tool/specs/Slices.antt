@@ -4,6 +4,7 @@ use Rattle.s39_words.specs.declared.ShareFields.{ShareFields}
 use Rattle.s39_set.specs.Names.{Names}
 use Rattle.s39_backup.specs.declared.combination.Mismatch.{Mismatch}
 use Rattle.s39_backup.specs.Outcome.{IsOutcome}
+use Rattle.s39_set.specs.declared.status.Status.{Status}
 use Rattle.s39_set.specs.Quorums.{IsFirstQuorumAfter}
 use Rattle.s39_tool.specs.declared.drill.Done.{Done}
 use Rattle.s39_tool.specs.declared.fault.Fault.{Fault}
@@ -11,6 +12,8 @@ use Rattle.s39_tool.specs.declared.listing.Listing.{Listing}
 use Rattle.s39_tool.specs.declared.slices.TooShort.{TooShort}
 use Rattle.s39_tool.specs.declared.slices.Unwritten.{Unwritten}
 use Rattle.s39_tool.specs.declared.slices.Unwritten.TheVariants.{Refused, TooShort as SliceTooShort}
+use Rattle.s39_tool.specs.declared.status.WrittenStatus.{WrittenStatus}
+use Rattle.s39_tool.specs.declared.secret_form.SecretForm.TheVariants.{Digits}
 use Rattle.s39_tool.specs.Drill.{last_line, quorum_line, mismatch_in, IsDrill, IsNext}
 
 -- a text stands at the front of a slice, and behind it what was there
@@ -53,6 +56,14 @@ Puts IsOutput old new (Err (SliceTooShort short)) =
     (text : List ℕ) × IsOutput text (Ok tt) × (short.needed ≡ length text) × (length old < length text) × (new ≡ old)
 Puts IsOutput old new (Err (Refused fault)) = IsOutput [] (Err fault) × (new ≡ old)
 
+-- the same of `status`, whose answer has the numbers of its first line too
+abbrev pub PutsStatus : (List ℕ → Result Status Fault → Type 0) → List ℕ → List ℕ → Result WrittenStatus Unwritten → Type 0
+PutsStatus IsOutput old new (Ok told) =
+    (text : List ℕ) × IsOutput text (Ok told.status) × IsInFront text old new × (told.written ≡ length text)
+PutsStatus IsOutput old new (Err (SliceTooShort short)) =
+    (text : List ℕ) × (status : Status) × IsOutput text (Ok status) × (short.needed ≡ length text) × (length old < length text) × (new ≡ old)
+PutsStatus IsOutput old new (Err (Refused fault)) = IsOutput [] (Err fault) × (new ≡ old)
+
 -- Within a drill in a slice; no public contract cites this.
 
 -- after which quorum more remain
@@ -65,7 +76,7 @@ pub record IsTried (set : List ShareFields) (passphrase : List ℕ) (names : Nam
     (next : Option Names) (mismatches : ℕ) : Type 0 where
   pub outcome : Result (List ℕ) Mismatch
   pub is_outcome : IsOutcome set names passphrase outcome
-  pub line_is : line ≡ quorum_line (names, outcome)
+  pub line_is : line ≡ quorum_line Digits (names, outcome)
   pub mismatches_are : mismatches ≡ mismatch_in outcome
   pub is_next : IsNext set (Some names) next
   pub last_is : last ≡ last_line (more_after names next)
@@ -73,7 +84,7 @@ pub record IsTried (set : List ShareFields) (passphrase : List ℕ) (names : Nam
 -- a drill of a set with this limit fits into so many bytes
 abbrev pub DrillFits : List ShareFields → List ℕ → Option Names → ℕ → ℕ → Type 0
 DrillFits set passphrase after n room =
-    (lines : List ℕ) × (more : Option Names) × (mismatches : ℕ) × IsDrill set passphrase after n lines more mismatches
+    (lines : List ℕ) × (more : Option Names) × (mismatches : ℕ) × IsDrill Digits set passphrase after n lines more mismatches
     × (length (lines ++ last_line more) ≤ room)
 
 -- A drill of a set in a slice: with the limit, or with the first lower one after which one quorum more doesn't fit.
@@ -84,18 +95,18 @@ pub record FillsSlice (set : List ShareFields) (passphrase : List ℕ) (after : 
   pub more : Option Names
   pub some : 1 ≤ listed
   pub few : listed ≤ limit
-  pub drill : IsDrill set passphrase after listed lines more listing.mismatches
+  pub drill : IsDrill Digits set passphrase after listed lines more listing.mismatches
   pub in_front : IsInFront (lines ++ last_line more) old new
   pub written : listing.written ≡ length (lines ++ last_line more)
   pub less_fits : (n : ℕ) → 1 ≤ n → n < listed → DrillFits set passphrase after n (length old)
   pub more_is_too_long : listed < limit → (longer : List ℕ) × (rest : Option Names) × (mismatches : ℕ)
-      × IsDrill set passphrase after (listed + 1) longer rest mismatches × (length old < length (longer ++ last_line rest))
+      × IsDrill Digits set passphrase after (listed + 1) longer rest mismatches × (length old < length (longer ++ last_line rest))
 
 -- the drill of a set in a slice, or that its first line doesn't fit, and then nothing changes
 abbrev pub Fills : List ShareFields → List ℕ → Option Names → ℕ → List ℕ → List ℕ → Result Listing TooShort → Type 0
 Fills set passphrase after limit old new (Ok listing) = FillsSlice set passphrase after limit old new listing
 Fills set passphrase after limit old new (Err short) =
-    ((lines : List ℕ) × (more : Option Names) × (mismatches : ℕ) × IsDrill set passphrase after 1 lines more mismatches
+    ((lines : List ℕ) × (more : Option Names) × (mismatches : ℕ) × IsDrill Digits set passphrase after 1 lines more mismatches
     × (short.needed ≡ length (lines ++ last_line more)) × (length old < length (lines ++ last_line more)))
     × (new ≡ old)
 
@@ -112,5 +123,5 @@ pub record IsFilling (set : List ShareFields) (passphrase : List ℕ) (start : N
   pub less_fits : (after : Option Names) → IsFirstQuorumAfter set after start
       → (n : ℕ) → 1 ≤ n → n < listed → DrillFits set passphrase after n (length old)
   pub goes_on : (after : Option Names) → IsFirstQuorumAfter set after start
-      → (limit : ℕ) (rest : List ℕ) (more : Option Names) (m : ℕ) → IsDrill set passphrase (Some reached) limit rest more m
-      → IsDrill set passphrase after (listed + limit) (lines ++ rest) more (mismatches + m)
+      → (limit : ℕ) (rest : List ℕ) (more : Option Names) (m : ℕ) → IsDrill Digits set passphrase (Some reached) limit rest more m
+      → IsDrill Digits set passphrase after (listed + limit) (lines ++ rest) more (mismatches + m)

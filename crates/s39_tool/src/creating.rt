@@ -171,7 +171,7 @@ fn mnemonic_line(share: &Share) -> Line
 }
 
 /// Puts the mnemonics of shares to the front of a slice, each with a line feed behind it, where they fit.
-fn put_mnemonics(shares: &[Share], text: &mut [u8]) -> Result<usize, TooShort>
+pub(crate) fn put_mnemonics(shares: &[Share], text: &mut [u8]) -> Result<usize, TooShort>
     requires each { All IsShare shares.now }
     requires few { length shares.now ≤ most_names }
     ensures put { IfOk result (λ written. (lines : List ℕ) × ArePrintedLines shares.now lines

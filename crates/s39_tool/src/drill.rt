@@ -9,7 +9,7 @@ ghost use Rattle.s39_set.specs.Quorums.{IsQuorum, IsFirstQuorumAfter};
 ghost use Rattle.s39_set.specs.ShareSet.{IsShareSet};
 ghost use Rattle.s39_backup.specs.Outcome.{AreParams, IsOutcome};
 ghost use Rattle.s39_tool.specs.Drill.{IsNext, IsUndrilled, StartsAt, IsDrillOutput, DrillsCreated, WritesDrill};
-ghost use Rattle.s39_tool.specs.Drill.{shown, mismatch_in, outcome_text, quorum_line, last_line};
+ghost use Rattle.s39_tool.specs.Drill.{in_bytes, mismatch_in, mismatch_text, outcome_text, quorum_line, last_line};
 ghost use Rattle.s39_tool.specs.declared.output.TheConstants.{LINE_BYTES};
 ghost use Rattle.s39_tool.specs.Fault.{fault_of};
 ghost use Rattle.s39_tool.specs.Runs.{Runs};
@@ -18,7 +18,8 @@ use crate::collect::checked_set;
 use crate::device::Counting;
 use crate::fault::{DeviceFailure, Fault, Refusal};
 use crate::laws::{created_backups_drill, drill_laws};
-use crate::output::{Line, WriteFailed, push_field, push_hex, push_names, push_text, write_text};
+use crate::output::{Line, WriteFailed, push_field, push_names, push_text, write_text};
+use crate::secret_form::{SecretForm, push_secret};
 use s39_backup::{Memo, Mismatch, combine_quorum, params_of};
 use s39_kdf::Bytes;
 use s39_set::laws::listings_join;
@@ -66,7 +67,7 @@ impl From<Undrilled> for Fault {
 
 /// Tries the quorums of the input's shares that come after a given one (all, where there is none), in ascending order
 /// and at most `limit`, and writes a line for each: the quorum, a space, and the secret that it recovers with the
-/// passphrase in lower-case hexadecimal, or `digest mismatch in group G` with the lowest group that is refused, or
+/// passphrase, or its fingerprint, in lower-case hexadecimal, or `digest mismatch in group G` with the lowest group that is refused, or
 /// `digest mismatch of groups`. The last line is `end` where no greater quorum remains, else `more after ` and the
 /// last listed one. The answer counts the mismatches. Each line is written as soon as it is known.
 ///
@@ -83,6 +84,7 @@ impl From<Undrilled> for Fault {
 /// A wrong passphrase isn't noticed: as a rule it gives other secrets. The caller keeps `limit` at least 1, and both
 /// `failures()` below `u64::MAX`.
 pub fn run_drill<R: Read, W: Write>(
+    form: SecretForm,
     passphrase: &[u8],
     after: Option<&Quorum>,
     limit: u32,
@@ -93,11 +95,11 @@ pub fn run_drill<R: Read, W: Write>(
     requires readable { input.old.failures < u64.MAX }
     requires writable { output.old.failures < u64.MAX }
     ensures runs { Runs R.remaining W.contents
-        (IsDrillOutput passphrase.now (option_copied after.entry) limit)
+        (IsDrillOutput form passphrase.now (option_copied after.entry) limit)
         input.old input.new output.old output.new result }
     // Of mnemonics of a created backup, with the passphrase of the creation: just the quorums, each with its secret.
     ensures complete { Runs R.remaining W.contents
-        (DrillsCreated passphrase.now (option_copied after.entry) limit)
+        (DrillsCreated form passphrase.now (option_copied after.entry) limit)
         input.old input.new output.old output.new result }
     // Of any devices.
     ensures untouched { IfErr result (λ fault.
@@ -113,7 +115,7 @@ pub fn run_drill<R: Read, W: Write>(
         write_text(output, last_line(None).as_slice())?;
         return Ok(Done { mismatches: 0 });
     };
-    Ok(write_drill(&set, start, passphrase, limit, &mut looks, output)?)
+    Ok(write_drill(form, &set, start, passphrase, limit, &mut looks, output)?)
 }
 
 /// The quorum at which a drill of a set starts, if there is one.
@@ -140,6 +142,7 @@ pub(crate) fn start_of(
 
 /// Writes the lines of a drill that starts at this quorum, the last line too.
 fn write_drill<W: Write>(
+    form: SecretForm,
     set: &ShareSet,
     start: Quorum,
     passphrase: &[u8],
@@ -154,7 +157,7 @@ fn write_drill<W: Write>(
     requires looks { looks.old ≤ most_step_looks }
     requires writable { output.old.failures < u64.MAX }
     ensures { (after : Option Names) → IsFirstQuorumAfter set.now after start
-        → WritesDrill W.contents output.old set.now passphrase.now after limit result output.new }
+        → WritesDrill W.contents output.old form set.now passphrase.now after limit result output.new }
 {
     drill_laws();
     let mut memo = Memo::new(passphrase, params_of(set, &start));
@@ -163,7 +166,7 @@ fn write_drill<W: Write>(
     let mut left = limit;
     loop {
         let outcome = outcome_of(set, &quorum, &mut memo);
-        write_text(output, quorum_line(&quorum, &outcome).as_slice())?;
+        write_text(output, quorum_line(form, &quorum, &outcome).as_slice())?;
         mismatches += mismatch_in(&outcome);
         left -= 1;
         let next = following(set, &quorum, looks);
@@ -194,7 +197,7 @@ pub(crate) fn outcome_of(
 ) -> Result<Bytes, Mismatch>
     requires quorum { IsQuorum set.now quorum.now }
     requires params { AreParams set.now memo.old.params }
-    ensures outcome { IsOutcome set.now quorum.now memo.old.passphrase (shown result) }
+    ensures outcome { IsOutcome set.now quorum.now memo.old.passphrase (in_bytes result) }
     ensures passphrase { memo.new.passphrase ≡ memo.old.passphrase }
     ensures params { memo.new.params ≡ memo.old.params }
 {
@@ -204,7 +207,7 @@ pub(crate) fn outcome_of(
 
 /// How many mismatches an outcome is: one, or none.
 pub(crate) fn mismatch_in(outcome: &Result<Bytes, Mismatch>) -> u32
-    ensures { result ≡ mismatch_in (shown outcome.now) }
+    ensures { result ≡ mismatch_in (in_bytes outcome.now) }
 {
     match outcome {
         Ok(_) => 0,
@@ -213,25 +216,29 @@ pub(crate) fn mismatch_in(outcome: &Result<Bytes, Mismatch>) -> u32
 }
 
 /// The line of a quorum and its outcome.
-pub(crate) fn quorum_line(quorum: &Quorum, outcome: &Result<Bytes, Mismatch>) -> Line
-    ensures { result.items ≡ quorum_line (quorum.now, shown outcome.now) }
+pub(crate) fn quorum_line(
+    form: SecretForm,
+    quorum: &Quorum,
+    outcome: &Result<Bytes, Mismatch>,
+) -> Line
+    ensures { result.items ≡ quorum_line form (quorum.now, in_bytes outcome.now) }
 {
     let mut line = Line::new();
     push_names(&mut line, quorum.pairs());
     line.push(b' ');
-    push_outcome(&mut line, outcome);
+    push_outcome(&mut line, form, outcome);
     line.push(b'\n');
     line
 }
 
-/// A secret in lower-case hexadecimal, or which digest isn't the right one.
-fn push_outcome(line: &mut Line, outcome: &Result<Bytes, Mismatch>)
+/// A secret in this form, or which digest isn't the right one.
+fn push_outcome(line: &mut Line, form: SecretForm, outcome: &Result<Bytes, Mismatch>)
     requires room { length line.old.items + 2 * longest_secret ≤ LINE_BYTES }
-    ensures text { line.new.items ≡ line.old.items ++ outcome_text (shown outcome.now) }
+    ensures text { line.new.items ≡ line.old.items ++ outcome_text form (in_bytes outcome.now) }
     ensures room { length line.new.items ≤ length line.old.items + 2 * longest_secret }
 {
     match outcome {
-        Ok(secret) => push_hex(line, secret.as_slice()),
+        Ok(secret) => push_secret(line, form, secret),
         Err(mismatch) => push_mismatch(line, *mismatch),
     }
 }
@@ -239,7 +246,7 @@ fn push_outcome(line: &mut Line, outcome: &Result<Bytes, Mismatch>)
 /// Which digest isn't the right one.
 fn push_mismatch(line: &mut Line, mismatch: Mismatch)
     requires room { length line.old.items + 2 * longest_secret ≤ LINE_BYTES }
-    ensures text { line.new.items ≡ line.old.items ++ outcome_text (Err mismatch) }
+    ensures text { line.new.items ≡ line.old.items ++ mismatch_text mismatch }
     ensures room { length line.new.items ≤ length line.old.items + 2 * longest_secret }
 {
     match mismatch {

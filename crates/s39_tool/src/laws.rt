@@ -14,6 +14,7 @@ ghost use Rattle.s39_tool.specs.declared.fault.LineRefusal.{LineRefusal};
 ghost use Rattle.s39_tool.specs.declared.fault.Stop.{Stop};
 ghost use Rattle.s39_tool.specs.declared.creating.TheConstants.{MAX_BACKUP_RANDOM_BYTES};
 ghost use Rattle.s39_tool.specs.declared.lines.TheConstants.{MAX_LINE_BYTES};
+ghost use Rattle.s39_tool.specs.declared.secret_form.SecretForm.{SecretForm};
 ghost use Rattle.s39_tool.specs.Input.{Input, longest_line};
 ghost use Rattle.s39_tool.specs.Accepted.{IsReadAs, CheckedSetLaws};
 ghost use Rattle.s39_kdf.specs.Bytes.{AreBytes};
@@ -35,10 +36,11 @@ ghost use Rattle.s39_tool.specs.Slices.{Lists, Puts};
 ghost use Rattle.s39_tool.specs.OfBackup.{HoldsMnemonicsOf, RecoversCreated};
 
 pub use crate::exponent::{every_exponent_is_at_most_15, one_exponent, some_exponent};
+pub use crate::length_laws::{backups_are_short, first_lines_are_short, names_are_short};
 pub use crate::reissue_laws::{created_backups_reissue, one_reissue_output};
 pub use crate::round_trips::{
     every_backup_is_written, one_output_of_a_backup, written_mnemonics_are_of_the_backup,
-    written_mnemonics_drill, written_mnemonics_recover,
+    written_mnemonics_drill, written_mnemonics_recover, written_mnemonics_reissue,
 };
 use s39_backup::laws::{
     created_shares_are_shares, every_quorum_has_an_outcome, every_quorum_recovers, one_creation,
@@ -64,14 +66,14 @@ pub fn numbers()
 /// printable, and names the first one; `create` refuses only a secret that may not have as many bytes; and `reissue`
 /// says only of the first name that the plan doesn't have that it hasn't it.
 pub fn refusals_have_causes<R: Read, W: Write>()
-    ensures recover { (passphrase : List ℕ) (reader read_to : Counted R)
+    ensures recover { (form : SecretForm) (passphrase : List ℕ) (reader read_to : Counted R)
         (writer written_to : Counted W) (bad : BadPassphrase)
-        → Runs R.remaining W.contents (IsRecoverOutput passphrase) reader read_to writer written_to
+        → Runs R.remaining W.contents (IsRecoverOutput form passphrase) reader read_to writer written_to
         (Err (fault_of (Passphrase bad)))
         → IsFirstUnprintable passphrase bad.position }
-    ensures drill { (passphrase : List ℕ) (after : Option Names) (limit : ℕ)
+    ensures drill { (form : SecretForm) (passphrase : List ℕ) (after : Option Names) (limit : ℕ)
         (reader read_to : Counted R) (writer written_to : Counted W) (bad : BadPassphrase)
-        → Runs R.remaining W.contents (IsDrillOutput passphrase after limit) reader read_to
+        → Runs R.remaining W.contents (IsDrillOutput form passphrase after limit) reader read_to
         writer written_to (Err (fault_of (Passphrase bad)))
         → IsFirstUnprintable passphrase bad.position }
     ensures create { (asked : Asked) (reader read_to : Counted R) (writer written_to : Counted W)
@@ -98,18 +100,18 @@ pub fn unread_inputs_decide_nothing<R: Read, W: Write>()
         → Runs R.remaining W.contents IsShowOutput reader read_to writer written_to answer
         → read_to.reads ≡ reader.reads → read_to.failures ≡ reader.failures → (input : Input)
         → Writes W.contents (IsShowOutput input) writer written_to answer }
-    ensures recover { (passphrase : List ℕ) (reader read_to : Counted R)
+    ensures recover { (form : SecretForm) (passphrase : List ℕ) (reader read_to : Counted R)
         (writer written_to : Counted W) (answer : Result (Unit {0}) Fault)
-        → Runs R.remaining W.contents (IsRecoverOutput passphrase) reader read_to
+        → Runs R.remaining W.contents (IsRecoverOutput form passphrase) reader read_to
         writer written_to answer
         → read_to.reads ≡ reader.reads → read_to.failures ≡ reader.failures → (input : Input)
-        → Writes W.contents (IsRecoverOutput passphrase input) writer written_to answer }
-    ensures drill { (passphrase : List ℕ) (after : Option Names) (limit : ℕ)
+        → Writes W.contents (IsRecoverOutput form passphrase input) writer written_to answer }
+    ensures drill { (form : SecretForm) (passphrase : List ℕ) (after : Option Names) (limit : ℕ)
         (reader read_to : Counted R) (writer written_to : Counted W) (answer : Result Done Fault)
-        → Runs R.remaining W.contents (IsDrillOutput passphrase after limit) reader read_to
+        → Runs R.remaining W.contents (IsDrillOutput form passphrase after limit) reader read_to
         writer written_to answer
         → read_to.reads ≡ reader.reads → read_to.failures ≡ reader.failures → (input : Input)
-        → Writes W.contents (IsDrillOutput passphrase after limit input) writer written_to answer }
+        → Writes W.contents (IsDrillOutput form passphrase after limit input) writer written_to answer }
     ensures reissue { (group_threshold : ℕ) (groups : List Members) (names : Names)
         (reader read_to : Counted R) (writer written_to : Counted W)
         (answer : Result (Unit {0}) Fault)
@@ -153,10 +155,10 @@ pub fn one_set()
 
 /// An input has one output of `recover` with a passphrase: one text, and one answer.
 pub fn one_recover_output()
-    ensures { (passphrase : List ℕ) (input : Input) (text other : List ℕ)
+    ensures { (form : SecretForm) (passphrase : List ℕ) (input : Input) (text other : List ℕ)
         (answer another : Result (Unit {0}) Fault)
-        → IsRecoverOutput passphrase input text answer
-        → IsRecoverOutput passphrase input other another
+        → IsRecoverOutput form passphrase input text answer
+        → IsRecoverOutput form passphrase input other another
         → (text ≡ other) × (answer ≡ another) }
 {
     one_checked_set();
@@ -167,9 +169,9 @@ pub fn one_recover_output()
 
 /// An input has an output of `recover` with a passphrase.
 pub fn some_recover_output()
-    ensures { (passphrase : List ℕ) (input : Input)
+    ensures { (form : SecretForm) (passphrase : List ℕ) (input : Input)
         → (text : List ℕ) × (answer : Result (Unit {0}) Fault)
-        × IsRecoverOutput passphrase input text answer }
+        × IsRecoverOutput form passphrase input text answer }
 {
     one_checked_set();
     quorum_or_lack();
@@ -230,10 +232,10 @@ pub fn mnemonics_of_a_backup_are_a_set()
 /// Of mnemonics of a created backup, an output of `recover` with the passphrase of the creation is the secret where they
 /// have a quorum, and else why they have none.
 pub fn created_backups_recover()
-    ensures { (passphrase : List ℕ) (input : Input)
+    ensures { (form : SecretForm) (passphrase : List ℕ) (input : Input)
         (text : List ℕ) (answer : Result (Unit {0}) Fault)
-        → IsRecoverOutput passphrase input text answer
-        → RecoversCreated passphrase input text answer }
+        → IsRecoverOutput form passphrase input text answer
+        → RecoversCreated form passphrase input text answer }
 {
     accepted_inputs_are_share_sets();
     one_recover_output();
@@ -255,16 +257,16 @@ pub(crate) fn drill_laws()
 /// A set has one drill with a passphrase, after a list of names or from its first quorum on, and up to a limit: one
 /// text, one answer whether more remain, and one number of mismatches.
 pub fn one_drill()
-    ensures once { (set : List ShareFields) (passphrase : List ℕ) (after : Option Names)
+    ensures once { (form : SecretForm) (set : List ShareFields) (passphrase : List ℕ) (after : Option Names)
         (limit : ℕ) (text other : List ℕ) (more another : Option Names)
         (mismatches others : ℕ) → IsShareSet set
-        → IsDrill set passphrase after limit text more mismatches
-        → IsDrill set passphrase after limit other another others
+        → IsDrill form set passphrase after limit text more mismatches
+        → IsDrill form set passphrase after limit other another others
         → (text ≡ other) × (more ≡ another) × (mismatches ≡ others) }
-    ensures exists { (set : List ShareFields) (passphrase : List ℕ)
+    ensures exists { (form : SecretForm) (set : List ShareFields) (passphrase : List ℕ)
         (after : Option Names) (limit : ℕ) → IsShareSet set
         → (text : List ℕ) × (more : Option Names) × (mismatches : ℕ)
-        × IsDrill set passphrase after (suc limit) text more mismatches }
+        × IsDrill form set passphrase after (suc limit) text more mismatches }
 {
     one_outcome();
     one_listing();
@@ -274,12 +276,12 @@ pub fn one_drill()
 /// The lines of a drill that ends with `more after` a quorum, followed by the drill after that quorum, are the drill up
 /// to both limits: its text, its last line, and the number of its mismatches.
 pub fn drills_join()
-    ensures { (set : List ShareFields) (passphrase : List ℕ) (after : Option Names)
+    ensures { (form : SecretForm) (set : List ShareFields) (passphrase : List ℕ) (after : Option Names)
         (limit extra : ℕ) (text others : List ℕ) (names : Names)
         (more : Option Names) (mismatches later : ℕ)
-        → IsDrill set passphrase after limit text (Some names) mismatches
-        → IsDrill set passphrase (Some names) extra others more later
-        → IsDrill set passphrase after (limit + extra) (text ++ others) more (mismatches + later) }
+        → IsDrill form set passphrase after limit text (Some names) mismatches
+        → IsDrill form set passphrase (Some names) extra others more later
+        → IsDrill form set passphrase after (limit + extra) (text ++ others) more (mismatches + later) }
 {
     listings_join();
 }
@@ -287,10 +289,10 @@ pub fn drills_join()
 /// An input has one output of `drill` with a passphrase, a list of names after which it starts, or none, and a limit:
 /// one text, and one answer.
 pub fn one_drill_output()
-    ensures { (passphrase : List ℕ) (after : Option Names) (limit : ℕ) (input : Input)
+    ensures { (form : SecretForm) (passphrase : List ℕ) (after : Option Names) (limit : ℕ) (input : Input)
         (text other : List ℕ) (answer another : Result Done Fault)
-        → IsDrillOutput passphrase after limit input text answer
-        → IsDrillOutput passphrase after limit input other another
+        → IsDrillOutput form passphrase after limit input text answer
+        → IsDrillOutput form passphrase after limit input other another
         → (text ≡ other) × (answer ≡ another) }
 {
     one_checked_set();
@@ -301,10 +303,10 @@ pub fn one_drill_output()
 
 /// What is listed of an input in a slice is one thing: one slice, and one answer.
 pub fn one_listing_in_a_slice()
-    ensures { (passphrase : List ℕ) (after : Option Names) (limit : ℕ) (input : Input)
+    ensures { (form : SecretForm) (passphrase : List ℕ) (after : Option Names) (limit : ℕ) (input : Input)
         (old new other : List ℕ) (answer another : Result Listing Unwritten)
-        → Lists (λ n. IsDrillOutput passphrase after n input) limit old new answer
-        → Lists (λ n. IsDrillOutput passphrase after n input) limit old other another
+        → Lists (λ n. IsDrillOutput form passphrase after n input) limit old new answer
+        → Lists (λ n. IsDrillOutput form passphrase after n input) limit old other another
         → (new ≡ other) × (answer ≡ another) }
 {
     one_drill_output();
@@ -312,9 +314,9 @@ pub fn one_listing_in_a_slice()
 
 /// An input has an output of `drill`, where the limit is at least 1.
 pub fn some_drill_output()
-    ensures { (passphrase : List ℕ) (after : Option Names) (limit : ℕ) (input : Input)
+    ensures { (form : SecretForm) (passphrase : List ℕ) (after : Option Names) (limit : ℕ) (input : Input)
         → (text : List ℕ) × (answer : Result Done Fault)
-        × IsDrillOutput passphrase after (suc limit) input text answer }
+        × IsDrillOutput form passphrase after (suc limit) input text answer }
 {
     one_checked_set();
     one_lack();
@@ -325,10 +327,10 @@ pub fn some_drill_output()
 /// Of mnemonics of a created backup, an output of `drill` with the passphrase of the creation is just the quorums in
 /// order, each with the backup's secret, and no mismatch, or else why none is listed.
 pub fn created_backups_drill()
-    ensures { (passphrase : List ℕ) (after : Option Names) (limit : ℕ) (input : Input)
+    ensures { (form : SecretForm) (passphrase : List ℕ) (after : Option Names) (limit : ℕ) (input : Input)
         (text : List ℕ) (answer : Result Done Fault)
-        → IsDrillOutput passphrase after limit input text answer
-        → DrillsCreated passphrase after limit input text answer }
+        → IsDrillOutput form passphrase after limit input text answer
+        → DrillsCreated form passphrase after limit input text answer }
 {
     one_checked_set();
     accepted_inputs_are_share_sets();

@@ -9,6 +9,7 @@ mod drill;
 mod exponent;
 mod fault;
 pub mod laws;
+mod length_laws;
 mod lines;
 mod listing;
 mod output;
@@ -17,6 +18,7 @@ mod reissue_laws;
 mod reissuing;
 mod round_trips;
 mod show;
+mod secret_form;
 mod slices;
 mod status;
 
@@ -27,11 +29,12 @@ pub use exponent::exponent_in;
 pub use fault::{DeviceFailure, Fault, LineRefusal, Refusal, RefusedLine, Stop};
 pub use listing::{Listing, drill_lines};
 pub use recover::{recover_secret, run_recover};
-pub use reissuing::run_reissue;
+pub use reissuing::{reissue_lines, run_reissue};
 pub use s39_backup::{
     CreateError, Created, Members, Memo, Mismatch, Options, Plan, PlanError, RecoverError,
     ReissueError, TooFew, create, recover_by, refit,
 };
 pub use show::run_show;
+pub use secret_form::SecretForm;
 pub use slices::{TooShort, Unwritten, put};
-pub use status::run_status;
+pub use status::{WrittenStatus, run_status, status_lines};

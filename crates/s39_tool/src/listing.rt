@@ -17,6 +17,7 @@ use crate::drill::{following, last_line, mismatch_in, outcome_of, quorum_line, s
 use crate::fault::Fault;
 use crate::laws::drill_laws;
 use crate::output::Line;
+use crate::secret_form::SecretForm;
 use crate::slices::{TooShort, Unwritten, put};
 use s39_backup::{Memo, params_of};
 use s39_set::laws::listings_join;
@@ -55,7 +56,7 @@ pub fn drill_lines(
     text: &mut [u8],
 ) -> Result<Listing, Unwritten>
     requires some { 1 ≤ limit }
-    ensures { Lists (λ n. IsDrillOutput passphrase.now (option_copied after.entry) n (whole lines.now))
+    ensures { Lists (λ n. IsDrillOutput SecretForm.Digits passphrase.now (option_copied after.entry) n (whole lines.now))
         limit text.old text.new result }
 {
     listings_join();
@@ -81,7 +82,7 @@ fn start_in(
     ensures starts { IfOk result (λ found.
         StartsAt found.0 (option_copied after.entry) found.1) }
     ensures refused { IfErr result (λ fault. (limit : ℕ)
-        → IsDrillOutput passphrase.now (option_copied after.entry) limit (whole lines.now)
+        → IsDrillOutput SecretForm.Digits passphrase.now (option_copied after.entry) limit (whole lines.now)
         [] (Err fault)) }
     ensures looks { looks.new ≤ looks.old + most_step_looks }
 {
@@ -174,7 +175,7 @@ fn try_quorum(set: &ShareSet, quorum: &Quorum, memo: &mut Memo<'_>, looks: &mut 
     let outcome = outcome_of(set, quorum, memo);
     let next = following(set, quorum, looks);
     Tried {
-        line: quorum_line(quorum, &outcome),
+        line: quorum_line(SecretForm::Digits, quorum, &outcome),
         last: last_line(next.is_some().then_some(quorum)),
         next,
         mismatches: mismatch_in(&outcome),

@@ -11,14 +11,15 @@ use crate::collect::{checked_set, checked_set_in};
 use crate::device::Counting;
 use crate::fault::{DeviceFailure, Fault, Refusal};
 use crate::laws::created_backups_recover;
-use crate::output::{Line, push_hex, write_text};
+use crate::output::{Line, write_text};
+use crate::secret_form::{SecretForm, push_secret};
 use s39_backup::recover_quorum;
 use s39_kdf::Bytes;
 use s39_set::{ShareSet, first};
 use std::io::{Read, Write};
 
-/// Writes the secret that the least quorum of the input's shares recovers with the passphrase, in lower-case
-/// hexadecimal, one line. Shares beyond that quorum are accepted, and repeats change nothing. A line with no byte but
+/// Writes the secret that the least quorum of the input's shares recovers with the passphrase, or its fingerprint, in
+/// lower-case hexadecimal, one line. Shares beyond that quorum are accepted, and repeats change nothing. A line with no byte but
 /// separators, or whose first other byte is `#`, is skipped.
 ///
 /// The first that applies is answered, and then nothing is written:
@@ -34,16 +35,17 @@ use std::io::{Read, Write};
 /// wrong passphrase isn't noticed: as a rule it gives another secret. The caller keeps both `failures()` below
 /// `u64::MAX`.
 pub fn run_recover<R: Read, W: Write>(
+    form: SecretForm,
     passphrase: &[u8],
     input: &mut Counting<R>,
     output: &mut Counting<W>,
 ) -> Result<(), Fault>
     requires readable { input.old.failures < u64.MAX }
     requires writable { output.old.failures < u64.MAX }
-    ensures runs { Runs R.remaining W.contents (IsRecoverOutput passphrase.now)
+    ensures runs { Runs R.remaining W.contents (IsRecoverOutput form passphrase.now)
         input.old input.new output.old output.new result }
     // Of mnemonics of a created backup, with the passphrase of the creation: its secret, or why they have no quorum.
-    ensures created { Runs R.remaining W.contents (RecoversCreated passphrase.now)
+    ensures created { Runs R.remaining W.contents (RecoversCreated form passphrase.now)
         input.old input.new output.old output.new result }
     // Of any devices.
     ensures untouched { IfErr result (λ fault.
@@ -54,7 +56,7 @@ pub fn run_recover<R: Read, W: Write>(
     created_backups_recover();
     let set = checked_set(passphrase, input)?;
     let secret = secret_of(&set, passphrase)?;
-    write_text(output, secret_line(&secret).as_slice())?;
+    write_text(output, secret_line(form, &secret).as_slice())?;
     Ok(())
 }
 
@@ -72,9 +74,10 @@ pub fn run_recover<R: Read, W: Write>(
 /// A wrong passphrase isn't noticed: as a rule it gives another secret.
 pub fn recover_secret(passphrase: &[u8], lines: &[u8]) -> Result<Bytes, Fault>
     ensures secret { IfOk result (λ secret.
-        IsRecoverOutput passphrase.now (whole lines.now) (secret_line secret.items) (Ok tt)) }
+        IsRecoverOutput SecretForm.Digits passphrase.now (whole lines.now)
+        (secret_line SecretForm.Digits secret.items) (Ok tt)) }
     ensures refused { IfErr result (λ fault.
-        IsRecoverOutput passphrase.now (whole lines.now) [] (Err fault)) }
+        IsRecoverOutput SecretForm.Digits passphrase.now (whole lines.now) [] (Err fault)) }
 {
     let set = checked_set_in(passphrase, lines)?;
     secret_of(&set, passphrase)
@@ -89,12 +92,12 @@ fn secret_of(set: &ShareSet, passphrase: &[u8]) -> Result<Bytes, Fault>
     Ok(recover_quorum(set, &quorum, passphrase)?)
 }
 
-/// The line that shows a secret.
-fn secret_line(secret: &Bytes) -> Line
-    ensures { result.items ≡ secret_line secret.now.items }
+/// The line of a secret.
+fn secret_line(form: SecretForm, secret: &Bytes) -> Line
+    ensures { result.items ≡ secret_line form secret.now.items }
 {
     let mut line = Line::new();
-    push_hex(&mut line, secret.as_slice());
+    push_secret(&mut line, form, secret);
     line.push(b'\n');
     line
 }

@@ -1,17 +1,21 @@
 //! The command `reissue`: mnemonics of a backup, computed from others of it.
-ghost use Rattle.std.specs.Prelude.{◌≡◌, ◌≢◌, ℕ, ◌<◌, ◌≤◌, All, Err, IfErr, OnOk, length};
+ghost use Rattle.std.specs.Prelude.{◌≡◌, ◌≢◌, ℕ, List, ◌<◌, ◌≤◌, [], All, Ok, Err, IfOk, IfErr, OnOk, length};
 ghost use Rattle.s39_set.specs.Names.{most_names};
 ghost use Rattle.s39_backup.specs.TwoShort.{IsNameOfPlan};
 ghost use Rattle.s39_backup.specs.Reissue.{AreOfPlan};
+ghost use Rattle.s39_tool.specs.Create.{ArePrintedLines};
 ghost use Rattle.s39_tool.specs.Fault.{fault_of};
+ghost use Rattle.s39_tool.specs.Input.{whole};
 ghost use Rattle.s39_tool.specs.Reissue.{IsFirstOther, AreReissued, IsReissued, IsReissueOutput, ReissuesCreated};
 ghost use Rattle.s39_tool.specs.Runs.{Runs};
+ghost use Rattle.s39_tool.specs.Slices.{Puts};
 
-use crate::collect::read_set;
-use crate::creating::write_mnemonics;
+use crate::collect::{read_set, set_in};
+use crate::creating::{put_mnemonics, write_mnemonics};
 use crate::device::Counting;
 use crate::fault::{DeviceFailure, Fault, Refusal};
 use crate::laws::created_backups_reissue;
+use crate::slices::Unwritten;
 use s39_backup::{Created, Plan, ReissueError, is_of_plan, reissue};
 use s39_set::{Quorum, SetLack, ShareSet};
 use std::io::{Read, Write};
@@ -85,6 +89,49 @@ pub fn run_reissue<R: Read, W: Write>(
     let shares = created.shares();
     write_mnemonics(output, shares)?;
     Ok(())
+}
+
+/// Puts the text that `run_reissue` writes for these lines to the front of `text`: the mnemonics of these names of a plan,
+/// each with a line feed behind it. The answer is how many bytes they have.
+///
+/// The first that applies is answered, and then the slice is unchanged: `NotInPlan` with the first name that the plan
+/// doesn't have, the first refused line with its number, `Lack` where there are no shares, `OtherPlan`, name by name
+/// `Undetermined` or `DigestMismatch`, and that the slice is too short.
+pub fn reissue_lines(
+    plan: &Plan,
+    names: &Quorum,
+    lines: &[u8],
+    text: &mut [u8],
+) -> Result<usize, Unwritten>
+    ensures reissued { Puts
+        (IsReissueOutput plan.now.group_threshold plan.now.groups.items names.now (whole lines.now))
+        text.old text.new result }
+    // Of mnemonics of a backup that was created by the plan: those of these names, or both counts for the first that
+    // isn't determined.
+    ensures created { Puts
+        (ReissuesCreated plan.now.group_threshold plan.now.groups.items names.now (whole lines.now))
+        text.old text.new result }
+{
+    created_backups_reissue();
+    match reissued_of(plan, names, lines) {
+        Ok(created) => Ok(put_mnemonics(created.shares(), text)?),
+        Err(fault) => Err(Unwritten::Refused(fault)),
+    }
+}
+
+/// The shares of these names of a plan, as lines in memory give them.
+fn reissued_of(plan: &Plan, names: &Quorum, lines: &[u8]) -> Result<Created, Fault>
+    ensures shares { IfOk result (λ shares. (text : List ℕ) → ArePrintedLines shares text
+        → IsReissueOutput plan.now.group_threshold plan.now.groups.items names.now
+        (whole lines.now) text (Ok tt)) }
+    ensures refused { IfErr result (λ fault.
+        IsReissueOutput plan.now.group_threshold plan.now.groups.items names.now
+        (whole lines.now) [] (Err fault)) }
+{
+    let wanted = names.pairs();
+    check_names(plan, wanted)?;
+    let set = set_in(lines)?;
+    shares_of(plan, wanted, &set)
 }
 
 /// The first of these names that a plan doesn't have.

@@ -1,4 +1,4 @@
-//! `create`, and then `recover` or `drill`: facts about the definitions, each the contract of a function that does nothing.
+//! `create`, and then `recover`, `drill` or `reissue`: facts about the definitions, each the contract of a function that does nothing.
 ghost use Rattle.std.specs.Prelude.{◌≡◌, ◌⊎◌, ℕ, List, All, Contains, Result, Ok, length, Option, None};
 ghost use Rattle.s39_kdf.specs.Bytes.{AreBytes};
 ghost use Rattle.s39_kdf.specs.Limits.{IsPrintable, IsSecretLength};
@@ -7,21 +7,27 @@ ghost use Rattle.s39_set.specs.Names.{Names};
 ghost use Rattle.s39_backup.specs.Plan.{IsPlan};
 ghost use Rattle.s39_tool.specs.declared.fault.Fault.{Fault};
 ghost use Rattle.s39_tool.specs.declared.drill.Done.{Done};
+ghost use Rattle.s39_tool.specs.declared.secret_form.SecretForm.{SecretForm};
 ghost use Rattle.s39_tool.specs.Input.{Input, whole, lines_of};
 ghost use Rattle.s39_tool.specs.Lines.{Holds};
 ghost use Rattle.s39_tool.specs.Accepted.{IsReadAs};
-ghost use Rattle.s39_backup.specs.Created.{Asked, needed_by};
-ghost use Rattle.s39_tool.specs.Create.{IsCreateOutput};
+ghost use Rattle.s39_backup.specs.declared.plan.Members.{Members};
+ghost use Rattle.s39_backup.specs.Created.{Asked, IsCreation, needed_by};
+ghost use Rattle.s39_backup.specs.LargerPlan.{HaveMoreMembers};
+ghost use Rattle.s39_backup.specs.TwoShort.{IsNameOfPlan};
+ghost use Rattle.s39_tool.specs.Create.{ArePrintedLines, IsCreateOutput};
 ghost use Rattle.s39_tool.specs.Recover.{secret_line, IsRecoverOutput};
 ghost use Rattle.s39_tool.specs.Drill.{IsDrillOutput, ListsSecret, ListsSecretOrCause, DrillsCreated};
+ghost use Rattle.s39_tool.specs.Reissue.{IsReissueOutput, WritesThoseOrCause};
 ghost use Rattle.s39_tool.specs.OfBackup.{HoldsMnemonicsOf, IsSecretOrLack, RecoversCreated};
 
 use crate::laws::{
-    accepted_inputs_are_share_sets, created_backups_drill, created_backups_recover, one_set,
-    some_recover_output,
+    accepted_inputs_are_share_sets, created_backups_drill, created_backups_recover,
+    created_backups_reissue, one_set, some_recover_output,
 };
 use s39_backup::laws::{
-    created_shares_are_shares, every_backup_can_be_created, whole_backups_meet_the_thresholds,
+    created_shares_are_shares, every_backup_can_be_created, larger_plans_keep_the_shares,
+    whole_backups_meet_the_thresholds,
 };
 use s39_set::laws::{one_lack, one_listing};
 use s39_words::laws::{every_share_has_a_printed_form, one_reading, printed_forms};
@@ -58,16 +64,16 @@ pub fn written_mnemonics_are_of_the_backup()
 /// the secret. Of some of them, in any order and with repeats, blank lines and comments, it gives the secret where they
 /// have a quorum, and else why they have none.
 pub fn written_mnemonics_recover()
-    ensures all_lines { (asked : Asked) (random text : List ℕ)
+    ensures all_lines { (form : SecretForm) (asked : Asked) (random text : List ℕ)
         → IsPlan asked.group_threshold asked.groups → IsCreateOutput asked (whole random) text (Ok tt)
-        → IsRecoverOutput asked.passphrase (whole text) (secret_line asked.secret) (Ok tt) }
-    ensures some_lines { (asked : Asked) (random text bytes output : List ℕ)
+        → IsRecoverOutput form asked.passphrase (whole text) (secret_line form asked.secret) (Ok tt) }
+    ensures some_lines { (form : SecretForm) (asked : Asked) (random text bytes output : List ℕ)
         (answer : Result (Unit {0}) Fault)
         → IsPlan asked.group_threshold asked.groups → IsCreateOutput asked (whole random) text (Ok tt)
         → All (λ line. Holds line None ⊎ Contains (lines_of (whole text)) line) (lines_of (whole bytes))
-        → IsRecoverOutput asked.passphrase (whole bytes) output answer
+        → IsRecoverOutput form asked.passphrase (whole bytes) output answer
         → (set : List ShareFields) × IsReadAs (whole bytes) (Ok set)
-        × IsSecretOrLack set asked.secret output answer }
+        × IsSecretOrLack form set asked.secret output answer }
 {
     printed_forms();
     one_reading();
@@ -82,20 +88,20 @@ pub fn written_mnemonics_recover()
 /// the quorums, each with the secret, and answers no mismatch. Of some of them, in any order and with repeats, blank lines
 /// and comments, it does so after each quorum where they have any, and else answers why none is listed.
 pub fn written_mnemonics_drill()
-    ensures all_lines { (asked : Asked) (random text : List ℕ) (limit : ℕ) (output : List ℕ)
+    ensures all_lines { (form : SecretForm) (asked : Asked) (random text : List ℕ) (limit : ℕ) (output : List ℕ)
         (answer : Result Done Fault)
         → IsPlan asked.group_threshold asked.groups → IsCreateOutput asked (whole random) text (Ok tt)
-        → IsDrillOutput asked.passphrase None limit (whole text) output answer
+        → IsDrillOutput form asked.passphrase None limit (whole text) output answer
         → (set : List ShareFields) × IsReadAs (whole text) (Ok set)
-        × ListsSecret set asked.secret None limit output
+        × ListsSecret form set asked.secret None limit output
         × (answer ≡ Ok (record { mismatches = 0 })) }
-    ensures some_lines { (asked : Asked) (random text bytes : List ℕ)
+    ensures some_lines { (form : SecretForm) (asked : Asked) (random text bytes : List ℕ)
         (after : Option Names) (limit : ℕ) (output : List ℕ) (answer : Result Done Fault)
         → IsPlan asked.group_threshold asked.groups → IsCreateOutput asked (whole random) text (Ok tt)
         → All (λ line. Holds line None ⊎ Contains (lines_of (whole text)) line) (lines_of (whole bytes))
-        → IsDrillOutput asked.passphrase after limit (whole bytes) output answer
+        → IsDrillOutput form asked.passphrase after limit (whole bytes) output answer
         → (set : List ShareFields) × IsReadAs (whole bytes) (Ok set)
-        × ListsSecretOrCause set asked.secret after limit output answer }
+        × ListsSecretOrCause form set asked.secret after limit output answer }
 {
     printed_forms();
     one_reading();
@@ -105,18 +111,49 @@ pub fn written_mnemonics_drill()
     created_backups_drill();
 }
 
+/// `create`, then `reissue`: of some lines that `create` writes for random bytes, in any order and with repeats, blank lines
+/// and comments, `reissue` gives with the same plan the mnemonics of that backup with the names that are asked for, word for
+/// word; or both counts for the first that isn't determined, or that there are no shares. With a plan that has more members
+/// in some groups it gives those of the backup that `create` makes by that plan and the same random bytes.
+pub fn written_mnemonics_reissue()
+    ensures same_plan { (asked : Asked) (random text bytes : List ℕ) (names : Names)
+        (output : List ℕ) (answer : Result (Unit {0}) Fault)
+        → IsPlan asked.group_threshold asked.groups → IsCreateOutput asked (whole random) text (Ok tt)
+        → All (λ line. Holds line None ⊎ Contains (lines_of (whole text)) line) (lines_of (whole bytes))
+        → All (IsNameOfPlan asked.groups) names
+        → IsReissueOutput asked.group_threshold asked.groups names (whole bytes) output answer
+        → (shares : List ShareFields) × IsCreation asked random (Ok shares) × ArePrintedLines shares text
+        × ((set : List ShareFields) × IsReadAs (whole bytes) (Ok set)
+        × WritesThoseOrCause set asked.group_threshold asked.groups shares names output answer) }
+    ensures larger_plan { (asked : Asked) (larger : List Members) (random text bytes : List ℕ)
+        (names : Names) (output : List ℕ) (answer : Result (Unit {0}) Fault)
+        → IsPlan asked.group_threshold asked.groups → IsPlan asked.group_threshold larger
+        → HaveMoreMembers asked.groups larger → AreBytes asked.secret → AreBytes random
+        → IsCreateOutput asked (whole random) text (Ok tt)
+        → All (λ line. Holds line None ⊎ Contains (lines_of (whole text)) line) (lines_of (whole bytes))
+        → All (IsNameOfPlan larger) names
+        → IsReissueOutput asked.group_threshold larger names (whole bytes) output answer
+        → (others : List ShareFields) × IsCreation (record asked { groups = larger }) random (Ok others)
+        × ((set : List ShareFields) × IsReadAs (whole bytes) (Ok set)
+        × WritesThoseOrCause set asked.group_threshold larger others names output answer) }
+{
+    printed_forms();
+    larger_plans_keep_the_shares();
+    created_backups_reissue();
+}
+
 /// What is given of mnemonics of a created backup is one thing: one text, and one answer.
 pub fn one_output_of_a_backup()
-    ensures recover { (passphrase secret : List ℕ) (input : Input) (text other : List ℕ)
+    ensures recover { (form : SecretForm) (passphrase secret : List ℕ) (input : Input) (text other : List ℕ)
         (answer another : Result (Unit {0}) Fault) → HoldsMnemonicsOf passphrase secret input
-        → RecoversCreated passphrase input text answer
-        → RecoversCreated passphrase input other another
+        → RecoversCreated form passphrase input text answer
+        → RecoversCreated form passphrase input other another
         → (text ≡ other) × (answer ≡ another) }
-    ensures drill { (passphrase secret : List ℕ) (after : Option Names) (limit : ℕ)
+    ensures drill { (form : SecretForm) (passphrase secret : List ℕ) (after : Option Names) (limit : ℕ)
         (input : Input) (text other : List ℕ) (answer another : Result Done Fault)
         → HoldsMnemonicsOf passphrase secret input
-        → DrillsCreated passphrase after limit input text answer
-        → DrillsCreated passphrase after limit input other another
+        → DrillsCreated form passphrase after limit input text answer
+        → DrillsCreated form passphrase after limit input other another
         → (text ≡ other) × (answer ≡ another) }
 {
     one_set();

@@ -1,16 +1,19 @@
 //! The command `status`: what is at hand of each group, and whether it is enough.
-ghost use Rattle.std.specs.Prelude.{◌≡◌, ◌≢◌, ◌+◌, ◌<◌, ◌≤◌, ◌++◌, IfErr, length};
+ghost use Rattle.std.specs.Prelude.{◌≡◌, ◌≢◌, ◌+◌, ◌<◌, ◌≤◌, ◌++◌, [], Ok, Err, IfOk, IfErr, length, drop};
 ghost use Rattle.std.specs.Fmt.{decimal};
 ghost use Rattle.s39_set.specs.Names.{most_groups};
 ghost use Rattle.s39_set.specs.Status.{group_status_of};
+ghost use Rattle.s39_tool.specs.Input.{whole};
 ghost use Rattle.s39_tool.specs.Output.{WritesText};
 ghost use Rattle.s39_tool.specs.Runs.{Runs};
+ghost use Rattle.s39_tool.specs.Slices.{IsInFront, PutsStatus};
 ghost use Rattle.s39_tool.specs.Status.{IsStatusOutput, first_line, group_line, group_text, status_text};
 
-use crate::collect::read_set;
+use crate::collect::{read_set, set_in};
 use crate::device::Counting;
 use crate::fault::{DeviceFailure, Fault, Refusal};
 use crate::output::{Line, WriteFailed, push_field, push_names, write_text};
+use crate::slices::{TooShort, Unwritten, put};
 use s39_set::{GroupStatus, MAX_GROUPS, SetLack, ShareSet, Status, group_status_of, status_of};
 use std::io::{Read, Write};
 
@@ -48,6 +51,83 @@ pub fn run_status<R: Read, W: Write>(
     };
     write_status(output, &set, status)?;
     Ok(status)
+}
+
+/// What `status_lines` put into a slice.
+#[derive(Clone, Copy, Debug, PartialEq, Eq)]
+pub struct WrittenStatus {
+    /// How many bytes its text has.
+    pub written: usize,
+    /// The numbers of its first line.
+    pub status: Status,
+}
+
+/// Puts the text that `run_status` writes for these lines to the front of `text`. The answer has its length, and the numbers
+/// of its first line.
+///
+/// The first that applies is answered otherwise, and then the slice is unchanged: the first refused line with its number,
+/// `Lack` where there are no shares, and that the slice is too short.
+pub fn status_lines(lines: &[u8], text: &mut [u8]) -> Result<WrittenStatus, Unwritten>
+    ensures { PutsStatus (IsStatusOutput (whole lines.now)) text.old text.new result }
+{
+    let (set, status) = status_in(lines)?;
+    let written = put_status(&set, status, text)?;
+    Ok(WrittenStatus { written, status })
+}
+
+/// The set of the shares of lines in memory, and its status.
+fn status_in(lines: &[u8]) -> Result<(ShareSet, Status), Fault>
+    ensures found { IfOk result (λ found.
+        IsStatusOutput (whole lines.now) (status_text found.0 found.1) (Ok found.1)) }
+    ensures refused { IfErr result (λ fault. IsStatusOutput (whole lines.now) [] (Err fault)) }
+{
+    let set = set_in(lines)?;
+    let Some(status) = status_of(&set) else {
+        return Err(Fault::from(SetLack::NoShares));
+    };
+    Ok((set, status))
+}
+
+/// Puts the first line and the lines of the groups to the front of a slice, where they fit.
+fn put_status(set: &ShareSet, status: Status, text: &mut [u8]) -> Result<usize, TooShort>
+    ensures put { IfOk result (λ written. IsInFront (status_text set.now status) text.old text.new
+        × (written ≡ length (status_text set.now status))) }
+    ensures short { IfErr result (λ short. (short.needed ≡ length (status_text set.now status))
+        × (length text.old < length (status_text set.now status)) × (text.new ≡ text.old)) }
+{
+    let needed = length_of(set, status);
+    if text.len() < needed {
+        return Err(TooShort { needed });
+    }
+    copy_status(set, status, text);
+    Ok(needed)
+}
+
+/// How many bytes the first line and the lines of the groups have.
+fn length_of(set: &ShareSet, status: Status) -> usize
+    ensures { result ≡ length (status_text set.now status) }
+{
+    let mut needed = first_line(status).len();
+    for group in 0..MAX_GROUPS {
+        needed += group_text(set, group).len();
+    }
+    needed
+}
+
+/// Puts the first line and the lines of the groups to the front of a slice, in which they fit.
+fn copy_status(set: &ShareSet, status: Status, out: &mut [u8])
+    requires { length (status_text set.now status) ≤ length out.old }
+    ensures { out.new ≡ status_text set.now status
+        ++ drop (length (status_text set.now status)) out.old }
+{
+    let line = first_line(status);
+    put(out, 0, line.as_slice());
+    let mut written = line.len();
+    for group in 0..MAX_GROUPS {
+        let line = group_text(set, group);
+        put(out, written, line.as_slice());
+        written += line.len();
+    }
 }
 
 /// Writes the first line, and the lines of the groups.

@@ -10,6 +10,7 @@ use Rattle.s39_set.specs.Listing.{IsListing}
 use Rattle.s39_backup.specs.declared.combination.Mismatch.{Mismatch}
 use Rattle.s39_backup.specs.Outcome.{IsOutcome}
 use Rattle.s39_backup.specs.Created.{AreOfBackup}
+use Rattle.s39_tool.specs.declared.secret_form.SecretForm.{SecretForm}
 use Rattle.s39_tool.specs.declared.fault.Fault.{Fault}
 use Rattle.s39_tool.specs.declared.drill.Done.{Done}
 use Rattle.s39_tool.specs.Input.{Input}
@@ -32,10 +33,10 @@ listed_quorums set after limit listed l =
 abbrev pub with_secret : List ℕ → List Names → List Listed
 with_secret secret listed = map (λ names. (names, Ok secret)) listed
 
-secret_text : (secret : List ℕ) (listed : List Names) → flat_map quorum_line (with_secret secret listed) ≡ flat_map (λ names. quorum_line
-    (names, Ok secret)) listed
-secret_text secret [] = refl
-secret_text secret (names ∷ listed) = ap (λ t. quorum_line (names, Ok secret) ++ t) (secret_text secret listed)
+secret_text : (form : SecretForm) (secret : List ℕ) (listed : List Names)
+    → flat_map (quorum_line form) (with_secret secret listed) ≡ flat_map (λ names. quorum_line form (names, Ok secret)) listed
+secret_text form secret [] = refl
+secret_text form secret (names ∷ listed) = ap (λ t. quorum_line form (names, Ok secret) ++ t) (secret_text form secret listed)
 
 no_mismatches : (secret : List ℕ) (listed : List Names) → mismatches_in (with_secret secret listed) ≡ 0
 no_mismatches secret [] = refl
@@ -60,9 +61,9 @@ module _ (one_outcome : (set : List ShareFields) (names : Names) (passphrase : L
         (All-tail (λ (line : Listed). IsOutcome set line.0 passphrase line.1) (names, outcome) lines outcomes))
 
     -- a drill of shares of a created backup lists its secret
-    lists_secret : (after : Option Names) (limit : ℕ) (lines : List ℕ) (more : Option Names) (mismatches : ℕ)
-        → IsDrill set passphrase after limit lines more mismatches → ListsSecret set secret after limit (lines ++ last_line more) × (mismatches ≡ 0)
-    lists_secret after limit lines more mismatches d =
+    lists_secret : {form : SecretForm} (after : Option Names) (limit : ℕ) (lines : List ℕ) (more : Option Names) (mismatches : ℕ)
+        → IsDrill form set passphrase after limit lines more mismatches → ListsSecret form set secret after limit (lines ++ last_line more) × (mismatches ≡ 0)
+    lists_secret {form} after limit lines more mismatches d =
         let listed = map (λ line. line.0) d.lines in
         let same = lines_have_secret d.lines (listed_quorums set after limit listed d.listing) d.outcomes in (
           record {
@@ -70,28 +71,29 @@ module _ (one_outcome : (set : List ShareFields) (names : Names) (passphrase : L
             more = more;
             listing = d.listing;
             goes_on = d.goes_on;
-            text_is = ap (λ t. t ++ last_line more) (d.text_is ∙ ap (flat_map quorum_line) same ∙ secret_text secret listed);
+            text_is = ap (λ t. t ++ last_line more) (d.text_is ∙ ap (flat_map (quorum_line form)) same ∙ secret_text form secret listed);
           },
           d.mismatches_are ∙ ap mismatches_in same ∙ no_mismatches secret listed,
         )
 
     -- what is written of a drill of them
-    complete : (after : Option Names) (limit : ℕ) (text : List ℕ) (answer : Result Done Fault) → WritesDrillOf passphrase after limit set (text, answer)
-        → ListsSecretOrCause set secret after limit text answer
-    complete after limit text answer (gives _ (no_lack, cursor) (lines, more, m, d, written)) =
-        of_writing text (lines ++ last_line more) answer (Ok (record { mismatches = m })) written (ListsSecretOrCause set secret after limit)
+    complete : (form : SecretForm) (after : Option Names) (limit : ℕ) (text : List ℕ) (answer : Result Done Fault)
+        → WritesDrillOf form passphrase after limit set (text, answer)
+        → ListsSecretOrCause form set secret after limit text answer
+    complete form after limit text answer (gives _ (no_lack, cursor) (lines, more, m, d, written)) =
+        of_writing text (lines ++ last_line more) answer (Ok (record { mismatches = m })) written (ListsSecretOrCause form set secret after limit)
         (let (lists, none) = lists_secret after limit lines more m d in (no_lack, cursor, lists, none))
-    complete after limit text answer (refuses cause refused written) =
-        of_writing text [] answer (Err (fault_of_undrilled cause)) written (ListsSecretOrCause set secret after limit) (refl, (cause, refused, refl))
+    complete form after limit text answer (refuses cause refused written) =
+        of_writing text [] answer (Err (fault_of_undrilled cause)) written (ListsSecretOrCause form set secret after limit) (refl, (cause, refused, refl))
 
   -- what `drill` gives of mnemonics of a created backup
   pub drills_created : CheckedSetLaws → ((passphrase secret : List ℕ) (input : Input) → HoldsMnemonicsOf passphrase secret input
       → (set : List ShareFields) × IsReadAs input (Ok set) × AreOfBackup set passphrase secret)
-      → (passphrase : List ℕ) (after : Option Names) (limit : ℕ) (input : Input) (text : List ℕ) (answer : Result Done Fault)
-      → IsDrillOutput passphrase after limit input text answer → DrillsCreated passphrase after limit input text answer
-  drills_created laws are_a_set passphrase after limit input text answer output secret mnemonics =
+      → (form : SecretForm) (passphrase : List ℕ) (after : Option Names) (limit : ℕ) (input : Input) (text : List ℕ) (answer : Result Done Fault)
+      → IsDrillOutput form passphrase after limit input text answer → DrillsCreated form passphrase after limit input text answer
+  drills_created laws are_a_set form passphrase after limit input text answer output secret mnemonics =
       let (set, read, backup) = are_a_set passphrase secret input mnemonics in
       let checked : IsCheckedSet passphrase input (Ok set) = gives tt mnemonics.created.0 (gives set read refl) in
-      let drills = then_next (IsCheckedSet passphrase input) nothing_for (WritesDrillOf passphrase after limit) (laws.once passphrase input) set checked
+      let drills = then_next (IsCheckedSet passphrase input) nothing_for (WritesDrillOf form passphrase after limit) (laws.once passphrase input) set checked
       (text, answer) output in
-      (set, read, complete set passphrase secret (laws.is_set passphrase input set checked) backup after limit text answer drills)
+      (set, read, complete set passphrase secret (laws.is_set passphrase input set checked) backup form after limit text answer drills)

@@ -11,6 +11,7 @@ use Rattle.s39_set.specs.Names.{Names}
 use Rattle.s39_set.specs.ShareSet.{IsShareSet}
 use Rattle.s39_set.specs.Quorums.{IsFirstQuorumAfter, HasNoQuorumAfter}
 use Rattle.s39_set.specs.Listing.{IsListing}
+use Rattle.s39_tool.specs.declared.secret_form.SecretForm.TheVariants.{Digits}
 use Rattle.s39_tool.specs.declared.listing.Listing.{Listing}
 use Rattle.s39_tool.specs.declared.slices.TooShort.{TooShort}
 use Rattle.s39_tool.specs.declared.slices.Unwritten.{Unwritten}
@@ -34,7 +35,7 @@ put_next text line old =
     ) refl
 
 -- the same at a place that is known to be its end
-put_at : (text line old new after : List ℕ) (at : ℕ) → new ≡ text ++ drop (length text) old → at ≡ length text
+pub put_at : (text line old new after : List ℕ) (at : ℕ) → new ≡ text ++ drop (length text) old → at ≡ length text
     → after ≡ take at new ++ line ++ drop (at + length line) new → after ≡ (text ++ line) ++ drop (length (text ++ line)) old
 put_at text line old new after at is place put =
     put
@@ -46,30 +47,30 @@ module _ {set : List ShareFields} {passphrase : List ℕ} (laws : DrillLaws) whe
   -- a quorum that is tried is a drill of one quorum, before any other
   tried_then : {after : Option Names} {names : Names} {line last : List ℕ} {next : Option Names} {m : ℕ}
       → IsFirstQuorumAfter set after names → IsTried set passphrase names line last next m
-      → (limit : ℕ) (rest : List ℕ) (more : Option Names) (n : ℕ) → IsDrill set passphrase (Some names) limit rest more n
-      → IsDrill set passphrase after (1 + limit) (line ++ rest) more (m + n)
+      → (limit : ℕ) (rest : List ℕ) (more : Option Names) (n : ℕ) → IsDrill Digits set passphrase (Some names) limit rest more n
+      → IsDrill Digits set passphrase after (1 + limit) (line ++ rest) more (m + n)
   tried_then {after} {names} {line} {last} {next} {m} first t limit rest more n d =
       let one : suc limit ≡ 1 + limit = omega arith in
-      subst (λ k. IsDrill set passphrase after k (line ++ rest) more (m + n)) one
+      subst (λ k. IsDrill Digits set passphrase after k (line ++ rest) more (m + n)) one
       (rw (t.line_is, t.mismatches_are) (drill_step laws set passphrase after limit names t.outcome rest more n first t.is_outcome d))
 
   module _ (is : IsShareSet set) where
     -- alone
     tried_alone : {after : Option Names} {names : Names} {line last : List ℕ} {next : Option Names} {m : ℕ}
         → IsFirstQuorumAfter set after names → IsTried set passphrase names line last next m
-        → IsDrill set passphrase after 1 line (more_after names next) m
+        → IsDrill Digits set passphrase after 1 line (more_after names next) m
     tried_alone {after} {names} {line} {last} {next} {m} first t =
         let over = drill_over laws set passphrase is names next 0 t.is_next (inl refl) in
         let d = tried_then first t 0 [] (more_after names next) 0 over in
         let count : m + 0 ≡ m = omega arith in
-        subst (λ n. IsDrill set passphrase after 1 line (more_after names next) n) count
-        (subst (λ l. IsDrill set passphrase after 1 l (more_after names next) (m + 0)) (append-nil line) d)
+        subst (λ n. IsDrill Digits set passphrase after 1 line (more_after names next) n) count
+        (subst (λ l. IsDrill Digits set passphrase after 1 l (more_after names next) (m + 0)) (append-nil line) d)
 
     -- the first line doesn't fit
     pub first_too_long : {after : Option Names} {names : Names} {line last : List ℕ} {next : Option Names} {m : ℕ} (room needed : ℕ)
         → IsFirstQuorumAfter set after names → IsTried set passphrase names line last next m
         → needed ≡ length line + length last → room < needed
-        → (lines : List ℕ) × (more : Option Names) × (mismatches : ℕ) × IsDrill set passphrase after 1 lines more mismatches
+        → (lines : List ℕ) × (more : Option Names) × (mismatches : ℕ) × IsDrill Digits set passphrase after 1 lines more mismatches
         × (needed ≡ length (lines ++ last_line more)) × (room < length (lines ++ last_line more))
     first_too_long {after} {names} {line} {last} {next} {m} room needed first t is_needed short =
         let same : needed ≡ length (line ++ last_line (more_after names next)) =
@@ -97,12 +98,12 @@ module _ {set : List ShareFields} {passphrase : List ℕ} (laws : DrillLaws) whe
       -- what stands there is the drill up to here, and fits with its last line
       so_far : {next : Option Names} (f : IsFilling set passphrase start listed old new last written next m) (left : ℕ)
           → (left ≡ 0) ⊎ (is_some next ≡ false) → (given : Option Names) → IsFirstQuorumAfter set given start
-          → IsDrill set passphrase given (listed + left) f.lines (more_after f.reached next) m
+          → IsDrill Digits set passphrase given (listed + left) f.lines (more_after f.reached next) m
       so_far {next} f left over given first =
           let d = f.goes_on given first left [] (more_after f.reached next) 0 (drill_over laws set passphrase is f.reached next left f.is_next over) in
           let same : m + 0 ≡ m = omega arith in
-          subst (λ n. IsDrill set passphrase given (listed + left) f.lines (more_after f.reached next) n) same
-          (subst (λ l. IsDrill set passphrase given (listed + left) l (more_after f.reached next) (m + 0)) (append-nil f.lines) d)
+          subst (λ n. IsDrill Digits set passphrase given (listed + left) f.lines (more_after f.reached next) n) same
+          (subst (λ l. IsDrill Digits set passphrase given (listed + left) l (more_after f.reached next) (m + 0)) (append-nil f.lines) d)
 
       size_so_far : {next : Option Names} (f : IsFilling set passphrase start listed old new last written next m)
           → length (f.lines ++ last_line (more_after f.reached next)) ≡ written + length last
@@ -145,9 +146,9 @@ module _ {set : List ShareFields} {passphrase : List ℕ} (laws : DrillLaws) whe
             let whole = f.goes_on given first (1 + limit) (line ++ rest) more (n + k) later in
             let places : listed + (1 + limit) ≡ (listed + 1) + limit = omega arith in
             let count : m + (n + k) ≡ (m + n) + k = omega arith in
-            subst (λ i. IsDrill set passphrase given i ((f.lines ++ line) ++ rest) more ((m + n) + k)) places
-            (subst (λ i. IsDrill set passphrase given (listed + (1 + limit)) ((f.lines ++ line) ++ rest) more i) count
-            (subst (λ l. IsDrill set passphrase given (listed + (1 + limit)) l more (m + (n + k))) (sym (append_assoc f.lines line rest)) whole));
+            subst (λ i. IsDrill Digits set passphrase given i ((f.lines ++ line) ++ rest) more ((m + n) + k)) places
+            (subst (λ i. IsDrill Digits set passphrase given (listed + (1 + limit)) ((f.lines ++ line) ++ rest) more i) count
+            (subst (λ l. IsDrill Digits set passphrase given (listed + (1 + limit)) l more (m + (n + k))) (sym (append_assoc f.lines line rest)) whole));
       }
 
       module _ {after : List ℕ} {listing : Listing}
@@ -166,9 +167,9 @@ module _ {set : List ShareFields} {passphrase : List ℕ} (laws : DrillLaws) whe
         stopped : {next : Option Names} (f : IsFilling set passphrase start listed old new last written next m) (left : ℕ)
             → (left ≡ 0) ⊎ (is_some next ≡ false)
             → (given : Option Names) → IsFirstQuorumAfter set given start
-            → IsDrill set passphrase given (listed + left) f.lines (more_after f.reached next) listing.mismatches
+            → IsDrill Digits set passphrase given (listed + left) f.lines (more_after f.reached next) listing.mismatches
         stopped {next} f left over given first =
-            subst (λ n. IsDrill set passphrase given (listed + left) f.lines (more_after f.reached next) n) (sym count)
+            subst (λ n. IsDrill Digits set passphrase given (listed + left) f.lines (more_after f.reached next) n) (sym count)
             (so_far f left over given first)
 
         -- the limit is reached, or no quorum is left
@@ -181,7 +182,7 @@ module _ {set : List ShareFields} {passphrase : List ℕ} (laws : DrillLaws) whe
           more = more_after f.reached next;
           some = omega (arith, some, sum);
           few = omega arith;
-          drill = subst (λ n. IsDrill set passphrase given n f.lines (more_after f.reached next) listing.mismatches) sum
+          drill = subst (λ n. IsDrill Digits set passphrase given n f.lines (more_after f.reached next) listing.mismatches) sum
               (stopped f left over given first);
           in_front = in_front f;
           written = written_is ∙ sym (size_so_far f);
@@ -212,7 +213,7 @@ module _ {set : List ShareFields} {passphrase : List ℕ} (laws : DrillLaws) whe
           few = few;
           drill =
               let none : listed + 0 ≡ listed = omega arith in
-              subst (λ k. IsDrill set passphrase given k f.lines (Some f.reached) listing.mismatches) none
+              subst (λ k. IsDrill Digits set passphrase given k f.lines (Some f.reached) listing.mismatches) none
               (stopped f 0 (inl refl) given first);
           in_front = in_front f;
           written = written_is ∙ sym (size_so_far f);
@@ -236,12 +237,12 @@ answered (Err short) = Err (SliceTooShort short)
 module _ (none : (set : List ShareFields) (given : Option Names) (limit : ℕ) → HasNoQuorumAfter set given → IsListing set given limit [])
     (passphrase : List ℕ) (after : Option Names) (input : Input) (set : List ShareFields) (checked : IsCheckedSet passphrase input (Ok set))
     (next : Option Names) (starts : StartsAt set after next) (limit : ℕ) (old new : List ℕ) where
-  output : (listed : ℕ) (lines : List ℕ) (more : Option Names) (m : ℕ) → IsDrill set passphrase after listed lines more m
-      → IsDrillOutput passphrase after listed input (lines ++ last_line more) (Ok (record { mismatches = m }))
+  output : (listed : ℕ) (lines : List ℕ) (more : Option Names) (m : ℕ) → IsDrill Digits set passphrase after listed lines more m
+      → IsDrillOutput Digits passphrase after listed input (lines ++ last_line more) (Ok (record { mismatches = m }))
   output listed lines more m d = gives set checked (gives tt (starts.no_lack, starts.cursor) (lines, more, m, d, refl))
 
   lists : (result : Result Listing TooShort) → Fills set passphrase after limit old new result
-      → Lists (λ n. IsDrillOutput passphrase after n input) limit old new (answered result)
+      → Lists (λ n. IsDrillOutput Digits passphrase after n input) limit old new (answered result)
   lists (Ok listing) f = record {
     listed = f.listed;
     text = f.lines ++ last_line f.more;
@@ -260,20 +261,20 @@ module _ (none : (set : List ShareFields) (given : Option Names) (limit : ℕ) �
   -- the drill of the input's set is that of the input
   pub fills_lists : (start : Names) → next ≡ Some start → (result : Result Listing TooShort)
       → ((given : Option Names) → IsFirstQuorumAfter set given start → Fills set passphrase given limit old new result)
-      → Lists (λ n. IsDrillOutput passphrase after n input) limit old new (answered result)
+      → Lists (λ n. IsDrillOutput Digits passphrase after n input) limit old new (answered result)
   fills_lists start is result fills = lists result (fills after (subst (IsNext set after) is starts.starts))
 
   -- no quorum is left
   pub end_lists : next ≡ None → 1 ≤ limit → (result : Result Listing TooShort)
       → IfOk result (λ listing. IsInFront (last_line None) old new × (listing.written ≡ length (last_line None)) × (listing.mismatches ≡ 0))
       → IfErr result (λ short. (short.needed ≡ length (last_line None)) × (length old < length (last_line None)) × (new ≡ old))
-      → Lists (λ n. IsDrillOutput passphrase after n input) limit old new (answered result)
+      → Lists (λ n. IsDrillOutput Digits passphrase after n input) limit old new (answered result)
   end_lists is some (Ok listing) ok err = let over : HasNoQuorumAfter set after = subst (IsNext set after) is starts.starts in record {
     listed = limit;
     text = last_line None;
     some = some;
     few = omega arith;
-    output = subst (λ m. IsDrillOutput passphrase after limit input (last_line None) (Ok (record { mismatches = m }))) (sym ok.2)
+    output = subst (λ m. IsDrillOutput Digits passphrase after limit input (last_line None) (Ok (record { mismatches = m }))) (sym ok.2)
         (output limit [] None 0 (drill_ends set passphrase after limit (none set after limit over) over));
     in_front = ok.0;
     written = ok.1;

@@ -6,6 +6,7 @@ use Rattle.s39_set.specs.Names.{Names}
 use Rattle.s39_set.specs.declared.set_lack.SetLack.{SetLack}
 use Rattle.s39_set.specs.Listing.{IsListing}
 use Rattle.s39_set.specs.SetFacts.{SetsHaveOneLack, SetsWithQuorumsHaveNone}
+use Rattle.s39_tool.specs.declared.secret_form.SecretForm.{SecretForm}
 use Rattle.s39_tool.specs.declared.fault.Refusal.TheVariants.{Lack}
 use Rattle.s39_tool.specs.declared.fault.Fault.{Fault}
 use Rattle.s39_tool.specs.declared.drill.Done.{Done}
@@ -19,9 +20,9 @@ use Rattle.s39_tool.proofs.Sets.OneSet.{InputsAreReadOnce, same_set}
 
 -- ---- of `recover`
 
-module _ (one_set : InputsAreReadOnce) (one_lack : SetsHaveOneLack) (no_lack : SetsWithQuorumsHaveNone) where
+module _ (one_set : InputsAreReadOnce) (one_lack : SetsHaveOneLack) (no_lack : SetsWithQuorumsHaveNone) (form : SecretForm) where
   secret_or_lack_once : (set : List ShareFields) (secret text other : List ℕ) (answer another : Result (Unit {0}) Fault)
-      → IsSecretOrLack set secret text answer → IsSecretOrLack set secret other another → (text ≡ other) × (answer ≡ another)
+      → IsSecretOrLack form set secret text answer → IsSecretOrLack form set secret other another → (text ≡ other) × (answer ≡ another)
   secret_or_lack_once set secret text other (Ok _) (Ok _) (some, is) (also, is') = (is ∙ sym is', refl)
   secret_or_lack_once set secret text other (Ok _) (Err g) ((names, quorum), is) (none, (lack, lacks, fault)) =
       absurd (no_lack set names lack quorum lacks)
@@ -32,31 +33,31 @@ module _ (one_set : InputsAreReadOnce) (one_lack : SetsHaveOneLack) (no_lack : S
       (none ∙ sym none', ap Err (is ∙ ap (λ (l : SetLack). fault_of (Lack l)) same ∙ sym is'))
 
   pub recovers_once : (passphrase secret : List ℕ) (input : Input) (text other : List ℕ) (answer another : Result (Unit {0}) Fault)
-      → HoldsMnemonicsOf passphrase secret input → RecoversCreated passphrase input text answer → RecoversCreated passphrase input other another
+      → HoldsMnemonicsOf passphrase secret input → RecoversCreated form passphrase input text answer → RecoversCreated form passphrase input other another
       → (text ≡ other) × (answer ≡ another)
   recovers_once passphrase secret input text other answer another mnemonics p q =
       let (set, read, gives) = p secret mnemonics in
       let (again, read', gives') = q secret mnemonics in
       let same = same_set one_set input set again read read' in
-      secret_or_lack_once set secret text other answer another gives (subst (λ s. IsSecretOrLack s secret other another) same gives')
+      secret_or_lack_once set secret text other answer another gives (subst (λ s. IsSecretOrLack form s secret other another) same gives')
 
 -- ---- of `drill`
 
 module _ (one_set : InputsAreReadOnce) (one_lack : SetsHaveOneLack)
     (one_listing : (set : List ShareFields) (given : Option Names) (limit : ℕ) (listed others : List Names) → IsListing set given limit listed
-    → IsListing set given limit others → listed ≡ others) where
+    → IsListing set given limit others → listed ≡ others) (form : SecretForm) where
   lists_once : (set : List ShareFields) (secret : List ℕ) (after : Option Names) (limit : ℕ) (text other : List ℕ)
-      → ListsSecret set secret after limit text → ListsSecret set secret after limit other → text ≡ other
+      → ListsSecret form set secret after limit text → ListsSecret form set secret after limit other → text ≡ other
   lists_once set secret after limit text other p q =
       let names = one_listing set after limit p.listed q.listed p.listing q.listing in
       let more = goes_on_once set (last_reached after p.listed) p.more q.more p.goes_on
       (subst (λ l. GoesOn set (last_reached after l) q.more) (sym names) q.goes_on) in
       p.text_is
-      ∙ ap₂ (λ (l : List Names) (o : Option Names). flat_map (λ n. quorum_line (n, Ok secret)) l ++ last_line o) names more ∙ sym q.text_is
+      ∙ ap₂ (λ (l : List Names) (o : Option Names). flat_map (λ n. quorum_line form (n, Ok secret)) l ++ last_line o) names more ∙ sym q.text_is
 
   secret_or_cause_once : (set : List ShareFields) (secret : List ℕ) (after : Option Names) (limit : ℕ) (text other : List ℕ)
-      (answer another : Result Done Fault) → ListsSecretOrCause set secret after limit text answer
-      → ListsSecretOrCause set secret after limit other another → (text ≡ other) × (answer ≡ another)
+      (answer another : Result Done Fault) → ListsSecretOrCause form set secret after limit text answer
+      → ListsSecretOrCause form set secret after limit other another → (text ≡ other) × (answer ≡ another)
   secret_or_cause_once set secret after limit text other (Ok done) (Ok done') (none, cursor, lists, m) (none', cursor', lists', n) =
       (lists_once set secret after limit text other lists lists', ap (λ (k : ℕ). Ok (record { mismatches = k })) (m ∙ sym n))
   secret_or_cause_once set secret after limit text other (Ok done) (Err g) (none, cursor, lists, m) (empty, (cause, refused, is)) =
@@ -68,11 +69,11 @@ module _ (one_set : InputsAreReadOnce) (one_lack : SetsHaveOneLack)
       (empty ∙ sym empty', ap Err (is ∙ ap fault_of_undrilled same ∙ sym is'))
 
   pub drills_once : (passphrase secret : List ℕ) (after : Option Names) (limit : ℕ) (input : Input) (text other : List ℕ)
-      (answer another : Result Done Fault) → HoldsMnemonicsOf passphrase secret input → DrillsCreated passphrase after limit input text answer
-      → DrillsCreated passphrase after limit input other another → (text ≡ other) × (answer ≡ another)
+      (answer another : Result Done Fault) → HoldsMnemonicsOf passphrase secret input → DrillsCreated form passphrase after limit input text answer
+      → DrillsCreated form passphrase after limit input other another → (text ≡ other) × (answer ≡ another)
   drills_once passphrase secret after limit input text other answer another mnemonics p q =
       let (set, read, gives) = p secret mnemonics in
       let (again, read', gives') = q secret mnemonics in
       let same = same_set one_set input set again read read' in
       secret_or_cause_once set secret after limit text other answer another gives
-      (subst (λ s. ListsSecretOrCause s secret after limit other another) same gives')
+      (subst (λ s. ListsSecretOrCause form s secret after limit other another) same gives')

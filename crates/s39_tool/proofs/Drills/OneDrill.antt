@@ -13,6 +13,7 @@ use Rattle.s39_set.specs.Quorums.{IsQuorum}
 use Rattle.s39_set.specs.Listing.{IsListing}
 use Rattle.s39_backup.specs.declared.combination.Mismatch.{Mismatch}
 use Rattle.s39_backup.specs.Outcome.{IsOutcome}
+use Rattle.s39_tool.specs.declared.secret_form.SecretForm.{SecretForm}
 use Rattle.s39_tool.specs.Drill.{Listed, quorum_line, last_reached, mismatches_in, GoesOn, IsDrill}
 use Rattle.s39_tool.proofs.Drills.Complete.{listed_quorums}
 
@@ -46,14 +47,14 @@ module _ (one_listing : (set : List ShareFields) (given : Option Names) (limit :
       cc
 
   -- a set has one drill
-  pub one_drill : (after : Option Names) (limit : ℕ) (text other : List ℕ) (more more' : Option Names) (m n : ℕ)
-      → IsDrill set passphrase after limit text more m
-      → IsDrill set passphrase after limit other more' n → (text ≡ other) × (more ≡ more') × (m ≡ n)
-  one_drill after limit text other more more' m n p q =
+  pub one_drill : {form : SecretForm} (after : Option Names) (limit : ℕ) (text other : List ℕ) (more more' : Option Names) (m n : ℕ)
+      → IsDrill form set passphrase after limit text more m
+      → IsDrill form set passphrase after limit other more' n → (text ≡ other) × (more ≡ more') × (m ≡ n)
+  one_drill {form} after limit text other more more' m n p q =
       let listed = map (λ line. line.0) p.lines in
       let names = one_listing set after limit listed (map (λ line. line.0) q.lines) p.listing q.listing in
       let lines = same_lines p.lines q.lines names (listed_quorums set after limit listed p.listing) p.outcomes q.outcomes in (
-        p.text_is ∙ ap (flat_map quorum_line) lines ∙ sym q.text_is,
+        p.text_is ∙ ap (flat_map (quorum_line form)) lines ∙ sym q.text_is,
         goes_on_once set (last_reached after listed) more more' p.goes_on (subst (λ l. GoesOn set (last_reached after l) more') (sym names) q.goes_on),
         p.mismatches_are ∙ ap mismatches_in lines ∙ sym q.mismatches_are,
       )
@@ -106,17 +107,17 @@ module _ (parts : (set : List ShareFields) (given : Option Names) (limit more : 
       (subst (λ n. IsListing set (Some n) more others) same q))
 
   -- a drill up to a quorum, and the drill after that one, are one drill
-  pub drills_join : (passphrase : List ℕ) (after : Option Names) (limit extra : ℕ) (text others : List ℕ) (names : Names) (more : Option Names) (m n : ℕ)
-      → IsDrill set passphrase after limit text (Some names) m → IsDrill set passphrase (Some names) extra others more n
-      → IsDrill set passphrase after (limit + extra) (text ++ others) more (m + n)
-  drills_join passphrase after limit extra text others names more m n p q =
+  pub drills_join : {form : SecretForm} (passphrase : List ℕ) (after : Option Names) (limit extra : ℕ) (text others : List ℕ) (names : Names) (more : Option Names) (m n : ℕ)
+      → IsDrill form set passphrase after limit text (Some names) m → IsDrill form set passphrase (Some names) extra others more n
+      → IsDrill form set passphrase after (limit + extra) (text ++ others) more (m + n)
+  drills_join {form} passphrase after limit extra text others names more m n p q =
       let listed = map (λ line. line.0) p.lines in
       let later = map (λ line. line.0) q.lines in
       let both : map (λ line. line.0) (p.lines ++ q.lines) ≡ listed ++ later = map-append (λ line. line.0) p.lines q.lines in record {
         lines = p.lines ++ q.lines;
         listing = subst (IsListing set after (limit + extra)) (sym both) (joined_listing after limit extra listed names later p.listing p.goes_on q.listing);
         outcomes = All-append (λ line. IsOutcome set line.0 passphrase line.1) p.lines q.lines p.outcomes q.outcomes;
-        text_is = ap₂ (λ (a b : List ℕ). a ++ b) p.text_is q.text_is ∙ sym (flat_map-append quorum_line p.lines q.lines);
+        text_is = ap₂ (λ (a b : List ℕ). a ++ b) p.text_is q.text_is ∙ sym (flat_map-append (quorum_line form) p.lines q.lines);
         goes_on = subst (λ r. GoesOn set r more) (sym (ap (last_reached after) both ∙ last_reached-append after listed later
             ∙ ap (λ r. last_reached r later) p.goes_on.0)) q.goes_on;
         mismatches_are = ap₂ (λ (a b : ℕ). a + b) p.mismatches_are q.mismatches_are ∙ sym (mismatches_in-append p.lines q.lines);

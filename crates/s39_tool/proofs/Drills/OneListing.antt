@@ -3,6 +3,7 @@ use Rattle.std.proofs.Common.{◌≡◌, ℕ, ◌+◌, ◌<◌, ◌≤◌, List,
 use Rattle.std.proofs.Common.{Option, Result, Ok, Err}
 use Rattle.std.proofs.lemmas.Bool.{cases_lt}
 use Rattle.s39_set.specs.Names.{Names}
+use Rattle.s39_tool.specs.declared.secret_form.SecretForm.{SecretForm}
 use Rattle.s39_tool.specs.declared.drill.Done.{Done}
 use Rattle.s39_tool.specs.declared.fault.Fault.{Fault}
 use Rattle.s39_tool.specs.declared.listing.Listing.{Listing}
@@ -17,12 +18,12 @@ abbrev mismatches_of : Result Done Fault → ℕ
 mismatches_of (Ok done) = done.mismatches
 mismatches_of (Err _) = 0
 
-module _ (one_drill_output : (passphrase : List ℕ) (after : Option Names) (limit : ℕ) (input : Input) (text other : List ℕ)
-    (answer another : Result Done Fault) → IsDrillOutput passphrase after limit input text answer
-    → IsDrillOutput passphrase after limit input other another → (text ≡ other) × (answer ≡ another))
+module _ {form : SecretForm} (one_drill_output : (passphrase : List ℕ) (after : Option Names) (limit : ℕ) (input : Input) (text other : List ℕ)
+    (answer another : Result Done Fault) → IsDrillOutput form passphrase after limit input text answer
+    → IsDrillOutput form passphrase after limit input other another → (text ≡ other) × (answer ≡ another))
     (passphrase : List ℕ) (after : Option Names) (limit : ℕ) (input : Input) (old : List ℕ) where
   abbrev Writes : ℕ → List ℕ → ℕ → Type 0
-  Writes n text mismatches = IsDrillOutput passphrase after n input text (Ok (record { mismatches = mismatches }))
+  Writes n text mismatches = IsDrillOutput form passphrase after n input text (Ok (record { mismatches = mismatches }))
 
   -- what is written with a limit fits into the slice, or doesn't
   abbrev Fits : ℕ → Type 0
@@ -38,7 +39,7 @@ module _ (one_drill_output : (passphrase : List ℕ) (after : Option Names) (lim
       absurd (omega (arith, fits, long, size))
 
   not_refused : (n : ℕ) (text : List ℕ) (mismatches : ℕ) (fault : Fault) → Writes n text mismatches
-      → IsDrillOutput passphrase after limit input [] (Err fault) → ⊥
+      → IsDrillOutput form passphrase after limit input [] (Err fault) → ⊥
   not_refused n text mismatches fault writes refused =
       let same = one_drill_output passphrase after n input text [] (Ok (record { mismatches = mismatches })) (Err fault) writes
       (refused_with passphrase after limit n input [] fault refused) in
@@ -46,7 +47,7 @@ module _ (one_drill_output : (passphrase : List ℕ) (after : Option Names) (lim
       absurd (cc)
 
   abbrev Listed : List ℕ → Listing → Type 0
-  Listed new listing = ListsWhatFits (λ n. IsDrillOutput passphrase after n input) limit old new listing
+  Listed new listing = ListsWhatFits (λ n. IsDrillOutput form passphrase after n input) limit old new listing
 
   -- so many quorums fit
   fits : {new : List ℕ} {listing : Listing} (l : Listed new listing) (n : ℕ) → 1 ≤ n → n ≤ l.listed → Fits n
@@ -84,8 +85,8 @@ module _ (one_drill_output : (passphrase : List ℕ) (after : Option Names) (lim
       (same.0, ap mismatches_of same.1)
 
   pub listing_once : (new other : List ℕ) (answer another : Result Listing Unwritten)
-      → Lists (λ n. IsDrillOutput passphrase after n input) limit old new answer
-      → Lists (λ n. IsDrillOutput passphrase after n input) limit old other another → (new ≡ other) × (answer ≡ another)
+      → Lists (λ n. IsDrillOutput form passphrase after n input) limit old new answer
+      → Lists (λ n. IsDrillOutput form passphrase after n input) limit old other another → (new ≡ other) × (answer ≡ another)
   listing_once new other (Ok listing) (Ok another) l k =
       let (text, mismatches) = same_text l k in
       let bytes : new ≡ other = l.in_front.bytes ∙ ap (λ t. t ++ drop (length t) old) text ∙ sym k.in_front.bytes in

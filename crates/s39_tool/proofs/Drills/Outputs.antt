@@ -11,6 +11,7 @@ use Rattle.s39_set.specs.Listing.{IsListing}
 use Rattle.s39_set.specs.SetFacts.{SetsHaveOneLack, SetsWithQuorumsHaveNone}
 use Rattle.s39_backup.specs.declared.combination.Mismatch.{Mismatch}
 use Rattle.s39_backup.specs.Outcome.{IsOutcome}
+use Rattle.s39_tool.specs.declared.secret_form.SecretForm.{SecretForm}
 use Rattle.s39_tool.specs.declared.drill.Undrilled.{Undrilled}
 use Rattle.s39_tool.specs.declared.drill.Undrilled.TheVariants.{Lack, NotAQuorum}
 use Rattle.s39_tool.specs.declared.drill.Done.{Done}
@@ -59,18 +60,18 @@ module _ (one_lack : SetsHaveOneLack)
     (one_outcome : (set : List ShareFields) (names : Names) (passphrase : List ℕ) (outcome other : Result (List ℕ) Mismatch) → IsShareSet set
     → IsQuorum set names
     → IsOutcome set names passphrase outcome → IsOutcome set names passphrase other → outcome ≡ other)
-    (passphrase : List ℕ) (after : Option Names) (limit : ℕ) (set : List ShareFields) (is : IsShareSet set) where
-  lines_once : AtMostOne (WritesLines set passphrase after limit)
+    (form : SecretForm) (passphrase : List ℕ) (after : Option Names) (limit : ℕ) (set : List ShareFields) (is : IsShareSet set) where
+  lines_once : AtMostOne (WritesLines form set passphrase after limit)
   lines_once written other (lines, more, m, d, is_written) (lines', more', n, e, is_other) =
       let (texts, goes_on, mismatches) = one_drill one_listing one_outcome set passphrase is after limit lines lines' more more' m n d e in
       rw (is_written, is_other, texts, goes_on, mismatches) refl
 
-  pub drill_of_set_once : AtMostOne (WritesDrillOf passphrase after limit set)
+  pub drill_of_set_once : AtMostOne (WritesDrillOf form passphrase after limit set)
   drill_of_set_once = then_once (IsDrillable set after) _ _ (drillable_once one_lack set after) (λ _ _. lines_once)
 
 -- a refusal with one limit is one with any
-pub refused_with : (passphrase : List ℕ) (after : Option Names) (limit n : ℕ) (input : Input) (text : List ℕ) (fault : Fault)
-    → IsDrillOutput passphrase after limit input text (Err fault) → IsDrillOutput passphrase after n input text (Err fault)
+pub refused_with : {form : SecretForm} (passphrase : List ℕ) (after : Option Names) (limit n : ℕ) (input : Input) (text : List ℕ) (fault : Fault)
+    → IsDrillOutput form passphrase after limit input text (Err fault) → IsDrillOutput form passphrase after n input text (Err fault)
 refused_with passphrase after limit n input text fault (refuses f checked is) = refuses f checked is
 refused_with passphrase after limit n input text fault (gives set checked (refuses cause so is)) = gives set checked (refuses cause so is)
 refused_with passphrase after limit n input text fault (gives set checked (gives _ so (lines, more, m, drill, is))) =
@@ -116,8 +117,8 @@ module _ (laws : DrillLaws) (no_lack : SetsWithQuorumsHaveNone)
         | inr (lack, lacks) ↦ (Err (Lack lack), lacks)
       ]
 
-  pub some_drill_of_set : (passphrase : List ℕ) (after : Option Names) (limit : ℕ) → AtLeastOne (WritesDrillOf passphrase after (suc limit) set)
-  some_drill_of_set passphrase after limit =
-      let d = some_drill_of laws set passphrase is after limit in
+  pub some_drill_of_set : (form : SecretForm) (passphrase : List ℕ) (after : Option Names) (limit : ℕ) → AtLeastOne (WritesDrillOf form passphrase after (suc limit) set)
+  some_drill_of_set form passphrase after limit =
+      let d = some_drill_of laws set passphrase is form after limit in
       then_some (IsDrillable set after) _ _ (drillable_or_not after)
       (λ _ _. ((d.text ++ last_line d.more, Ok (record { mismatches = d.mismatches })), (d.text, d.more, d.mismatches, d.drill, refl)))

@@ -116,9 +116,9 @@ module _ (of_plan : (set : List ShareFields) (passphrase secret : List ℕ) → 
       → (group_threshold : ℕ) (groups : List Members) (names : Names) (input : Input) (text : List ℕ) (answer : Result (Unit {0}) Fault)
       → IsReissueOutput group_threshold groups names input text answer → ReissuesCreated group_threshold groups names input text answer
   unfolding of_backup
-  reissues_created one_set are_share_sets read_as group_threshold groups names input text answer output passphrase secret mnemonics threshold_is groups_are named =
+  reissues_created one_set share_sets read_as group_threshold groups names input text answer output passphrase secret mnemonics threshold_is groups_are named =
       let (set, read, belong) = read_as passphrase secret input mnemonics in
-      let is = are_share_sets input set read in
+      let is = share_sets input set read in
       let backup = of_backup passphrase secret input mnemonics set belong in
       let lines =
       then_next (AreNamesOfPlan groups names) (λ name. nothing_for (fault_of_name name)) _ (names_once groups names) tt named (text, answer) output in

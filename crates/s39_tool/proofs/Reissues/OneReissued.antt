@@ -18,7 +18,8 @@ use Rattle.s39_tool.specs.Input.{Input}
 use Rattle.s39_tool.specs.Fault.{fault_of_stop}
 use Rattle.s39_tool.specs.Steps.{gives, refuses, nothing_for}
 use Rattle.s39_tool.specs.Accepted.{IsReadAs}
-use Rattle.s39_tool.specs.Reissue.{AreNamesOfPlan, fault_of_name, HasShares, IsOfThePlan, AreReissued, IsReissued, WritesMnemonics, WritesReissued, IsReissueOutput}
+use Rattle.s39_tool.specs.Reissue.{AreNamesOfPlan, fault_of_name, HasShares, IsOfThePlan, AreReissued, IsReissued, WritesMnemonics, WritesReissued}
+use Rattle.s39_tool.specs.Reissue.{IsReissueOutput}
 use Rattle.s39_tool.proofs.Steps.{AtMostOne, AtLeastOne, then_once, then_some}
 use Rattle.s39_tool.proofs.Sets.Checked.{same_writing}
 use Rattle.s39_tool.proofs.Sets.OneSet.{InputsAreReadOnce, AcceptedAreShareSets}
@@ -68,7 +69,8 @@ module _ (group_threshold : ℕ) (groups : List Members) (plan : IsPlan group_th
           is ∙ ap (λ (t : List ℕ). (t, Ok tt)) (text_once one_printed_form shares text other printed printed') ∙ sym is'
 
       written_once : (names : Names) → AtMostOne (WritesReissued group_threshold groups names set)
-      written_once names = then_once (IsReissued group_threshold groups names set) nothing_for WritesMnemonics (reissued_once names) (λ shares _. mnemonics_once shares)
+      written_once names =
+          then_once (IsReissued group_threshold groups names set) nothing_for WritesMnemonics (reissued_once names) (λ shares _. mnemonics_once shares)
 
     pub output_once : InputsAreReadOnce → AcceptedAreShareSets → (names : Names) (input : Input) (text other : List ℕ)
         (answer another : Result (Unit {0}) Fault)

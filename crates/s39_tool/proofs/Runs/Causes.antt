@@ -5,6 +5,7 @@ use Rattle.s39_kdf.specs.declared.limits.BadSecretLength.{BadSecretLength}
 use Rattle.s39_kdf.specs.Limits.{IsFirstUnprintable, IsSecretLength}
 use Rattle.s39_set.specs.Names.{Names}
 use Rattle.s39_backup.specs.declared.create_error.CreateError.TheVariants.{Passphrase as OfPassphrase, SecretLength as OfSecret, BadRandomLength}
+use Rattle.s39_tool.specs.declared.secret_form.SecretForm.{SecretForm}
 use Rattle.s39_tool.specs.declared.fault.Stop.{Stop}
 use Rattle.s39_tool.specs.declared.fault.Stop.TheVariants.{AtLine, ReadFailed}
 use Rattle.s39_tool.specs.declared.fault.LineRefusal.{LineRefusal}
@@ -87,23 +88,23 @@ fault_is {T} text other fault another same = let answers = (same_writing {T = T}
 pub not_done : {T : Type 0} (text other : List ℕ) (fault : Fault) (done : T) → writing (Err fault) text ≡ writing (Ok done) other → ⊥
 not_done {T} text other fault done same = let answers = (same_writing {T = T} text other (Err fault) (Ok done) same).1 in absurd (cc)
 
-pub recover_cause : (passphrase : List ℕ) (input : Input) (text : List ℕ) (bad : BadPassphrase)
-    → IsRecoverOutput passphrase input text (Err (fault_of (Passphrase bad))) → IsFirstUnprintable passphrase bad.position
-recover_cause passphrase input text bad (refuses fault checked is) =
+pub recover_cause : (form : SecretForm) (passphrase : List ℕ) (input : Input) (text : List ℕ) (bad : BadPassphrase)
+    → IsRecoverOutput form passphrase input text (Err (fault_of (Passphrase bad))) → IsFirstUnprintable passphrase bad.position
+recover_cause form passphrase input text bad (refuses fault checked is) =
     checked_cause passphrase input bad fault checked (fault_is {T = Unit {0}} text [] (fault_of (Passphrase bad)) fault is)
-recover_cause passphrase input text bad (gives set checked (gives secret so is)) =
-    absurd (not_done {T = Unit {0}} text (secret_line secret) (fault_of (Passphrase bad)) tt is)
-recover_cause passphrase input text bad (gives set checked (refuses fault so is)) =
+recover_cause form passphrase input text bad (gives set checked (gives secret so is)) =
+    absurd (not_done {T = Unit {0}} text (secret_line form secret) (fault_of (Passphrase bad)) tt is)
+recover_cause form passphrase input text bad (gives set checked (refuses fault so is)) =
     absurd (not_of_passphrase bad fault (fault_is {T = Unit {0}} text [] (fault_of (Passphrase bad)) fault is)
     (recovered_fault (λ f. is_passphrase f.refusal ≡ false) (λ lack. refl) (λ mismatch. refl) passphrase set fault so))
 
-pub drill_cause : (passphrase : List ℕ) (after : Option Names) (limit : ℕ) (input : Input) (text : List ℕ) (bad : BadPassphrase)
-    → IsDrillOutput passphrase after limit input text (Err (fault_of (Passphrase bad))) → IsFirstUnprintable passphrase bad.position
-drill_cause passphrase after limit input text bad (refuses fault checked is) =
+pub drill_cause : (form : SecretForm) (passphrase : List ℕ) (after : Option Names) (limit : ℕ) (input : Input) (text : List ℕ) (bad : BadPassphrase)
+    → IsDrillOutput form passphrase after limit input text (Err (fault_of (Passphrase bad))) → IsFirstUnprintable passphrase bad.position
+drill_cause form passphrase after limit input text bad (refuses fault checked is) =
     checked_cause passphrase input bad fault checked (fault_is {T = Done} text [] (fault_of (Passphrase bad)) fault is)
-drill_cause passphrase after limit input text bad (gives set checked (gives _ so (lines, more, m, drill, is))) =
+drill_cause form passphrase after limit input text bad (gives set checked (gives _ so (lines, more, m, drill, is))) =
     absurd (not_done {T = Done} text (lines ++ last_line more) (fault_of (Passphrase bad)) (record { mismatches = m }) is)
-drill_cause passphrase after limit input text bad (gives set checked (refuses cause so is)) =
+drill_cause form passphrase after limit input text bad (gives set checked (refuses cause so is)) =
     absurd (not_of_passphrase bad (fault_of_undrilled cause)
     (fault_is {T = Done} text [] (fault_of (Passphrase bad)) (fault_of_undrilled cause) is) (undrilled_elsewhere cause))
 

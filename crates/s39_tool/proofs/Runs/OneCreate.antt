@@ -39,7 +39,8 @@ module _ (one_creation : (asked : Asked) (random : List ℕ) (r s : Result (List
     (none_unprintable : PrintablePassphrasesHaveNone)
     (one_printed_form : (share : ShareFields) (text other : List ℕ) → IsPrinted text share → IsPrinted other share → text ≡ other) where
   -- a refusal that applies isn't a failed read
-  not_both : (asked : Asked) (input : Input) (error : CreateError) → IsCreation asked input.bytes (Err error) → Applies input error → FailsBefore asked input → ⊥
+  not_both : (asked : Asked) (input : Input) (error : CreateError) → IsCreation asked input.bytes (Err error)
+      → Applies input error → FailsBefore asked input → ⊥
   not_both asked input (Passphrase bad) creates applies fails = none_unprintable asked.passphrase bad.position fails.printable creates
   not_both asked input (SecretLength bad) creates applies fails = creates.1 fails.secret_length
   not_both asked input (BadRandomLength needed) creates (inl ended) fails = let bad : true ≡ false = sym ended ∙ fails.failed in absurd (cc)

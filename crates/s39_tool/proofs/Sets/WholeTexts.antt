@@ -13,6 +13,7 @@ use Rattle.s39_set.specs.Quorums.{MeetsThresholds}
 use Rattle.s39_set.proofs.SetQuorums.{no_lack-from_meets}
 use Rattle.s39_backup.specs.Plan.{IsPlan}
 use Rattle.s39_backup.specs.Created.{AreOfBackup, Asked}
+use Rattle.s39_tool.specs.declared.secret_form.SecretForm.{SecretForm}
 use Rattle.s39_tool.specs.declared.drill.Done.{Done}
 use Rattle.s39_tool.specs.declared.drill.Undrilled.TheVariants.{Lack, NotAQuorum}
 use Rattle.s39_tool.specs.declared.fault.Fault.{Fault}
@@ -69,16 +70,16 @@ module _ (first : (share : ShareFields) (text : List ℕ) → IsPrinted text sha
       }) set_of.all
 
 -- of a set that meets its thresholds the secret is given
-module _ (set : List ShareFields) (meets : MeetsThresholds set (map name_of set)) (secret : List ℕ) where
+module _ (form : SecretForm) (set : List ShareFields) (meets : MeetsThresholds set (map name_of set)) (secret : List ℕ) where
   pub recovers_whole : (passphrase : List ℕ) (input : Input) (output : List ℕ) (answer : Result (Unit {0}) Fault)
-      → IsRecoverOutput passphrase input output answer → IsSecretOrLack set secret output answer
-      → IsRecoverOutput passphrase input (secret_line secret) (Ok tt)
-  recovers_whole passphrase input output (Ok _) recovers (some, is) = subst (λ t. IsRecoverOutput passphrase input t (Ok tt)) is recovers
+      → IsRecoverOutput form passphrase input output answer → IsSecretOrLack form set secret output answer
+      → IsRecoverOutput form passphrase input (secret_line form secret) (Ok tt)
+  recovers_whole passphrase input output (Ok _) recovers (some, is) = subst (λ t. IsRecoverOutput form passphrase input t (Ok tt)) is recovers
   recovers_whole passphrase input output (Err fault) recovers (none, (lack, lacks, is)) =
       absurd (no_lack-from_meets set (map name_of set) meets lack lacks)
 
-  pub lists_whole : (limit : ℕ) (output : List ℕ) (answer : Result Done Fault) → ListsSecretOrCause set secret None limit output answer
-      → ListsSecret set secret None limit output × (answer ≡ Ok (record { mismatches = 0 }))
+  pub lists_whole : (limit : ℕ) (output : List ℕ) (answer : Result Done Fault) → ListsSecretOrCause form set secret None limit output answer
+      → ListsSecret form set secret None limit output × (answer ≡ Ok (record { mismatches = 0 }))
   lists_whole limit output (Ok done) (no_lack, cursor, lists, none) = (lists, ap (λ (m : ℕ). Ok (record { mismatches = m })) none)
   lists_whole limit output (Err fault) (none, (Lack lack, lacks, is)) = absurd (no_lack-from_meets set (map name_of set) meets lack lacks)
   lists_whole limit output (Err fault) (none, (NotAQuorum, (no_lack, (names, given, other)), is)) = absurd (let bad : None ≡ Some names = given in cc)

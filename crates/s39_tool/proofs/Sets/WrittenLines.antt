@@ -76,7 +76,16 @@ module _ (first : (share : ShareFields) (text : List ℕ) → IsPrinted text sha
   selected_holds shares text line each (inl skipped) = (None, skipped, tt)
   selected_holds shares text line each (inr among) = All-contains (HoldsNothingOrOneOf shares) (lines_of (whole text)) line each among
 
-  module _ (asked : Asked) (random text : List ℕ) (plan : IsPlan asked.group_threshold asked.groups) (created : IsCreateOutput asked (whole random) text (Ok tt)) where
+  -- some of the lines of what is printed of shares hold those, or nothing
+  pub some_of_text_hold : (shares : List ShareFields) (text bytes : List ℕ) → ArePrintedLines shares text
+      → All (λ line. Holds line None ⊎ Contains (lines_of (whole text)) line) (lines_of (whole bytes))
+      → All (HoldsNothingOrOneOf shares) (lines_of (whole bytes))
+  some_of_text_hold shares text bytes printed each =
+      All-weaker (λ line. Holds line None ⊎ Contains (lines_of (whole text)) line) (HoldsNothingOrOneOf shares)
+      (λ line one. selected_holds shares text line (text_holds shares text printed) one) (lines_of (whole bytes)) each
+
+  module _ (asked : Asked) (random text : List ℕ) (plan : IsPlan asked.group_threshold asked.groups)
+      (created : IsCreateOutput asked (whole random) text (Ok tt)) where
     -- lines of what is written for a backup hold mnemonics of it
     pub some_lines_hold : (bytes : List ℕ) → All (λ line. Holds line None ⊎ Contains (lines_of (whole text)) line) (lines_of (whole bytes))
         → HoldsMnemonicsOf asked.passphrase asked.secret (whole bytes)
@@ -90,9 +99,7 @@ module _ (first : (share : ShareFields) (text : List ℕ) → IsPrinted text sha
           is_plan = plan;
           created = creates;
           ended = refl;
-          lines =
-              All-weaker (λ line. Holds line None ⊎ Contains (lines_of (whole text)) line) (HoldsNothingOrOneOf shares)
-              (λ line one. selected_holds shares text line (text_holds shares text printed) one) (lines_of (whole bytes)) each;
+          lines = some_of_text_hold shares text bytes printed each;
         }
 
     -- so do all of them

@@ -7,6 +7,7 @@ use Rattle.hex.specs.Hex.{lower_digits, encode_lower, decode_of, IsBytes}
 use Rattle.hex.proofs.HexLemmas.{length-encode_with, decode_of-encode_lower}
 use Rattle.s39_kdf.specs.Bytes.{AreBytes}
 use Rattle.s39_backup.proofs.Creations.{same_front}
+use Rattle.s39_tool.specs.declared.secret_form.SecretForm.TheVariants.{Digits}
 use Rattle.s39_tool.specs.Recover.{secret_line}
 
 are_bytes : (s : List ℕ) → AreBytes s → IsBytes s
@@ -15,7 +16,7 @@ are_bytes s bytes i = elim (cases_lt i (length s)) [
   | inr past ↦ subst (λ (b : ℕ). b < 256) (sym (get_or_past s i 0 past)) (omega arith)
 ]
 
-same_digits : (s t : List ℕ) → secret_line s ≡ secret_line t → encode_lower s ≡ encode_lower t
+same_digits : (s t : List ℕ) → secret_line Digits s ≡ secret_line Digits t → encode_lower s ≡ encode_lower t
 same_digits s t same =
     let sizes = ap length same in
     let long : length (encode_lower s) ≡ length (encode_lower t) =
@@ -26,7 +27,7 @@ abbrev decoded : List ℕ → Result (List ℕ) FromHexError
 decoded bytes = Ok bytes
 
 -- the line of a secret is that of no other
-pub same_secret : (s t : List ℕ) → AreBytes s → AreBytes t → secret_line s ≡ secret_line t → s ≡ t
+pub same_secret : (s t : List ℕ) → AreBytes s → AreBytes t → secret_line Digits s ≡ secret_line Digits t → s ≡ t
 same_secret s t bytes others same =
     let values : decoded s ≡ decoded t =
     sym (decode_of-encode_lower s (are_bytes s bytes)) ∙ ap decode_of (same_digits s t same)
@@ -34,7 +35,7 @@ same_secret s t bytes others same =
     cc
 
 -- nor of one of another length
-pub same_size : (s t : List ℕ) → secret_line s ≡ secret_line t → length s ≡ length t
+pub same_size : (s t : List ℕ) → secret_line Digits s ≡ secret_line Digits t → length s ≡ length t
 same_size s t same =
     let sizes = ap length (same_digits s t same) in
     omega (arith, sizes, length-encode_with lower_digits s, length-encode_with lower_digits t)

@@ -29,12 +29,14 @@ returns-then-at_hand-needed-clause-length c =
 pub value_from_others-requires-clause-at_hand : goal.value_from_others-requires-clause-at_hand
 value_from_others-requires-clause-at_hand c =
     c.len-at_hand.ensures ∙ (all_counted c.args.set.now c.args.plan.now.group_threshold c.args.plan.now.groups.items c.args.group c.args.member
-    c.least_members-points.result c.least_members-points.ensures (λ same. c.if-at_hand-needed.false (c.len-at_hand.ensures ∙ same ∙ sym c.from-needed.ensures))).0
+    c.least_members-points.result c.least_members-points.ensures
+    (λ same. c.if-at_hand-needed.false (c.len-at_hand.ensures ∙ same ∙ sym c.from-needed.ensures))).0
 
 pub value_from_others-requires-clause-few : goal.value_from_others-requires-clause-few
 value_from_others-requires-clause-few c =
     let counted = all_counted c.args.set.now c.args.plan.now.group_threshold c.args.plan.now.groups.items c.args.group c.args.member
-    c.least_members-points.result c.least_members-points.ensures (λ same. c.if-at_hand-needed.false (c.len-at_hand.ensures ∙ same ∙ sym c.from-needed.ensures)) in
+    c.least_members-points.result c.least_members-points.ensures
+    (λ same. c.if-at_hand-needed.false (c.len-at_hand.ensures ∙ same ∙ sym c.from-needed.ensures)) in
     let first = counted.0 in
     let second = counted.1 in
     let number = c.len-at_hand.ensures in

@@ -34,7 +34,8 @@ returns-in-Some c =
     let plan = c.args.plan.now in
     let threshold : c.member_threshold.result ≡ share.member_threshold = c.member_threshold.ensures in
     let value : c.as_slice.result.now ≡ share.value.items = c.as_slice.ensures.value ∙ ap (λ v. v.items) c.value.ensures in
-    let same : c.like.result ≡ share = c.like.ensures ∙ rw (threshold, value) (like_itself set c.are_a_share_set.ensures c.args.group c.args.member share found) in
+    let same : c.like.result ≡ share =
+    c.like.ensures ∙ rw (threshold, value) (like_itself set c.are_a_share_set.ensures c.args.group c.args.member share found) in
     subst (λ (s : ShareFields). IsReissue set plan.group_threshold plan.groups.items (c.args.group, c.args.member) (Ok s)) (sym same)
     (at_hand_is set c.are_a_share_set.ensures plan.group_threshold plan.groups.items c.args.group c.args.member share (sym found))
 

@@ -1,3 +1,4 @@
+use Rattle.s39_tool.specs.declared.secret_form.SecretForm.TheVariants.{Digits}
 use Rattle.std.proofs.Common.{◌≡◌, ◌≤◌, [], length, inr, Some, None, arith}
 use Rattle.std.proofs.lemmas.List.{nil_from_length}
 use Rattle.s39_backup.proofs.Combined.{none_from_test}
@@ -10,7 +11,7 @@ returns-then-is_empty-clause-complete c =
     let some : 1 ≤ c.args.limit = omega (arith, c.if-limit-eq0.false) in
     let none : c.args.after.now ≡ [] =
     nil_from_length c.args.after.now (omega (arith, none_from_test c.is_empty.result (length c.args.after.now) c.is_empty.ensures c.if-is_empty.true)) in
-    let complete = gives_created c.created_backups_drill.ensures c.args.passphrase.now None (whole c.args.lines.now) c.args.limit c.args.text.now
+    let complete = gives_created (c.created_backups_drill.ensures Digits) c.args.passphrase.now None (whole c.args.lines.now) c.args.limit c.args.text.now
     c.give_listing.new.text c.give_listing.result c.give_listing.ensures in inr (inr (some, None, none, complete))
 
 pub returns-in-Ok-clause-drills : goal.returns-in-Ok-clause-drills
@@ -21,6 +22,6 @@ returns-in-Ok-clause-drills c =
 pub returns-in-Ok-clause-complete : goal.returns-in-Ok-clause-complete
 returns-in-Ok-clause-complete c =
     let some : 1 ≤ c.args.limit = omega (arith, c.if-limit-eq0.false) in
-    let complete = gives_created c.created_backups_drill.ensures c.args.passphrase.now (Some c.in-Ok.quorum) (whole c.args.lines.now) c.args.limit
+    let complete = gives_created (c.created_backups_drill.ensures Digits) c.args.passphrase.now (Some c.in-Ok.quorum) (whole c.args.lines.now) c.args.limit
     c.args.text.now c.give_listing-in-Ok.new.text c.give_listing-in-Ok.result c.give_listing-in-Ok.ensures in
     inr (inr (some, Some c.in-Ok.quorum, c.in-Ok.ensures.names, complete))

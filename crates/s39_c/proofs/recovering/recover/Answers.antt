@@ -1,3 +1,4 @@
+use Rattle.s39_tool.specs.declared.secret_form.SecretForm.TheVariants.{Digits}
 use Rattle.std.proofs.Common.{inl, inr, Ok, Err, refl, subst}
 use Rattle.s39_tool.specs.Input.{whole}
 use Rattle.s39_c.specs.Answers.{Gives}
@@ -18,7 +19,7 @@ pub returns-in-Ok-clause-created : goal.returns-in-Ok-clause-created
 returns-in-Ok-clause-created c =
     inl (
       c.in-Ok.recovered.items,
-      c.created_backups_recover.ensures c.args.passphrase.now (whole c.args.lines.now) _ (Ok tt) c.in-Ok.ensures.secret,
+      c.created_backups_recover.ensures Digits c.args.passphrase.now (whole c.args.lines.now) _ (Ok tt) c.in-Ok.ensures.secret,
       subst (λ bytes. Gives bytes c.args.secret.now c.give.new.out c.give.result) c.as_slice.ensures.value c.give.ensures,
     )
 
@@ -26,7 +27,7 @@ pub returns-in-Err-clause-created : goal.returns-in-Err-clause-created
 returns-in-Err-clause-created c =
     inr (
       c.in-Err.fault,
-      c.created_backups_recover.ensures c.args.passphrase.now (whole c.args.lines.now) _ (Err c.in-Err.fault) c.in-Err.ensures.refused,
+      c.created_backups_recover.ensures Digits c.args.passphrase.now (whole c.args.lines.now) _ (Err c.in-Err.fault) c.in-Err.ensures.refused,
       refl,
       c.from.ensures,
     )

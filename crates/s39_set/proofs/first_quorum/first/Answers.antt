@@ -27,7 +27,8 @@ module _ (c : goal.Then-complete-required) where
       let required = c.in_ok-required.required in
       let threshold : group_threshold_of set ≡ Some required = sym c.group_threshold.ensures ∙ c.in_ok-required.ensures.ok_part in
       let complete : c.count_groups-complete.result ≡ length (complete_groups (member_threshold_of set) (map name_of set)) =
-      c.count_groups-complete.ensures ∙ ap length (groups_from-complete set c.are_a_share_set.ensures c.of-context.result c.of-context.ensures.knows.complete) in
+      c.count_groups-complete.ensures
+      ∙ ap length (groups_from-complete set c.are_a_share_set.ensures c.of-context.result c.of-context.ensures.knows.complete) in
       subst (λ (n : ℕ). IsIncomplete set n required) (sym complete) (incomplete_from_fewer set c.are_a_share_set.ensures required threshold (omega arith))
 
 pub returns-then-complete-required-clause-lack : goal.returns-then-complete-required-clause-lack

@@ -8,4 +8,5 @@ returns-in-Err-clause-read g c =
     let taking = c.reads.invariant.0 in
     let read = c.in-Err.ensures in
     of_failure g.R.Read.remaining c.args.input.now c.read.new.self c.reads.random.items _ (Consumes-kept _ _ _ c.reads.random.items taking.consumed read.bytes)
-    (omega (arith, read.failures, taking.no_failure)) (omega (arith, read.reads, taking.few_reads)) (refl, omega (arith, c.reads-test.true, c.len.ensures.value))
+    (omega (arith, read.failures, taking.no_failure)) (omega (arith, read.reads, taking.few_reads))
+    (refl, omega (arith, c.reads-test.true, c.len.ensures.value))

@@ -41,9 +41,9 @@ module _ (g : Over) (c : In_ok-start g) where
 
   -- a drill of the set is the output of the input
   output : (lines : List ℕ) (more : Option Names) (mismatches : ℕ)
-      → IsDrill c.in_ok-set.set c.args.passphrase.now after c.args.limit lines more mismatches
+      → IsDrill c.args.form c.in_ok-set.set c.args.passphrase.now after c.args.limit lines more mismatches
       → OfInput g.R.Read.remaining c.args.input.now c.checked_set.new.input (λ input.
-      IsDrillOutput c.args.passphrase.now after c.args.limit input (lines ++ last_line more) (Ok (record { mismatches = mismatches })))
+      IsDrillOutput c.args.form c.args.passphrase.now after c.args.limit input (lines ++ last_line more) (Ok (record { mismatches = mismatches })))
   output lines more mismatches drill =
       let starts = c.in_ok-start.ensures.start in
       OfInput-map c.in_ok-set.ensures.checked
@@ -52,7 +52,7 @@ module _ (g : Over) (c : In_ok-start g) where
   -- the drill without a quorum
   empty : IsNext c.in_ok-set.set after None
       → OfInput g.R.Read.remaining c.args.input.now c.checked_set.new.input (λ input.
-      IsDrillOutput c.args.passphrase.now after c.args.limit input (last_line None) (Ok (record { mismatches = 0 })))
+      IsDrillOutput c.args.form c.args.passphrase.now after c.args.limit input (last_line None) (Ok (record { mismatches = 0 })))
   empty none =
       output [] None 0 (drill_ends c.in_ok-set.set c.args.passphrase.now after c.args.limit
       (c.listings_join.ensures.none c.in_ok-set.set after c.args.limit none) none)
@@ -91,19 +91,19 @@ returns-clause-runs g c =
 -- ---- mnemonics of a created backup
 
 pub returns-in_err-set-clause-complete : goal.returns-in_err-set-clause-complete
-returns-in_err-set-clause-complete g c = Runs-map (returns-in_err-set-clause-runs g c) (c.created_backups_drill.ensures _ _ _)
+returns-in_err-set-clause-complete g c = Runs-map (returns-in_err-set-clause-runs g c) (c.created_backups_drill.ensures _ _ _ _)
 
 pub returns-in_err-start-clause-complete : goal.returns-in_err-start-clause-complete
-returns-in_err-start-clause-complete g c = Runs-map (returns-in_err-start-clause-runs g c) (c.created_backups_drill.ensures _ _ _)
+returns-in_err-start-clause-complete g c = Runs-map (returns-in_err-start-clause-runs g c) (c.created_backups_drill.ensures _ _ _ _)
 
 pub returns-in_err-write_text-clause-complete : goal.returns-in_err-write_text-clause-complete
-returns-in_err-write_text-clause-complete g c = Runs-map (returns-in_err-write_text-clause-runs g c) (c.created_backups_drill.ensures _ _ _)
+returns-in_err-write_text-clause-complete g c = Runs-map (returns-in_err-write_text-clause-runs g c) (c.created_backups_drill.ensures _ _ _ _)
 
 pub returns-in_default-clause-complete : goal.returns-in_default-clause-complete
-returns-in_default-clause-complete g c = Runs-map (returns-in_default-clause-runs g c) (c.created_backups_drill.ensures _ _ _)
+returns-in_default-clause-complete g c = Runs-map (returns-in_default-clause-runs g c) (c.created_backups_drill.ensures _ _ _ _)
 
 pub returns-in_err-write_drill-clause-complete : goal.returns-in_err-write_drill-clause-complete
-returns-in_err-write_drill-clause-complete g c = Runs-map (returns-in_err-write_drill-clause-runs g c) (c.created_backups_drill.ensures _ _ _)
+returns-in_err-write_drill-clause-complete g c = Runs-map (returns-in_err-write_drill-clause-runs g c) (c.created_backups_drill.ensures _ _ _ _)
 
 pub returns-clause-complete : goal.returns-clause-complete
-returns-clause-complete g c = Runs-map (returns-clause-runs g c) (c.created_backups_drill.ensures _ _ _)
+returns-clause-complete g c = Runs-map (returns-clause-runs g c) (c.created_backups_drill.ensures _ _ _ _)

@@ -5,7 +5,7 @@ use Rattle.s39_set.specs.Names.{Names}
 use Rattle.s39_set.specs.Quorums.{IsFirstQuorumAfter}
 use Rattle.s39_backup.specs.declared.combination.Mismatch.{Mismatch}
 use Rattle.s39_backup.specs.Outcome.{IsOutcome}
-use Rattle.s39_tool.specs.Drill.{last_line, quorum_line, shown, IsDrill, IsNext}
+use Rattle.s39_tool.specs.Drill.{last_line, quorum_line, in_bytes, IsDrill, IsNext}
 use Rattle.s39_tool.specs.Slices.{more_after}
 use Rattle.s39_tool.proofs.Drills.Drilling.{IsDrilling, mismatch_most, drill_over, more_is}
 use Rattle.s39_tool.proofs.Drills.Drilling.{drilling_starts, drilling_fails, drilling_goes_on, drilling_ends, drilling_fails_last}
@@ -27,21 +27,21 @@ loop-outcome-init g c = record {
 -- what is known of a quorum whose line goes to the writer
 module _ (g : Over) (c : After-write_text g) where
   abbrev outcome : Result (List ℕ) Mismatch
-  outcome = shown c.outcome_of-outcome.result
+  outcome = in_bytes c.outcome_of-outcome.result
 
   -- the text before it
-  drilling : IsDrilling g.W.Write.contents c.args.output.now c.loop-outcome.output c.args.set.now c.args.passphrase.now c.args.start c.args.limit
+  drilling : IsDrilling g.W.Write.contents c.args.output.now c.loop-outcome.output c.args.form c.args.set.now c.args.passphrase.now c.args.start c.args.limit
       c.loop-outcome.quorum (suc (c.loop-outcome.left - 1)) c.loop-outcome.mismatches
   drilling =
       let inv = c.loop-outcome.invariant in
-      subst (λ n. IsDrilling g.W.Write.contents c.args.output.now c.loop-outcome.output c.args.set.now c.args.passphrase.now c.args.start c.args.limit
+      subst (λ n. IsDrilling g.W.Write.contents c.args.output.now c.loop-outcome.output c.args.form c.args.set.now c.args.passphrase.now c.args.start c.args.limit
       c.loop-outcome.quorum n c.loop-outcome.mismatches) (omega (arith, inv.some)) inv.drilling
 
   is_outcome : IsOutcome c.args.set.now c.loop-outcome.quorum c.args.passphrase.now outcome
   is_outcome =
       subst (λ p. IsOutcome c.args.set.now c.loop-outcome.quorum p outcome) c.loop-outcome.invariant.passphrase c.outcome_of-outcome.ensures.outcome
 
-  line : c.as_slice.result.now ≡ quorum_line (c.loop-outcome.quorum, outcome)
+  line : c.as_slice.result.now ≡ quorum_line c.args.form (c.loop-outcome.quorum, outcome)
   line = c.as_slice.ensures.value ∙ c.quorum_line.ensures
 
 -- what is known of the last line
@@ -50,7 +50,7 @@ module _ (g : Over) (c : After-write_text-then-left-eq0 g) where
   more = more_after c.loop-outcome.quorum c.following-next.result
 
   -- no line comes before it
-  over : IsDrill c.args.set.now c.args.passphrase.now (Some c.loop-outcome.quorum) (c.loop-outcome.left - 1) [] more 0
+  over : IsDrill c.args.form c.args.set.now c.args.passphrase.now (Some c.loop-outcome.quorum) (c.loop-outcome.left - 1) [] more 0
   over =
       let next = c.following-next.result in
       let done : (c.loop-outcome.left - 1 ≡ 0) ⊎ (is_some next ≡ false) = elim c.then-left-eq0.branch [

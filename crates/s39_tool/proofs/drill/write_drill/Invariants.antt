@@ -6,7 +6,7 @@ use Rattle.s39_tool.proofs.drill.write_drill.Given as goal
 
 abbrev pub invariant-loop-outcome : goal.invariant-loop-outcome
 invariant-loop-outcome g l = record {
-  drilling : IsDrilling g.W.Write.contents l.fn.output l.output l.set l.passphrase l.fn.start l.limit l.quorum l.left l.mismatches;
+  drilling : IsDrilling g.W.Write.contents l.fn.output l.output l.form l.set l.passphrase l.fn.start l.limit l.quorum l.left l.mismatches;
   some : 1 ≤ l.left;
   counted : l.mismatches + l.left ≤ l.limit;
   looks : l.looks + most_step_looks * l.left ≤ most_step_looks * (l.limit + 1);

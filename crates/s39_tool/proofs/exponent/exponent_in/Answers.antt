@@ -1,4 +1,4 @@
-use Rattle.std.proofs.Common.{subst}
+use Rattle.std.proofs.Common.{subst, arith}
 use Rattle.s39_set.specs.Quorums.{IsQuorum}
 use Rattle.s39_tool.specs.Input.{whole}
 use Rattle.s39_tool.proofs.Sets.OneSet.{same_set, not_accepted_and_refused}
@@ -21,5 +21,6 @@ returns-clause-some c = record {
   names = c.in-Ok-first.quorum;
   read = c.in-Ok.ensures.read;
   quorum = c.in-Ok-first.ensures.first.quorum;
-  all_have = all_have_exponent c.in-Ok.set c.params_of.result c.in-Ok.ensures.is_set c.params_of.ensures;
+  all_have = λ k d within.
+      let has = all_have_exponent c.in-Ok.set c.params_of.result c.in-Ok.ensures.is_set c.params_of.ensures k d within in omega (arith, has);
 }

@@ -2,4 +2,4 @@ use Rattle.s39_tool.proofs.Drills.OneDrill.{drills_join}
 use Rattle.s39_tool.proofs.laws.drills_join.Goals as goal
 
 pub returns : goal.returns
-returns c = drills_join c.listings_join.ensures.parts
+returns c = λ form set. drills_join c.listings_join.ensures.parts set

@@ -2,4 +2,4 @@ use Rattle.s39_tool.proofs.Drills.OneListing.{listing_once}
 use Rattle.s39_tool.proofs.laws.one_listing_in_a_slice.Goals as goal
 
 pub returns : goal.returns
-returns c passphrase after limit input old = listing_once c.one_drill_output.ensures passphrase after limit input old
+returns c form passphrase after limit input old = listing_once (c.one_drill_output.ensures form) passphrase after limit input old

@@ -4,14 +4,14 @@ use Rattle.s39_tool.proofs.Reissues.Faults.{name_cause}
 use Rattle.s39_tool.proofs.laws.refusals_have_causes.Goals as goal
 
 pub returns-clause-recover : goal.returns-clause-recover
-returns-clause-recover g c = λ passphrase reader read_to writer written_to bad runs.
+returns-clause-recover g c = λ form passphrase reader read_to writer written_to bad runs.
     let (input, text, is) = of_some g.R.Read.remaining g.W.Write.contents _ reader read_to writer written_to _ refl runs in
-    recover_cause passphrase input text bad is
+    recover_cause form passphrase input text bad is
 
 pub returns-clause-drill : goal.returns-clause-drill
-returns-clause-drill g c = λ passphrase after limit reader read_to writer written_to bad runs.
+returns-clause-drill g c = λ form passphrase after limit reader read_to writer written_to bad runs.
     let (input, text, is) = of_some g.R.Read.remaining g.W.Write.contents _ reader read_to writer written_to _ refl runs in
-    drill_cause passphrase after limit input text bad is
+    drill_cause form passphrase after limit input text bad is
 
 pub returns-clause-create : goal.returns-clause-create
 returns-clause-create g c = λ asked reader read_to writer written_to bad runs.

@@ -5,6 +5,6 @@ use Rattle.s39_tool.proofs.Drills.Outputs.{some_drill_of_set}
 use Rattle.s39_tool.proofs.laws.some_drill_output.Goals as goal
 
 pub returns : goal.returns
-returns c = λ passphrase after limit input.
-    output_some c.one_checked_set.ensures (WritesDrillOf passphrase after (suc limit)) passphrase input
-    (λ set is. some_drill_of_set c.drill_laws.ensures c.one_lack.ensures.none c.quorum_or_lack.ensures set is passphrase after limit)
+returns c = λ form passphrase after limit input.
+    output_some c.one_checked_set.ensures (WritesDrillOf form passphrase after (suc limit)) passphrase input
+    (λ set is. some_drill_of_set c.drill_laws.ensures c.one_lack.ensures.none c.quorum_or_lack.ensures set is form passphrase after limit)

@@ -5,10 +5,10 @@ pub returns-clause-show : goal.returns-clause-show
 returns-clause-show g c = λ reader read_to writer written_to answer runs. of_unread g.R.Read.remaining reader read_to _ runs.output
 
 pub returns-clause-recover : goal.returns-clause-recover
-returns-clause-recover g c = λ passphrase reader read_to writer written_to answer runs. of_unread g.R.Read.remaining reader read_to _ runs.output
+returns-clause-recover g c = λ form passphrase reader read_to writer written_to answer runs. of_unread g.R.Read.remaining reader read_to _ runs.output
 
 pub returns-clause-drill : goal.returns-clause-drill
-returns-clause-drill g c = λ passphrase after limit reader read_to writer written_to answer runs. of_unread g.R.Read.remaining reader read_to _ runs.output
+returns-clause-drill g c = λ form passphrase after limit reader read_to writer written_to answer runs. of_unread g.R.Read.remaining reader read_to _ runs.output
 
 pub returns-clause-create : goal.returns-clause-create
 returns-clause-create g c = λ asked reader read_to writer written_to answer runs. of_unread g.R.Read.remaining reader read_to _ runs.output

@@ -37,8 +37,8 @@ returns-in_err-share c =
 pub loop-group-preserved : goal.loop-group-preserved
 loop-group-preserved c =
     let plan = c.args.plan.now in
-    rw (c.push.ensures) (zip_next (λ name. IsReissue c.args.set.now plan.group_threshold plan.groups.items name) c.args.names.now c.loop-group.group-index (0, 0)
-    c.loop-group.shares c.in_ok-share.share c.loop-group-test.true c.loop-group.invariant c.in_ok-share.ensures.reissue)
+    rw (c.push.ensures) (zip_next (λ name. IsReissue c.args.set.now plan.group_threshold plan.groups.items name) c.args.names.now
+    c.loop-group.group-index (0, 0) c.loop-group.shares c.in_ok-share.share c.loop-group-test.true c.loop-group.invariant c.in_ok-share.ensures.reissue)
 
 pub returns : goal.returns
 returns c =

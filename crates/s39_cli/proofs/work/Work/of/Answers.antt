@@ -29,3 +29,6 @@ returns-in_ok-after-in-Drill-clause-work c = rw c.in-Drill.is (
     limit_is = refl;
   },
 )
+
+pub returns-in_ok-of-in-Reissue-clause-work : goal.returns-in_ok-of-in-Reissue-clause-work
+returns-in_ok-of-in-Reissue-clause-work c = rw c.in-Reissue.is (_, refl, c.in_ok-of-in-Reissue.ensures.reissue)

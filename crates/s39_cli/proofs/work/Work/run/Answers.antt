@@ -1,5 +1,6 @@
 use Rattle.std.proofs.Common.{ℕ, List, Option, refl, subst, sym}
 use Rattle.s39_set.specs.Names.{Names}
+use Rattle.s39_tool.specs.declared.secret_form.SecretForm.TheVariants.{Digits}
 use Rattle.s39_tool.specs.Create.{IsCreateOutput}
 use Rattle.s39_tool.specs.Drill.{IsDrillOutput}
 use Rattle.s39_tool.specs.Recover.{IsRecoverOutput}
@@ -7,26 +8,30 @@ use Rattle.s39_tool.specs.Runs.{Runs}
 use Rattle.s39_tool.specs.Show.{IsShowOutput}
 use Rattle.s39_cli.specs.declared.work.Work.{Work}
 use Rattle.s39_cli.specs.declared.work.Work.TheVariants as work
+use Rattle.s39_set.specs.Status.{is_enough}
+use Rattle.s39_tool.specs.Reissue.{IsReissueOutput}
+use Rattle.s39_tool.specs.Status.{IsStatusOutput}
+use Rattle.s39_cli.specs.Outcome.{where_done, without_mismatches}
 use Rattle.s39_cli.specs.Work.{IsWorkOutput}
-use Rattle.s39_cli.proofs.Works.{Runs-without_mismatches}
+use Rattle.s39_cli.proofs.Works.{Runs-judged}
 use Rattle.s39_cli.proofs.work.Work.run.Goals as goal
 
 pub returns-in-Show : goal.returns-in-Show
 returns-in-Show g c =
     subst (λ (w : Work). Runs g.R.Read.remaining g.W.Write.contents (IsWorkOutput w) c.args.input.now c.run_show.new.input c.args.output.now
-    c.run_show.new.output c.without_mismatches.result) (sym c.in-Show.is)
-    (Runs-without_mismatches g.R.Read.remaining g.W.Write.contents IsShowOutput (IsWorkOutput work.Show) c.args.input.now c.run_show.new.input
-    c.args.output.now c.run_show.new.output c.run_show.result c.without_mismatches.result c.run_show.ensures c.without_mismatches.ensures
+    c.run_show.new.output c.where_done.result) (sym c.in-Show.is)
+    (Runs-judged g.R.Read.remaining g.W.Write.contents where_done IsShowOutput (IsWorkOutput work.Show) c.args.input.now c.run_show.new.input
+    c.args.output.now c.run_show.new.output c.run_show.result c.where_done.result c.run_show.ensures c.where_done.ensures
     (λ input text full output. (full, output, refl)))
 
 pub returns-in-Create : goal.returns-in-Create
 returns-in-Create g c =
     let creation = c.in-Create.creation in
     subst (λ (w : Work). Runs g.R.Read.remaining g.W.Write.contents (IsWorkOutput w) c.args.input.now c.run_create.new.input c.args.output.now
-    c.run_create.new.output c.without_mismatches-in-Create.result) (sym c.in-Create.is)
-    (Runs-without_mismatches g.R.Read.remaining g.W.Write.contents _ (IsWorkOutput (work.Create creation)) c.args.input.now c.run_create.new.input
-    c.args.output.now c.run_create.new.output c.run_create.result c.without_mismatches-in-Create.result c.run_create.ensures.runs
-    c.without_mismatches-in-Create.ensures
+    c.run_create.new.output c.where_done-in-Create.result) (sym c.in-Create.is)
+    (Runs-judged g.R.Read.remaining g.W.Write.contents where_done _ (IsWorkOutput (work.Create creation)) c.args.input.now c.run_create.new.input
+    c.args.output.now c.run_create.new.output c.run_create.result c.where_done-in-Create.result c.run_create.ensures.runs
+    c.where_done-in-Create.ensures
     (λ input text full output. (
       full,
       subst (λ (secret : List ℕ). IsCreateOutput (record {
@@ -43,16 +48,38 @@ pub returns-in-Recover : goal.returns-in-Recover
 returns-in-Recover g c =
     let passphrase = c.in-Recover.passphrase in
     subst (λ (w : Work). Runs g.R.Read.remaining g.W.Write.contents (IsWorkOutput w) c.args.input.now c.run_recover.new.input c.args.output.now
-    c.run_recover.new.output c.without_mismatches-in-Recover.result) (sym c.in-Recover.is)
-    (Runs-without_mismatches g.R.Read.remaining g.W.Write.contents (IsRecoverOutput passphrase.now) (IsWorkOutput (work.Recover passphrase))
+    c.run_recover.new.output c.where_done-in-Recover.result) (sym c.in-Recover.is)
+    (Runs-judged g.R.Read.remaining g.W.Write.contents where_done (IsRecoverOutput Digits passphrase.now) (IsWorkOutput (work.Recover passphrase))
     c.args.input.now c.run_recover.new.input c.args.output.now c.run_recover.new.output c.run_recover.result
-    c.without_mismatches-in-Recover.result c.run_recover.ensures.runs c.without_mismatches-in-Recover.ensures
+    c.where_done-in-Recover.result c.run_recover.ensures.runs c.where_done-in-Recover.ensures
     (λ input text full output. (full, output, refl)))
 
 pub returns-in-Drill : goal.returns-in-Drill
 returns-in-Drill g c =
     let drill = c.in-Drill.drill in
     subst (λ (w : Work). Runs g.R.Read.remaining g.W.Write.contents (IsWorkOutput w) c.args.input.now c.run_drill.new.input c.args.output.now
-    c.run_drill.new.output c.run_drill.result) (sym c.in-Drill.is)
-    (subst (λ (after : Option Names). Runs g.R.Read.remaining g.W.Write.contents (IsDrillOutput drill.passphrase.now after drill.limit)
+    c.run_drill.new.output c.without_mismatches.result) (sym c.in-Drill.is)
+    (Runs-judged g.R.Read.remaining g.W.Write.contents without_mismatches (IsDrillOutput Digits drill.passphrase.now drill.after drill.limit)
+    (IsWorkOutput (work.Drill drill)) c.args.input.now c.run_drill.new.input c.args.output.now c.run_drill.new.output c.run_drill.result
+    c.without_mismatches.result
+    (subst (λ (after : Option Names). Runs g.R.Read.remaining g.W.Write.contents (IsDrillOutput Digits drill.passphrase.now after drill.limit)
     c.args.input.now c.run_drill.new.input c.args.output.now c.run_drill.new.output c.run_drill.result) c.as_ref.ensures.value c.run_drill.ensures.runs)
+    c.without_mismatches.ensures (λ input text full output. (full, output, refl)))
+
+pub returns-in-Status : goal.returns-in-Status
+returns-in-Status g c =
+    subst (λ (w : Work). Runs g.R.Read.remaining g.W.Write.contents (IsWorkOutput w) c.args.input.now c.run_status.new.input c.args.output.now
+    c.run_status.new.output c.with_enough.result) (sym c.in-Status.is)
+    (Runs-judged g.R.Read.remaining g.W.Write.contents is_enough IsStatusOutput (IsWorkOutput work.Status) c.args.input.now c.run_status.new.input
+    c.args.output.now c.run_status.new.output c.run_status.result c.with_enough.result c.run_status.ensures.runs c.with_enough.ensures
+    (λ input text full output. (full, output, refl)))
+
+pub returns-in-Reissue : goal.returns-in-Reissue
+returns-in-Reissue g c =
+    let reissue = c.in-Reissue.reissue in
+    subst (λ (w : Work). Runs g.R.Read.remaining g.W.Write.contents (IsWorkOutput w) c.args.input.now c.run_reissue.new.input c.args.output.now
+    c.run_reissue.new.output c.where_done-in-Reissue.result) (sym c.in-Reissue.is)
+    (Runs-judged g.R.Read.remaining g.W.Write.contents where_done
+    (IsReissueOutput reissue.plan.group_threshold reissue.plan.groups.items reissue.names) (IsWorkOutput (work.Reissue reissue)) c.args.input.now
+    c.run_reissue.new.input c.args.output.now c.run_reissue.new.output c.run_reissue.result c.where_done-in-Reissue.result
+    c.run_reissue.ensures.runs c.where_done-in-Reissue.ensures (λ input text full output. (full, output, refl)))

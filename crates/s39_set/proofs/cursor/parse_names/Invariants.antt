@@ -1,7 +1,7 @@
 use Rattle.std.proofs.Common.{◌≡◌, map}
 use Rattle.s39_set.specs.Names.{AreNames}
 use Rattle.s39_set.specs.Written.{name_text}
-use Rattle.s39_set.proofs.cursor.parse_quorum.Given as goal
+use Rattle.s39_set.proofs.cursor.parse_names.Given as goal
 
 abbrev pub invariant-loop-name : goal.invariant-loop-name
 invariant-loop-name l = record {

@@ -11,7 +11,7 @@ use Rattle.s39_set.specs.Written.{name_text}
 use Rattle.s39_set.proofs.NamesBefore.{AreNames-push}
 use Rattle.s39_set.proofs.NameText.{same_name}
 use Rattle.s39_set.proofs.WrittenNames.{is_plus, written_from_parts, same_written, next_name}
-use Rattle.s39_set.proofs.cursor.parse_quorum.Goals as goal
+use Rattle.s39_set.proofs.cursor.parse_names.Goals as goal
 
 pub returns-in_default-clause-only : goal.returns-in_default-clause-only
 returns-in_default-clause-only c = λ names is.

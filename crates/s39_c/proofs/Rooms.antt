@@ -1,0 +1,123 @@
+-- Which slices are too short for a call.
+use Rattle.std.proofs.Common.{◌≡◌, ℕ, ◌<◌, ◌≤◌, List, length, ap, inl, inr, arith, Option, Result, Ok}
+use Rattle.s39_refusal.specs.declared.cause.Cause.{Cause}
+use Rattle.s39_words.specs.declared.word_error.WordError.{WordError}
+use Rattle.s39_words.specs.declared.word_error.WordError.TheVariants.{UnknownWord}
+use Rattle.s39_words.specs.Reading.{cause_of as word_cause_of}
+use Rattle.s39_set.specs.Lack.{cause_of as lack_cause_of}
+use Rattle.s39_set.specs.Names.{Names}
+use Rattle.s39_set.specs.ShareSet.{cause_of as set_cause_of}
+use Rattle.s39_set.specs.declared.set_error.SetError.{SetError}
+use Rattle.s39_set.specs.declared.set_error.SetError.TheVariants.{OtherIdentifier}
+use Rattle.s39_set.specs.declared.set_lack.SetLack.{SetLack}
+use Rattle.s39_set.specs.declared.set_lack.SetLack.TheVariants.{NoShares}
+use Rattle.s39_backup.specs.declared.combination.Mismatch.{Mismatch}
+use Rattle.s39_backup.specs.declared.combination.Mismatch.TheVariants.{OfGroups}
+use Rattle.s39_backup.specs.declared.plan_error.PlanError.{PlanError}
+use Rattle.s39_backup.specs.declared.plan_error.PlanError.TheVariants.{BadPlan}
+use Rattle.s39_backup.specs.Created.{Asked}
+use Rattle.s39_backup.specs.Plan.{plan_cause_of}
+use Rattle.s39_backup.specs.RecoverError.{mismatch_cause_of}
+use Rattle.s39_tool.specs.declared.secret_form.SecretForm.TheVariants.{Digits}
+use Rattle.s39_tool.specs.declared.drill.Done.{Done}
+use Rattle.s39_tool.specs.declared.fault.DeviceFailure.{DeviceFailure}
+use Rattle.s39_tool.specs.declared.fault.DeviceFailure.TheVariants.{Read}
+use Rattle.s39_tool.specs.declared.fault.Fault.{Fault}
+use Rattle.s39_tool.specs.declared.fault.LineRefusal.{LineRefusal}
+use Rattle.s39_tool.specs.declared.fault.LineRefusal.TheVariants.{Word, Set}
+use Rattle.s39_tool.specs.declared.fault.Refusal.{Refusal}
+use Rattle.s39_tool.specs.declared.fault.Refusal.TheVariants.{Line, Lack, DigestMismatch, Device}
+use Rattle.s39_tool.specs.Create.{IsCreateOutput}
+use Rattle.s39_tool.specs.Drill.{IsDrillOutput}
+use Rattle.s39_tool.specs.Fault.{cause_of, line_cause_of, device_cause_of}
+use Rattle.s39_tool.specs.Input.{Input, whole}
+use Rattle.s39_tool.specs.Lengths.{longest_listing, longest_backup}
+use Rattle.s39_c.specs.declared.answer.ShamirAnswer.{ShamirAnswer}
+use Rattle.s39_c.specs.Answers.{too_short, refusal, refused}
+use Rattle.s39_c.specs.Creating.{Wanted, GivesMnemonics, GivesBackup}
+use Rattle.s39_c.specs.Drilling.{GivesListing, GivesDrill}
+use Rattle.s39_c.specs.Exponents.{UpTo}
+
+-- ---- the numbers of the program's refusals are above that of a slice that is too short
+
+above-word : (error : WordError) → 2 ≤ (word_cause_of error).code
+above-word (UnknownWord position) = omega arith
+above-word _ = omega arith
+
+above-set : (error : SetError) → 2 ≤ (set_cause_of error).code
+above-set OtherIdentifier = omega arith
+above-set _ = omega arith
+
+above-lack : (lack : SetLack) → 2 ≤ (lack_cause_of lack).code
+above-lack NoShares = omega arith
+above-lack _ = omega arith
+
+above-mismatch : (mismatch : Mismatch) → 2 ≤ (mismatch_cause_of mismatch).code
+above-mismatch OfGroups = omega arith
+above-mismatch _ = omega arith
+
+above-device : (failure : DeviceFailure) → 2 ≤ (device_cause_of failure).code
+above-device Read = omega arith
+above-device _ = omega arith
+
+above-line : (refusal : LineRefusal) → 2 ≤ (line_cause_of refusal).code
+above-line (Word error) = above-word error
+above-line (Set error) = above-set error
+above-line _ = omega arith
+
+above : (refusal : Refusal) → 2 ≤ (cause_of refusal).code
+above (Line refusal) = above-line refusal
+above (Lack lack) = above-lack lack
+above (DigestMismatch mismatch) = above-mismatch mismatch
+above (Device failure) = above-device failure
+above _ = omega arith
+
+above-plan : (error : PlanError) → 2 ≤ (plan_cause_of error).code
+above-plan BadPlan = omega arith
+above-plan _ = omega arith
+
+-- ---- other answers aren't that of a slice that is too short
+
+module _ (needed : ℕ) where
+  no_other : (other : ShamirAnswer) → too_short needed ≡ other → other.code ≡ 1
+  no_other other same = let code : 1 ≡ other.code = ap (λ (a : ShamirAnswer). a.code) same in omega (arith, code)
+
+  no_refusal : (says : Cause) (line : ℕ) → 2 ≤ says.code → too_short needed ≡ refusal says line → ⊥
+  no_refusal says line high same = let code : says.code ≡ 1 = no_other (refusal says line) same in absurd (omega (arith, high, code))
+
+  no_fault : (fault : Fault) → too_short needed ≡ refused fault → ⊥
+  no_fault fault same = let code : (cause_of fault.refusal).code ≡ 1 = no_other (refused fault) same in absurd (omega (arith, above fault.refusal, code))
+
+-- ---- the calls
+
+module _ (short : (passphrase : List ℕ) (after : Option Names) (input : Input) (text : List ℕ) (answer : Result Done Fault)
+    → IsDrillOutput Digits passphrase after 1 input text answer → length text ≤ longest_listing)
+    (passphrase lines cursor : List ℕ) (limit : ℕ) (old new : List ℕ) (needed : ℕ) where
+  listing_fits : (after : Option Names) → GivesListing (λ n. IsDrillOutput Digits passphrase after n (whole lines)) limit old new (too_short needed)
+      → length old < longest_listing
+  listing_fits after (inl (listing, lists, says)) = let code : 0 ≡ 1 = no_other needed _ says in absurd (omega (arith, code))
+  listing_fits after (inr (inl (found, (text, mismatches, output, needs, less), same, says))) =
+      omega (arith, less, short passphrase after (whole lines) text (Ok (record { mismatches = mismatches })) output)
+  listing_fits after (inr (inr (fault, output, same, says))) = absurd (no_fault needed fault says)
+
+  drill_fits : GivesDrill (λ names n. IsDrillOutput Digits passphrase names n (whole lines)) cursor limit old new (too_short needed) → length old < longest_listing
+  drill_fits (inl (none, same, says)) = let code : 2 ≡ 1 = no_other needed _ says in absurd (omega (arith, code))
+  drill_fits (inr (inl (some, given, no_names, same, says))) = let code : 61 ≡ 1 = no_other needed _ says in absurd (omega (arith, code))
+  drill_fits (inr (inr (some, after, is, lists))) = listing_fits after lists
+
+  pub drill_up_to_fits : (most : ℕ) → UpTo most lines old new (too_short needed)
+      (GivesDrill (λ names n. IsDrillOutput Digits passphrase names n (whole lines)) cursor limit old new (too_short needed)) → length old < longest_listing
+  drill_up_to_fits most (inl (exponent, has, high, same, says)) = let code : 3 ≡ 1 = no_other needed _ says in absurd (omega (arith, code))
+  drill_up_to_fits most (inr (low, gives)) = drill_fits gives
+
+module _ (short : (asked : Asked) (input : Input) (text : List ℕ) → IsCreateOutput asked input text (Ok tt) → length text ≤ longest_backup)
+    (random old new : List ℕ) (needed : ℕ) where
+  mnemonics_fit : (asked : Asked) → GivesMnemonics asked random old new (too_short needed) → length old < longest_backup
+  mnemonics_fit asked (inl (text, output, inl (fits, is, says))) = let code : 0 ≡ 1 = no_other needed _ says in absurd (omega (arith, code))
+  mnemonics_fit asked (inl (text, output, inr (less, same, says))) = omega (arith, less, short asked (whole random) text output)
+  mnemonics_fit asked (inr (fault, output, same, says)) = absurd (no_fault needed fault says)
+
+  pub backup_fits : (wanted : Wanted) → GivesBackup wanted random old new (too_short needed) → length old < longest_backup
+  backup_fits wanted (inl (high, same, says)) = let code : 2 ≡ 1 = no_other needed _ says in absurd (omega (arith, code))
+  backup_fits wanted (inr (inl (low, error, reads, same, says))) = absurd (no_refusal needed (plan_cause_of error) 0 (above-plan error) says)
+  backup_fits wanted (inr (inr (low, asked, asks, gives))) = mnemonics_fit asked gives

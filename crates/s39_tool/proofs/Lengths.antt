@@ -1,0 +1,4 @@
+-- How long texts are.
+pub mod NamesShort
+pub mod FirstLines
+pub mod Backups

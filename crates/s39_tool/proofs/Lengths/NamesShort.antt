@@ -1,0 +1,100 @@
+-- How long the written form of names is.
+use Rattle.std.proofs.Common.{◌≡◌, ℕ, ◌+◌, ◌-◌, ◌*◌, ◌/◌, ◌%◌, ◌<◌, ◌≤◌, [], ◌∷◌, length, get_or, map, All, Contains, Less, refl, ap₂, subst, inl, inr, arith}
+use Rattle.std.specs.Fmt.{digits}
+use Rattle.std.specs.List.{range_with_len}
+use Rattle.std.proofs.lemmas.Bool.{cases_lt}
+use Rattle.std.proofs.lemmas.List.{length-append}
+use Rattle.std.proofs.lemmas.List.Elements.{All-map}
+use Rattle.s39_lists.proofs.Images.{Contains-map}
+use Rattle.s39_lists.proofs.Pairs.{AllPairs-map}
+use Rattle.s39_lists.proofs.Ranges.{Contains-range, range-ascending, range-below}
+use Rattle.s39_lists.proofs.Sublists.{IsSublist, none, keeps, leaves}
+use Rattle.s39_set.specs.Names.{Name, Names, name_cmp, IsAscending, AreNames, most_groups, most_members, most_names}
+use Rattle.s39_set.specs.Written.{name_text, quorum_text}
+use Rattle.s39_set.proofs.Ascending.{name_cmp_groups, member-less, names-sublist}
+use Rattle.s39_tool.specs.Lengths.{longest_names}
+
+-- ---- all names
+
+-- the name in this place of all
+abbrev name_at : ℕ → Name
+name_at place = (place / most_members, place % most_members)
+
+-- the first so many of them
+abbrev names_below : ℕ → Names
+names_below n = map name_at (range_with_len 0 n)
+
+abbrev pub all_names : Names
+all_names = names_below most_names
+
+later : (a b : ℕ) → a < b → name_cmp (name_at a) (name_at b) ≡ Less
+later a b less = elim (cases_lt (a / most_members) (b / most_members)) [
+  | inl earlier ↦ name_cmp_groups (name_at a) (name_at b) earlier
+  | inr not_earlier ↦
+      (let same : a / most_members ≡ b / most_members = omega arith in
+      let lower : a % most_members < b % most_members = omega arith in
+      subst (λ (g : ℕ). name_cmp (name_at a) (g, b % most_members) ≡ Less) same
+      (member-less (a / most_members) (a % most_members) (b % most_members) lower))
+]
+
+below-ascending : (n : ℕ) → IsAscending (names_below n)
+below-ascending n =
+    AllPairs-map (λ a b. name_cmp a b ≡ Less) name_at (range_with_len 0 n)
+    (λ i j d before within. later (get_or (range_with_len 0 n) i d) (get_or (range_with_len 0 n) j d) (range-ascending n i j d before within))
+
+below-groups : (n : ℕ) → n ≤ most_names → All (λ name. name.0 < most_groups) (names_below n)
+below-groups n few =
+    All-map (λ name. name.0 < most_groups) name_at (range_with_len 0 n) (λ k d within. let low = range-below n k d within in omega arith)
+
+below-members : (n : ℕ) → All (λ name. name.1 < most_members) (names_below n)
+below-members n = All-map (λ name. name.1 < most_members) name_at (range_with_len 0 n) (λ k d within. omega arith)
+
+pub all_are_names : AreNames all_names
+all_are_names = record { ascending = below-ascending most_names; groups = below-groups most_names (omega arith); members = below-members most_names }
+
+-- each name that a share may have is one of them
+among : (n : ℕ) (name : Name) → name.1 < most_members → most_members * name.0 + name.1 < n → Contains (names_below n) name
+among n name low within =
+    let place = most_members * name.0 + name.1 in
+    let group : place / most_members ≡ name.0 = omega arith in
+    let member : place % most_members ≡ name.1 = omega arith in
+    subst (Contains (names_below n)) (ap₂ (λ (x y : ℕ). (x, y)) group member) (Contains-map name_at (range_with_len 0 n) place (Contains-range n place within))
+
+-- ---- their lengths
+
+-- the bytes of the written forms of names, and one behind each
+abbrev bytes_of : Names → ℕ
+bytes_of [] = 0
+bytes_of (name ∷ names) = length (name_text name) + 1 + bytes_of names
+
+-- a plus sign stands behind each but the last
+length-quorum_text : (names : Names) → length (quorum_text names) ≤ bytes_of names - 1
+length-quorum_text [] = omega arith
+length-quorum_text (name ∷ []) = omega arith
+length-quorum_text (name ∷ next ∷ names) =
+    let rest : length (quorum_text (next ∷ names)) ≤ length (name_text next) + 1 + bytes_of names - 1 = length-quorum_text (next ∷ names) in
+    omega (arith, rest, length-append (name_text name) (43 ∷ quorum_text (next ∷ names)))
+
+-- a part has no more
+bytes_of-sublist : {ys xs : Names} → IsSublist ys xs → bytes_of ys ≤ bytes_of xs
+bytes_of-sublist none = omega arith
+bytes_of-sublist (keeps s) = let rest = bytes_of-sublist s in omega arith
+bytes_of-sublist (leaves s) = let rest = bytes_of-sublist s in omega arith
+
+bytes_of-all : bytes_of all_names ≡ longest_names + 1
+unfolding digits
+bytes_of-all = refl
+
+pub length-all : length (quorum_text all_names) ≡ longest_names
+unfolding digits
+length-all = refl
+
+short : (n most : ℕ) → bytes_of (names_below n) ≡ most + 1 → (names : Names) → AreNames names
+    → All (Contains (names_below n)) names → length (quorum_text names) ≤ most
+short n most are_most names are inside =
+    omega (arith, are_most, length-quorum_text names, bytes_of-sublist (names-sublist (names_below n) names (below-ascending n) are.ascending inside))
+
+pub names_short : (names : Names) → AreNames names → length (quorum_text names) ≤ longest_names
+names_short names are =
+    short most_names longest_names bytes_of-all names are
+    (λ k d within. let group = are.groups k d within in let member = are.members k d within in among most_names (get_or names k d) member (omega arith))
