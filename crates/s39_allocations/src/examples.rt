@@ -161,7 +161,15 @@ pub fn run_of<R: Read + Drop, W: Write + Drop>(letter: u8, input: R, output: W) 
         b'S' => run_show(&mut input, &mut output).is_ok(),
         b'R' => run_recover(SecretForm::Digits, b"TREZOR", &mut input, &mut output).is_ok(),
         b'C' => create_one(&mut input, &mut output).is_ok(),
-        b'D' => run_drill(SecretForm::Digits, b"TREZOR", None, 1000, &mut input, &mut output).is_ok(),
+        b'D' => run_drill(
+            SecretForm::Digits,
+            b"TREZOR",
+            None,
+            1000,
+            &mut input,
+            &mut output,
+        )
+        .is_ok(),
         b'T' => run_status(&mut input, &mut output).is_ok(),
         b'I' => reissue_one(&mut input, &mut output).is_ok(),
         _ => false,

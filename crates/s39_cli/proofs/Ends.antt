@@ -49,5 +49,8 @@ module _ {R W : Type 0} (remaining : R → Option (List ℕ)) (contents : W → 
         → Ends remaining contents words reader writer ended
     ends_by_work w status read_to written_to ended is delivers same =
         subst (Ends remaining contents words reader writer) (sym same) (ends_by_job status read_to written_to
-        (inr (inr (inr (inr (ready_of_work job w is, Delivers-map remaining contents _ _ reader writer status read_to written_to delivers
-        (λ input text full out. (out.0, output_of_job job w is input text out.0 out.1, out.2))))))))
+        (inr (inr (inr (inr (
+          ready_of_work job w is,
+          Delivers-map remaining contents _ _ reader writer status read_to written_to delivers
+              (λ input text full out. (out.0, output_of_job job w is input text out.0 out.1, out.2)),
+        ))))))

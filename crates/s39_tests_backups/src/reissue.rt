@@ -38,9 +38,24 @@ fn refuses_what_it_cannot_tell(rt: HostRuntime) -> Result<(), Fail> {
     let alloc = rt.alloc();
     let [a, b, _, d, e] = FIVE;
     let cases: [(&str, &str, &[&str], &str); 13] = [
-        (PLAN, "0.1", &[d, e], "66 cannot tell 0.1: 0 of 2 members, 2 of 2 other groups"),
-        (PLAN, "0.1", &[a, d], "66 cannot tell 0.1: 1 of 2 members, 1 of 2 other groups"),
-        (PLAN, "0.0+0.1+0.2", &[d, a], "66 cannot tell 0.1: 1 of 2 members, 1 of 2 other groups"),
+        (
+            PLAN,
+            "0.1",
+            &[d, e],
+            "66 cannot tell 0.1: 0 of 2 members, 2 of 2 other groups",
+        ),
+        (
+            PLAN,
+            "0.1",
+            &[a, d],
+            "66 cannot tell 0.1: 1 of 2 members, 1 of 2 other groups",
+        ),
+        (
+            PLAN,
+            "0.0+0.1+0.2",
+            &[d, a],
+            "66 cannot tell 0.1: 1 of 2 members, 1 of 2 other groups",
+        ),
         (PLAN, "0.3", &[a, b], "64 name 0.3 not in plan"),
         (PLAN, "0.2+1.1+3.0", &["ducklin"], "64 name 1.1 not in plan"),
         ("2/3of3,1of1,1of1", "0.2", &[a, b], "65 other plan"),
@@ -80,7 +95,10 @@ fn tells_what_is_at_hand(rt: HostRuntime) -> Result<(), Fail> {
     let words = create("2/2of3,3of5", SECRET);
     let created = run_on(alloc, &words, &[7; 54]);
     let mut chosen = String::new(alloc);
-    for (number, line) in std::str::from_utf8(created.written.as_slice())?.lines().enumerate() {
+    for (number, line) in std::str::from_utf8(created.written.as_slice())?
+        .lines()
+        .enumerate()
+    {
         if number == 0 || number == 2 || number == 7 {
             chosen.push_str(format!(in alloc; "{line}\n")?.as_str())?;
         }
@@ -90,14 +108,18 @@ fn tells_what_is_at_hand(rt: HostRuntime) -> Result<(), Fail> {
     let [a, b, c, d, e] = FIVE;
     let too_few = "groups 1 of 2\ngroup 0 members 1 of 2 0.1\ngroup 1 members 1 of 1 1.0\n";
     let last_two = "groups 2 of 2\ngroup 1 members 1 of 1 1.0\ngroup 2 members 1 of 1 2.0\n";
-    let all = "groups 3 of 2\ngroup 0 members 3 of 2 0.0+0.1+0.2\ngroup 1 members 1 of 1 1.0\ngroup 2 members 1 of 1 2.0\n";
+    let all =
+        "groups 3 of 2\ngroup 0 members 3 of 2 0.0+0.1+0.2\ngroup 1 members 1 of 1 1.0\ngroup 2 members 1 of 1 2.0\n";
     let cases: [(&[&str], (&str, &str, u8)); 6] = [
         (&[d, b], (too_few, "", 1)),
         (&[b, b, d, b], (too_few, "", 1)),
         (&[e, "# a note", d], (last_two, "", 0)),
         (&[c, e, a, d, b, c], (all, "", 0)),
         (&["# a note"], ("", "shamir: 29 no shares\n", 1)),
-        (&[a, "ducklin"], ("", "shamir: line 2: 11 unknown word 1\n", 1)),
+        (
+            &[a, "ducklin"],
+            ("", "shamir: line 2: 11 unknown word 1\n", 1),
+        ),
     ];
     for (given, wanted) in cases {
         let input = lines(alloc, given)?;

@@ -63,7 +63,8 @@ Options:
   -h, --help               Print help
 ";
 
-const HELP_OF_REISSUE: &str = "Writes lost mnemonics again, from others of their backup on standard input
+const HELP_OF_REISSUE: &str =
+    "Writes lost mnemonics again, from others of their backup on standard input
 
 Usage: shamir reissue <PLAN> <NAMES>
 

@@ -77,10 +77,18 @@ fn outcome_of<R: Read + Drop, W: Write + Drop>(
     let answer = match command {
         Command::Show => run_show(&mut input, &mut output).map(|()| 0),
         Command::Create => create_five(&mut input, &mut output).map(|()| 0),
-        Command::Recover => run_recover(SecretForm::Digits, b"TREZOR", &mut input, &mut output).map(|()| 0),
-        Command::Drill => run_drill(SecretForm::Digits, b"TREZOR", None, 1000, &mut input, &mut output).map(|Done {
-            mismatches,
-        }| mismatches),
+        Command::Recover => run_recover(SecretForm::Digits, b"TREZOR", &mut input, &mut output).map(
+            |()| 0,
+        ),
+        Command::Drill => run_drill(
+            SecretForm::Digits,
+            b"TREZOR",
+            None,
+            1000,
+            &mut input,
+            &mut output,
+        )
+        .map(|Done { mismatches }| mismatches),
     };
     Outcome {
         answer,

@@ -17,8 +17,8 @@ mod recover;
 mod reissue_laws;
 mod reissuing;
 mod round_trips;
-mod show;
 mod secret_form;
+mod show;
 mod slices;
 mod status;
 
@@ -34,7 +34,7 @@ pub use s39_backup::{
     CreateError, Created, Members, Memo, Mismatch, Options, Plan, PlanError, RecoverError,
     ReissueError, TooFew, create, recover_by, refit,
 };
-pub use show::run_show;
 pub use secret_form::SecretForm;
+pub use show::run_show;
 pub use slices::{TooShort, Unwritten, put};
 pub use status::{WrittenStatus, run_status, status_lines};
