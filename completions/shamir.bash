@@ -31,8 +31,8 @@ _shamir() {
     case $command in
     '') options='create show drill recover status reissue --help --version' ;;
     create) options='--master-secret --passphrase --exponent --extendable --help' ;;
-    drill) options='--passphrase --after --limit --help' ;;
-    recover) options='--passphrase --help' ;;
+    drill) options='--passphrase --after --limit --fingerprint --help' ;;
+    recover) options='--passphrase --fingerprint --help' ;;
     show | status | reissue) options='--help' ;;
     *) return ;;
     esac

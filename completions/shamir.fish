@@ -19,3 +19,4 @@ complete -c shamir -n '__fish_seen_subcommand_from create' -l exponent -x -a '(s
 complete -c shamir -n '__fish_seen_subcommand_from create' -l extendable -d 'Set the extendable flag'
 complete -c shamir -n '__fish_seen_subcommand_from drill' -l after -x -d 'Go on after this quorum'
 complete -c shamir -n '__fish_seen_subcommand_from drill' -l limit -x -d 'List at most so many quorums'
+complete -c shamir -n '__fish_seen_subcommand_from drill recover' -l fingerprint -d 'Tell the secret by its fingerprint'

@@ -52,6 +52,9 @@ extern "C" {
 /* The most bytes that shamir_status writes. shamir_reissue writes SHAMIR_MNEMONICS_BYTES_MAX at most. */
 #define SHAMIR_STATUS_BYTES_MAX 1638
 
+/* The bytes of a fingerprint. */
+#define SHAMIR_FINGERPRINT_BYTES_MAX 8
+
 /* So many bytes are enough for the longest line of a quorum and the last line, and so for each call of a drill. */
 #define SHAMIR_LISTING_BYTES_ENOUGH 2700
 
@@ -242,6 +245,16 @@ SHAMIR_CALL
 shamir_answer shamir_reissue(
     const char *plan, size_t plan_bytes, const char *names, size_t names_bytes, const char *lines, size_t lines_bytes, char *mnemonics,
     size_t mnemonics_bytes);
+
+/*
+ * The fingerprint of a secret, by which its owner knows it again without seeing it: eight hexadecimal digits, in small
+ * letters, of the first four bytes of the secret's HMAC-SHA256 under the key "shamir fingerprint", 18 bytes. They go to the
+ * front of text, with no zero at their end. The command shamir tells the same ones. Another secret has the same fingerprint
+ * in one case of 4,294,967,296; and who has it can try with it what the secret may be. SHAMIR_FINGERPRINT_BYTES_MAX bytes
+ * are always enough. Refused: 42, and then 1.
+ */
+SHAMIR_CALL
+shamir_answer shamir_fingerprint(const uint8_t *secret, size_t secret_bytes, char *text, size_t text_bytes);
 
 /*
  * The text of an answer's code and details, as the command shamir prints it behind the number: it goes to the front of

@@ -33,6 +33,7 @@ static char listing[SHAMIR_LISTING_BYTES_ENOUGH];
 static char cursor[SHAMIR_NAMES_BYTES_MAX];
 static char names[SHAMIR_NAMES_BYTES_MAX + 1];
 static char status[SHAMIR_STATUS_BYTES_MAX];
+static char fingerprint[SHAMIR_FINGERPRINT_BYTES_MAX];
 static char text[SHAMIR_TEXT_BYTES_MAX];
 
 /* Ends the program where a call refused. */
@@ -176,6 +177,8 @@ static void *calls(void *unused)
         drill_parts(bytes);
     }
     status_and_reissue();
+    fwrite(fingerprint, 1, done("shamir_fingerprint", shamir_fingerprint(secret, sizeof secret, fingerprint, sizeof fingerprint)), stdout);
+    fputc('\n', stdout);
     text_of_each();
     done("shamir_version", shamir_version(text, sizeof text));
     return unused;

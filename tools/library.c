@@ -137,6 +137,12 @@ typedef struct status_example {
     const char *text;
 } status_example;
 
+typedef struct fingerprint_example {
+    const char *secret;
+    wanted answer;
+    const char *text;
+} fingerprint_example;
+
 typedef struct reissue_example {
     const char *plan;
     const char *names;
@@ -265,6 +271,16 @@ static const reissue_example reissue_examples[] = {
     {FIVE_PLAN, "0.0", {FIVE_0, ONE_WRONG}, {13, 2, 0, 0, "bad checksum"}, {NULL}},
     {FIVE_PLAN, "0.0", {NULL}, {29, 0, 0, 0, "no shares"}, {NULL}},
     {FIVE_PLAN, "0.1", {FORGED_0, FORGED_2}, {51, 0, 0, 0, "digest mismatch in group 0"}, {NULL}}
+};
+
+/* Python's hmac computed them. */
+static const fingerprint_example fingerprint_examples[] = {
+    {SECRET, DONE, "df41d8fe"},
+    {TWO_SECRET, DONE, "5f5702dc"},
+    {SECRET "ffff", DONE, "26fdf302"},
+    {SECRET "0a", {42, 0, 17, 0, "secret of 17 bytes"}, ""},
+    {"", {42, 0, 0, 0, "secret of 0 bytes"}, ""},
+    {NULL, {42, 0, 0, 0, "secret of 0 bytes"}, ""}
 };
 
 /* What is being tried, an example of a table from 0, for messages; and how often something differed. */
@@ -552,6 +568,23 @@ static void check_reissue(const reissue_example *example)
     }
 }
 
+static void check_fingerprint(const fingerprint_example *example)
+{
+    uint8_t kept[SHAMIR_SECRET_BYTES_MAX];
+    slice secret = bytes_of(example->secret, kept);
+    slice text = slice_of(example->text);
+    slice nothing = {NULL, 0};
+    size_t bytes = text.length == 0 ? ROOM_BYTES : text.length;
+    shamir_answer found = shamir_fingerprint(secret.bytes, secret.length, fresh(bytes), bytes);
+
+    compare(found, answer_of(&example->answer, text.length, 0), text);
+    check_text(found, example->answer.told);
+    if (text.length > 0) {
+        compare(shamir_fingerprint(secret.bytes, secret.length, fresh(bytes), bytes - 1), too_short(bytes), nothing);
+        compare(shamir_fingerprint(secret.bytes, secret.length, fresh(0), 0), too_short(bytes), nothing);
+    }
+}
+
 /* The library has the header's version, and says so in a slice of just its bytes, or refuses a shorter one. */
 static void check_version(void)
 {
@@ -588,6 +621,7 @@ int main(void)
     CHECK_EACH("shamir_drill", drill_examples, check_drill)
     CHECK_EACH("shamir_status", status_examples, check_status)
     CHECK_EACH("shamir_reissue", reissue_examples, check_reissue)
+    CHECK_EACH("shamir_fingerprint", fingerprint_examples, check_fingerprint)
     check_version();
     check_unknown();
     return differences != 0;

@@ -18,7 +18,7 @@ from dataclasses import dataclass, field
 from typing import Any, Callable, Iterable, Iterator, List, Optional, Tuple, Union, cast
 
 __all__ = ["Code", "Data", "EXPONENT_MAX", "GroupStatus", "Lines", "OF_GROUPS", "Outcome", "Refusal", "Share", "Status", "Text"]
-__all__ += ["create", "drill", "library_version", "parse", "random_needed", "recover", "reissue", "status"]
+__all__ += ["create", "drill", "fingerprint", "library_version", "parse", "random_needed", "recover", "reissue", "status"]
 
 __version__ = "1.0.0"
 
@@ -32,6 +32,7 @@ Lines = Union[Text, Iterable[Text]]
 SECRET_BYTES_MAX = 128
 MNEMONICS_BYTES_MAX = 253440
 STATUS_BYTES_MAX = 1638
+FINGERPRINT_BYTES_MAX = 8
 TEXT_BYTES_MAX = 64
 
 # The greatest iteration exponent.
@@ -138,6 +139,7 @@ def _declared(library: ctypes.CDLL) -> ctypes.CDLL:
         ("shamir_drill", _SLICE * 2 + [ctypes.c_uint32] + _SLICE + [ctypes.c_uint32] + _ROOM),
         ("shamir_status", _SLICE + _ROOM),
         ("shamir_reissue", _SLICE * 3 + _ROOM),
+        ("shamir_fingerprint", _SLICE + _ROOM),
         ("shamir_text", [ctypes.POINTER(_Answer)] + _ROOM),
         ("shamir_version", _ROOM),
     ]:
@@ -380,3 +382,10 @@ def reissue(plan: Text, names: Text, lines: Lines) -> List[str]:
     """
     given = _slice(_bytes(plan)) + _slice(_bytes(names)) + _slice(_joined(lines))
     return _filled(lambda out, room: _library.shamir_reissue(*given, out, room), MNEMONICS_BYTES_MAX).decode().splitlines()
+
+
+def fingerprint(secret: Data) -> str:
+    """The fingerprint of a secret, by which its owner knows it again without seeing it: eight hexadecimal digits, of the first
+    four bytes of the secret's HMAC-SHA256 under the key `shamir fingerprint`. Raises `Refusal` 42."""
+    given = _slice(_data(secret))
+    return _filled(lambda out, room: _library.shamir_fingerprint(*given, out, room), FINGERPRINT_BYTES_MAX).decode()

@@ -1,6 +1,7 @@
 """The worked examples, by the binding. Run with `python3 -m unittest discover -s bindings/python/tests`."""
 import array
 import ctypes
+import hmac
 import mmap
 import os
 import pathlib
@@ -192,6 +193,18 @@ class WorkedExamples(unittest.TestCase):
         self.refused(29, None, (0, 0), shamir.status, "# a note")
         self.refused(21, 2, (0, 0), shamir.status, [ONE, TWO[0]])
 
+    def test_fingerprint(self):
+        self.assertEqual(shamir.fingerprint(SECRET), "df41d8fe")
+        for secret in [bytes(16), bytes(range(32)), b"\xff" * 18, bytes(128)]:
+            digest = hmac.new(b"shamir fingerprint", secret, "sha256").hexdigest()
+            self.assertEqual(shamir.fingerprint(secret), digest[:8])
+        for secret in odd(SECRET):
+            self.assertEqual(shamir.fingerprint(secret), "df41d8fe")
+        for length in [0, 15, 17, 130]:
+            self.refused(42, None, (length, 0), shamir.fingerprint, bytes(length))
+        for other in [SECRET.hex(), list(SECRET), 16, None]:
+            self.assertRaises(TypeError, shamir.fingerprint, other)
+
     def test_max_exponent(self):
         """Mnemonics of exponent 2 are refused below it, before all else and before any work, and taken from it on."""
         for most, key in [(0, "TREZOR"), (1, "TREZOR"), (1, "a\x07")]:
@@ -226,6 +239,7 @@ class WorkedExamples(unittest.TestCase):
             (16, lambda *room: library.shamir_recover(text, len(text), *key, 0, *room)),
             (41, lambda *room: library.shamir_status(one, len(one), *room)),
             (144, lambda *room: library.shamir_reissue(PLAN.encode(), 16, b"0.1", 3, text, len(text), *room)),
+            (8, lambda *room: library.shamir_fingerprint(SECRET, 16, *room)),
             (68, lambda *room: library.shamir_drill(text, len(text), *key, 0, None, 0, 1, *room)),
             (5, library.shamir_version),
             (14, lambda *room: library.shamir_text(shamir._Answer(code=11, first=2), *room)),
@@ -397,7 +411,7 @@ class WorkedExamples(unittest.TestCase):
     @unittest.skipUnless(HEADER.exists(), "the header isn't here")
     def test_sizes(self):
         sizes = dict(re.findall(r"^#define SHAMIR_(\w+) (\d+)$", HEADER.read_text(), re.MULTILINE))
-        for name in ["SECRET_BYTES_MAX", "MNEMONICS_BYTES_MAX", "STATUS_BYTES_MAX", "TEXT_BYTES_MAX", "EXPONENT_MAX"]:
+        for name in ["SECRET_BYTES_MAX", "MNEMONICS_BYTES_MAX", "STATUS_BYTES_MAX", "FINGERPRINT_BYTES_MAX", "TEXT_BYTES_MAX", "EXPONENT_MAX"]:
             self.assertEqual(getattr(shamir, name), int(sizes[name]))
         self.assertEqual(ctypes.sizeof(shamir._Answer), 40)
 
@@ -411,6 +425,7 @@ class WorkedExamples(unittest.TestCase):
         self.assertEqual(library.shamir_status(None, 0, None, 0).code, 29)
         self.assertEqual(library.shamir_reissue(None, 0, None, 0, None, 0, None, 0).code, 31)
         self.assertEqual(library.shamir_reissue(b"2of2", 4, None, 0, None, 0, None, 0).code, 63)
+        self.assertEqual(library.shamir_fingerprint(None, 0, None, 0).code, 42)
         self.assertEqual(library.shamir_text(shamir._Answer(), None, 0).first, 4)
         answer = library.shamir_create(b"1of1", 4, SECRET, 16, None, 0, 0, 0, b"\x1f\x09", 2, None, 0)
         self.assertEqual((answer.code, answer.first), (1, 152))

@@ -40,6 +40,7 @@ fn ending_of(alloc: Global, example: &Example) -> Ending {
         &mut input,
         &mut output,
         &mut errors,
+        s39_cli::Source::Elsewhere,
         Destination::Elsewhere,
     )
     .status();

@@ -12,6 +12,7 @@ pub mod EveryOutcome
 pub mod Agreeing
 pub mod PlanTexts
 pub mod PlanReadings
+pub mod EveryReading
 pub mod Creations
 pub mod Causes
 pub mod SharesCreated

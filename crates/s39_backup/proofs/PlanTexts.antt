@@ -64,7 +64,7 @@ members-without byte low members numbers =
     (All-cons (λ b. (b == byte) ≡ false) 102 (decimal members.count) (ne_eqb 102 byte (λ e. omega arith))
     (number-without members.count byte numbers.1 other)))
 
-commaless : (members : Members) → HasPlanNumbers members → IsWithout 44 (members_text members)
+pub commaless : (members : Members) → HasPlanNumbers members → IsWithout 44 (members_text members)
 commaless = members-without 44 (omega arith)
 
 -- and is that of one group
@@ -82,7 +82,7 @@ members_once a b is also e =
 
 -- ---- the groups
 
-numbers_of : (text : List ℕ) (groups : List Members) → IsGroupsText text groups → All HasPlanNumbers groups
+pub numbers_of : (text : List ℕ) (groups : List Members) → IsGroupsText text groups → All HasPlanNumbers groups
 numbers_of text groups is k d below = (is.thresholds k d below, is.counts k d below)
 
 -- a text is that of one list of groups

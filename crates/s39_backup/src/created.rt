@@ -46,7 +46,7 @@ impl Created {
     pub fn shares(&self) -> &[Share]
         ensures shares { result.now ≡ self.now }
         ensures few { length self.now ≤ most_names }
-        ensures each { All IsShare result.now }
+        ensures are_shares { All IsShare result.now }
     {
         &self.slots[..self.len]
     }

@@ -27,7 +27,6 @@ ghost use Rattle.s39_backup.specs.declared.reissue_error.TooFew.{TooFew};
 
 use crate::creation::ID_BYTES;
 use crate::memo::MAX_KEPT;
-use crate::plan::Plan;
 use s39_kdf::laws::{
     encryption_keeps_length_and_bytes, encrypts_one_secret, one_encryption,
     passphrases_are_printable_or_not,
@@ -125,12 +124,11 @@ pub fn one_plan_reading()
         → IsPlanReading text reading → IsPlanReading text other → reading ≡ other }
 {}
 
-/// Every text is a plan, or refused: its reader answers which.
-pub fn every_text_has_a_plan_reading(text: &[u8])
-    ensures { (reading : Result (ℕ × List Members) PlanError) × IsPlanReading text.now reading }
-{
-    let _ = Plan::parse_bytes(text);
-}
+/// Every text is a plan, or refused.
+pub fn every_text_has_a_plan_reading()
+    ensures { (text : List ℕ)
+        → (reading : Result (ℕ × List Members) PlanError) × IsPlanReading text reading }
+{}
 
 /// A quorum of a share set combines to one encrypted secret or mismatch.
 pub fn one_combination()

@@ -4,7 +4,9 @@ use Rattle.std.proofs.Common.{arith}
 use Rattle.std.proofs.Common.{Option, Some, None, Result, Ok, Err}
 use Rattle.std.proofs.Math.Bridge.{le_prop}
 use Rattle.std.proofs.lemmas.List.{get_or_append_left}
+use Rattle.hex.specs.Hex.{encode_lower}
 use Rattle.s39_kdf.specs.Bytes.{AreBytes}
+use Rattle.s39_kdf.specs.Fingerprint.{fingerprint_of}
 use Rattle.std.specs.Prelude.{◌↔◌}
 use Rattle.std.proofs.lemmas.Bool.{cases_lt, cases_Bool}
 use Rattle.s39_kdf.specs.Limits.{exponent_bits}
@@ -37,6 +39,7 @@ use Rattle.s39_c.specs.Parsing.{HasHeader, GivesShare}
 use Rattle.s39_c.specs.Creating.{Wanted, Asks, GivesMnemonics, GivesBackup, GivesNumber}
 use Rattle.s39_c.specs.Recovering.{GivesSecret}
 use Rattle.s39_c.specs.Drilling.{GivesListing, IsCursor, GivesDrill}
+use Rattle.s39_c.specs.Fingerprinting.{GivesFingerprint}
 
 -- the same bytes are given in one way
 pub gives_once : (bytes old new other : List ℕ) (answer another : ShamirAnswer) → Gives bytes old new answer → Gives bytes old other another
@@ -45,6 +48,15 @@ gives_once bytes old new other answer another (inl (fits, is, says)) (inl (also,
 gives_once bytes old new other answer another (inl (fits, is, says)) (inr (long, same, too)) = absurd (omega (arith, fits, long))
 gives_once bytes old new other answer another (inr (long, is, says)) (inl (fits, same, too)) = absurd (omega (arith, fits, long))
 gives_once bytes old new other answer another (inr (long, is, says)) (inr (also, same, too)) = (is ∙ sym same, says ∙ sym too)
+
+-- a fingerprint is given in one way
+pub fingerprint_once : (secret old new other : List ℕ) (answer another : ShamirAnswer) → GivesFingerprint secret old new answer
+    → GivesFingerprint secret old other another → (new ≡ other) × (answer ≡ another)
+fingerprint_once secret old new other answer another (inl (bad, is, says)) (inl (also, same, too)) = (is ∙ sym same, says ∙ sym too)
+fingerprint_once secret old new other answer another (inl (bad, is, says)) (inr (right, gives)) = absurd (bad right)
+fingerprint_once secret old new other answer another (inr (right, gives)) (inl (bad, is, says)) = absurd (bad right)
+fingerprint_once secret old new other answer another (inr (right, gives)) (inr (also, given)) =
+    gives_once (encode_lower (fingerprint_of secret)) old new other answer another gives given
 
 -- ---- a share
 

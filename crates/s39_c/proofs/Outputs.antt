@@ -52,7 +52,8 @@ gives_refusal IsOutput limit old new (Refused fault) answer (output, same) is = 
 gives_refusal IsOutput limit old new (TooShort short) answer (is_short, same) is = inr (inl (short, is_short, same, is))
 
 module _ (created_backups_drill : (passphrase : List ℕ) (after : Option Names) (limit : ℕ) (input : Input) (text : List ℕ)
-    (answer : Result Done Fault) → IsDrillOutput Digits passphrase after limit input text answer → DrillsCreated Digits passphrase after limit input text answer)
+    (answer : Result Done Fault) → IsDrillOutput Digits passphrase after limit input text answer
+    → DrillsCreated Digits passphrase after limit input text answer)
     (passphrase : List ℕ) (after : Option Names) (input : Input) (limit : ℕ) (old new : List ℕ) (answer : ShamirAnswer) where
   created : (n : ℕ) (text : List ℕ) (answer : Result Done Fault) → IsDrillOutput Digits passphrase after n input text answer
       → DrillsCreated Digits passphrase after n input text answer

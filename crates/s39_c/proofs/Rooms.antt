@@ -1,18 +1,27 @@
 -- Which slices are too short for a call.
-use Rattle.std.proofs.Common.{◌≡◌, ℕ, ◌<◌, ◌≤◌, List, length, ap, inl, inr, arith, Option, Result, Ok}
+use Rattle.std.proofs.Common.{◌≡◌, ℕ, ◌*◌, ◌<◌, ◌≤◌, List, length, codes, ap, ◌∙◌, inl, inr, arith, Option, Result, Ok}
 use Rattle.s39_refusal.specs.declared.cause.Cause.{Cause}
+use Rattle.std.proofs.lemmas.List.{length-take-le}
+use Rattle.hex.specs.Hex.{lower_digits, encode_lower}
+use Rattle.hex.proofs.HexLemmas.{length-encode_with}
+use Rattle.s39_kdf.specs.Fingerprint.{fingerprint_length, fingerprint_of}
+use Rattle.s39_kdf.specs.Hmac.{hmac}
+use Rattle.s39_kdf.proofs.Lengths.{length-hmac}
 use Rattle.s39_words.specs.declared.word_error.WordError.{WordError}
 use Rattle.s39_words.specs.declared.word_error.WordError.TheVariants.{UnknownWord}
 use Rattle.s39_words.specs.Reading.{cause_of as word_cause_of}
 use Rattle.s39_set.specs.Lack.{cause_of as lack_cause_of}
-use Rattle.s39_set.specs.Names.{Names}
+use Rattle.s39_set.specs.Causes.{names_cause}
+use Rattle.s39_set.specs.Names.{Names, AreNames}
 use Rattle.s39_set.specs.ShareSet.{cause_of as set_cause_of}
+use Rattle.s39_set.specs.declared.status.Status.{Status}
 use Rattle.s39_set.specs.declared.set_error.SetError.{SetError}
 use Rattle.s39_set.specs.declared.set_error.SetError.TheVariants.{OtherIdentifier}
 use Rattle.s39_set.specs.declared.set_lack.SetLack.{SetLack}
 use Rattle.s39_set.specs.declared.set_lack.SetLack.TheVariants.{NoShares}
 use Rattle.s39_backup.specs.declared.combination.Mismatch.{Mismatch}
 use Rattle.s39_backup.specs.declared.combination.Mismatch.TheVariants.{OfGroups}
+use Rattle.s39_backup.specs.declared.plan.Members.{Members}
 use Rattle.s39_backup.specs.declared.plan_error.PlanError.{PlanError}
 use Rattle.s39_backup.specs.declared.plan_error.PlanError.TheVariants.{BadPlan}
 use Rattle.s39_backup.specs.Created.{Asked}
@@ -31,12 +40,17 @@ use Rattle.s39_tool.specs.Create.{IsCreateOutput}
 use Rattle.s39_tool.specs.Drill.{IsDrillOutput}
 use Rattle.s39_tool.specs.Fault.{cause_of, line_cause_of, device_cause_of}
 use Rattle.s39_tool.specs.Input.{Input, whole}
-use Rattle.s39_tool.specs.Lengths.{longest_listing, longest_backup}
+use Rattle.s39_tool.specs.Lengths.{longest_listing, longest_backup, longest_status}
+use Rattle.s39_tool.specs.Reissue.{IsReissueOutput}
+use Rattle.s39_tool.specs.Status.{IsStatusOutput}
 use Rattle.s39_c.specs.declared.answer.ShamirAnswer.{ShamirAnswer}
 use Rattle.s39_c.specs.Answers.{too_short, refusal, refused}
 use Rattle.s39_c.specs.Creating.{Wanted, GivesMnemonics, GivesBackup}
 use Rattle.s39_c.specs.Drilling.{GivesListing, GivesDrill}
 use Rattle.s39_c.specs.Exponents.{UpTo}
+use Rattle.s39_c.specs.Fingerprinting.{GivesFingerprint}
+use Rattle.s39_c.specs.Reissuing.{GivesNamed, GivesReissued}
+use Rattle.s39_c.specs.Status.{GivesStatus}
 
 -- ---- the numbers of the program's refusals are above that of a slice that is too short
 
@@ -100,7 +114,8 @@ module _ (short : (passphrase : List ℕ) (after : Option Names) (input : Input)
       omega (arith, less, short passphrase after (whole lines) text (Ok (record { mismatches = mismatches })) output)
   listing_fits after (inr (inr (fault, output, same, says))) = absurd (no_fault needed fault says)
 
-  drill_fits : GivesDrill (λ names n. IsDrillOutput Digits passphrase names n (whole lines)) cursor limit old new (too_short needed) → length old < longest_listing
+  drill_fits : GivesDrill (λ names n. IsDrillOutput Digits passphrase names n (whole lines)) cursor limit old new (too_short needed)
+      → length old < longest_listing
   drill_fits (inl (none, same, says)) = let code : 2 ≡ 1 = no_other needed _ says in absurd (omega (arith, code))
   drill_fits (inr (inl (some, given, no_names, same, says))) = let code : 61 ≡ 1 = no_other needed _ says in absurd (omega (arith, code))
   drill_fits (inr (inr (some, after, is, lists))) = listing_fits after lists
@@ -121,3 +136,48 @@ module _ (short : (asked : Asked) (input : Input) (text : List ℕ) → IsCreate
   backup_fits wanted (inl (high, same, says)) = let code : 2 ≡ 1 = no_other needed _ says in absurd (omega (arith, code))
   backup_fits wanted (inr (inl (low, error, reads, same, says))) = absurd (no_refusal needed (plan_cause_of error) 0 (above-plan error) says)
   backup_fits wanted (inr (inr (low, asked, asks, gives))) = mnemonics_fit asked gives
+
+-- ---- a fingerprint
+
+-- a fingerprint has two digits for each of its bytes
+fingerprint_digits : (secret : List ℕ) → length (encode_lower (fingerprint_of secret)) ≡ 2 * fingerprint_length
+fingerprint_digits secret =
+    let mac = length-hmac (codes "shamir fingerprint") secret in
+    let four = length-take-le fingerprint_length (hmac (codes "shamir fingerprint") secret) (omega (arith, mac)) in
+    length-encode_with lower_digits (fingerprint_of secret) ∙ ap (λ n. 2 * n) four
+
+pub fingerprint_fits : (secret old new : List ℕ) (needed : ℕ) → GivesFingerprint secret old new (too_short needed)
+    → (needed ≡ 2 * fingerprint_length) × (length old < 2 * fingerprint_length)
+fingerprint_fits secret old new needed (inl (bad, same, says)) =
+    let code : 1 ≡ 42 = ap (λ (a : ShamirAnswer). a.code) says in absurd (omega (arith, code))
+fingerprint_fits secret old new needed (inr (right, inl (fits, bytes, says))) =
+    let code : 1 ≡ 0 = ap (λ (a : ShamirAnswer). a.code) says in absurd (omega (arith, code))
+fingerprint_fits secret old new needed (inr (right, inr (less, same, says))) =
+    let digits = fingerprint_digits secret in
+    (ap (λ (a : ShamirAnswer). a.first) says ∙ digits, omega (arith, less, digits))
+
+module _ (short : (input : Input) (text : List ℕ) (status : Status) → IsStatusOutput input text (Ok status) → length text ≤ longest_status)
+    (lines old new : List ℕ) (needed : ℕ) where
+  pub status_fits : GivesStatus (IsStatusOutput (whole lines)) old new (too_short needed) → length old < longest_status
+  status_fits (inl (text, status, output, front, says)) = let code : 0 ≡ 1 = no_other needed _ says in absurd (omega (arith, code))
+  status_fits (inr (inl (text, status, output, less, same, says))) = omega (arith, less, short (whole lines) text status output)
+  status_fits (inr (inr (fault, output, same, says))) = absurd (no_fault needed fault says)
+
+module _ (short : (group_threshold : ℕ) (groups : List Members) (names : Names) (input : Input) (text : List ℕ) → AreNames names
+    → IsReissueOutput group_threshold groups names input text (Ok tt) → length text ≤ longest_backup)
+    (plan listed lines old new : List ℕ) (needed : ℕ) where
+  abbrev Is : ℕ → List Members → Names → List ℕ → Result (Unit {0}) Fault → Type 0
+  Is threshold groups names = IsReissueOutput threshold groups names (whole lines)
+
+  named_fits : (threshold : ℕ) (groups : List Members) → GivesNamed (Is threshold groups) listed old new (too_short needed)
+      → length old < longest_backup
+  named_fits threshold groups (inl (none, same, says)) = let code : names_cause.code ≡ 1 = no_other needed _ says in absurd (omega (arith, code))
+  named_fits threshold groups (inr (names, form, inl (text, output, inl (fits, is, says)))) =
+      let code : 0 ≡ 1 = no_other needed _ says in absurd (omega (arith, code))
+  named_fits threshold groups (inr (names, form, inl (text, output, inr (less, same, says)))) =
+      omega (arith, less, short threshold groups names (whole lines) text form.are_names output)
+  named_fits threshold groups (inr (names, form, inr (fault, output, same, says))) = absurd (no_fault needed fault says)
+
+  pub reissue_fits : GivesReissued Is plan listed old new (too_short needed) → length old < longest_backup
+  reissue_fits (inl (error, reads, same, says)) = absurd (no_refusal needed (plan_cause_of error) 0 (above-plan error) says)
+  reissue_fits (inr (threshold, groups, reads, gives)) = named_fits threshold groups gives

@@ -2,6 +2,7 @@ pub mod Answers
 pub mod Parsing
 pub mod Creating
 pub mod Exponents
+pub mod Fingerprinting
 pub mod Recovering
 pub mod Drilling
 pub mod Reissuing

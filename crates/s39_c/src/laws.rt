@@ -13,6 +13,7 @@ ghost use Rattle.s39_c.specs.declared.parsing.ShamirShare.{ShamirShare as Header
 ghost use Rattle.s39_c.specs.Creating.{Wanted, GivesBackup, GivesNumber};
 ghost use Rattle.s39_c.specs.Drilling.{GivesDrill};
 ghost use Rattle.s39_c.specs.Exponents.{UpTo};
+ghost use Rattle.s39_c.specs.Fingerprinting.{GivesFingerprint};
 ghost use Rattle.s39_c.specs.Parsing.{GivesShare};
 ghost use Rattle.s39_c.specs.Recovering.{GivesSecret};
 ghost use Rattle.s39_c.specs.Reissuing.{GivesReissued};
@@ -53,6 +54,13 @@ pub fn one_backup()
     one_plan_reading();
     one_create_output();
 }
+
+/// A secret gives one fingerprint in a slice, and one answer.
+pub fn one_fingerprint()
+    ensures { (secret old new other : List ℕ) (answer another : Answer)
+        → GivesFingerprint secret old new answer → GivesFingerprint secret old other another
+        → (new ≡ other) × (answer ≡ another) }
+{}
 
 /// Lines, passphrase and most exponent give one secret in a slice of bytes, and one answer.
 pub fn one_secret()

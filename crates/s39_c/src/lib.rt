@@ -6,6 +6,7 @@ mod answer;
 mod creating;
 mod drilling;
 mod exponent;
+mod fingerprinting;
 pub mod laws;
 pub mod lengths;
 mod memory;
@@ -19,6 +20,7 @@ mod version;
 pub use answer::ShamirAnswer;
 pub use creating::{shamir_create, shamir_random_needed};
 pub use drilling::shamir_drill;
+pub use fingerprinting::shamir_fingerprint;
 pub use parsing::{ShamirShare, shamir_parse};
 pub use recovering::shamir_recover;
 pub use reissuing::shamir_reissue;
@@ -28,6 +30,8 @@ pub use version::shamir_version;
 
 #[cfg(test)]
 mod exponent_tests;
+#[cfg(test)]
+mod fingerprint_tests;
 #[cfg(test)]
 mod reissue_tests;
 #[cfg(test)]

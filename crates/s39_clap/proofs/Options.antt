@@ -59,14 +59,14 @@ pub record IsOption (s : Shape) (a : Rule) (name : Text) : Type 0 where
   pub joined_goes_on : (value : Text) → bytes_eq (joined_word name value) (codes "--") ≡ false
 
 -- the value may be given, in this place
-abbrev pub Fits : Shape → Rule → Text → Held → Type 0
-Fits s a value h = (use_passes s.args_override_self a (value ∷ []) (settled s.rules h).rows ≡ true)
+abbrev pub MayBeGiven : Shape → Rule → Text → Held → Type 0
+MayBeGiven s a value h = (use_passes s.args_override_self a (value ∷ []) (settled s.rules h).rows ≡ true)
     × (settle_passes s.rules s.args_override_self h ≡ true)
 
 -- what is held after the option, from what was
 pub record Enters (s : Shape) (a : Rule) (value : Text) (old new : Held) : Type 0 where
   pub rows_are : (settled s.rules new).rows ≡ used a (value ∷ []) (settled s.rules old).rows
-  pub settles : Fits s a value old → settle_passes s.rules s.args_override_self new ≡ true
+  pub settles : MayBeGiven s a value old → settle_passes s.rules s.args_override_self new ≡ true
 
 -- ---- a word that doesn't begin with a dash
 
@@ -117,7 +117,7 @@ module _ (s : Shape) (a : Rule) (name : Text) (is : IsOption s a name) (position
         ap (λ (p : Held × Step). after_step s.rules (joined_word name value) (standing position h) p.0 p.1)
         (word_reads (joined_word name value) (Some value) (is.joined_goes_on value) (is.joined value))
 
-    joined_passes : Fits s a value h → turn_passes s [] (standing position h) (joined_word name value) ≡ true
+    joined_passes : MayBeGiven s a value h → turn_passes s [] (standing position h) (joined_word name value) ≡ true
     joined_passes fits =
         ap (λ (b : Bool). b && step_passes s position (word_met s.rules [] false idle position (joined_word name value) h).0
         (word_met s.rules [] false idle position (joined_word name value) h).1)
@@ -125,7 +125,7 @@ module _ (s : Shape) (a : Rule) (name : Text) (is : IsOption s a name) (position
         ∙ ap (λ (p : Held × Step). step_passes s position p.0 p.1)
         (word_reads (joined_word name value) (Some value) (is.joined_goes_on value) (is.joined value))
 
-    by_joined : Leads s (joined_word name value ∷ []) (standing position h) (standing position after_joined) (Fits s a value h)
+    by_joined : Leads s (joined_word name value ∷ []) (standing position h) (standing position after_joined) (MayBeGiven s a value h)
     by_joined = leads_by s (joined_word name value) (standing position h) (standing position after_joined) joined_is joined_passes
 
     -- ---- in two words
@@ -139,7 +139,7 @@ module _ (s : Shape) (a : Rule) (name : Text) (is : IsOption s a name) (position
         ap (λ (p : Held × Step). after_step s.rules (name_word name) (standing position h) p.0 p.1)
         (word_reads (name_word name) None is.alone_goes_on is.alone)
 
-    name_passes : Fits s a value h → turn_passes s [] (standing position h) (name_word name) ≡ true
+    name_passes : MayBeGiven s a value h → turn_passes s [] (standing position h) (name_word name) ≡ true
     name_passes fits =
         ap (λ (b : Bool). b && step_passes s position (word_met s.rules [] false idle position (name_word name) h).0
         (word_met s.rules [] false idle position (name_word name) h).1)
@@ -170,11 +170,11 @@ module _ (s : Shape) (a : Rule) (name : Text) (is : IsOption s a name) (position
         ∙ ap (λ (l : Option (Text × Option Text)). flag_word_passes s.rules s.args_override_self l value after_name && true) plain.no_long
         ∙ ap (λ (o : Option Text). option_map_or (λ flags. bundle_passes s.rules s.args_override_self flags after_name) o true && true) plain.no_short
 
-    by_two : IsPlain value → Leads s (name_word name ∷ value ∷ []) (standing position h) (standing position after_value) (Fits s a value h)
+    by_two : IsPlain value → Leads s (name_word name ∷ value ∷ []) (standing position h) (standing position after_value) (MayBeGiven s a value h)
     by_two plain =
         leads_then s (name_word name ∷ []) (value ∷ []) (standing position h) (expecting a.id position after_name) (standing position after_value)
         (leads_by s (name_word name) (standing position h) (expecting a.id position after_name) name_is name_passes)
-        (leads_by {F = Fits s a value h} s value (expecting a.id position after_name) (standing position after_value) (value_is plain)
+        (leads_by {F = MayBeGiven s a value h} s value (expecting a.id position after_name) (standing position after_value) (value_is plain)
         (λ fits. value_passes plain))
         (λ fits. (fits, fits))
 
@@ -188,15 +188,15 @@ module _ (s : Shape) (a : Rule) (name : Text) (is : IsOption s a name) (position
 
     -- the words of the option, in either form, in front of any others: its value is held then
     pub option_taken : (words : List Text) → AreOptionWords name value words
-        → (after : Held) × Leads s words (standing position h) (standing position after) (Fits s a value h) × Enters s a value h after
+        → (after : Held) × Leads s words (standing position h) (standing position after) (MayBeGiven s a value h) × Enters s a value h after
     option_taken words (inl joined) = (
       after_joined,
-      subst (λ (w : List Text). Leads s w (standing position h) (standing position after_joined) (Fits s a value h)) (sym joined) by_joined,
+      subst (λ (w : List Text). Leads s w (standing position h) (standing position after_joined) (MayBeGiven s a value h)) (sym joined) by_joined,
       record { rows_are = refl; settles = λ fits. refl },
     )
     option_taken words (inr two) = (
       after_value,
-      subst (λ (w : List Text). Leads s w (standing position h) (standing position after_value) (Fits s a value h)) (sym two.1)
+      subst (λ (w : List Text). Leads s w (standing position h) (standing position after_value) (MayBeGiven s a value h)) (sym two.1)
           (by_two (plain_word value two.0)),
       two_enter,
     )

@@ -8,7 +8,7 @@ use Rattle.clap.specs.Walk.{word_met}
 use Rattle.clap.specs.Simple.{Shape}
 use Rattle.clap.specs.Takes.{bundle_passes, flag_word_passes, settle_passes, step_passes, turn_passes, use_passes, word_passes}
 use Rattle.s39_clap.specs.Options.{AreOptionWords, HasNoDash}
-use Rattle.s39_clap.proofs.Options.{Fits, IsOption, IsPlain, Leads, leads_by, leads_then, option_taken, plain_word, standing}
+use Rattle.s39_clap.proofs.Options.{MayBeGiven, IsOption, IsPlain, Leads, leads_by, leads_then, option_taken, plain_word, standing}
 
 -- These words of the level are read, and then these rows are held; and where this is so, none of the words is refused.
 pub record Reads (s : Shape) (position : ℕ) (words : List Text) (rows : List Row) (Fit : Type 0) : Type 0 where
@@ -35,7 +35,7 @@ module _ {F : Type 0} (s : Shape) (position : ℕ) (before : List Text) (rows : 
       → Reads s position (before ++ words) (used a (text ∷ []) rows) (F × MayHave s a text rows)
   reads_option a name text words is are =
       let taken = option_taken s a name is position reads.end text words are in
-      let fits : F × MayHave s a text rows → Fits s a text reads.end =
+      let fits : F × MayHave s a text rows → MayBeGiven s a text reads.end =
       λ fit. (ap (λ (r : List Row). use_passes s.args_override_self a (text ∷ []) r) reads.rows_are ∙ fit.1, reads.settles fit.0) in
       record {
         end = taken.0;

@@ -1,7 +1,7 @@
 -- What a run leaves in the writer behind a buffer.
 use Rattle.std.proofs.Common.{◌≡◌, ◌≢◌, ◌⊎◌, ◌++◌, ◌∙◌, ℕ, suc, zero, Bool, List, [], Option, Some, None, IfSome, Result, Ok, Err, ap, arith, inl, inr, refl}
 use Rattle.std.proofs.Common.{subst, sym, append_assoc, append-nil, false, true}
-use Rattle.std.specs.Io.KnownBytes.{Appends, Consumes, Keeps, append_known}
+use Rattle.std.specs.Io.KnownBytes.{Appends, Keeps, append_known}
 use Rattle.std.specs.Io.Buffered.{writer_buffer, writer_contents, writer_inner}
 use Rattle.std.specs.declared.io.buffered.BufWriter.{BufWriter}
 use Rattle.std.proofs.KnownBytes.{Keeps-refl}

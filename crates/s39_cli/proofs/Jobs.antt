@@ -24,9 +24,12 @@ use Rattle.s39_clap.specs.Found.{EntersOne, HasNumber, IsFilled}
 use Rattle.s39_clap.proofs.Agreement.{faultless_taken, one_request_or_mistakes, request_alone}
 use Rattle.s39_clap.proofs.Entered.{enters_some, taken_enters_one}
 use Rattle.s39_clap.proofs.Values.{flag_said, has_value, number_read}
-use Rattle.s39_cli.specs.Command.{AnswersKind, AnswersWords, AsksForText, commands, exponent_rule, extendable_rule, flag_text, limit_rule, names_rule}
+use Rattle.s39_cli.specs.Command.{AnswersKind, AnswersWords, AsksForText, IsFormSaid, commands, exponent_rule, extendable_rule, fingerprint_rule, flag_text}
+use Rattle.s39_cli.specs.Command.{is_fingerprint, limit_rule, names_rule}
 use Rattle.s39_cli.specs.Command.{plan_rule}
 use Rattle.s39_cli.specs.Command.{secret_rule, shamir_app, text_or_empty}
+use Rattle.s39_tool.specs.declared.secret_form.SecretForm.{SecretForm}
+use Rattle.s39_tool.specs.declared.secret_form.SecretForm.TheVariants.{Digits, Fingerprint}
 use Rattle.s39_cli.specs.declared.command.NoJob.{NoJob}
 use Rattle.s39_cli.specs.declared.command.NoJob.TheVariants.{Help, Refused, Memory}
 
@@ -75,6 +78,11 @@ create_rules : List Rule
 unfolding shamir_app
 create_rules = option_map_or (λ s. s.rules) (slice_get commands 1) []
 
+-- and those of `recover`
+recover_rules : List Rule
+unfolding shamir_app
+recover_rules = option_map_or (λ s. s.rules) (slice_get commands 2) []
+
 -- and those of `drill`
 drill_rules : List Rule
 unfolding shamir_app
@@ -95,6 +103,17 @@ create_filled rows (inr (inr (inr (inl drill)))) = absurd (other_name (codes "cr
 create_filled rows (inr (inr (inr (inr (inl status))))) = absurd (other_name (codes "create") (codes "status") refl (same_entered _ _ status.1).0)
 create_filled rows (inr (inr (inr (inr (inr (inl reissue)))))) = absurd (other_name (codes "create") (codes "reissue") refl (same_entered _ _ reissue.1).0)
 create_filled rows (inr (inr (inr (inr (inr (inr none)))))) = absurd none
+
+-- and those that enter `recover`
+recover_filled : (rows : List Row) → EntersOne commands (Some (codes "recover", rows)) → IsFilled recover_rules rows
+unfolding shamir_app recover_rules
+recover_filled rows (inl show) = absurd (other_name (codes "recover") (codes "show") refl (same_entered _ _ show.1).0)
+recover_filled rows (inr (inl create)) = absurd (other_name (codes "recover") (codes "create") refl (same_entered _ _ create.1).0)
+recover_filled rows (inr (inr (inl recover))) = subst (IsFilled recover_rules) (sym (same_entered _ _ recover.1).1) recover.2
+recover_filled rows (inr (inr (inr (inl drill)))) = absurd (other_name (codes "recover") (codes "drill") refl (same_entered _ _ drill.1).0)
+recover_filled rows (inr (inr (inr (inr (inl status))))) = absurd (other_name (codes "recover") (codes "status") refl (same_entered _ _ status.1).0)
+recover_filled rows (inr (inr (inr (inr (inr (inl reissue)))))) = absurd (other_name (codes "recover") (codes "reissue") refl (same_entered _ _ reissue.1).0)
+recover_filled rows (inr (inr (inr (inr (inr (inr none)))))) = absurd none
 
 -- and those that enter `drill`
 drill_filled : (rows : List Row) → EntersOne commands (Some (codes "drill", rows)) → IsFilled drill_rules rows
@@ -178,6 +197,35 @@ extendable_there f said enters is_true is_false =
     ⊎_elim (λ there. there ∙ ap (λ b. Some (flag_text b)) (sym (is_true (rows ∙ there))))
     (λ missing. missing ∙ ap (λ b. Some (flag_text b)) (sym (is_false (rows ∙ missing))))
     (flag_said create_rules (rows_of f) (with_index 2 (filled extendable_rule)) (codes "extendable") refl refl refl (create_filled (rows_of f) enters))
+
+-- the form that a flag which is said or isn't asks for
+form_said : (rows : List Row) (form : SecretForm) → (one_of (codes "fingerprint") rows ≡ Some (codes "true"))
+    ⊎ (one_of (codes "fingerprint") rows ≡ Some (codes "false")) → (one_of (codes "fingerprint") rows ≡ Some (codes "true") → form ≡ Fingerprint)
+    → (one_of (codes "fingerprint") rows ≡ Some (codes "false") → form ≡ Digits) → IsFormSaid rows form
+form_said rows form (inl said) is_true is_false = said ∙ ap (λ (f : SecretForm). Some (flag_text (is_fingerprint f))) (sym (is_true said))
+form_said rows form (inr unsaid) is_true is_false = unsaid ∙ ap (λ (f : SecretForm). Some (flag_text (is_fingerprint f))) (sym (is_false unsaid))
+
+module _ (f : Found) (form : SecretForm) where
+  -- a getter of the flag reads the form
+  abbrev ReadsForm : Type 0
+  ReadsForm = (one_text f (codes "fingerprint") ≡ Some (codes "true") → form ≡ Fingerprint)
+      → (one_text f (codes "fingerprint") ≡ Some (codes "false") → form ≡ Digits) → IsFormSaid (rows_of f) form
+
+  pub recover_form_there : EntersOne commands (Some (codes "recover", rows_of f)) → ReadsForm
+  unfolding shamir_app recover_rules
+  recover_form_there enters is_true is_false =
+      let rows = one_text-rows f (codes "fingerprint") in
+      form_said (rows_of f) form
+      (flag_said recover_rules (rows_of f) (with_index 1 (filled fingerprint_rule)) (codes "fingerprint") refl refl refl (recover_filled (rows_of f) enters))
+      (λ said. is_true (rows ∙ said)) (λ unsaid. is_false (rows ∙ unsaid))
+
+  pub drill_form_there : EntersOne commands (Some (codes "drill", rows_of f)) → ReadsForm
+  unfolding shamir_app drill_rules
+  drill_form_there enters is_true is_false =
+      let rows = one_text-rows f (codes "fingerprint") in
+      form_said (rows_of f) form
+      (flag_said drill_rules (rows_of f) (with_index 1 (filled fingerprint_rule)) (codes "fingerprint") refl refl refl (drill_filled (rows_of f) enters))
+      (λ said. is_true (rows ∙ said)) (λ unsaid. is_false (rows ∙ unsaid))
 
 -- the number that a getter of a `u32` reads of the limit
 pub limit_there : (f : Found) (got : Option ℕ) → EntersOne commands (Some (codes "drill", rows_of f))

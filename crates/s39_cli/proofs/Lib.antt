@@ -1,11 +1,13 @@
 pub mod ByWords
 pub mod Deliveries
+pub mod Dropped
 pub mod Ends
 pub mod GoingOut
 pub mod Headlines
 pub mod Interrupted
 pub mod Jobs
 pub mod Literals
+pub mod Outcomes
 pub mod Unreadiness
 pub mod Words
 pub mod Works

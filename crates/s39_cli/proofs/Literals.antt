@@ -1,5 +1,5 @@
 -- Words that are written out.
-use Rattle.std.proofs.Common.{◌≡◌, ◌∙◌, ◌==◌, ◌++◌, ℕ, false, List, [], ◌∷◌, codes, pos, ap, arith, inl, inr, length, nat_lt, refl, rules, sym, true≢false}
+use Rattle.std.proofs.Common.{◌≡◌, ◌∙◌, ◌==◌, ◌++◌, ℕ, false, [], ◌∷◌, codes, pos, ap, arith, inl, inr, length, nat_lt, refl, rules, sym, true≢false}
 use Rattle.std.proofs.lemmas.Fmt.{decimal_digit}
 use Rattle.clap.specs.Words.{Text}
 use Rattle.clap.specs.declared.builder.value_parser.ValueParser.TheVariants as vp
@@ -7,6 +7,7 @@ use Rattle.clap.proofs.ValueTestLemmas.{accepts-Accepts}
 use Rattle.s39_set.specs.Names.{Names}
 use Rattle.s39_clap.specs.Options.{HasNoDash}
 use Rattle.s39_set.specs.Written.{IsWrittenForm}
+use Rattle.s39_tool.specs.declared.secret_form.SecretForm.TheVariants.{Digits, Fingerprint}
 use Rattle.s39_cli.specs.Headline.{ApartDrill, AreCreateWords, AreDrillWords, AreRecoverWords, IsLimit, JoinedDrill, drill_apart}
 
 pub joined_drill : JoinedDrill
@@ -41,13 +42,13 @@ begins (x ∷ xs) = x
 no_dash : (text : Text) → (begins text == 45) ≡ false → HasNoDash text
 no_dash text differs rest same = true≢false (sym (ap (λ (t : Text). begins t == 45) same) ∙ differs)
 
-pub drill_literal : AreDrillWords (codes "TREZOR") (codes "0.0") (codes "5")
+pub drill_literal : AreDrillWords Digits (codes "TREZOR") (codes "0.0") (codes "5")
     (drill_apart (codes "shamir") (codes "TREZOR") (codes "0.0") (codes "5"))
 drill_literal =
     apart_drill (codes "shamir") (codes "TREZOR") (codes "0.0") (codes "5") (no_dash (codes "TREZOR") refl) (no_dash (codes "0.0") refl)
     (no_dash (codes "5") refl)
 
-pub recover_literal : AreRecoverWords (codes "TREZOR") (codes "shamir" ∷ codes "recover" ∷ codes "--passphrase" ∷ codes "TREZOR" ∷ [])
+pub recover_literal : AreRecoverWords Digits (codes "TREZOR") (codes "shamir" ∷ codes "recover" ∷ codes "--passphrase" ∷ codes "TREZOR" ∷ [])
 recover_literal = record {
   program = codes "shamir";
   passphrase_words = codes "--passphrase" ∷ codes "TREZOR" ∷ [];
@@ -55,13 +56,36 @@ recover_literal = record {
   words_are = refl;
 }
 
-pub create_literal : AreCreateWords (codes "2of3") (codes "00ff") (codes "TREZOR")
-    (codes "shamir" ∷ codes "create" ∷ codes "--master-secret" ∷ codes "00ff" ∷ codes "--passphrase" ∷ codes "TREZOR" ∷ codes "2of3" ∷ [])
+pub fingerprints_literal : AreDrillWords Fingerprint (codes "TREZOR") (codes "0.0") (codes "5")
+    (codes "shamir" ∷ codes "drill" ∷ codes "--fingerprint" ∷ codes "--passphrase=TREZOR" ∷ codes "--after=0.0" ∷ codes "--limit=5" ∷ [])
+fingerprints_literal = record {
+  program = codes "shamir";
+  passphrase_words = codes "--passphrase=TREZOR" ∷ [];
+  after_words = codes "--after=0.0" ∷ [];
+  limit_words = codes "--limit=5" ∷ [];
+  passphrase_given = inl refl;
+  after_given = inl refl;
+  limit_given = inl refl;
+  words_are = refl;
+}
+
+pub fingerprint_literal : AreRecoverWords Fingerprint (codes "TREZOR")
+    (codes "shamir" ∷ codes "recover" ∷ codes "--fingerprint" ∷ codes "--passphrase" ∷ codes "TREZOR" ∷ [])
+fingerprint_literal = record {
+  program = codes "shamir";
+  passphrase_words = codes "--passphrase" ∷ codes "TREZOR" ∷ [];
+  passphrase_given = inr (no_dash (codes "TREZOR") refl, refl);
+  words_are = refl;
+}
+
+pub create_literal : AreCreateWords (codes "2of3") (codes "00112233445566778899aabbccddeeff") (codes "TREZOR")
+    (codes "shamir" ∷ codes "create" ∷ codes "--master-secret" ∷ codes "00112233445566778899aabbccddeeff"
+    ∷ codes "--passphrase" ∷ codes "TREZOR" ∷ codes "2of3" ∷ [])
 create_literal = record {
   program = codes "shamir";
-  secret_words = codes "--master-secret" ∷ codes "00ff" ∷ [];
+  secret_words = codes "--master-secret" ∷ codes "00112233445566778899aabbccddeeff" ∷ [];
   passphrase_words = codes "--passphrase" ∷ codes "TREZOR" ∷ [];
-  secret_given = inr (no_dash (codes "00ff") refl, refl);
+  secret_given = inr (no_dash (codes "00112233445566778899aabbccddeeff") refl, refl);
   passphrase_given = inr (no_dash (codes "TREZOR") refl, refl);
   plan_given = no_dash (codes "2of3") refl;
   words_are = refl;

@@ -5,7 +5,7 @@ use Rattle.s39_backup.specs.declared.plan.Members.{Members}
 use Rattle.s39_backup.specs.declared.plan_error.PlanError.{PlanError}
 use Rattle.s39_backup.proofs.PlanReadings.{reading_once}
 use Rattle.s39_tool.specs.declared.fault.Fault.{Fault}
-use Rattle.s39_tool.specs.declared.secret_form.SecretForm.TheVariants.{Digits}
+use Rattle.s39_tool.specs.declared.secret_form.SecretForm.{SecretForm}
 use Rattle.s39_tool.specs.Device.{Counted}
 use Rattle.s39_tool.specs.Fault.{read_failures, write_failures}
 use Rattle.s39_tool.specs.Input.{Input}
@@ -68,9 +68,9 @@ ready_of_work (job.Create plan secret passphrase exponent extendable) w is = (
   λ bad. bad,
   λ bad. bad,
 )
-ready_of_work (job.Recover passphrase) w is = (λ b. b, λ b. b.1, λ b. b, λ b. b)
-ready_of_work (job.Drill passphrase None limit) w is = (λ b. b, λ b. b.1, λ b. b, λ b. b)
-ready_of_work (job.Drill passphrase (Some after) limit) w is =
+ready_of_work (job.Recover passphrase form) w is = (λ b. b, λ b. b.1, λ b. b, λ b. b)
+ready_of_work (job.Drill passphrase None limit form) w is = (λ b. b, λ b. b.1, λ b. b, λ b. b)
+ready_of_work (job.Drill passphrase (Some after) limit form) w is =
     (λ b. b, λ b. b.1, λ bad. bad is.2.cursor.0 is.2.cursor.2, λ b. b)
 ready_of_work job.Status w is = (λ b. b, λ b. b.1, λ b. b, λ b. b)
 ready_of_work (job.Reissue plan names) w is = (
@@ -106,18 +106,19 @@ output_of_job (job.Create plan secret passphrase exponent extendable) w is input
       },
       written.2,
     )
-output_of_job (job.Recover passphrase) w is input text answer output =
+output_of_job (job.Recover passphrase form) w is input text answer output =
     let written = subst (λ (x : Work). IsWorkOutput x input text answer) is.1 output in
-    (written.0, subst (λ (given : List ℕ). IsRecoverOutput Digits given input text written.0) is.2 written.1, written.2)
-output_of_job (job.Drill passphrase after limit) w is input text answer output =
+    (written.0, subst (λ (given : List ℕ). IsRecoverOutput form given input text written.0) is.2 written.1, written.2)
+output_of_job (job.Drill passphrase after limit form) w is input text answer output =
     let drill = is.0 in
     let written = subst (λ (x : Work). IsWorkOutput x input text answer) is.1 output in (
       drill.after,
       is.2.cursor,
       (
         written.0,
-        subst (λ (n : ℕ). IsDrillOutput Digits passphrase.now drill.after n input text written.0) is.2.limit_is
-            (subst (λ (given : List ℕ). IsDrillOutput Digits given drill.after drill.limit input text written.0) is.2.passphrase_is written.1),
+        subst (λ (f : SecretForm). IsDrillOutput f passphrase.now drill.after limit input text written.0) is.2.form_is
+            (subst (λ (n : ℕ). IsDrillOutput drill.form passphrase.now drill.after n input text written.0) is.2.limit_is
+            (subst (λ (given : List ℕ). IsDrillOutput drill.form given drill.after drill.limit input text written.0) is.2.passphrase_is written.1)),
         written.2,
       ),
     )

@@ -8,6 +8,8 @@ use Rattle.clap.specs.declared.error.kind.ErrorKind.{ErrorKind}
 use Rattle.clap.specs.declared.error.kind.ErrorKind.TheVariants.{DisplayHelp, DisplayVersion, OutOfMemory}
 use Rattle.s39_clap.specs.Found.{HasNumber}
 use Rattle.s39_kdf.specs.Limits.{exponent_bits}
+use Rattle.s39_tool.specs.declared.secret_form.SecretForm.{SecretForm}
+use Rattle.s39_tool.specs.declared.secret_form.SecretForm.TheVariants.{Digits, Fingerprint}
 use Rattle.s39_cli.specs.declared.command.Job.{Job}
 use Rattle.s39_cli.specs.declared.command.Job.TheVariants.{Show, Create, Recover, Drill, Status, Reissue}
 use Rattle.s39_cli.specs.declared.command.NoJob.{NoJob}
@@ -48,21 +50,29 @@ exponent_rule = record (option_rule (codes "exponent")) {
   parser = Some (Signed (pos 0) (pos 15));
 }
 
--- the flag `--extendable`
-abbrev pub extendable_rule : Rule
-extendable_rule = record (new_rule (codes "extendable")) {
-  long = Some (codes "extendable");
+-- a flag of this name
+abbrev pub flag_rule : Text → Rule
+flag_rule name = record (new_rule name) {
+  long = Some name;
   action = Some SetTrue;
 }
+
+-- the flag `--extendable`
+abbrev pub extendable_rule : Rule
+extendable_rule = flag_rule (codes "extendable")
 
 -- the command `create`, with these and the passphrase
 abbrev pub create_app : App
 create_app = with_rule (with_rule (with_rule (with_rule (with_rule (new_app (codes "create"))
     plan_rule) secret_rule) passphrase_rule) exponent_rule) extendable_rule
 
--- the command `recover`, with the passphrase
+-- the flag `--fingerprint`
+abbrev pub fingerprint_rule : Rule
+fingerprint_rule = flag_rule (codes "fingerprint")
+
+-- the command `recover`, with the passphrase and this flag
 abbrev pub recover_app : App
-recover_app = with_rule (new_app (codes "recover")) passphrase_rule
+recover_app = with_rule (with_rule (new_app (codes "recover")) passphrase_rule) fingerprint_rule
 
 -- the option `--after Q`
 abbrev pub after_rule : Rule
@@ -75,10 +85,10 @@ limit_rule = record (option_rule (codes "limit")) {
   parser = Some (Signed (pos 1) (pos 4294967295));
 }
 
--- the command `drill`, with these and the passphrase
+-- the command `drill`, with these, the passphrase and the flag
 abbrev pub drill_app : App
-drill_app = with_rule (with_rule (with_rule (new_app (codes "drill")) passphrase_rule) after_rule)
-    limit_rule
+drill_app = with_rule (with_rule (with_rule (with_rule (new_app (codes "drill")) passphrase_rule) after_rule)
+    limit_rule) fingerprint_rule
 
 -- the command `status`
 abbrev pub status_app : App
@@ -117,6 +127,15 @@ commands = (built shamir_app).subs
 abbrev pub flag_text : Bool → Text
 flag_text said = if said then codes "true" else codes "false"
 
+-- the form of a secret is its fingerprint
+abbrev pub is_fingerprint : SecretForm → Bool
+is_fingerprint Digits = false
+is_fingerprint Fingerprint = true
+
+-- the form in which a secret is told: by its fingerprint where the flag is said, else by its digits
+abbrev pub IsFormSaid : List Row → SecretForm → Type 0
+IsFormSaid rows form = one_of (codes "fingerprint") rows ≡ Some (flag_text (is_fingerprint form))
+
 -- the text that is found for an id, and the empty text where none is
 abbrev pub text_or_empty : Text → List Row → Text
 text_or_empty id rows = unwrap_or (first_of id rows) []
@@ -135,12 +154,12 @@ abbrev pub Gives : Text → List Row → Job → Type 0
 Gives name rows Show = name ≡ codes "show"
 Gives name rows (Create plan secret passphrase exponent extendable) = (name ≡ codes "create")
     × GivesCreate rows plan.now secret.now passphrase.now exponent extendable
-Gives name rows (Recover passphrase) =
-    (name ≡ codes "recover") × (passphrase.now ≡ text_or_empty (codes "passphrase") rows)
-Gives name rows (Drill passphrase after limit) =
+Gives name rows (Recover passphrase form) =
+    (name ≡ codes "recover") × (passphrase.now ≡ text_or_empty (codes "passphrase") rows) × IsFormSaid rows form
+Gives name rows (Drill passphrase after limit form) =
     (name ≡ codes "drill") × (passphrase.now ≡ text_or_empty (codes "passphrase") rows)
     × (option_map (λ text. text.now) after ≡ first_of (codes "after") rows)
-    × HasNumber (codes "limit") rows limit
+    × HasNumber (codes "limit") rows limit × IsFormSaid rows form
 Gives name rows Status = name ≡ codes "status"
 Gives name rows (Reissue plan names) = (name ≡ codes "reissue")
     × (first_of (codes "plan") rows ≡ Some plan.now)
@@ -154,7 +173,7 @@ GivesJob words job = (name : Text) × (rows : List Row)
 -- the numbers among a job's values are in their ranges
 abbrev pub IsInRange : Job → Type 0
 IsInRange (Create plan secret passphrase exponent extendable) = exponent < 2 ^ exponent_bits
-IsInRange (Drill passphrase after limit) = 1 ≤ limit
+IsInRange (Drill passphrase after limit form) = 1 ≤ limit
 IsInRange job = Unit {0}
 
 -- the words ask for help or for the version, and nothing before that is wrong with them

@@ -1,5 +1,5 @@
 -- How the program ends: what it read, what it wrote, and the exit status.
-use Rattle.std.specs.Prelude.{◌≡◌, ◌≢◌, ◌⊎◌, ◌++◌, ℕ, Bool, true, false, List, Option, Some, IfSome, Result, Err}
+use Rattle.std.specs.Prelude.{◌≡◌, ◌≢◌, ◌⊎◌, ◌++◌, ℕ, Bool, true, false, List, Option, IfSome, Result, Err, string_bytes}
 use Rattle.std.specs.Io.KnownBytes.{Appends, Consumes, Keeps, append_known}
 use Rattle.clap.specs.Words.{Text, takes}
 use Rattle.s39_backup.specs.declared.plan_error.PlanError.{PlanError}
@@ -9,10 +9,13 @@ use Rattle.s39_tool.specs.declared.fault.Fault.{Fault}
 use Rattle.s39_tool.specs.Fault.{fault_of}
 use Rattle.s39_tool.specs.Input.{Input, whole}
 use Rattle.s39_cli.specs.declared.command.Job.{Job}
+use Rattle.s39_cli.specs.declared.command.Job.TheVariants.{Create}
 use Rattle.s39_cli.specs.declared.command.NoJob.{NoJob}
 use Rattle.s39_cli.specs.declared.command.NoJob.TheVariants as no_job
 use Rattle.s39_cli.specs.declared.runner.Ended.{Ended}
 use Rattle.s39_cli.specs.declared.runner.Ended.TheVariants.{With, NoMemory}
+use Rattle.s39_cli.specs.declared.runner.Source.{Source}
+use Rattle.s39_cli.specs.declared.runner.Source.TheVariants.{Terminal}
 use Rattle.s39_cli.specs.declared.work.Unready.{Unready}
 use Rattle.s39_cli.specs.declared.work.Unready.TheVariants as unready
 use Rattle.s39_cli.specs.Command.{AsksForText, GivesJob, shamir_app}
@@ -25,6 +28,11 @@ HasStatus IsOutput input text status = (answer : Result Bool Fault) × IsOutput 
 -- what the job writes for the input, and the exit status
 abbrev pub IsOutcome : Job → Input → List ℕ → ℕ → Type 0
 IsOutcome job = HasStatus (IsJobOutput job)
+
+-- the job creates a backup, and its random bytes would be typed at a terminal
+abbrev pub IsTyped : Source → Job → Type 0
+IsTyped source (Create plan secret passphrase exponent extendable) = source ≡ Terminal
+IsTyped source _ = ⊥
 
 -- these are all bytes of a reader, where it tells them
 abbrev pub AreAllOf : Option (List ℕ) → List ℕ → Type 0
@@ -58,11 +66,10 @@ module _ {R W : Type 0} where
   IsSilentAtNone ended old new = OnEnd ended (λ status read_to written_to. status ≡ 0 → new ≡ old)
 
 module _ {R W : Type 0} (contents : W → Option (List ℕ)) where
-  -- nothing is read; a text goes out, and the exit status is 0; or a beginning of it does, and the exit status is 3
-  abbrev pub ShowsText : R → W → ℕ → R → W → Type 0
-  ShowsText reader writer status read_to written_to =
+  -- nothing is read; the text goes out, and the exit status is 0; or a beginning of it does, and the exit status is 3
+  abbrev pub ShowsText : List ℕ → R → W → ℕ → R → W → Type 0
+  ShowsText text reader writer status read_to written_to =
       (read_to ≡ reader)
-      × (text : List ℕ)
       × (((status ≡ 0) × Appends (contents writer) (contents written_to) text)
       ⊎ ((status ≡ 3) × HoldsBeginning (contents writer) (contents written_to) text))
 
@@ -85,16 +92,22 @@ module _ {R W : Type 0} (remaining : R → Option (List ℕ)) (contents : W → 
       ⊎ (HasBadNames job × EndsAtOnce 1 reader writer status read_to written_to)
       ⊎ (IsReady job × Delivers (IsOutcome job) reader writer status read_to written_to)
 
-  -- how the program ends with these words: with help or the version where they ask for it; with 2 where they are no command; else
-  -- by the job that they give
-  pub record EndsAs (words : List Text) (reader : R) (writer : W) (status : ℕ) (read_to : R) (written_to : W) : Type 0 where
-    pub asked : AsksForText words → ShowsText contents reader writer status read_to written_to
+  -- a creation whose random bytes would be typed is 2, with nothing read or written; else the job is done
+  abbrev pub TakesJob : Source → Job → R → W → ℕ → R → W → Type 0
+  TakesJob source job reader writer status read_to written_to =
+      (IsTyped source job × EndsAtOnce 2 reader writer status read_to written_to)
+      ⊎ ((IsTyped source job → ⊥) × DoesJob job reader writer status read_to written_to)
+
+  -- how the program ends with these words and this source of its input: with help or the version where they ask for it; with 2 where
+  -- they are no command; else by the job that they give
+  pub record EndsAs (source : Source) (words : List Text) (reader : R) (writer : W) (status : ℕ) (read_to : R) (written_to : W) : Type 0 where
+    pub asked : AsksForText words → (text : List ℕ) × ShowsText contents text reader writer status read_to written_to
     pub refused : takes shamir_app words ≡ false → (AsksForText words → ⊥) → EndsAtOnce 2 reader writer status read_to written_to
-    pub taken : takes shamir_app words ≡ true → (job : Job) × GivesJob words job × DoesJob job reader writer status read_to written_to
+    pub taken : takes shamir_app words ≡ true → (job : Job) × GivesJob words job × TakesJob source job reader writer status read_to written_to
 
   -- that is so unless there was no memory
-  abbrev pub Ends : List Text → R → W → Ended R W → Type 0
-  Ends words reader writer ended = OnEnd ended (EndsAs words reader writer)
+  abbrev pub Ends : Source → List Text → R → W → Ended R W → Type 0
+  Ends source words reader writer ended = OnEnd ended (EndsAs source words reader writer)
 
 -- ---- within the program; no public contract cites this
 
@@ -117,7 +130,7 @@ pub record IsGoingOut (old now : Option (List ℕ)) (text rest : List ℕ) : Typ
 module _ {R W : Type 0} (contents : W → Option (List ℕ)) where
   -- how words end that give no job
   abbrev pub EndsWithoutJob : NoJob → R → W → Ended R W → Type 0
-  EndsWithoutJob (no_job.Help text) reader writer ended = OnEnd ended (ShowsText contents reader writer)
+  EndsWithoutJob (no_job.Help text) reader writer ended = OnEnd ended (ShowsText contents (string_bytes text) reader writer)
   EndsWithoutJob (no_job.Refused text) reader writer ended = OnEnd ended (EndsAtOnce 2 reader writer)
   EndsWithoutJob no_job.Memory reader writer ended = ended ≡ NoMemory
 

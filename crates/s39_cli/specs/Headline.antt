@@ -12,7 +12,8 @@ use Rattle.s39_set.specs.Lack.{IsLack}
 use Rattle.s39_set.specs.Written.{IsWrittenForm}
 use Rattle.s39_set.specs.declared.set_lack.SetLack.{SetLack}
 use Rattle.s39_tool.specs.declared.drill.Undrilled.{Undrilled}
-use Rattle.s39_tool.specs.declared.secret_form.SecretForm.TheVariants.{Digits}
+use Rattle.s39_tool.specs.declared.secret_form.SecretForm.{SecretForm}
+use Rattle.s39_tool.specs.declared.secret_form.SecretForm.TheVariants.{Digits, Fingerprint}
 use Rattle.s39_tool.specs.Input.{Input, whole}
 use Rattle.s39_tool.specs.Accepted.{IsReadAs}
 use Rattle.s39_tool.specs.OfBackup.{HoldsMnemonicsOf}
@@ -24,9 +25,14 @@ use Rattle.s39_cli.specs.Ending.{IsOutcome}
 
 -- ---- the words
 
--- These are the words of a drill: `shamir drill --passphrase P --after Q --limit N`. The first word is any name of the program, and
--- each option is one word or two.
-pub record AreDrillWords (passphrase after limit : Text) (words : List Text) : Type 0 where
+-- the words that ask for a secret in this form: none for its digits, and `--fingerprint` for its fingerprint
+abbrev pub form_words : SecretForm → List Text
+form_words Digits = []
+form_words Fingerprint = codes "--fingerprint" ∷ []
+
+-- These are the words of a drill: `shamir drill --passphrase P --after Q --limit N`, and behind `drill` the word that asks for
+-- fingerprints, where they are asked for. The first word is any name of the program, and each option is one word or two.
+pub record AreDrillWords (form : SecretForm) (passphrase after limit : Text) (words : List Text) : Type 0 where
   pub program : Text
   pub passphrase_words : List Text
   pub after_words : List Text
@@ -34,14 +40,15 @@ pub record AreDrillWords (passphrase after limit : Text) (words : List Text) : T
   pub passphrase_given : AreOptionWords (codes "passphrase") passphrase passphrase_words
   pub after_given : AreOptionWords (codes "after") after after_words
   pub limit_given : AreOptionWords (codes "limit") limit limit_words
-  pub words_are : words ≡ program ∷ codes "drill" ∷ (passphrase_words ++ after_words ++ limit_words)
+  pub words_are : words ≡ program ∷ codes "drill" ∷ (form_words form ++ passphrase_words ++ after_words ++ limit_words)
 
--- these are the words of a recovery: `shamir recover --passphrase P`
-pub record AreRecoverWords (passphrase : Text) (words : List Text) : Type 0 where
+-- these are the words of a recovery: `shamir recover --passphrase P`, and behind `recover` the word that asks for the fingerprint,
+-- where it is asked for
+pub record AreRecoverWords (form : SecretForm) (passphrase : Text) (words : List Text) : Type 0 where
   pub program : Text
   pub passphrase_words : List Text
   pub passphrase_given : AreOptionWords (codes "passphrase") passphrase passphrase_words
-  pub words_are : words ≡ program ∷ codes "recover" ∷ passphrase_words
+  pub words_are : words ≡ program ∷ codes "recover" ∷ (form_words form ++ passphrase_words)
 
 -- these are the words of a creation: `shamir create --master-secret HEX --passphrase P PLAN`; a plan begins with no dash
 pub record AreCreateWords (plan secret passphrase : Text) (words : List Text) : Type 0 where
@@ -65,12 +72,12 @@ drill_apart program passphrase after limit = program ∷ codes "drill" ∷ codes
 
 -- those with each option in one word are the words of a drill
 abbrev pub JoinedDrill : Type 0
-JoinedDrill = (program passphrase after limit : Text) → AreDrillWords passphrase after limit (drill_joined program passphrase after limit)
+JoinedDrill = (program passphrase after limit : Text) → AreDrillWords Digits passphrase after limit (drill_joined program passphrase after limit)
 
 -- and so are those with each in two, where no value begins with a dash
 abbrev pub ApartDrill : Type 0
 ApartDrill = (program passphrase after limit : Text) → HasNoDash passphrase → HasNoDash after → HasNoDash limit
-    → AreDrillWords passphrase after limit (drill_apart program passphrase after limit)
+    → AreDrillWords Digits passphrase after limit (drill_apart program passphrase after limit)
 
 -- the text writes a limit: a number from 1 to 4294967295
 abbrev pub IsLimit : Text → Type 0
@@ -82,12 +89,12 @@ limit_of text = digits_value 10 (without_leading_plus (without_minus text))
 
 -- the definition of the command line takes the words of a drill with such a limit
 abbrev pub DrillWordsAreTaken : Type 0
-DrillWordsAreTaken = (passphrase after limit : Text) (words : List Text) → AreDrillWords passphrase after limit words → IsLimit limit
+DrillWordsAreTaken = (form : SecretForm) (passphrase after limit : Text) (words : List Text) → AreDrillWords form passphrase after limit words → IsLimit limit
     → takes shamir_app words ≡ true
 
 -- and those of a recovery
 abbrev pub RecoverWordsAreTaken : Type 0
-RecoverWordsAreTaken = (passphrase : Text) (words : List Text) → AreRecoverWords passphrase words → takes shamir_app words ≡ true
+RecoverWordsAreTaken = (form : SecretForm) (passphrase : Text) (words : List Text) → AreRecoverWords form passphrase words → takes shamir_app words ≡ true
 
 -- and those of a creation
 abbrev pub CreateWordsAreTaken : Type 0
@@ -100,50 +107,65 @@ CreateWordsAreTaken = (plan secret passphrase : Text) (words : List Text) → Ar
 abbrev pub WordsWrite : List Text → Input → List ℕ → ℕ → Type 0
 WordsWrite words input text status = (job : Job) × GivesJob words job × IsOutcome job input text status
 
+-- a job writes one text for an input, with one exit status
+abbrev pub OneOutcome : Type 0
+OneOutcome = (job : Job) (input : Input) (text other : List ℕ) (status another : ℕ) → IsOutcome job input text status
+    → IsOutcome job input other another → (text ≡ other) × (status ≡ another)
+
 -- just the quorums after these are listed, each with the secret, and the exit status is 0; or nothing is written, and it is 1, as
 -- the set has no quorum, or these are none
-abbrev pub ListsOrRefuses : List ShareFields → List ℕ → Names → ℕ → List ℕ → ℕ → Type 0
-ListsOrRefuses set secret names limit text status =
-    (IsQuorum set names × ListsSecret Digits set secret (Some names) limit text × (status ≡ 0))
+abbrev pub ListsOrRefuses : SecretForm → List ShareFields → List ℕ → Names → ℕ → List ℕ → ℕ → Type 0
+ListsOrRefuses form set secret names limit text status =
+    (IsQuorum set names × ListsSecret form set secret (Some names) limit text × (status ≡ 0))
     ⊎ (((cause : Undrilled) × IsUndrilled set (Some names) cause) × (text ≡ []) × (status ≡ 1))
 
 -- That is so where the input holds mnemonics of a backup that was created with this passphrase: the cursor's text is that of
 -- names, and after these just the quorums of the shares read are listed, each with the secret, as many as the limit.
-abbrev pub DrillsBackup : Text → Text → ℕ → Input → List ℕ → ℕ → Type 0
-DrillsBackup passphrase after limit input text status = (secret : List ℕ) → HoldsMnemonicsOf passphrase secret input
+abbrev pub DrillsBackup : SecretForm → Text → Text → ℕ → Input → List ℕ → ℕ → Type 0
+DrillsBackup form passphrase after limit input text status = (secret : List ℕ) → HoldsMnemonicsOf passphrase secret input
     → (set : List ShareFields) × IsReadAs input (Ok set)
-    × ((names : Names) × IsWrittenForm after names × ListsOrRefuses set secret names limit text status)
+    × ((names : Names) × IsWrittenForm after names × ListsOrRefuses form set secret names limit text status)
+
+-- these words write this text for the input, with this exit status, and it is that of such a drill
+abbrev pub WordsDrill : List Text → SecretForm → Text → Text → ℕ → Input → List ℕ → ℕ → Type 0
+WordsDrill words form passphrase after limit input text status =
+    WordsWrite words input text status × DrillsBackup form passphrase after limit input text status
 
 -- the words of a drill write that
 abbrev pub DrillWordsList : Type 0
-DrillWordsList = (passphrase after limit : Text) (words : List Text) (input : Input) (text : List ℕ) (status : ℕ)
-    → AreDrillWords passphrase after limit words → WordsWrite words input text status
-    → DrillsBackup passphrase after (limit_of limit) input text status
+DrillWordsList = (form : SecretForm) (passphrase after limit : Text) (words : List Text) (input : Input) (text : List ℕ) (status : ℕ)
+    → AreDrillWords form passphrase after limit words → WordsWrite words input text status
+    → DrillsBackup form passphrase after (limit_of limit) input text status
 
--- the digits of the secret are written, and the exit status is 0; or nothing is written, and it is 1, as the set has no quorum
-abbrev pub RecoversOrRefuses : List ShareFields → List ℕ → List ℕ → ℕ → Type 0
-RecoversOrRefuses set secret text status =
-    (((names : Names) × IsQuorum set names) × (text ≡ secret_line Digits secret) × (status ≡ 0))
+-- the line of the secret in this form is written, and the exit status is 0; or nothing is written, and it is 1, as the set has no quorum
+abbrev pub RecoversOrRefuses : SecretForm → List ShareFields → List ℕ → List ℕ → ℕ → Type 0
+RecoversOrRefuses form set secret text status =
+    (((names : Names) × IsQuorum set names) × (text ≡ secret_line form secret) × (status ≡ 0))
     ⊎ (((lack : SetLack) × IsLack set lack) × (text ≡ []) × (status ≡ 1))
 
 -- that is so of such an input
-abbrev pub RecoversBackup : Text → Input → List ℕ → ℕ → Type 0
-RecoversBackup passphrase input text status = (secret : List ℕ) → HoldsMnemonicsOf passphrase secret input
-    → (set : List ShareFields) × IsReadAs input (Ok set) × RecoversOrRefuses set secret text status
+abbrev pub RecoversBackup : SecretForm → Text → Input → List ℕ → ℕ → Type 0
+RecoversBackup form passphrase input text status = (secret : List ℕ) → HoldsMnemonicsOf passphrase secret input
+    → (set : List ShareFields) × IsReadAs input (Ok set) × RecoversOrRefuses form set secret text status
+
+-- these words write this text for the input, with this exit status, and it is that of such a recovery
+abbrev pub WordsRecover : List Text → SecretForm → Text → Input → List ℕ → ℕ → Type 0
+WordsRecover words form passphrase input text status =
+    WordsWrite words input text status × RecoversBackup form passphrase input text status
 
 -- the words of a recovery write that
 abbrev pub RecoverWordsRecover : Type 0
-RecoverWordsRecover = (passphrase : Text) (words : List Text) (input : Input) (text : List ℕ) (status : ℕ)
-    → AreRecoverWords passphrase words → WordsWrite words input text status → RecoversBackup passphrase input text status
+RecoverWordsRecover = (form : SecretForm) (passphrase : Text) (words : List Text) (input : Input) (text : List ℕ) (status : ℕ)
+    → AreRecoverWords form passphrase words → WordsWrite words input text status → RecoversBackup form passphrase input text status
 
--- the line of the secret that these digits write is written, and the exit status is 0
-abbrev pub GivesSecret : Text → List ℕ → ℕ → Type 0
-GivesSecret digits text status = (secret : List ℕ) × (decode_of digits ≡ Ok secret) × (text ≡ secret_line Digits secret) × (status ≡ 0)
+-- the line, in this form, of the secret that these digits write is written, and the exit status is 0
+abbrev pub GivesSecret : SecretForm → Text → List ℕ → ℕ → Type 0
+GivesSecret form digits text status = (secret : List ℕ) × (decode_of digits ≡ Ok secret) × (text ≡ secret_line form secret) × (status ≡ 0)
 
 -- What the words of a creation write with exit status 0 is an input of which the words of a recovery with the same passphrase
 -- write the secret.
 abbrev pub CreatedWordsRecover : Type 0
-CreatedWordsRecover = (plan secret passphrase : Text) (creating recovering : List Text) (random : Input) (text output : List ℕ) (status : ℕ)
-    → AreCreateWords plan secret passphrase creating → AreRecoverWords passphrase recovering
+CreatedWordsRecover = (form : SecretForm) (plan secret passphrase : Text) (creating recovering : List Text) (random : Input) (text output : List ℕ) (status : ℕ)
+    → AreCreateWords plan secret passphrase creating → AreRecoverWords form passphrase recovering
     → WordsWrite creating random text 0 → WordsWrite recovering (whole text) output status
-    → GivesSecret secret output status
+    → GivesSecret form secret output status

@@ -2,5 +2,6 @@ pub mod Command
 pub mod Ending
 pub mod Headline
 pub mod Outcome
+pub mod Terminal
 pub mod Unready
 pub mod Work

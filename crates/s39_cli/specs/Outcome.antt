@@ -16,7 +16,6 @@ use Rattle.s39_tool.specs.declared.fault.Refusal.{Refusal}
 use Rattle.s39_tool.specs.declared.fault.Refusal.TheVariants.{Device}
 use Rattle.s39_tool.specs.declared.fault.Fault.{Fault}
 use Rattle.s39_tool.specs.declared.drill.Done.{Done}
-use Rattle.s39_tool.specs.declared.secret_form.SecretForm.TheVariants.{Digits}
 use Rattle.s39_tool.specs.Input.{Input}
 use Rattle.s39_tool.specs.Show.{IsShowOutput}
 use Rattle.s39_tool.specs.Create.{IsCreateOutput}
@@ -55,7 +54,7 @@ HasBadPlan _ error = ⊥
 
 -- the text after whose quorum the job goes on is the written form of no names
 abbrev pub HasBadCursor : Job → Type 0
-HasBadCursor (Drill passphrase (Some after) limit) = WritesNoNames after.now
+HasBadCursor (Drill passphrase (Some after) limit form) = WritesNoNames after.now
 HasBadCursor _ = ⊥
 
 -- the text of the job's plan gives one, and that of its names is the written form of none
@@ -131,11 +130,11 @@ IsJobOutput Show input text answer =
 IsJobOutput (Create plan secret passphrase exponent extendable) input text answer =
     (plain : Result (Unit {0}) Fault) × CreatesFrom plan.now secret.now passphrase.now exponent extendable input text plain
     × (answer ≡ judged where_done plain)
-IsJobOutput (Recover passphrase) input text answer =
-    (plain : Result (Unit {0}) Fault) × IsRecoverOutput Digits passphrase.now input text plain × (answer ≡ judged where_done plain)
-IsJobOutput (Drill passphrase after limit) input text answer =
+IsJobOutput (Recover passphrase form) input text answer =
+    (plain : Result (Unit {0}) Fault) × IsRecoverOutput form passphrase.now input text plain × (answer ≡ judged where_done plain)
+IsJobOutput (Drill passphrase after limit form) input text answer =
     (names : Option Names) × IsCursor after names
-    × ((found : Result Done Fault) × IsDrillOutput Digits passphrase.now names limit input text found × (answer ≡ judged without_mismatches found))
+    × ((found : Result Done Fault) × IsDrillOutput form passphrase.now names limit input text found × (answer ≡ judged without_mismatches found))
 IsJobOutput Status input text answer =
     (found : Result SetStatus Fault) × IsStatusOutput input text found × (answer ≡ judged is_enough found)
 IsJobOutput (Reissue plan names) input text answer =

@@ -8,7 +8,7 @@ use Rattle.s39_set.specs.declared.status.Status.{Status}
 use Rattle.s39_backup.specs.Plan.{IsPlanReading}
 use Rattle.s39_tool.specs.declared.fault.Fault.{Fault}
 use Rattle.s39_tool.specs.declared.drill.Done.{Done}
-use Rattle.s39_tool.specs.declared.secret_form.SecretForm.TheVariants.{Digits}
+use Rattle.s39_tool.specs.declared.secret_form.SecretForm.{SecretForm}
 use Rattle.s39_tool.specs.Input.{Input}
 use Rattle.s39_tool.specs.Show.{IsShowOutput}
 use Rattle.s39_tool.specs.Create.{IsCreateOutput}
@@ -32,10 +32,11 @@ pub record IsCreationOf (plan_text secret_text given_passphrase : Text) (exponen
   pub given : AreOptions exponent extendable creation.options
 
 -- the drill has the values that are given
-pub record IsDrillOf (given_passphrase : Text) (given_after : Option (Bor Text)) (given_limit : ℕ) (drill : Drill) : Type 0 where
+pub record IsDrillOf (given_passphrase : Text) (given_after : Option (Bor Text)) (given_limit : ℕ) (given_form : SecretForm) (drill : Drill) : Type 0 where
   pub passphrase_is : drill.passphrase.now ≡ given_passphrase
   pub cursor : IsCursor given_after drill.after
   pub limit_is : drill.limit ≡ given_limit
+  pub form_is : drill.form ≡ given_form
 
 -- what is reissued is what the texts of a plan and of names give
 pub record IsReissueOf (plan_text names_text : Text) (reissue : Reissue) : Type 0 where
@@ -47,8 +48,8 @@ abbrev pub IsWorkOf : Job → Work → Type 0
 IsWorkOf job.Show w = w ≡ work.Show
 IsWorkOf (job.Create plan secret passphrase exponent extendable) w =
     (creation : Creation) × (w ≡ work.Create creation) × IsCreationOf plan.now secret.now passphrase.now exponent extendable creation
-IsWorkOf (job.Recover passphrase) w = (given : Bor Text) × (w ≡ work.Recover given) × (given.now ≡ passphrase.now)
-IsWorkOf (job.Drill passphrase after limit) w = (drill : Drill) × (w ≡ work.Drill drill) × IsDrillOf passphrase.now after limit drill
+IsWorkOf (job.Recover passphrase form) w = (given : Bor Text) × (w ≡ work.Recover given form) × (given.now ≡ passphrase.now)
+IsWorkOf (job.Drill passphrase after limit form) w = (drill : Drill) × (w ≡ work.Drill drill) × IsDrillOf passphrase.now after limit form drill
 IsWorkOf job.Status w = w ≡ work.Status
 IsWorkOf (job.Reissue plan names) w = (reissue : Reissue) × (w ≡ work.Reissue reissue) × IsReissueOf plan.now names.now reissue
 
@@ -64,10 +65,10 @@ IsWorkOutput (work.Create creation) input text answer =
       groups = creation.plan.groups.items;
       options = creation.options;
     }) input text plain × (answer ≡ judged where_done plain)
-IsWorkOutput (work.Recover passphrase) input text answer =
-    (plain : Result (Unit {0}) Fault) × IsRecoverOutput Digits passphrase.now input text plain × (answer ≡ judged where_done plain)
+IsWorkOutput (work.Recover passphrase form) input text answer =
+    (plain : Result (Unit {0}) Fault) × IsRecoverOutput form passphrase.now input text plain × (answer ≡ judged where_done plain)
 IsWorkOutput (work.Drill drill) input text answer =
-    (found : Result Done Fault) × IsDrillOutput Digits drill.passphrase.now drill.after drill.limit input text found
+    (found : Result Done Fault) × IsDrillOutput drill.form drill.passphrase.now drill.after drill.limit input text found
     × (answer ≡ judged without_mismatches found)
 IsWorkOutput work.Status input text answer =
     (found : Result Status Fault) × IsStatusOutput input text found × (answer ≡ judged is_enough found)

@@ -3,56 +3,62 @@ ghost use Rattle.std.specs.Prelude.{◌≡◌, ◌≢◌, ℕ, List, [], map, So
 ghost use Rattle.std.specs.Io.KnownBytes.{Appends};
 ghost use Rattle.clap.specs.Words.{Text};
 ghost use Rattle.s39_set.specs.Names.{Names};
+ghost use Rattle.s39_tool.specs.declared.secret_form.SecretForm.{SecretForm};
 ghost use Rattle.s39_set.specs.Written.{IsWrittenForm};
 ghost use Rattle.s39_cli.specs.Ending.{Delivers, Ends, OnEnd, status_in};
 ghost use Rattle.s39_cli.specs.Headline.{AreCreateWords, AreDrillWords, AreRecoverWords, IsLimit, limit_of};
-ghost use Rattle.s39_cli.specs.Headline.{DrillsBackup, GivesSecret, RecoversBackup};
+ghost use Rattle.s39_cli.specs.Headline.{GivesSecret, WordsDrill, WordsRecover};
 
 use crate::laws::{created_words_recover, drill_words_list, recover_words_recover};
-use crate::runner::{Destination, Ended, program};
+use crate::runner::{Destination, Ended, Source, program};
 use std::alloc::Global;
 use std::collections::VecDeque;
 use std::io::{Read, Write};
 
-/// The program with the words of a drill: of mnemonics of a backup that was created with their passphrase, just the
-/// quorums after the given one go out, each with the secret, and the exit status is 0.
+/// The program with the words of a drill: what these words write goes out, and of mnemonics of a backup that was created
+/// with their passphrase that is just the quorums after the given one, each with the secret in the form that the words ask
+/// for, and the exit status is 0.
 pub fn drill<R: Read + Drop, W: Write + Drop, E: Write>(
     alloc: Global,
     words: &[&str],
     input: R,
     output: W,
     errors: &mut E,
+    source: Source,
     destination: Destination,
 ) -> Ended<R, W>
-    ensures { (passphrase after limit : Text) (names : Names)
-        → AreDrillWords passphrase after limit (map (λ word. word.now) words.now)
+    ensures { (form : SecretForm) (passphrase after limit : Text) (names : Names)
+        → AreDrillWords form passphrase after limit (map (λ word. word.now) words.now)
         → IsWrittenForm after names → IsLimit limit
-        → OnEnd result (Delivers R.remaining W.contents
-        (DrillsBackup passphrase after (limit_of limit)) input output) }
+        → OnEnd result (Delivers R.remaining W.contents (WordsDrill (map (λ word. word.now) words.now)
+        form passphrase after (limit_of limit)) input output) }
 {
     drill_words_list();
-    program(alloc, words, input, output, errors, destination)
+    program(alloc, words, input, output, errors, source, destination)
 }
 
-/// The program with the words of a recovery: of such mnemonics that meet the thresholds, the secret's digits go out, and
-/// the exit status is 0.
+/// The program with the words of a recovery: what these words write goes out, and of such mnemonics that meet the
+/// thresholds that is the secret in the form that the words ask for, and the exit status is 0.
 pub fn recover<R: Read + Drop, W: Write + Drop, E: Write>(
     alloc: Global,
     words: &[&str],
     input: R,
     output: W,
     errors: &mut E,
+    source: Source,
     destination: Destination,
 ) -> Ended<R, W>
-    ensures { (passphrase : Text) → AreRecoverWords passphrase (map (λ word. word.now) words.now)
-        → OnEnd result (Delivers R.remaining W.contents (RecoversBackup passphrase) input output) }
+    ensures { (form : SecretForm) (passphrase : Text)
+        → AreRecoverWords form passphrase (map (λ word. word.now) words.now)
+        → OnEnd result (Delivers R.remaining W.contents
+        (WordsRecover (map (λ word. word.now) words.now) form passphrase) input output) }
 {
     recover_words_recover();
-    program(alloc, words, input, output, errors, destination)
+    program(alloc, words, input, output, errors, source, destination)
 }
 
 /// The program with the words of a creation, and then with the words of a recovery and the same passphrase, whose input is
-/// what the first wrote: where no device of the second fails, the secret's digits go out, and its exit status is 0. Gives
+/// what the first wrote: where no device of the second fails, the secret goes out, and its exit status is 0. Gives
 /// how the second ended, or how the first did, where that didn't end with status 0.
 pub fn create_and_recover<R: Read + Drop, W: Write + Drop, E: Write>(
     alloc: Global,
@@ -63,16 +69,16 @@ pub fn create_and_recover<R: Read + Drop, W: Write + Drop, E: Write>(
     errors: &mut E,
     destination: Destination,
 ) -> Result<Ended<VecDeque<u8>, W>, Ended<R, VecDeque<u8>>>
-    ensures recovered { IfOk result (λ recovery. (plan secret passphrase : Text)
+    ensures recovered { IfOk result (λ recovery. (form : SecretForm) (plan secret passphrase : Text)
         → AreCreateWords plan secret passphrase (map (λ word. word.now) creating.now)
-        → AreRecoverWords passphrase (map (λ word. word.now) recovering.now)
+        → AreRecoverWords form passphrase (map (λ word. word.now) recovering.now)
         → OnEnd recovery (λ status read_to written_to. status ≢ 3
-        → (line : List ℕ) × GivesSecret secret line status
+        → (line : List ℕ) × GivesSecret form secret line status
         × Appends (W.contents output) (W.contents written_to) line)) }
     ensures not_done { IfErr result (λ creation. status_in creation ≢ 0) }
     ensures first { IfErr result (λ creation. (empty : _) × (empty.items ≡ [])
-        × Ends R.remaining (λ queue. Some queue.items) (map (λ word. word.now) creating.now)
-        random empty creation) }
+        × Ends R.remaining (λ queue. Some queue.items) Source.Elsewhere
+        (map (λ word. word.now) creating.now) random empty creation) }
 {
     created_words_recover();
     let backup = VecDeque::new(alloc);
@@ -82,6 +88,7 @@ pub fn create_and_recover<R: Read + Drop, W: Write + Drop, E: Write>(
         random,
         backup,
         errors,
+        Source::Elsewhere,
         Destination::Elsewhere,
     ) {
         Ended::With {
@@ -96,7 +103,15 @@ pub fn create_and_recover<R: Read + Drop, W: Write + Drop, E: Write>(
                     output: backup,
                 });
             }
-            Ok(program(alloc, recovering, backup, output, errors, destination))
+            Ok(program(
+                alloc,
+                recovering,
+                backup,
+                output,
+                errors,
+                Source::Elsewhere,
+                destination,
+            ))
         }
         Ended::NoMemory => Err(Ended::NoMemory),
     }

@@ -1,10 +1,10 @@
 //! The command line.
 ghost use Rattle.std.specs.Prelude.{◌≡◌, [], codes, false, Some, true, map, IfOk, IfErr, OnOk};
-ghost use Rattle.clap.specs.Words.{app_of, fault_of, found_of, kind_of, rows_of, rule_of, takes, with_rule, with_subcommand};
+ghost use Rattle.clap.specs.Words.{app_of, fault_of, found_of, kind_of, one_text, rows_of, rule_of, takes, with_rule, with_subcommand};
 ghost use Rattle.clap.specs.declared.builder.Command.TheViews.{out-Command};
 ghost use Rattle.s39_clap.specs.Found.{EntersOne};
-ghost use Rattle.s39_cli.specs.Command.{option_rule, plan_rule, secret_rule, passphrase_rule, exponent_rule, extendable_rule};
-ghost use Rattle.s39_cli.specs.Command.{after_rule, limit_rule, names_rule, text_or_empty};
+ghost use Rattle.s39_cli.specs.Command.{flag_rule, option_rule, plan_rule, secret_rule, passphrase_rule, exponent_rule, extendable_rule};
+ghost use Rattle.s39_cli.specs.Command.{after_rule, fingerprint_rule, limit_rule, names_rule, text_or_empty};
 ghost use Rattle.s39_cli.specs.Command.{show_app, create_app, recover_app, drill_app, status_app, reissue_app, shamir_top, shamir_app, commands};
 ghost use Rattle.s39_cli.specs.Command.{Gives, GivesJob, IsInRange, AnswersKind, AnswersWords};
 
@@ -12,6 +12,7 @@ use clap::builder::ValueParser;
 use clap::error::ErrorKind;
 use clap::{Arg, ArgAction, ArgMatches, Command, Error};
 use s39_kdf::MAX_EXPONENT;
+use s39_tool::SecretForm;
 use std::alloc::{AllocError, Global};
 
 /// A command of the program, with its values.
@@ -36,6 +37,8 @@ pub enum Job<'a> {
     Recover {
         /// The passphrase as it was given, and the empty text where none was.
         passphrase: &'a str,
+        /// The form in which the secret is told: its digits, if the flag of its fingerprint wasn't given.
+        form: SecretForm,
     },
     /// Tries the quorums of the mnemonics on standard input.
     Drill {
@@ -45,6 +48,8 @@ pub enum Job<'a> {
         after: Option<&'a str>,
         /// How many quorums are tried at most, from 1, and 1000 where no number was given.
         limit: u32,
+        /// The form in which each secret is told: its digits, if the flag of its fingerprint wasn't given.
+        form: SecretForm,
     },
     /// Tells which members of each group are on standard input, and whether they are enough.
     Status,
@@ -99,6 +104,14 @@ fn option<'a>(alloc: Global, name: &'a str, value: &'a str) -> Arg<'a>
     Arg::new(alloc, name).long(name).value_name(value)
 }
 
+/// A flag.
+fn flag<'a>(alloc: Global, name: &'a str) -> Arg<'a>
+    ensures rule { rule_of result ≡ flag_rule name.now }
+    ensures local { result.global ≡ false }
+{
+    Arg::new(alloc, name).long(name).action(ArgAction::SetTrue)
+}
+
 fn master_secret<'a>(alloc: Global) -> Arg<'a>
     ensures rule { rule_of result ≡ secret_rule }
     ensures local { result.global ≡ false }
@@ -131,10 +144,7 @@ fn extendable<'a>(alloc: Global) -> Arg<'a>
     ensures rule { rule_of result ≡ extendable_rule }
     ensures local { result.global ≡ false }
 {
-    Arg::new(alloc, "extendable")
-        .long("extendable")
-        .action(ArgAction::SetTrue)
-        .help("Leaves the identifier out of the encryption")
+    flag(alloc, "extendable").help("Leaves the identifier out of the encryption")
 }
 
 fn create<'a>(alloc: Global) -> Result<Command<'a>, AllocError>
@@ -159,13 +169,23 @@ fn with_options<'a>(alloc: Global, command: Command<'a>) -> Result<Command<'a>, 
     command.arg(exponent(alloc))?.arg(extendable(alloc))
 }
 
+fn fingerprint<'a>(alloc: Global) -> Arg<'a>
+    ensures rule { rule_of result ≡ fingerprint_rule }
+    ensures local { result.global ≡ false }
+{
+    flag(alloc, "fingerprint").help(
+        "Tells the secret by its fingerprint, eight hexadecimal digits, and not by its own",
+    )
+}
+
 fn recover<'a>(alloc: Global) -> Result<Command<'a>, AllocError>
     ensures app { IfOk result (λ command. app_of command ≡ recover_app) }
     ensures local { IfOk result (λ command. (out-Command command).has_globals ≡ false) }
 {
     Command::new(alloc, "recover")
         .about("Recovers the secret from the mnemonics on standard input")
-        .arg(passphrase(alloc))
+        .arg(passphrase(alloc))?
+        .arg(fingerprint(alloc))
 }
 
 fn after<'a>(alloc: Global) -> Arg<'a>
@@ -193,7 +213,8 @@ fn drill<'a>(alloc: Global) -> Result<Command<'a>, AllocError>
         .about("Tries the quorums of the mnemonics on standard input, a line for each")
         .arg(passphrase(alloc))?
         .arg(after(alloc))?
-        .arg(limit(alloc))
+        .arg(limit(alloc))?
+        .arg(fingerprint(alloc))
 }
 
 fn show<'a>(alloc: Global) -> Command<'a>
@@ -317,6 +338,33 @@ fn create_job<'a>(options: &ArgMatches<'a>) -> Job<'a>
     }
 }
 
+/// The form in which a secret is told, by the flag that was found.
+fn form_of(options: &ArgMatches) -> SecretForm
+    ensures said { one_text (found_of options.now) (codes "fingerprint") ≡ Some (codes "true")
+        → result ≡ SecretForm.Fingerprint }
+    ensures unsaid { one_text (found_of options.now) (codes "fingerprint") ≡ Some (codes "false")
+        → result ≡ SecretForm.Digits }
+{
+    if options.get_flag("fingerprint") {
+        SecretForm::Fingerprint
+    } else {
+        SecretForm::Digits
+    }
+}
+
+/// The job `recover`, from what was found for its arguments.
+#[tactic(auto, unfolding(crate::specs::Command::shamir_app))]
+fn recover_job<'a>(options: &ArgMatches<'a>) -> Job<'a>
+    requires { EntersOne commands (Some (codes "recover", rows_of (found_of options.now))) }
+    ensures gives { Gives (codes "recover") (rows_of (found_of options.now)) result }
+    ensures range { IsInRange result }
+{
+    Job::Recover {
+        passphrase: passphrase_of(options),
+        form: form_of(options),
+    }
+}
+
 /// The job `drill`, from what was found for its arguments.
 #[tactic(auto, unfolding(crate::specs::Command::shamir_app))]
 fn drill_job<'a>(options: &ArgMatches<'a>) -> Job<'a>
@@ -328,6 +376,7 @@ fn drill_job<'a>(options: &ArgMatches<'a>) -> Job<'a>
         passphrase: passphrase_of(options),
         after: options.get_str("after"),
         limit: options.get_one("limit").unwrap(),
+        form: form_of(options),
     }
 }
 
@@ -354,9 +403,7 @@ fn job_of<'a>(name: &str, options: &ArgMatches<'a>) -> Job<'a>
     match name {
         "show" => Job::Show,
         "create" => create_job(options),
-        "recover" => Job::Recover {
-            passphrase: passphrase_of(options),
-        },
+        "recover" => recover_job(options),
         "drill" => drill_job(options),
         "status" => Job::Status,
         "reissue" => reissue_job(options),

@@ -1,13 +1,18 @@
 //! Facts about the definitions, each the contract of a function that does nothing, or only calls other laws.
 ghost use Rattle.std.specs.Prelude.{List, [], ◌∷◌, codes};
 ghost use Rattle.s39_set.specs.Written.{IsWrittenForm};
+ghost use Rattle.s39_tool.specs.declared.secret_form.SecretForm.TheVariants.{Digits, Fingerprint};
 ghost use Rattle.s39_cli.specs.Headline.{ApartDrill, AreCreateWords, AreDrillWords, AreRecoverWords};
 ghost use Rattle.s39_cli.specs.Headline.{IsLimit, JoinedDrill, drill_apart};
-ghost use Rattle.s39_cli.specs.Headline.{CreateWordsAreTaken, CreatedWordsRecover, DrillWordsAreTaken, DrillWordsList};
+ghost use Rattle.s39_cli.specs.Headline.{CreateWordsAreTaken, CreatedWordsRecover, DrillWordsAreTaken, DrillWordsList, OneOutcome};
 ghost use Rattle.s39_cli.specs.Headline.{RecoverWordsAreTaken, RecoverWordsRecover};
 
+use s39_backup::laws::one_plan_reading;
+use s39_set::laws::written_forms;
 use s39_tool::laws::{
-    created_backups_drill, created_backups_recover, one_recover_output, written_mnemonics_recover,
+    created_backups_drill, created_backups_recover, one_create_output, one_drill_output,
+    one_recover_output, one_reissue_output, one_show_output, one_status_output,
+    written_mnemonics_recover,
 };
 
 /// The definition of the command line takes the words of a drill, of a recovery and of a creation, whatever their texts,
@@ -23,34 +28,55 @@ pub fn words_are_taken()
 pub fn there_are_such_words()
     ensures joined { JoinedDrill }
     ensures apart { ApartDrill }
-    ensures drill { AreDrillWords (codes "TREZOR") (codes "0.0") (codes "5")
+    ensures drill { AreDrillWords Digits (codes "TREZOR") (codes "0.0") (codes "5")
         (drill_apart (codes "shamir") (codes "TREZOR") (codes "0.0") (codes "5")) }
-    ensures recover { AreRecoverWords (codes "TREZOR")
+    ensures recover { AreRecoverWords Digits (codes "TREZOR")
         (codes "shamir" ∷ codes "recover" ∷ codes "--passphrase" ∷ codes "TREZOR" ∷ []) }
-    ensures create { AreCreateWords (codes "2of3") (codes "00ff") (codes "TREZOR")
-        (codes "shamir" ∷ codes "create" ∷ codes "--master-secret" ∷ codes "00ff"
+    ensures fingerprints { AreDrillWords Fingerprint (codes "TREZOR") (codes "0.0") (codes "5")
+        (codes "shamir" ∷ codes "drill" ∷ codes "--fingerprint" ∷ codes "--passphrase=TREZOR"
+        ∷ codes "--after=0.0" ∷ codes "--limit=5" ∷ []) }
+    ensures fingerprint { AreRecoverWords Fingerprint (codes "TREZOR")
+        (codes "shamir" ∷ codes "recover" ∷ codes "--fingerprint" ∷ codes "--passphrase"
+        ∷ codes "TREZOR" ∷ []) }
+    ensures create { AreCreateWords (codes "2of3") (codes "00112233445566778899aabbccddeeff")
+        (codes "TREZOR") (codes "shamir" ∷ codes "create" ∷ codes "--master-secret"
+        ∷ codes "00112233445566778899aabbccddeeff"
         ∷ codes "--passphrase" ∷ codes "TREZOR" ∷ codes "2of3" ∷ []) }
     ensures names { IsWrittenForm (codes "0.0") ((0, 0) ∷ []) }
     ensures limit { IsLimit (codes "5") }
 {}
 
+/// A job writes one text for an input, and ends with one exit status.
+pub fn one_outcome()
+    ensures { OneOutcome }
+{
+    one_show_output();
+    one_create_output();
+    one_recover_output();
+    one_drill_output();
+    one_status_output();
+    one_reissue_output();
+    one_plan_reading();
+    written_forms();
+}
+
 /// The words of a drill, on mnemonics of a backup that was created with their passphrase: just the quorums after the given
-/// one are listed, each with the secret.
+/// one are listed, each with the secret in the form that the words ask for.
 pub fn drill_words_list()
     ensures { DrillWordsList }
 {
     created_backups_drill();
 }
 
-/// The words of a recovery, on such mnemonics: the secret's digits are written.
+/// The words of a recovery, on such mnemonics: the secret is written in the form that the words ask for.
 pub fn recover_words_recover()
     ensures { RecoverWordsRecover }
 {
     created_backups_recover();
 }
 
-/// What the words of a creation write, as the input of the words of a recovery with the same passphrase: the secret's
-/// digits are written.
+/// What the words of a creation write, as the input of the words of a recovery with the same passphrase: the secret is
+/// written in the form that these ask for.
 pub fn created_words_recover()
     ensures { CreatedWordsRecover }
 {

@@ -8,7 +8,9 @@ mod delivery;
 pub mod laws;
 mod patient;
 mod runner;
+mod terminal;
 mod work;
 
 pub use command::{Job, NoJob, read_words};
-pub use runner::{Destination, Ended, no_words, program};
+pub use runner::{Destination, Ended, Source, no_words, program};
+pub use terminal::{Watched, with_rest_dropped};

@@ -1,9 +1,10 @@
 //! The program: a command line, a reader and two writers.
-ghost use Rattle.std.specs.Prelude.{◌≡◌, map};
-ghost use Rattle.s39_cli.specs.Ending.{Ends, EndsUnbegun, EndsWithoutJob, IsSilentAtNone, status_in};
+ghost use Rattle.std.specs.Prelude.{◌≡◌, ◌≢◌, map, IfOk, IsFalse, IsTrue};
+ghost use Rattle.std.specs.IoError.{error_kind};
+ghost use Rattle.s39_cli.specs.Ending.{Ends, EndsUnbegun, EndsWithoutJob, IsSilentAtNone, IsTyped, status_in};
 ghost use Rattle.s39_cli.specs.Outcome.{status_of, status_of_refusal};
 
-use crate::command::{NoJob, read_words};
+use crate::command::{Job, NoJob, read_words};
 use crate::delivery::{Finished, by_buffer, by_lines, show, write_failed};
 use crate::work::{Unready, Work};
 use s39_refusal::Cause;
@@ -15,13 +16,22 @@ use std::io::{ErrorKind, Read, Write};
 
 const DONE: u8 = 0;
 
-const REFUSED: u8 = 1;
+pub(crate) const REFUSED: u8 = 1;
 
 const NO_JOB: u8 = 2;
 
 const DEVICE_FAILED: u8 = 3;
 
 const NO_MEMORY: u8 = 4;
+
+/// Where the input of a command comes from.
+#[derive(Clone, Copy, Debug, PartialEq, Eq)]
+pub enum Source {
+    /// From a terminal, at which a person types.
+    Terminal,
+    /// From a file, or from another program.
+    Elsewhere,
+}
 
 /// Where the output of a command goes.
 #[derive(Clone, Copy, Debug, PartialEq, Eq)]
@@ -59,7 +69,7 @@ impl<R: Drop, W: Drop> Ended<R, W> {
 /// |---|---|
 /// | 0 | the command is done, or help was asked for and written |
 /// | 1 | a refusal that isn't a device's, a drill that listed a refused quorum, or a status with too few complete groups |
-/// | 2 | the command line is refused, or the master secret isn't hexadecimal |
+/// | 2 | the command line is refused, the master secret isn't hexadecimal, or random bytes would be typed |
 /// | 3 | a read or a write failed |
 /// | 4 | there is no memory |
 ///
@@ -72,11 +82,12 @@ pub fn program<R: Read + Drop, W: Write + Drop, E: Write>(
     input: R,
     output: W,
     errors: &mut E,
+    source: Source,
     destination: Destination,
 ) -> Ended<R, W>
     // Of readers and writers that tell their bytes.
-    ensures ends { Ends R.remaining W.contents (map (λ word. word.now) words.now) input output
-        result }
+    ensures ends { Ends R.remaining W.contents source (map (λ word. word.now) words.now)
+        input output result }
     // Of any.
     ensures silent { IsSilentAtNone result errors.old errors.new }
 {
@@ -84,6 +95,9 @@ pub fn program<R: Read + Drop, W: Write + Drop, E: Write>(
         Ok(job) => job,
         Err(no_job) => return without_job(no_job, input, output, errors),
     };
+    if is_typed(source, &job) {
+        return typed(input, output, errors);
+    }
     let work = match Work::of(alloc, job) {
         Ok(work) => work,
         Err(unready) => return unbegun(unready, input, output, errors),
@@ -133,6 +147,32 @@ fn without_job<R: Drop, W: Write + Drop, E: Write>(
     }
 }
 
+/// Whether the job creates a backup of which the random bytes would be typed.
+fn is_typed(source: Source, job: &Job) -> bool
+    ensures typed { IsTrue result → IsTyped source job.now }
+    ensures untyped { IsFalse result → IsTyped source job.now → ⊥ }
+{
+    match (source, job) {
+        (Source::Terminal, Job::Create { .. }) => true,
+        _ => false,
+    }
+}
+
+/// Says that random bytes aren't typed.
+fn typed<R: Drop, W: Drop, E: Write>(input: R, output: W, errors: &mut E) -> Ended<R, W>
+    ensures ends { result ≡ Ended.With 2 input output }
+    ensures silent { IsSilentAtNone result errors.old errors.new }
+{
+    let _ = errors.write_all(
+        b"shamir: random bytes aren't typed: hand them in, as by head -c N /dev/urandom | shamir create ..\n",
+    );
+    Ended::With {
+        status: NO_JOB,
+        input,
+        output,
+    }
+}
+
 /// Says why a command can't be begun.
 fn unbegun<R: Drop, W: Drop, E: Write>(
     unready: Unready,
@@ -171,7 +211,8 @@ fn refuse<E: Write>(cause: Cause, errors: &mut E) -> u8
 /// Says what a command answered.
 fn answered<R: Drop, W: Drop, E: Write>(finished: Finished<R, W>, errors: &mut E) -> Ended<R, W>
     ensures ends { result ≡ Ended.With (status_of finished.answer) finished.input finished.output }
-    ensures silent { IsSilentAtNone result errors.old errors.new }
+    ensures silent { IfOk finished.answer (λ is_well. errors.new ≡ errors.old) }
+    ensures silent_at_none { IsSilentAtNone result errors.old errors.new }
 {
     let Finished {
         answer,
@@ -189,7 +230,7 @@ fn answered<R: Drop, W: Drop, E: Write>(finished: Finished<R, W>, errors: &mut E
 /// The exit status of an answer, whose fault is said.
 fn status_of<E: Write>(answer: Result<bool, Fault>, errors: &mut E) -> u8
     ensures status { result ≡ status_of answer }
-    ensures silent { result ≡ 0 → errors.new ≡ errors.old }
+    ensures silent { IfOk answer (λ is_well. errors.new ≡ errors.old) }
 {
     match answer {
         Ok(is_well) => { if is_well { DONE } else { REFUSED } }
@@ -214,7 +255,10 @@ fn report<E: Write>(fault: Fault, errors: &mut E) -> u8
 
 /// Says why the arguments are no words, and gives the exit status: 4 where there is no memory for them, and 2 where
 /// they aren't UTF-8.
-pub fn no_words<E: Write>(error: &io::Error, errors: &mut E) -> u8 {
+pub fn no_words<E: Write>(error: &io::Error, errors: &mut E) -> u8
+    ensures memory { error_kind error.now ≡ ErrorKind.OutOfMemory → result ≡ 4 }
+    ensures other { error_kind error.now ≢ ErrorKind.OutOfMemory → result ≡ 2 }
+{
     if error.kind() == ErrorKind::OutOfMemory {
         return no_memory(errors);
     }
@@ -231,7 +275,9 @@ fn no_memory_left<R, W, E: Write>(errors: &mut E) -> Ended<R, W>
 }
 
 /// Says that there is no memory, without taking any, and gives the exit status.
-fn no_memory<E: Write>(errors: &mut E) -> u8 {
+fn no_memory<E: Write>(errors: &mut E) -> u8
+    ensures { result ≡ 4 }
+{
     let _ = errors.write_all(b"shamir: out of memory\n");
     NO_MEMORY
 }

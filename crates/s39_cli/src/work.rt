@@ -33,6 +33,7 @@ pub(crate) struct Drill<'a> {
     passphrase: &'a [u8],
     after: Option<Quorum>,
     limit: u32,
+    form: SecretForm,
     ghost some: { 1 ≤ limit },
 }
 
@@ -51,7 +52,10 @@ pub(crate) enum Work<'a> {
     /// Creates a backup.
     Create(Creation<'a>),
     /// Recovers a secret.
-    Recover { passphrase: &'a [u8] },
+    Recover {
+        passphrase: &'a [u8],
+        form: SecretForm,
+    },
     /// Tries quorums.
     Drill(Drill<'a>),
     /// Tells what is at hand of each group.
@@ -182,19 +186,22 @@ impl<'a> Work<'a> {
                     },
                 }))
             }
-            Job::Recover { passphrase } => Ok(Work::Recover {
+            Job::Recover { passphrase, form } => Ok(Work::Recover {
                 passphrase: passphrase.as_bytes(),
+                form,
             }),
             Job::Drill {
                 passphrase,
                 after,
                 limit,
+                form,
             } => {
                 let after = cursor_of(after)?;
                 Ok(Work::Drill(Drill {
                     passphrase: passphrase.as_bytes(),
                     after,
                     limit,
+                    form,
                 }))
             }
             Job::Status => Ok(Work::Status),
@@ -233,11 +240,11 @@ impl<'a> Work<'a> {
                 input,
                 output,
             )),
-            Work::Recover { passphrase } => {
-                where_done(run_recover(SecretForm::Digits, passphrase, input, output))
+            Work::Recover { passphrase, form } => {
+                where_done(run_recover(*form, passphrase, input, output))
             }
             Work::Drill(drill) => without_mismatches(run_drill(
-                SecretForm::Digits,
+                drill.form,
                 drill.passphrase,
                 drill.after.as_ref(),
                 drill.limit,

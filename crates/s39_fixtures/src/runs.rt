@@ -1,7 +1,7 @@
 //! Runs of the program.
 
 use crate::devices::Flushing;
-use s39_cli::Destination;
+use s39_cli::{Destination, Source};
 use std::alloc::Global;
 use std::io::{Read, Write};
 use std::test::Fail;
@@ -30,6 +30,7 @@ pub fn program<R: Read + Drop, W: Write + Drop, E: Write + Drop>(
         input,
         output,
         &mut errors,
+        Source::Elsewhere,
         Destination::Elsewhere,
     )
     .status()
@@ -50,6 +51,7 @@ pub fn program_at_terminal<R: Read + Drop, W: Write + Drop, E: Write + Drop>(
         input,
         output,
         &mut errors,
+        Source::Terminal,
         Destination::Terminal,
     )
     .status()

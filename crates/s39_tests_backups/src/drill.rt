@@ -87,7 +87,7 @@ fn lists_quorums_of_the_vectors(rt: HostRuntime) -> Result<(), Fail> {
     let other =
         "duckling enlarge away academic academic academic academic academic academic academic academic academic academic academic academic academic academic hearing level intend";
     let groups = lines(alloc, &[ONE_OF_ONE, other])?;
-    let cases: [(&[&str], &str, &str); 3] = [
+    let cases: [(&[&str], &str, &str); 5] = [
         (
             &[],
             two.as_str(),
@@ -98,6 +98,12 @@ fn lists_quorums_of_the_vectors(rt: HostRuntime) -> Result<(), Fail> {
             &[],
             groups.as_str(),
             "0.0 bb54aac4b89dc868ba37d9cc21b2cece\n1.0 3087802d800510d69662ff7c33626c72\nend\n",
+        ),
+        (&["--fingerprint"], two.as_str(), "0.0+0.2 5f5702dc\nend\n"),
+        (
+            &["--fingerprint", "--limit", "2"],
+            groups.as_str(),
+            "0.0 df41d8fe\n1.0 73aeb1c0\nend\n",
         ),
     ];
     for (options, input, output) in cases {

@@ -35,6 +35,20 @@ fn recovers_from_an_extendable_mnemonic(rt: HostRuntime) -> Result<(), Fail> {
 }
 
 #[test]
+fn tells_fingerprints(rt: HostRuntime) -> Result<(), Fail> {
+    let alloc = rt.alloc();
+    let words = [
+        "shamir",
+        "recover",
+        "--fingerprint",
+        "--passphrase",
+        "TREZOR",
+    ];
+    expect_run(&words, ONE_OF_ONE, alloc, ("df41d8fe\n", "", 0))?;
+    expect_run(&words, ONE_OF_ONE_256_BITS, alloc, ("c1aed5fb\n", "", 0))
+}
+
+#[test]
 fn names_why_there_is_no_secret(rt: HostRuntime) -> Result<(), Fail> {
     let alloc = rt.alloc();
     let one = format!(in alloc; "{TWO_NEEDED_MEMBER_2}\n{TWO_NEEDED_MEMBER_2}")?;

@@ -3,6 +3,7 @@
 use s39_cli::{Job, NoJob, read_words};
 use s39_fixtures::devices::Full;
 use s39_fixtures::{ONE_OF_ONE, WRITE_FAILED_LINE, expect_told, run_on};
+use s39_tool::SecretForm;
 use std::alloc::Global;
 use std::process::Abort;
 use std::test::Fail;
@@ -26,12 +27,24 @@ fn expect_refusals(rt: &impl Abort, alloc: Global, cases: &[&[&str]]) {
 
 #[test]
 fn reads_show_and_recover(rt: HostRuntime) {
-    let empty = Job::Recover { passphrase: "" };
+    let form = SecretForm::Digits;
+    let empty = Job::Recover {
+        passphrase: "",
+        form,
+    };
     let trezor = Job::Recover {
         passphrase: "TREZOR",
+        form,
     };
-    let dashed = Job::Recover { passphrase: "-x" };
-    let cases: [(&[&str], Job); 7] = [
+    let dashed = Job::Recover {
+        passphrase: "-x",
+        form,
+    };
+    let fingerprint = Job::Recover {
+        passphrase: "TREZOR",
+        form: SecretForm::Fingerprint,
+    };
+    let cases: [(&[&str], Job); 9] = [
         (&["shamir", "show"], Job::Show),
         (&["shamir", "recover"], empty),
         (&["shamir", "recover", "--passphrase", "TREZOR"], trezor),
@@ -39,9 +52,20 @@ fn reads_show_and_recover(rt: HostRuntime) {
         (&["shamir", "recover", "--passphrase="], empty),
         (&["shamir", "recover", "--passphrase", ""], empty),
         (&["shamir", "recover", "--passphrase=-x"], dashed),
+        (
+            &["shamir", "recover", "--fingerprint", "--passphrase=TREZOR"],
+            fingerprint,
+        ),
+        (
+            &["shamir", "recover", "--passphrase=TREZOR", "--fingerprint"],
+            fingerprint,
+        ),
     ];
     expect_jobs(&rt, rt.alloc(), &cases);
-    let refused: [&[&str]; 9] = [
+    let refused: [&[&str]; 12] = [
+        &["shamir", "show", "--fingerprint"],
+        &["shamir", "recover", "--fingerprint=df41d8fe"],
+        &["shamir", "recover", "--fingerprint", "--fingerprint"],
         &["shamir", "show", "--verbose"],
         &["shamir", "show", "file"],
         &["shamir", "show", "--passphrase", "TREZOR"],
@@ -153,11 +177,13 @@ fn reads_drill(rt: HostRuntime) {
         passphrase: "",
         after: None,
         limit: 1000,
+        form: SecretForm::Digits,
     };
     let rest = Job::Drill {
         passphrase: "TREZOR",
         after: Some("0.0+1.0"),
         limit: 4_294_967_295,
+        form: SecretForm::Fingerprint,
     };
     let cases: [(&[&str], Job); 2] = [
         (&["shamir", "drill"], first),
@@ -168,6 +194,7 @@ fn reads_drill(rt: HostRuntime) {
                 "--limit=4294967295",
                 "--after",
                 "0.0+1.0",
+                "--fingerprint",
                 "--passphrase",
                 "TREZOR",
             ],

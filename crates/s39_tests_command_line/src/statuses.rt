@@ -49,6 +49,7 @@ Usage: shamir recover [OPTIONS]
 
 Options:
       --passphrase <TEXT>  The passphrase of the backup, by default empty
+      --fingerprint        Tells the secret by its fingerprint, eight hexadecimal digits, and not by its own
   -h, --help               Print help
 ";
 
@@ -60,6 +61,7 @@ Options:
       --passphrase <TEXT>  The passphrase of the backup, by default empty
       --after <Q>          Goes on after this quorum, by default from the first
       --limit <N>          How many quorums are tried at most [default: 1000]
+      --fingerprint        Tells the secret by its fingerprint, eight hexadecimal digits, and not by its own
   -h, --help               Print help
 ";
 

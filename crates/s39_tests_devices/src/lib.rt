@@ -5,3 +5,5 @@
 mod failures;
 #[cfg(test)]
 mod hands;
+#[cfg(test)]
+mod terminal;

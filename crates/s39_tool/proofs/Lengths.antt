@@ -2,3 +2,5 @@
 pub mod NamesShort
 pub mod FirstLines
 pub mod Backups
+pub mod Reissues
+pub mod Statuses

@@ -6,3 +6,4 @@ pub mod OneReissued
 pub mod OfBackups
 pub mod Faults
 pub mod Written
+pub mod Joined

@@ -14,3 +14,7 @@ longest_listing = 2700
 -- so many bytes are enough for the mnemonics of a backup, each with its line feed
 abbrev pub longest_backup : ℕ
 longest_backup = most_names * (longest_text + 1)
+
+-- so many bytes are enough for the lines of a status
+abbrev pub longest_status : ℕ
+longest_status = 1638

@@ -150,7 +150,7 @@ pub(crate) fn write_mnemonics<W: Write>(
     shares: &[Share],
 ) -> Result<(), WriteFailed>
     requires writable { output.old.failures < u64.MAX }
-    requires each { All IsShare shares.now }
+    requires are_shares { All IsShare shares.now }
     ensures { WritesPrinted W.contents output.old shares.now result output.new }
 {
     every_share_has_a_printed_form();
@@ -172,7 +172,7 @@ fn mnemonic_line(share: &Share) -> Line
 
 /// Puts the mnemonics of shares to the front of a slice, each with a line feed behind it, where they fit.
 pub(crate) fn put_mnemonics(shares: &[Share], text: &mut [u8]) -> Result<usize, TooShort>
-    requires each { All IsShare shares.now }
+    requires are_shares { All IsShare shares.now }
     requires few { length shares.now ≤ most_names }
     ensures put { IfOk result (λ written. (lines : List ℕ) × ArePrintedLines shares.now lines
         × IsInFront lines text.old text.new × (written ≡ length lines)) }
@@ -203,7 +203,7 @@ fn length_of(shares: &[Share]) -> usize
 
 /// Puts the mnemonics of shares to the front of a slice, in which they fit.
 fn copy_mnemonics(shares: &[Share], out: &mut [u8])
-    requires each { All IsShare shares.now }
+    requires are_shares { All IsShare shares.now }
     requires room { (text : List ℕ) × ArePrintedLines shares.now text
         × (length text ≤ length out.old) }
     ensures { (text : List ℕ) × ArePrintedLines shares.now text

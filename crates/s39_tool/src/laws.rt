@@ -36,7 +36,10 @@ ghost use Rattle.s39_tool.specs.Slices.{Lists, Puts};
 ghost use Rattle.s39_tool.specs.OfBackup.{HoldsMnemonicsOf, RecoversCreated};
 
 pub use crate::exponent::{every_exponent_is_at_most_15, one_exponent, some_exponent};
-pub use crate::length_laws::{backups_are_short, first_lines_are_short, names_are_short};
+pub use crate::length_laws::{
+    backups_are_short, first_lines_are_short, names_are_short, reissues_are_short,
+    statuses_are_short,
+};
 pub use crate::reissue_laws::{created_backups_reissue, one_reissue_output};
 pub use crate::round_trips::{
     every_backup_is_written, one_output_of_a_backup, written_mnemonics_are_of_the_backup,

@@ -3,6 +3,7 @@ ghost use Rattle.std.specs.Prelude.{◌≡◌, ◌≤◌, ◌++◌, ℕ, List, O
 ghost use Rattle.s39_kdf.specs.Limits.{longest_secret};
 ghost use Rattle.s39_set.specs.Names.{Names, AreNames};
 ghost use Rattle.s39_set.specs.Written.{quorum_text};
+ghost use Rattle.s39_backup.specs.declared.plan.Members.{Members};
 ghost use Rattle.s39_backup.specs.Created.{Asked};
 ghost use Rattle.s39_tool.specs.declared.drill.Done.{Done};
 ghost use Rattle.s39_tool.specs.declared.fault.Fault.{Fault};
@@ -10,9 +11,12 @@ ghost use Rattle.s39_tool.specs.Create.{IsCreateOutput};
 ghost use Rattle.s39_tool.specs.declared.secret_form.SecretForm.TheVariants.{Digits};
 ghost use Rattle.s39_tool.specs.Drill.{IsDrillOutput, quorum_line, last_line};
 ghost use Rattle.s39_tool.specs.Input.{Input};
-ghost use Rattle.s39_tool.specs.Lengths.{longest_names, longest_listing, longest_backup};
+ghost use Rattle.s39_tool.specs.Reissue.{IsReissueOutput};
+ghost use Rattle.s39_tool.specs.Status.{IsStatusOutput};
+ghost use Rattle.s39_set.specs.declared.status.Status.{Status};
+ghost use Rattle.s39_tool.specs.Lengths.{longest_names, longest_listing, longest_backup, longest_status};
 
-use crate::laws::one_checked_set;
+use crate::laws::{accepted_inputs_are_share_sets, one_checked_set};
 use s39_backup::laws::outcomes_in_range;
 use s39_set::laws::written_forms;
 use s39_words::laws::printed_forms;
@@ -45,4 +49,22 @@ pub fn backups_are_short()
         → IsCreateOutput asked input text (Ok tt) → length text ≤ longest_backup }
 {
     printed_forms();
+}
+
+/// The mnemonics that `reissue` writes of names that shares may have take at most 253,440 bytes, with the line feeds.
+pub fn reissues_are_short()
+    ensures { (group_threshold : ℕ) (groups : List Members) (names : Names) (input : Input)
+        (text : List ℕ) → AreNames names
+        → IsReissueOutput group_threshold groups names input text (Ok tt)
+        → length text ≤ longest_backup }
+{
+    printed_forms();
+}
+
+/// The lines that `status` writes take at most 1,638 bytes.
+pub fn statuses_are_short()
+    ensures { (input : Input) (text : List ℕ) (status : Status)
+        → IsStatusOutput input text (Ok status) → length text ≤ longest_status }
+{
+    accepted_inputs_are_share_sets();
 }

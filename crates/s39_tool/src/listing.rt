@@ -56,7 +56,8 @@ pub fn drill_lines(
     text: &mut [u8],
 ) -> Result<Listing, Unwritten>
     requires some { 1 ≤ limit }
-    ensures { Lists (λ n. IsDrillOutput SecretForm.Digits passphrase.now (option_copied after.entry) n (whole lines.now))
+    ensures { Lists (λ n. IsDrillOutput SecretForm.Digits passphrase.now
+        (option_copied after.entry) n (whole lines.now))
         limit text.old text.new result }
 {
     listings_join();

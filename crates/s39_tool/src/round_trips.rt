@@ -88,8 +88,8 @@ pub fn written_mnemonics_recover()
 /// the quorums, each with the secret, and answers no mismatch. Of some of them, in any order and with repeats, blank lines
 /// and comments, it does so after each quorum where they have any, and else answers why none is listed.
 pub fn written_mnemonics_drill()
-    ensures all_lines { (form : SecretForm) (asked : Asked) (random text : List ℕ) (limit : ℕ) (output : List ℕ)
-        (answer : Result Done Fault)
+    ensures all_lines { (form : SecretForm) (asked : Asked) (random text : List ℕ) (limit : ℕ)
+        (output : List ℕ) (answer : Result Done Fault)
         → IsPlan asked.group_threshold asked.groups → IsCreateOutput asked (whole random) text (Ok tt)
         → IsDrillOutput form asked.passphrase None limit (whole text) output answer
         → (set : List ShareFields) × IsReadAs (whole text) (Ok set)
@@ -114,7 +114,9 @@ pub fn written_mnemonics_drill()
 /// `create`, then `reissue`: of some lines that `create` writes for random bytes, in any order and with repeats, blank lines
 /// and comments, `reissue` gives with the same plan the mnemonics of that backup with the names that are asked for, word for
 /// word; or both counts for the first that isn't determined, or that there are no shares. With a plan that has more members
-/// in some groups it gives those of the backup that `create` makes by that plan and the same random bytes.
+/// in some groups it gives those of the backup that `create` makes by that plan and the same random bytes. An input of lines
+/// that `create` wrote and of lines that `reissue` gave, in any order and with repeats, blank lines and comments, holds
+/// mnemonics of one backup of this secret and passphrase, so that every quorum of them recovers it.
 pub fn written_mnemonics_reissue()
     ensures same_plan { (asked : Asked) (random text bytes : List ℕ) (names : Names)
         (output : List ℕ) (answer : Result (Unit {0}) Fault)
@@ -136,6 +138,17 @@ pub fn written_mnemonics_reissue()
         → (others : List ShareFields) × IsCreation (record asked { groups = larger }) random (Ok others)
         × ((set : List ShareFields) × IsReadAs (whole bytes) (Ok set)
         × WritesThoseOrCause set asked.group_threshold larger others names output answer) }
+    ensures joined { (asked : Asked) (larger : List Members) (random text bytes : List ℕ)
+        (names : Names) (output more : List ℕ)
+        → IsPlan asked.group_threshold asked.groups → IsPlan asked.group_threshold larger
+        → HaveMoreMembers asked.groups larger → AreBytes asked.secret → AreBytes random
+        → IsCreateOutput asked (whole random) text (Ok tt)
+        → All (λ line. Holds line None ⊎ Contains (lines_of (whole text)) line) (lines_of (whole bytes))
+        → All (IsNameOfPlan larger) names
+        → IsReissueOutput asked.group_threshold larger names (whole bytes) output (Ok tt)
+        → All (λ line. Holds line None ⊎ (Contains (lines_of (whole text)) line
+        ⊎ Contains (lines_of (whole output)) line)) (lines_of (whole more))
+        → HoldsMnemonicsOf asked.passphrase asked.secret (whole more) }
 {
     printed_forms();
     larger_plans_keep_the_shares();

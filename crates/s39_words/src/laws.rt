@@ -171,7 +171,7 @@ pub fn every_mnemonic_can_be_mistyped()
     ensures some { (mnemonic : List ℕ) (wrong : ℕ) → IsMnemonic mnemonic → 1 ≤ wrong → wrong ≤ 3
         → (text : List ℕ) × (mistyped : IsMistyped text mnemonic)
         × (count_of_differences mistyped.words mnemonic ≡ wrong) }
-    ensures each { (text mnemonic words : List ℕ) → HaveIndices (words_of text) words
+    ensures mistyped { (text mnemonic words : List ℕ) → HaveIndices (words_of text) words
         → length words ≡ length mnemonic → flag_of words ≡ flag_of mnemonic
         → 1 ≤ count_of_differences words mnemonic → count_of_differences words mnemonic ≤ 3
         → IsMistyped text mnemonic }

@@ -1,7 +1,7 @@
 //! The program `shamir`: SLIP-0039 backups on the command line.
 #![tactic(auto)]
 
-use s39_cli::{Destination, no_words, program};
+use s39_cli::{Destination, Source, Watched, no_words, program, with_rest_dropped};
 use std::alloc::{AllocError, Global};
 use std::io::IsTerminal;
 use std::process::ExitCode;
@@ -25,7 +25,21 @@ fn status(rt: &HostRuntime) -> io::Result<u8> {
         Destination::Elsewhere
     };
     let errors = &mut rt.stderr();
-    Ok(program(alloc, &words, input, output, errors, destination).status())
+    if !input.is_terminal() {
+        let source = Source::Elsewhere;
+        return Ok(program(alloc, &words, input, output, errors, source, destination).status());
+    }
+    let input = Watched::new(input);
+    let ended = program(
+        alloc,
+        &words,
+        input,
+        output,
+        errors,
+        Source::Terminal,
+        destination,
+    );
+    Ok(with_rest_dropped(ended, errors).status())
 }
 
 fn main(rt: HostRuntime) -> ExitCode {

@@ -44,7 +44,8 @@ drill_ends set passphrase reached limit listing none = record {
 
 module _ (laws : DrillLaws) (set : List ShareFields) (passphrase : List ℕ) where
   -- a quorum and its outcome, and then the drill after it
-  pub drill_step : {form : SecretForm} (reached : Option Names) (limit : ℕ) (names : Names) (outcome : Result (List ℕ) Mismatch) (text : List ℕ) (more : Option Names) (m : ℕ)
+  pub drill_step : {form : SecretForm} (reached : Option Names) (limit : ℕ) (names : Names) (outcome : Result (List ℕ) Mismatch)
+      (text : List ℕ) (more : Option Names) (m : ℕ)
       → IsFirstQuorumAfter set reached names → IsOutcome set names passphrase outcome → IsDrill form set passphrase (Some names) limit text more m
       → IsDrill form set passphrase reached (suc limit) (quorum_line form (names, outcome) ++ text) more (mismatch_in outcome + m)
   drill_step {form} reached limit names outcome text more m first is d = record {
@@ -58,7 +59,8 @@ module _ (laws : DrillLaws) (set : List ShareFields) (passphrase : List ℕ) whe
 
   module _ (is : IsShareSet set) where
     -- the limit is reached, and a quorum is left
-    pub drill_stops : {form : SecretForm} (names next : Names) → IsFirstQuorumAfter set (Some names) next → IsDrill form set passphrase (Some names) 0 [] (Some names) 0
+    pub drill_stops : {form : SecretForm} (names next : Names) → IsFirstQuorumAfter set (Some names) next
+        → IsDrill form set passphrase (Some names) 0 [] (Some names) 0
     drill_stops names next first =
         let (listed, l) = laws.exists set (Some names) 0 is in record {
           lines = [];
@@ -86,8 +88,8 @@ module _ (laws : DrillLaws) (set : List ShareFields) (passphrase : List ℕ) whe
       pub mismatches : ℕ
       pub drill : IsDrill form set passphrase reached limit text more mismatches
 
-    pub drill_from : {form : SecretForm} (reached : Option Names) (names : Names) (limit : ℕ) → IsFirstQuorumAfter set reached names → SomeDrill form (Some names) limit
-        → SomeDrill form reached (suc limit)
+    pub drill_from : {form : SecretForm} (reached : Option Names) (names : Names) (limit : ℕ) → IsFirstQuorumAfter set reached names
+        → SomeDrill form (Some names) limit → SomeDrill form reached (suc limit)
     drill_from {form} reached names limit first d =
         let (outcome, o) = laws.outcome set names passphrase is first.quorum in record {
           text = quorum_line form (names, outcome) ++ d.text;
@@ -123,8 +125,8 @@ module _ (laws : DrillLaws) (set : List ShareFields) (passphrase : List ℕ) whe
     some_drill_of form reached limit = drill_or_end reached limit (λ next. some_drill next limit) (next_or_none reached)
 
 -- the drill after the last listed quorum has no line
-pub drill_over : {form : SecretForm} (laws : DrillLaws) (set : List ShareFields) (passphrase : List ℕ) → IsShareSet set → (names : Names) (next : Option Names) (left : ℕ)
-    → IsNext set (Some names) next
+pub drill_over : {form : SecretForm} (laws : DrillLaws) (set : List ShareFields) (passphrase : List ℕ) → IsShareSet set
+    → (names : Names) (next : Option Names) (left : ℕ) → IsNext set (Some names) next
     → (left ≡ 0) ⊎ (is_some next ≡ false) → IsDrill form set passphrase (Some names) left [] (more_after names next) 0
 drill_over laws set passphrase is names None left none over = drill_ends set passphrase (Some names) left (laws.none set (Some names) left none) none
 drill_over {form} laws set passphrase is names (Some next) left first (inl reached) =
@@ -151,7 +153,8 @@ pub record IsDrilling {W : Type 0} (contents : W → Option (List ℕ)) (old new
       × ((rest : List ℕ) (more : Option Names) (m : ℕ) → IsDrill form set passphrase reached left rest more m
       → IsDrill form set passphrase after limit (text ++ rest) more (mismatches + m))
 
-module _ {W : Type 0} {contents : W → Option (List ℕ)} {old : Counted W} {form : SecretForm} {set : List ShareFields} {passphrase : List ℕ} {start : Names} {limit : ℕ} where
+module _ {W : Type 0} {contents : W → Option (List ℕ)} {old : Counted W} {form : SecretForm}
+    {set : List ShareFields} {passphrase : List ℕ} {start : Names} {limit : ℕ} where
   pub drilling_starts : IsQuorum set start → IsDrilling contents old old form set passphrase start limit start limit 0
   drilling_starts is = record {
     text = [];

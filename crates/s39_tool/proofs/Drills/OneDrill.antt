@@ -107,7 +107,8 @@ module _ (parts : (set : List ShareFields) (given : Option Names) (limit more : 
       (subst (λ n. IsListing set (Some n) more others) same q))
 
   -- a drill up to a quorum, and the drill after that one, are one drill
-  pub drills_join : {form : SecretForm} (passphrase : List ℕ) (after : Option Names) (limit extra : ℕ) (text others : List ℕ) (names : Names) (more : Option Names) (m n : ℕ)
+  pub drills_join : {form : SecretForm} (passphrase : List ℕ) (after : Option Names) (limit extra : ℕ) (text others : List ℕ)
+      (names : Names) (more : Option Names) (m n : ℕ)
       → IsDrill form set passphrase after limit text (Some names) m → IsDrill form set passphrase (Some names) extra others more n
       → IsDrill form set passphrase after (limit + extra) (text ++ others) more (m + n)
   drills_join {form} passphrase after limit extra text others names more m n p q =

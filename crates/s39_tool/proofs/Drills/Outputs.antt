@@ -117,7 +117,8 @@ module _ (laws : DrillLaws) (no_lack : SetsWithQuorumsHaveNone)
         | inr (lack, lacks) ↦ (Err (Lack lack), lacks)
       ]
 
-  pub some_drill_of_set : (form : SecretForm) (passphrase : List ℕ) (after : Option Names) (limit : ℕ) → AtLeastOne (WritesDrillOf form passphrase after (suc limit) set)
+  pub some_drill_of_set : (form : SecretForm) (passphrase : List ℕ) (after : Option Names) (limit : ℕ)
+      → AtLeastOne (WritesDrillOf form passphrase after (suc limit) set)
   some_drill_of_set form passphrase after limit =
       let d = some_drill_of laws set passphrase is form after limit in
       then_some (IsDrillable set after) _ _ (drillable_or_not after)

@@ -42,7 +42,7 @@ shares_few params threshold count group (g ∷ gs) (s ∷ ss) (p ∷ ps) (v ∷ 
     )
 
 module _ (printed_short : (share : ShareFields) (text : List ℕ) → IsPrinted text share → length text ≤ longest_text) where
-  lines_short : (shares : List ShareFields) (lines : List (List ℕ)) → AllZip IsPrinted lines shares
+  pub lines_short : (shares : List ShareFields) (lines : List (List ℕ)) → AllZip IsPrinted lines shares
       → length (flat_map ended_line lines) ≤ (longest_text + 1) * length shares
   lines_short [] [] printed = omega arith
   lines_short [] (line ∷ lines) printed = absurd printed

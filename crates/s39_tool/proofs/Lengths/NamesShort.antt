@@ -8,7 +8,7 @@ use Rattle.std.proofs.lemmas.List.Elements.{All-map}
 use Rattle.s39_lists.proofs.Images.{Contains-map}
 use Rattle.s39_lists.proofs.Pairs.{AllPairs-map}
 use Rattle.s39_lists.proofs.Ranges.{Contains-range, range-ascending, range-below}
-use Rattle.s39_lists.proofs.Sublists.{IsSublist, none, keeps, leaves}
+use Rattle.s39_lists.proofs.Sublists.{IsSublist, none, keeps, leaves, length-sublist}
 use Rattle.s39_set.specs.Names.{Name, Names, name_cmp, IsAscending, AreNames, most_groups, most_members, most_names}
 use Rattle.s39_set.specs.Written.{name_text, quorum_text}
 use Rattle.s39_set.proofs.Ascending.{name_cmp_groups, member-less, names-sublist}
@@ -63,12 +63,12 @@ among n name low within =
 -- ---- their lengths
 
 -- the bytes of the written forms of names, and one behind each
-abbrev bytes_of : Names → ℕ
+abbrev pub bytes_of : Names → ℕ
 bytes_of [] = 0
 bytes_of (name ∷ names) = length (name_text name) + 1 + bytes_of names
 
 -- a plus sign stands behind each but the last
-length-quorum_text : (names : Names) → length (quorum_text names) ≤ bytes_of names - 1
+pub length-quorum_text : (names : Names) → length (quorum_text names) ≤ bytes_of names - 1
 length-quorum_text [] = omega arith
 length-quorum_text (name ∷ []) = omega arith
 length-quorum_text (name ∷ next ∷ names) =
@@ -76,7 +76,7 @@ length-quorum_text (name ∷ next ∷ names) =
     omega (arith, rest, length-append (name_text name) (43 ∷ quorum_text (next ∷ names)))
 
 -- a part has no more
-bytes_of-sublist : {ys xs : Names} → IsSublist ys xs → bytes_of ys ≤ bytes_of xs
+pub bytes_of-sublist : {ys xs : Names} → IsSublist ys xs → bytes_of ys ≤ bytes_of xs
 bytes_of-sublist none = omega arith
 bytes_of-sublist (keeps s) = let rest = bytes_of-sublist s in omega arith
 bytes_of-sublist (leaves s) = let rest = bytes_of-sublist s in omega arith
@@ -98,3 +98,14 @@ pub names_short : (names : Names) → AreNames names → length (quorum_text nam
 names_short names are =
     short most_names longest_names bytes_of-all names are
     (λ k d within. let group = are.groups k d within in let member = are.members k d within in among most_names (get_or names k d) member (omega arith))
+
+-- they are a part of all
+pub part_of_all : (names : Names) → AreNames names → IsSublist names all_names
+part_of_all names are =
+    names-sublist all_names names (below-ascending most_names) are.ascending
+    (λ k d within. let group = are.groups k d within in let member = are.members k d within in among most_names (get_or names k d) member (omega arith))
+
+-- so there are no more than all
+pub names_few : (names : Names) → AreNames names → length names ≤ most_names
+names_few names are =
+    let few = length-sublist (part_of_all names are) in let number : length all_names ≡ most_names = refl in omega (arith, few, number)

@@ -21,11 +21,11 @@ use Rattle.s39_tool.specs.OfBackup.{HoldsNothingOrOneOf}
 use Rattle.s39_tool.specs.Reissue.{IsReissueOutput, ReissuesCreated, WritesThoseOrCause}
 use Rattle.s39_tool.proofs.Sets.WrittenLines.{some_of_text_hold}
 
--- a line that holds a mnemonic of a part of a backup holds one of the backup
-part_holds : (groups : List Members) (shares others : List ShareFields) → ArePartOf groups shares others → (line : List ℕ)
+-- a line that holds a mnemonic of one of these shares holds one of those, where all of these are among those
+pub among_holds : (shares others : List ShareFields) → ((share : ShareFields) → Contains shares share → Contains others share) → (line : List ℕ)
     → HoldsNothingOrOneOf shares line → HoldsNothingOrOneOf others line
-part_holds groups shares others part line (None, holds, none) = (None, holds, tt)
-part_holds groups shares others part line (Some share, holds, among) = (Some share, holds, ((part share).0 among).0)
+among_holds shares others so line (None, holds, none) = (None, holds, tt)
+among_holds shares others so line (Some share, holds, among) = (Some share, holds, so share among)
 
 abbrev AreSome : List ℕ → List ℕ → Type 0
 AreSome text bytes = All (λ line. Holds line None ⊎ Contains (lines_of (whole text)) line) (lines_of (whole bytes))
@@ -77,6 +77,7 @@ module _ (first : (share : ShareFields) (text : List ℕ) → IsPrinted text sha
         let created : IsCreation (record asked { groups = larger }) random (Ok others) =
         (creates.0, creates.1, creates.2 ∙ needed_alike asked.group_threshold asked.groups larger (length asked.secret) more, also) in
         let lines =
-        All-weaker (HoldsNothingOrOneOf shares) (HoldsNothingOrOneOf others) (part_holds asked.groups shares others part) (lines_of (whole bytes))
+        All-weaker (HoldsNothingOrOneOf shares) (HoldsNothingOrOneOf others) (among_holds shares others (λ share among. ((part share).0 among).0))
+        (lines_of (whole bytes))
         (some_of_text_hold first letters short shares text bytes printed each) in
         (created, of_lines larger others plan created lines named reissued)

@@ -65,7 +65,7 @@ module _ (first : (share : ShareFields) (text : List ℕ) → IsPrinted text sha
   lines_are shares text p = ap parts_of p.text_is ∙ parts_of_lines p.lines (without_line_feeds p.lines shares p.printed)
 
   -- each holds one of them, or nothing
-  text_holds : (shares : List ShareFields) (text : List ℕ) → ArePrintedLines shares text → All (HoldsNothingOrOneOf shares) (lines_of (whole text))
+  pub text_holds : (shares : List ShareFields) (text : List ℕ) → ArePrintedLines shares text → All (HoldsNothingOrOneOf shares) (lines_of (whole text))
   text_holds shares text p =
       rw (lines_are shares text p)
       (All-push (HoldsNothingOrOneOf shares) p.lines [] (lines_hold shares p.lines shares p.printed (All-contains_itself shares))

@@ -2,7 +2,7 @@ use Rattle.std.proofs.Common.{ap, codes, is_some, refl, subst, ◌∙◌, ◌≤
 use Rattle.clap.specs.Words.{found_of, rows_of}
 use Rattle.clap.proofs.WalkLemmas.{first_value-rows}
 use Rattle.s39_clap.specs.Found.{HasNumber}
-use Rattle.s39_cli.proofs.Jobs.{limit_there}
+use Rattle.s39_cli.proofs.Jobs.{drill_form_there, limit_there}
 use Rattle.s39_cli.proofs.command.drill_job.Goals as goal
 
 pub unwrap-requires : goal.unwrap-requires
@@ -17,6 +17,7 @@ returns-clause-gives c =
       c.passphrase_of.ensures,
       c.get_str.ensures ∙ first_value-rows f (codes "after"),
       subst (HasNumber (codes "limit") (rows_of f)) same limit.3,
+      drill_form_there f c.form_of.result c.requires c.form_of.ensures.said c.form_of.ensures.unsaid,
     )
 
 pub returns-clause-range : goal.returns-clause-range

@@ -12,7 +12,7 @@ put-requires c =
     let (line, of_share, items) = c.mnemonic_line-line.ensures in
     let (all, every, room) = c.requires.room in
     let (rest, others) = printed_rest c.args.shares.now c.loop-share.share-index c.share-item.result text line c.loop-share-test.true c.share-item.is printed
-    of_share c.every_share_has_a_printed_form.ensures c.requires.each in
+    of_share c.every_share_has_a_printed_form.ensures c.requires.are_shares in
     let same : length all ≡ length (text ++ (ended_line line ++ rest)) =
     ap length (text_once c.one_printed_form.ensures c.args.shares.now all (text ++ (ended_line line ++ rest)) every others) in
     let parts : length all ≡ length text + (length (ended_line line) + length rest) =

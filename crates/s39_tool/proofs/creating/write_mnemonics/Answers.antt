@@ -24,7 +24,7 @@ returns-in_err-write_text g c =
     let (line, is, items) = c.mnemonic_line.ensures in
     let all : c.as_slice.result.now ≡ ended_line line = c.as_slice.ensures.value ∙ items in
     let (rest, whole) = printed_rest c.args.shares.now c.loop-share.share-index c.share-item.result text line c.loop-share-test.true c.share-item.is printed is
-    c.every_share_has_a_printed_form.ensures c.requires.each in
+    c.every_share_has_a_printed_form.ensures c.requires.are_shares in
     rw p.1 (
       text ++ (ended_line line ++ rest),
       whole,

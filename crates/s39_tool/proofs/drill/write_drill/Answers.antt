@@ -34,8 +34,8 @@ module _ (g : Over) (c : After-write_text g) where
       c.loop-outcome.quorum (suc (c.loop-outcome.left - 1)) c.loop-outcome.mismatches
   drilling =
       let inv = c.loop-outcome.invariant in
-      subst (λ n. IsDrilling g.W.Write.contents c.args.output.now c.loop-outcome.output c.args.form c.args.set.now c.args.passphrase.now c.args.start c.args.limit
-      c.loop-outcome.quorum n c.loop-outcome.mismatches) (omega (arith, inv.some)) inv.drilling
+      subst (λ n. IsDrilling g.W.Write.contents c.args.output.now c.loop-outcome.output c.args.form c.args.set.now c.args.passphrase.now
+      c.args.start c.args.limit c.loop-outcome.quorum n c.loop-outcome.mismatches) (omega (arith, inv.some)) inv.drilling
 
   is_outcome : IsOutcome c.args.set.now c.loop-outcome.quorum c.args.passphrase.now outcome
   is_outcome =

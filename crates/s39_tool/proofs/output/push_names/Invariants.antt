@@ -1,4 +1,4 @@
-use Rattle.std.proofs.Common.{◌≡◌, ℕ, ◌+◌, ◌*◌, ◌≤◌, ◌∷◌, ◌++◌, length, take}
+use Rattle.std.proofs.Common.{◌≡◌, ◌+◌, ◌*◌, ◌≤◌, ◌∷◌, ◌++◌, length, take}
 use Rattle.s39_set.specs.Names.{Name}
 use Rattle.s39_set.specs.Written.{quorum_text}
 use Rattle.s39_tool.proofs.output.push_names.Given as goal

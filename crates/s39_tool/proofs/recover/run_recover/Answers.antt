@@ -58,10 +58,12 @@ pub returns-in_err-set-clause-created : goal.returns-in_err-set-clause-created
 returns-in_err-set-clause-created g c = Runs-map (returns-in_err-set-clause-runs g c) (c.created_backups_recover.ensures c.args.form c.args.passphrase.now)
 
 pub returns-in_err-secret-clause-created : goal.returns-in_err-secret-clause-created
-returns-in_err-secret-clause-created g c = Runs-map (returns-in_err-secret-clause-runs g c) (c.created_backups_recover.ensures c.args.form c.args.passphrase.now)
+returns-in_err-secret-clause-created g c =
+    Runs-map (returns-in_err-secret-clause-runs g c) (c.created_backups_recover.ensures c.args.form c.args.passphrase.now)
 
 pub returns-in_err-write_text-clause-created : goal.returns-in_err-write_text-clause-created
-returns-in_err-write_text-clause-created g c = Runs-map (returns-in_err-write_text-clause-runs g c) (c.created_backups_recover.ensures c.args.form c.args.passphrase.now)
+returns-in_err-write_text-clause-created g c =
+    Runs-map (returns-in_err-write_text-clause-runs g c) (c.created_backups_recover.ensures c.args.form c.args.passphrase.now)
 
 pub returns-clause-created : goal.returns-clause-created
 returns-clause-created g c = Runs-map (returns-clause-runs g c) (c.created_backups_recover.ensures c.args.form c.args.passphrase.now)

@@ -6,7 +6,8 @@ use Rattle.s39_cli.proofs.work.Work.of.Goals as goal
 pub returns-in_err-after-in-Drill-clause-refused : goal.returns-in_err-after-in-Drill-clause-refused
 returns-in_err-after-in-Drill-clause-refused c =
     let p = err_from_is_err_and c.from_residual-in_err-after-in-Drill.result c.from_residual-in_err-after-in-Drill.ensures.1 in
-    rw (p.1, p.2) (bad_cursor c.args.job c.in-Drill.passphrase c.in-Drill.after c.in-Drill.limit c.in-Drill.is c.in_err-after-in-Drill.ensures.refused)
+    rw (p.1, p.2) (bad_cursor c.args.job c.in-Drill.passphrase c.in-Drill.after c.in-Drill.limit c.in-Drill.form c.in-Drill.is
+    c.in_err-after-in-Drill.ensures.refused)
 
 pub returns-in_ok-plan-in-Create-clause-work : goal.returns-in_ok-plan-in-Create-clause-work
 returns-in_ok-plan-in-Create-clause-work c = rw c.in-Create.is (
@@ -27,6 +28,7 @@ returns-in_ok-after-in-Drill-clause-work c = rw c.in-Drill.is (
     passphrase_is = c.as_bytes-in-Drill.ensures.value;
     cursor = c.in_ok-after-in-Drill.ensures.cursor;
     limit_is = refl;
+    form_is = refl;
   },
 )
 

@@ -1,6 +1,5 @@
 use Rattle.std.proofs.Common.{ℕ, List, Option, refl, subst, sym}
 use Rattle.s39_set.specs.Names.{Names}
-use Rattle.s39_tool.specs.declared.secret_form.SecretForm.TheVariants.{Digits}
 use Rattle.s39_tool.specs.Create.{IsCreateOutput}
 use Rattle.s39_tool.specs.Drill.{IsDrillOutput}
 use Rattle.s39_tool.specs.Recover.{IsRecoverOutput}
@@ -47,9 +46,10 @@ returns-in-Create g c =
 pub returns-in-Recover : goal.returns-in-Recover
 returns-in-Recover g c =
     let passphrase = c.in-Recover.passphrase in
+    let form = c.in-Recover.form in
     subst (λ (w : Work). Runs g.R.Read.remaining g.W.Write.contents (IsWorkOutput w) c.args.input.now c.run_recover.new.input c.args.output.now
     c.run_recover.new.output c.where_done-in-Recover.result) (sym c.in-Recover.is)
-    (Runs-judged g.R.Read.remaining g.W.Write.contents where_done (IsRecoverOutput Digits passphrase.now) (IsWorkOutput (work.Recover passphrase))
+    (Runs-judged g.R.Read.remaining g.W.Write.contents where_done (IsRecoverOutput form passphrase.now) (IsWorkOutput (work.Recover passphrase form))
     c.args.input.now c.run_recover.new.input c.args.output.now c.run_recover.new.output c.run_recover.result
     c.where_done-in-Recover.result c.run_recover.ensures.runs c.where_done-in-Recover.ensures
     (λ input text full output. (full, output, refl)))
@@ -59,10 +59,10 @@ returns-in-Drill g c =
     let drill = c.in-Drill.drill in
     subst (λ (w : Work). Runs g.R.Read.remaining g.W.Write.contents (IsWorkOutput w) c.args.input.now c.run_drill.new.input c.args.output.now
     c.run_drill.new.output c.without_mismatches.result) (sym c.in-Drill.is)
-    (Runs-judged g.R.Read.remaining g.W.Write.contents without_mismatches (IsDrillOutput Digits drill.passphrase.now drill.after drill.limit)
+    (Runs-judged g.R.Read.remaining g.W.Write.contents without_mismatches (IsDrillOutput drill.form drill.passphrase.now drill.after drill.limit)
     (IsWorkOutput (work.Drill drill)) c.args.input.now c.run_drill.new.input c.args.output.now c.run_drill.new.output c.run_drill.result
     c.without_mismatches.result
-    (subst (λ (after : Option Names). Runs g.R.Read.remaining g.W.Write.contents (IsDrillOutput Digits drill.passphrase.now after drill.limit)
+    (subst (λ (after : Option Names). Runs g.R.Read.remaining g.W.Write.contents (IsDrillOutput drill.form drill.passphrase.now after drill.limit)
     c.args.input.now c.run_drill.new.input c.args.output.now c.run_drill.new.output c.run_drill.result) c.as_ref.ensures.value c.run_drill.ensures.runs)
     c.without_mismatches.ensures (λ input text full output. (full, output, refl)))
 

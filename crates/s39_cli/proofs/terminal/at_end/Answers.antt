@@ -1,0 +1,6 @@
+use Rattle.std.proofs.Common.{[]}
+use Rattle.std.proofs.KnownBytes.{Consumes-nil}
+use Rattle.s39_cli.proofs.terminal.at_end.Goals as goal
+
+pub returns-then-not-waits-clause-further : goal.returns-then-not-waits-clause-further
+returns-then-not-waits-clause-further g c = ([], Consumes-nil (g.R.Read.remaining c.args.input.input))

@@ -1,0 +1,110 @@
+//! A reader at a terminal: what is typed or pasted behind a refusal is dropped, so that no shell gets it.
+ghost use Rattle.std.specs.Prelude.{◌≡◌};
+ghost use Rattle.s39_cli.specs.Ending.{OnEnd};
+ghost use Rattle.s39_cli.specs.Terminal.{ConsumesMore, EndsAlike};
+
+use crate::runner::{Ended, REFUSED};
+use std::io;
+use std::io::{ErrorKind, Read, Write};
+
+/// How far a reader was read.
+#[derive(Clone, Copy, Debug, PartialEq, Eq)]
+enum Progress {
+    /// It was never asked.
+    Unread,
+    /// It was asked, and its end hasn't come.
+    Begun,
+    /// Its end came, or it failed.
+    Ended,
+}
+
+/// A reader that knows whether its end came, or it failed. It gives the bytes that the reader below it gives.
+#[derive(Drop)]
+pub struct Watched<R> {
+    input: R,
+    progress: Progress,
+}
+
+impl<R: Read> Watched<R> {
+    /// The reader, which wasn't asked yet.
+    pub fn new(input: R) -> Watched<R>
+        ensures { result.input ≡ input }
+    {
+        Watched {
+            input,
+            progress: Progress::Unread,
+        }
+    }
+}
+
+impl<R: Read> Read for Watched<R> {
+    ghost remaining = { λ watched. R.remaining watched.input };
+
+    fn read(&mut self, buf: &mut [u8]) -> io::Result<usize> {
+        let answer = self.input.read(buf);
+        self.progress = match answer {
+            Ok(0) if !buf.is_empty() => Progress::Ended,
+            Err(ref error) if error.kind() != ErrorKind::Interrupted => Progress::Ended,
+            _ => Progress::Begun,
+        };
+        answer
+    }
+}
+
+/// Reads and drops what is still typed or pasted behind a run that was refused before the end of its input, or before it
+/// read, until that end comes, and says so first on `errors`. The status and the output stay as they are. Behind help, and
+/// behind a refused command line, nothing is read.
+pub fn with_rest_dropped<R: Read + Drop, W: Drop, E: Write>(
+    ended: Ended<Watched<R>, W>,
+    errors: &mut E,
+) -> Ended<Watched<R>, W>
+    ensures alike { EndsAlike (λ watched. R.remaining watched.input) ended result }
+    ensures done { OnEnd ended (λ status read_to written_to. status ≡ 0
+        → (result ≡ ended) × (errors.new ≡ errors.old)) }
+{
+    match ended {
+        Ended::With {
+            status,
+            input,
+            output,
+        } => Ended::With {
+            status,
+            input: at_end(status, input, errors),
+            output,
+        },
+        Ended::NoMemory => Ended::NoMemory,
+    }
+}
+
+/// The reader at its end, if that hasn't come, and it was begun or a run was refused before it read.
+fn at_end<R: Read, E: Write>(status: u8, input: Watched<R>, errors: &mut E) -> Watched<R>
+    ensures further { ConsumesMore (R.remaining input.input) (R.remaining result.input) }
+    ensures done { status ≡ 0 → (result ≡ input) × (errors.new ≡ errors.old) }
+{
+    let waits = match input.progress {
+        Progress::Unread => status == REFUSED,
+        Progress::Begun => status != 0,
+        Progress::Ended => false,
+    };
+    if !waits {
+        return input;
+    }
+    let mut input = input;
+    let _ = errors.write_all(b"shamir: the rest of the input is dropped: end it with Ctrl-D\n");
+    drop_rest(&mut input);
+    input
+}
+
+/// Reads and drops all until the end, or until a read fails.
+fn drop_rest<R: Read>(input: &mut Watched<R>)
+    ensures { ConsumesMore (R.remaining input.old.input) (R.remaining input.new.input) }
+{
+    let mut dropped = [0; 1024];
+    for _ in 0..u64::MAX {
+        match input.read(&mut dropped) {
+            Ok(0) => return,
+            Err(error) if error.kind() != ErrorKind::Interrupted => return,
+            _ => {}
+        }
+    }
+}

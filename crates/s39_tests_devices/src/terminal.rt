@@ -1,0 +1,96 @@
+//! A terminal: what is typed behind a fault is dropped, and random bytes aren't typed.
+
+use s39_cli::{Destination, Watched, program, with_rest_dropped};
+use s39_fixtures::devices::Source;
+use s39_fixtures::{ONE_OF_ONE, RECOVER, SECRET, TWO_NEEDED_MEMBER_2, create, lines};
+use std::alloc::Global;
+use std::process::Abort;
+use std::test::Fail;
+
+const ALL: usize = usize::MAX;
+
+/// The words at a terminal, whose input comes in pieces of so many bytes, by so many reads that don't fail: what is said, the
+/// status, and the reads.
+fn expect_reads(
+    rt: &impl Abort,
+    alloc: Global,
+    words: &[&str],
+    (input, piece, good_calls): (&str, usize, usize),
+    (told, status, calls): (&str, u8, usize),
+) {
+    let mut device = Source::new(input.as_bytes(), piece, good_calls);
+    let mut errors = Vec::new(alloc);
+    let ended = program(
+        alloc,
+        words,
+        Watched::new(&mut device),
+        Vec::new(alloc),
+        &mut errors,
+        s39_cli::Source::Terminal,
+        Destination::Elsewhere,
+    );
+    let answered = with_rest_dropped(ended, &mut errors).status();
+    assert_eq!(rt; (answered, device.calls), (status, calls), "{words:?}");
+    assert_eq!(rt; errors.as_slice(), told.as_bytes(), "{words:?}");
+}
+
+#[test]
+fn drops_what_is_typed_behind_a_fault(rt: HostRuntime) -> Result<(), Fail> {
+    let alloc = rt.alloc();
+    let refused = lines(alloc, &["ducklin", ONE_OF_ONE, ONE_OF_ONE])?;
+    let input = refused.as_str();
+    let told = "shamir: line 1: 11 unknown word 1
+shamir: the rest of the input is dropped: end it with Ctrl-D\n";
+    let reads = input.len() + 1;
+    expect_reads(&rt, alloc, &RECOVER, (input, 4096, ALL), (told, 1, 2));
+    expect_reads(&rt, alloc, &RECOVER, (input, 1, ALL), (told, 1, reads));
+    // A read fails behind the fault.
+    expect_reads(&rt, alloc, &RECOVER, (input, 8, 2), (told, 1, 3));
+    Ok(())
+}
+
+#[test]
+fn drops_what_is_typed_behind_a_refused_text(rt: HostRuntime) -> Result<(), Fail> {
+    let alloc = rt.alloc();
+    let whole = lines(alloc, &[ONE_OF_ONE])?;
+    let told = "shamir: 61 bad cursor
+shamir: the rest of the input is dropped: end it with Ctrl-D\n";
+    let drill = ["shamir", "drill", "--after", "x"];
+    let input = (whole.as_str(), 4096, ALL);
+    expect_reads(&rt, alloc, &drill, input, (told, 1, 2));
+    Ok(())
+}
+
+#[test]
+fn reads_no_further_behind_the_end(rt: HostRuntime) -> Result<(), Fail> {
+    let alloc = rt.alloc();
+    let one = lines(alloc, &[TWO_NEEDED_MEMBER_2])?;
+    let whole = lines(alloc, &[ONE_OF_ONE])?;
+    let lack = "shamir: 30 incomplete: 0 of 1 groups\n";
+    expect_reads(
+        &rt,
+        alloc,
+        &RECOVER,
+        (one.as_str(), 4096, ALL),
+        (lack, 1, 2),
+    );
+    expect_reads(
+        &rt,
+        alloc,
+        &RECOVER,
+        (whole.as_str(), 4096, ALL),
+        ("", 0, 2),
+    );
+    let failed = "shamir: 72 read failed\n";
+    expect_reads(&rt, alloc, &RECOVER, (whole.as_str(), 1, 5), (failed, 3, 6));
+    Ok(())
+}
+
+#[test]
+fn takes_no_random_bytes_from_a_terminal(rt: HostRuntime) {
+    let words = create("2of3", SECRET);
+    let told =
+        "shamir: random bytes aren't typed: hand them in, as by head -c N /dev/urandom | shamir create ..\n";
+    let typed = ("my dog is red\n", 4096, ALL);
+    expect_reads(&rt, rt.alloc(), &words, typed, (told, 2, 0));
+}
