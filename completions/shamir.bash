@@ -1,6 +1,6 @@
 # Completion of shamir for bash: source this file, or install it as PREFIX/share/bash-completion/completions/shamir.
 # A plan, names, a secret, a passphrase and a cursor are the owner's to say: for them bash offers its variables, and no files.
-# Files are offered behind a redirection, and for the options whose value is a file.
+# Files are offered behind a redirection.
 
 _shamir() {
     local word=${COMP_WORDS[COMP_CWORD]} previous=${COMP_WORDS[COMP_CWORD - 1]}
@@ -26,17 +26,13 @@ _shamir() {
         mapfile -t COMPREPLY < <(compgen -W '0 1 2 3 4 5 6 7 8 9 10 11 12 13 14 15' -- "$word")
         return
         ;;
-    --master-secret-file | --passphrase-file)
-        compopt -o default
-        return
-        ;;
     --master-secret | --passphrase | --after | --limit) return ;;
     esac
     case $command in
     '') options='create show drill recover status reissue --help --version' ;;
-    create) options='--master-secret --master-secret-file --passphrase --passphrase-file --exponent --extendable --help' ;;
-    drill) options='--passphrase --passphrase-file --after --limit --fingerprint --help' ;;
-    recover) options='--passphrase --passphrase-file --fingerprint --help' ;;
+    create) options='--master-secret --passphrase --exponent --extendable --help' ;;
+    drill) options='--passphrase --after --limit --fingerprint --help' ;;
+    recover) options='--passphrase --fingerprint --help' ;;
     show | status | reissue) options='--help' ;;
     *) return ;;
     esac

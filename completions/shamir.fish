@@ -1,6 +1,5 @@
 # Completion of shamir for fish: install it in a folder of $fish_complete_path, as PREFIX/share/fish/vendor_completions.d.
 # A plan, names, a secret, a passphrase and a cursor are the owner's to say: nothing is offered for them, and no files.
-# Files are offered for the options whose value is one.
 
 set -l commands create show drill recover status reissue
 set -l first "not __fish_seen_subcommand_from $commands"
@@ -15,9 +14,7 @@ complete -c shamir -n $first -a reissue -d 'Write lost mnemonics again'
 complete -c shamir -n $first -s V -l version -d 'Print the version'
 complete -c shamir -s h -l help -d 'Print help'
 complete -c shamir -n '__fish_seen_subcommand_from create' -l master-secret -x -d 'The secret in hexadecimal'
-complete -c shamir -n '__fish_seen_subcommand_from create' -l master-secret-file -r -F -d 'The file of the secret in hexadecimal'
 complete -c shamir -n '__fish_seen_subcommand_from create drill recover' -l passphrase -x -d 'The passphrase of the backup'
-complete -c shamir -n '__fish_seen_subcommand_from create drill recover' -l passphrase-file -r -F -d 'The file of the passphrase'
 complete -c shamir -n '__fish_seen_subcommand_from create' -l exponent -x -a '(seq 0 15)' -d 'The iteration exponent'
 complete -c shamir -n '__fish_seen_subcommand_from create' -l extendable -d 'Set the extendable flag'
 complete -c shamir -n '__fish_seen_subcommand_from drill' -l after -x -d 'Go on after this quorum'

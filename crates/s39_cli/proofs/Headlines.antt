@@ -207,7 +207,8 @@ creation_of secret passphrase random text name rows job.Status found gives answe
 creation_of secret passphrase random text name rows (job.Reissue p g) found gives answer output done =
     absurd (other_text (codes "create") (codes "reissue") refl (sym found.name_is ∙ gives.0))
 creation_of secret passphrase random text name rows (job.Create p s w e x) found gives answer output done =
-    let same_secret : s.now ≡ secret = gives.1.secret_or_empty ∙ ap (λ (o : Option Text). unwrap_or o []) found.secret_is in
+    let given : Some secret ≡ Some s.now = sym found.secret_is ∙ gives.1.secret_given in
+    let same_secret : s.now ≡ secret = cc in
     let same_passphrase : w.now ≡ passphrase = gives.1.passphrase_or_empty ∙ ap (λ (o : Option Text). unwrap_or o []) found.passphrase_is in
     creation_done secret passphrase random text p.now s.now w.now e x output.0 same_secret same_passphrase output.1 (done ∙ ap status_of output.2)
 

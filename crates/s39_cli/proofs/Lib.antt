@@ -8,7 +8,6 @@ pub mod Interrupted
 pub mod Jobs
 pub mod Literals
 pub mod Outcomes
-pub mod Parts
 pub mod Unreadiness
 pub mod Words
 pub mod Works

@@ -1,5 +1,5 @@
 -- The words of a drill, of a recovery and of a creation, all their values given, and what is written for them.
-use Rattle.std.specs.Prelude.{◌≡◌, ◌⊎◌, ◌++◌, ℕ, true, List, [], ◌∷◌, codes, pos, Some, None, Ok}
+use Rattle.std.specs.Prelude.{◌≡◌, ◌⊎◌, ◌++◌, ℕ, true, List, [], ◌∷◌, codes, pos, Some, Ok}
 use Rattle.std.specs.Str.Parse.{digits_value, without_leading_plus}
 use Rattle.hex.specs.Hex.{decode_of}
 use Rattle.clap.specs.Lexer.{without_minus}
@@ -20,7 +20,7 @@ use Rattle.s39_tool.specs.OfBackup.{HoldsMnemonicsOf}
 use Rattle.s39_tool.specs.Recover.{secret_line}
 use Rattle.s39_tool.specs.Drill.{IsUndrilled, ListsSecret}
 use Rattle.s39_cli.specs.declared.command.Job.{Job}
-use Rattle.s39_cli.specs.Command.{GivesCall, shamir_app}
+use Rattle.s39_cli.specs.Command.{GivesJob, shamir_app}
 use Rattle.s39_cli.specs.Ending.{IsOutcome}
 
 -- ---- the words
@@ -103,11 +103,7 @@ CreateWordsAreTaken = (plan secret passphrase : Text) (words : List Text) → Ar
 
 -- ---- what is written
 
--- the words give this job, and name no file of a value
-abbrev pub GivesJob : List Text → Job → Type 0
-GivesJob words job = GivesCall words (record { job = job; files = record { secret = None; passphrase = None } })
-
--- the job of these words, all of whose values stand in them, writes this text for the input, with this exit status
+-- the job of these words writes this text for the input, with this exit status
 abbrev pub WordsWrite : List Text → Input → List ℕ → ℕ → Type 0
 WordsWrite words input text status = (job : Job) × GivesJob words job × IsOutcome job input text status
 

@@ -4,5 +4,4 @@ pub mod Headline
 pub mod Outcome
 pub mod Terminal
 pub mod Unready
-pub mod Values
 pub mod Work

@@ -1,15 +1,12 @@
 //! The command line.
-ghost use Rattle.std.specs.Prelude.{◌≡◌, ◌⊎◌, [], codes, false, None, Some, true, map, IfOk, IfErr, IfNone, IfSome, IsFalse, IsTrue, OnOk};
-ghost use Rattle.clap.specs.Words.{app_of, fault_of, first_of, found_of, kind_of, one_text, rows_of, rule_of, takes, with_rule, with_subcommand};
+ghost use Rattle.std.specs.Prelude.{◌≡◌, [], codes, false, Some, true, map, IfOk, IfErr, OnOk};
+ghost use Rattle.clap.specs.Words.{app_of, fault_of, found_of, kind_of, one_text, rows_of, rule_of, takes, with_rule, with_subcommand};
 ghost use Rattle.clap.specs.declared.builder.Command.TheViews.{out-Command};
 ghost use Rattle.s39_clap.specs.Found.{EntersOne};
-ghost use Rattle.s39_cli.specs.Command.{flag_rule, option_rule, plan_rule, secret_rule, secret_file_rule, exponent_rule, extendable_rule};
-ghost use Rattle.s39_cli.specs.Command.{passphrase_rule, passphrase_file_rule};
+ghost use Rattle.s39_cli.specs.Command.{flag_rule, option_rule, plan_rule, secret_rule, passphrase_rule, exponent_rule, extendable_rule};
 ghost use Rattle.s39_cli.specs.Command.{after_rule, fingerprint_rule, limit_rule, names_rule, text_or_empty};
 ghost use Rattle.s39_cli.specs.Command.{show_app, create_app, recover_app, drill_app, status_app, reissue_app, shamir_top, shamir_app, commands};
-ghost use Rattle.s39_cli.specs.Command.{Gives, GivesCall, IsInRange, AnswersKind, AnswersWords};
-ghost use Rattle.s39_cli.specs.Command.{HasBadValues, IsGiven, NamesFiles};
-ghost use Rattle.s39_cli.specs.declared.command.BadValues.{BadValues};
+ghost use Rattle.s39_cli.specs.Command.{Gives, GivesJob, IsInRange, AnswersKind, AnswersWords};
 
 use clap::builder::ValueParser;
 use clap::error::ErrorKind;
@@ -27,10 +24,10 @@ pub enum Job<'a> {
     Create {
         /// The text of the plan.
         plan: &'a str,
-        /// The text of the secret in hexadecimal, and the empty text if a file holds it.
-        secret: &'a [u8],
-        /// The passphrase as it was given, and the empty text if none was, or if a file holds it.
-        passphrase: &'a [u8],
+        /// The text of the secret in hexadecimal.
+        secret: &'a str,
+        /// The passphrase as it was given, and the empty text where none was.
+        passphrase: &'a str,
         /// The iteration exponent, 0 to 15, and 0 where none was given.
         exponent: u8,
         /// Whether the extendable backup flag was given.
@@ -38,15 +35,15 @@ pub enum Job<'a> {
     },
     /// Recovers the secret from the mnemonics on standard input.
     Recover {
-        /// The passphrase as it was given, and the empty text if none was, or if a file holds it.
-        passphrase: &'a [u8],
+        /// The passphrase as it was given, and the empty text where none was.
+        passphrase: &'a str,
         /// The form in which the secret is told: its digits, if the flag of its fingerprint wasn't given.
         form: SecretForm,
     },
     /// Tries the quorums of the mnemonics on standard input.
     Drill {
-        /// The passphrase as it was given, and the empty text if none was, or if a file holds it.
-        passphrase: &'a [u8],
+        /// The passphrase as it was given, and the empty text where none was.
+        passphrase: &'a str,
         /// The text of the quorum after which to go on, where one was given.
         after: Option<&'a str>,
         /// How many quorums are tried at most, from 1, and 1000 where no number was given.
@@ -65,36 +62,6 @@ pub enum Job<'a> {
     },
 }
 
-/// The files that hold values of a command, each by its name, in place of those in its words. The name `-` stands for
-/// the first line of the input.
-#[derive(Clone, Copy, Debug, PartialEq, Eq)]
-pub struct ValueFiles<'a> {
-    /// The file of the secret's digits.
-    pub secret: Option<&'a str>,
-    /// The file of the passphrase.
-    pub passphrase: Option<&'a str>,
-}
-
-/// What the words of a command line ask for.
-#[derive(Clone, Copy, Debug, PartialEq, Eq)]
-pub struct Call<'a> {
-    /// The command with the values that stand in the words.
-    pub job: Job<'a>,
-    /// The files of those that don't.
-    pub files: ValueFiles<'a>,
-}
-
-/// What is wrong with the values of a command.
-#[derive(Clone, Copy, Debug, PartialEq, Eq)]
-pub enum BadValues {
-    /// A backup is created, and neither a secret nor a file of it is given.
-    NoSecret,
-    /// Both a secret and a file of it are given.
-    TwoSecrets,
-    /// Both a passphrase and a file of it are given.
-    TwoPassphrases,
-}
-
 /// Why the words of a command line are no job.
 #[derive(Debug, Drop)]
 pub enum NoJob {
@@ -102,8 +69,6 @@ pub enum NoJob {
     Help(String),
     /// The words are no command of the program. The text goes to the standard error.
     Refused(String),
-    /// A value is missing, or is given twice.
-    Values(BadValues),
     /// There is no memory.
     Memory,
 }
@@ -151,17 +116,8 @@ fn master_secret<'a>(alloc: Global) -> Arg<'a>
     ensures rule { rule_of result ≡ secret_rule }
     ensures local { result.global ≡ false }
 {
-    option(alloc, "master-secret", "HEX").help(
+    option(alloc, "master-secret", "HEX").required(true).help(
         "The secret in hexadecimal, 16 to 128 bytes and an even number of them",
-    )
-}
-
-fn master_secret_file<'a>(alloc: Global) -> Arg<'a>
-    ensures rule { rule_of result ≡ secret_file_rule }
-    ensures local { result.global ≡ false }
-{
-    option(alloc, "master-secret-file", "FILE").help(
-        "The file of the secret's digits, or - for the first line of standard input",
     )
 }
 
@@ -170,15 +126,6 @@ fn passphrase<'a>(alloc: Global) -> Arg<'a>
     ensures local { result.global ≡ false }
 {
     option(alloc, "passphrase", "TEXT").help("The passphrase of the backup, by default empty")
-}
-
-fn passphrase_file<'a>(alloc: Global) -> Arg<'a>
-    ensures rule { rule_of result ≡ passphrase_file_rule }
-    ensures local { result.global ≡ false }
-{
-    option(alloc, "passphrase-file", "FILE").help(
-        "The file of the passphrase, or - for the first line of standard input",
-    )
 }
 
 fn exponent<'a>(alloc: Global) -> Arg<'a>
@@ -200,16 +147,6 @@ fn extendable<'a>(alloc: Global) -> Arg<'a>
     flag(alloc, "extendable").help("Leaves the identifier out of the encryption")
 }
 
-/// The command with the options of a passphrase.
-fn with_passphrase<'a>(alloc: Global, command: Command<'a>) -> Result<Command<'a>, AllocError>
-    requires { (out-Command command).has_globals ≡ false }
-    ensures app { IfOk result (λ with_passphrase. app_of with_passphrase
-        ≡ with_rule (with_rule (app_of command.entry) passphrase_rule) passphrase_file_rule) }
-    ensures local { IfOk result (λ with_passphrase. (out-Command with_passphrase).has_globals ≡ false) }
-{
-    command.arg(passphrase(alloc))?.arg(passphrase_file(alloc))
-}
-
 fn create<'a>(alloc: Global) -> Result<Command<'a>, AllocError>
     ensures app { IfOk result (λ command. app_of command ≡ create_app) }
     ensures local { IfOk result (λ command. (out-Command command).has_globals ≡ false) }
@@ -218,8 +155,7 @@ fn create<'a>(alloc: Global) -> Result<Command<'a>, AllocError>
         .about("Creates a backup from a secret and the random bytes on standard input")
         .arg(plan(alloc))?
         .arg(master_secret(alloc))?
-        .arg(master_secret_file(alloc))?;
-    let command = with_passphrase(alloc, command)?;
+        .arg(passphrase(alloc))?;
     with_options(alloc, command)
 }
 
@@ -246,10 +182,10 @@ fn recover<'a>(alloc: Global) -> Result<Command<'a>, AllocError>
     ensures app { IfOk result (λ command. app_of command ≡ recover_app) }
     ensures local { IfOk result (λ command. (out-Command command).has_globals ≡ false) }
 {
-    let command = Command::new(alloc, "recover").about(
-        "Recovers the secret from the mnemonics on standard input",
-    );
-    with_passphrase(alloc, command)?.arg(fingerprint(alloc))
+    Command::new(alloc, "recover")
+        .about("Recovers the secret from the mnemonics on standard input")
+        .arg(passphrase(alloc))?
+        .arg(fingerprint(alloc))
 }
 
 fn after<'a>(alloc: Global) -> Arg<'a>
@@ -273,10 +209,9 @@ fn drill<'a>(alloc: Global) -> Result<Command<'a>, AllocError>
     ensures app { IfOk result (λ command. app_of command ≡ drill_app) }
     ensures local { IfOk result (λ command. (out-Command command).has_globals ≡ false) }
 {
-    let command = Command::new(alloc, "drill").about(
-        "Tries the quorums of the mnemonics on standard input, a line for each",
-    );
-    with_passphrase(alloc, command)?
+    Command::new(alloc, "drill")
+        .about("Tries the quorums of the mnemonics on standard input, a line for each")
+        .arg(passphrase(alloc))?
         .arg(after(alloc))?
         .arg(limit(alloc))?
         .arg(fingerprint(alloc))
@@ -380,51 +315,11 @@ fn no_job(alloc: Global, error: &Error) -> NoJob
     }
 }
 
-/// The text that was found for this id, and the empty text if none was.
-fn text_of<'a>(options: &ArgMatches<'a>, id: &str) -> &'a [u8]
-    ensures { result.now ≡ text_or_empty id.now (rows_of (found_of options.now)) }
+/// The passphrase that was found, and the empty text where none was.
+fn passphrase_of<'a>(options: &ArgMatches<'a>) -> &'a str
+    ensures { result.now ≡ text_or_empty (codes "passphrase") (rows_of (found_of options.now)) }
 {
-    options.get_str(id).unwrap_or("").as_bytes()
-}
-
-/// Whether a text was found for this id.
-fn is_given(options: &ArgMatches, id: &str) -> bool
-    ensures given { IsTrue result → IsGiven id.now (rows_of (found_of options.now)) }
-    ensures missing { IsFalse result → first_of id.now (rows_of (found_of options.now)) ≡ None }
-{
-    options.get_str(id).is_some()
-}
-
-/// The files of values that were found.
-fn files_of<'a>(options: &ArgMatches<'a>) -> ValueFiles<'a>
-    ensures { NamesFiles (rows_of (found_of options.now)) result }
-{
-    ValueFiles {
-        secret: options.get_str("master-secret-file"),
-        passphrase: options.get_str("passphrase-file"),
-    }
-}
-
-/// What is first wrong with the values that were found for the command with this name.
-fn bad_values(name: &str, options: &ArgMatches) -> Option<BadValues>
-    ensures bad { IfSome result (HasBadValues name.now (rows_of (found_of options.now))) }
-    ensures sound { IfNone result
-        (((bad : BadValues) × HasBadValues name.now (rows_of (found_of options.now)) bad) → ⊥) }
-{
-    let has_secret = is_given(options, "master-secret");
-    let has_secret_file = is_given(options, "master-secret-file");
-    let has_passphrase = is_given(options, "passphrase");
-    let has_passphrase_file = is_given(options, "passphrase-file");
-    if name == "create" && !has_secret && !has_secret_file {
-        return Some(BadValues::NoSecret);
-    }
-    if has_secret && has_secret_file {
-        return Some(BadValues::TwoSecrets);
-    }
-    if has_passphrase && has_passphrase_file {
-        return Some(BadValues::TwoPassphrases);
-    }
-    None
+    options.get_str("passphrase").unwrap_or("")
 }
 
 /// The job `create`, from what was found for its arguments.
@@ -436,8 +331,8 @@ fn create_job<'a>(options: &ArgMatches<'a>) -> Job<'a>
 {
     Job::Create {
         plan: options.get_str("plan").unwrap(),
-        secret: text_of(options, "master-secret"),
-        passphrase: text_of(options, "passphrase"),
+        secret: options.get_str("master-secret").unwrap(),
+        passphrase: passphrase_of(options),
         exponent: options.get_one("exponent").unwrap(),
         extendable: options.get_flag("extendable"),
     }
@@ -465,7 +360,7 @@ fn recover_job<'a>(options: &ArgMatches<'a>) -> Job<'a>
     ensures range { IsInRange result }
 {
     Job::Recover {
-        passphrase: text_of(options, "passphrase"),
+        passphrase: passphrase_of(options),
         form: form_of(options),
     }
 }
@@ -478,7 +373,7 @@ fn drill_job<'a>(options: &ArgMatches<'a>) -> Job<'a>
     ensures range { IsInRange result }
 {
     Job::Drill {
-        passphrase: text_of(options, "passphrase"),
+        passphrase: passphrase_of(options),
         after: options.get_str("after"),
         limit: options.get_one("limit").unwrap(),
         form: form_of(options),
@@ -520,14 +415,13 @@ fn job_of<'a>(name: &str, options: &ArgMatches<'a>) -> Job<'a>
 ///
 /// A text that begins with a dash is given as `--passphrase=TEXT`. The text of help and of the version, and of the
 /// words that are refused, is `clap`'s.
-pub fn read_words<'a>(alloc: Global, words: &'a [&'a str]) -> Result<Call<'a>, NoJob>
-    // The command, its values and the files of values are those that the words give, by `clap`'s definition of a simple
-    // command.
-    ensures call { IfOk result (GivesCall (map (λ word. word.now) words.now)) }
-    ensures range { IfOk result (λ call. IsInRange call.job) }
-    // Where that definition takes the words, only memory can be wanting, or a value is missing or given twice.
+pub fn read_words<'a>(alloc: Global, words: &'a [&'a str]) -> Result<Job<'a>, NoJob>
+    // The command and its values are those that the words give, by `clap`'s definition of a simple command.
+    ensures job { IfOk result (GivesJob (map (λ word. word.now) words.now)) }
+    ensures range { IfOk result IsInRange }
+    // Where that definition takes the words, only memory can be wanting.
     ensures memory { takes shamir_app (map (λ word. word.now) words.now) ≡ true
-        → IfErr result (λ error. (error ≡ NoJob.Memory) ⊎ ((bad : BadValues) × (error ≡ NoJob.Values bad))) }
+        → IfErr result (λ error. error ≡ NoJob.Memory) }
     // Words that it doesn't take are no job.
     ensures taken { OnOk result (takes shamir_app (map (λ word. word.now) words.now) ≡ true) }
     // No step of the reading of words that are one fails.
@@ -542,15 +436,7 @@ pub fn read_words<'a>(alloc: Global, words: &'a [&'a str]) -> Result<Call<'a>, N
         Err(error) => return Err(no_job(alloc, &error)),
     };
     match matches.subcommand() {
-        Some((name, options)) => {
-            if let Some(bad) = bad_values(name, options) {
-                return Err(NoJob::Values(bad));
-            }
-            Ok(Call {
-                job: job_of(name, options),
-                files: files_of(options),
-            })
-        }
+        Some((name, options)) => Ok(job_of(name, options)),
         None => unreachable!(),
     }
 }

@@ -9,10 +9,8 @@ pub mod laws;
 mod patient;
 mod runner;
 mod terminal;
-mod values;
 mod work;
 
-pub use command::{BadValues, Call, Job, NoJob, ValueFiles, read_words};
+pub use command::{Job, NoJob, read_words};
 pub use runner::{Destination, Ended, Source, no_words, program};
 pub use terminal::{Watched, with_rest_dropped};
-pub use values::{Shelf, SystemFiles};

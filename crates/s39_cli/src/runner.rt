@@ -1,13 +1,11 @@
 //! The program: a command line, a reader and two writers.
 ghost use Rattle.std.specs.Prelude.{◌≡◌, ◌≢◌, map, IfOk, IsFalse, IsTrue};
 ghost use Rattle.std.specs.IoError.{error_kind};
-ghost use Rattle.s39_cli.specs.Command.{IsInRange};
-ghost use Rattle.s39_cli.specs.Ending.{DoesJob, Ends, EndsUnbegun, EndsUnread, EndsWithoutJob, IsSilentAtNone, IsTyped, OnEnd, status_in};
+ghost use Rattle.s39_cli.specs.Ending.{Ends, EndsUnbegun, EndsWithoutJob, IsSilentAtNone, IsTyped, status_in};
 ghost use Rattle.s39_cli.specs.Outcome.{status_of, status_of_refusal};
 
-use crate::command::{BadValues, Call, Job, NoJob, read_words};
+use crate::command::{Job, NoJob, read_words};
 use crate::delivery::{Finished, by_buffer, by_lines, show, write_failed};
-use crate::values::{NoValue, Shelf, Unread, Values};
 use crate::work::{Unready, Work};
 use s39_refusal::Cause;
 use s39_text::FaultText;
@@ -78,8 +76,7 @@ impl<R: Drop, W: Drop> Ended<R, W> {
 /// Results and help go to `output`: the lines of `drill`, and at a terminal those of `show`, as soon as each is known. A
 /// fault is a line on `errors`, where the text of a refused command line goes too. All memory is taken before the first
 /// byte of `input` is asked for. A failing `errors` changes no status.
-pub fn program<S: Shelf, R: Read + Drop, W: Write + Drop, E: Write>(
-    shelf: &S,
+pub fn program<R: Read + Drop, W: Write + Drop, E: Write>(
     alloc: Global,
     words: &[&str],
     input: R,
@@ -94,34 +91,13 @@ pub fn program<S: Shelf, R: Read + Drop, W: Write + Drop, E: Write>(
     // Of any.
     ensures silent { IsSilentAtNone result errors.old errors.new }
 {
-    let Call { job, files } = match read_words(alloc, words) {
-        Ok(call) => call,
+    let job = match read_words(alloc, words) {
+        Ok(job) => job,
         Err(no_job) => return without_job(no_job, input, output, errors),
     };
     if is_typed(source, &job) {
         return typed(input, output, errors);
     }
-    let mut input = input;
-    let values = match Values::read(shelf, files, &mut input) {
-        Ok(values) => values,
-        Err(unread) => return without_value(unread, input, output, errors),
-    };
-    by_job(alloc, values.fill(job), input, output, errors, destination)
-}
-
-/// Does the job.
-fn by_job<R: Read + Drop, W: Write + Drop, E: Write>(
-    alloc: Global,
-    job: Job,
-    input: R,
-    output: W,
-    errors: &mut E,
-    destination: Destination,
-) -> Ended<R, W>
-    requires { IsInRange job }
-    ensures ends { OnEnd result (DoesJob R.remaining W.contents job.entry input output) }
-    ensures silent { IsSilentAtNone result errors.old errors.new }
-{
     let work = match Work::of(alloc, job) {
         Ok(work) => work,
         Err(unready) => return unbegun(unready, input, output, errors),
@@ -167,66 +143,7 @@ fn without_job<R: Drop, W: Write + Drop, E: Write>(
                 output,
             }
         }
-        NoJob::Values(bad) => {
-            let _ = errors.write_all(bad.text().as_bytes());
-            Ended::With {
-                status: NO_JOB,
-                input,
-                output,
-            }
-        }
         NoJob::Memory => no_memory_left(errors),
-    }
-}
-
-/// Says why a value isn't read.
-fn without_value<R: Drop, W: Drop, E: Write>(
-    unread: Unread,
-    input: R,
-    output: W,
-    errors: &mut E,
-) -> Ended<R, W>
-    ensures ends { EndsUnread input output result }
-    ensures silent { IsSilentAtNone result errors.old errors.new }
-{
-    let Unread { name, cause } = unread;
-    let status = match cause {
-        NoValue::TooLong => {
-            let _ = writeln!(errors, "shamir: {name}: the value has more than 1024 bytes");
-            NO_JOB
-        }
-        NoValue::Failed(error) => {
-            let _ = writeln!(errors, "shamir: {name}: {error}");
-            DEVICE_FAILED
-        }
-    };
-    Ended::With {
-        status,
-        input,
-        output,
-    }
-}
-
-impl BadValues {
-    /// What is said of them.
-    fn text(self) -> &'static str {
-        match self {
-            BadValues::NoSecret =>
-                "error: one of --master-secret <HEX> and --master-secret-file <FILE> is required
-
-For more information, try '--help'.
-",
-            BadValues::TwoSecrets =>
-                "error: --master-secret <HEX> and --master-secret-file <FILE> can't be given together
-
-For more information, try '--help'.
-",
-            BadValues::TwoPassphrases =>
-                "error: --passphrase <TEXT> and --passphrase-file <FILE> can't be given together
-
-For more information, try '--help'.
-",
-        }
     }
 }
 

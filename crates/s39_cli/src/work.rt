@@ -123,11 +123,11 @@ impl From<FromHexError> for Unready {
 }
 
 /// The bytes of the text of a secret.
-fn secret_of(alloc: Global, text: &[u8]) -> Result<Vec<u8>, Unready>
+fn secret_of(alloc: Global, text: &str) -> Result<Vec<u8>, Unready>
     ensures secret { IfOk result (λ secret. decode_of text.now ≡ Ok secret.items) }
     ensures refused { IfErr result (IsNoSecret text.now) }
 {
-    Ok(hex::decode(alloc, text)?)
+    Ok(hex::decode(alloc, text.as_bytes())?)
 }
 
 /// The names after which a drill goes on, where a text gives some.
@@ -179,14 +179,17 @@ impl<'a> Work<'a> {
                 Ok(Work::Create(Creation {
                     plan,
                     secret,
-                    passphrase,
+                    passphrase: passphrase.as_bytes(),
                     options: Options {
                         exponent,
                         extendable,
                     },
                 }))
             }
-            Job::Recover { passphrase, form } => Ok(Work::Recover { passphrase, form }),
+            Job::Recover { passphrase, form } => Ok(Work::Recover {
+                passphrase: passphrase.as_bytes(),
+                form,
+            }),
             Job::Drill {
                 passphrase,
                 after,
@@ -195,7 +198,7 @@ impl<'a> Work<'a> {
             } => {
                 let after = cursor_of(after)?;
                 Ok(Work::Drill(Drill {
-                    passphrase,
+                    passphrase: passphrase.as_bytes(),
                     after,
                     limit,
                     form,

@@ -6,7 +6,6 @@ mod backup;
 pub mod devices;
 mod forgery;
 mod runs;
-pub mod shelves;
 mod vectors;
 
 pub use backup::{FIVE, QUORUMS_OF_FIVE, RANDOM, SECRET, create, drilled, lines};

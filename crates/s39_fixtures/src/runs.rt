@@ -1,7 +1,6 @@
 //! Runs of the program.
 
 use crate::devices::Flushing;
-use crate::shelves::NoFiles;
 use s39_cli::{Destination, Source};
 use std::alloc::Global;
 use std::io::{Read, Write};
@@ -26,7 +25,6 @@ pub fn program<R: Read + Drop, W: Write + Drop, E: Write + Drop>(
 ) -> u8 {
     let mut errors = errors;
     s39_cli::program(
-        &NoFiles,
         alloc,
         words,
         input,
@@ -48,7 +46,6 @@ pub fn program_at_terminal<R: Read + Drop, W: Write + Drop, E: Write + Drop>(
 ) -> u8 {
     let mut errors = errors;
     s39_cli::program(
-        &NoFiles,
         alloc,
         words,
         input,

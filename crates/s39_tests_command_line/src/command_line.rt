@@ -1,6 +1,6 @@
 //! The command line.
 
-use s39_cli::{Call, Job, NoJob, ValueFiles, read_words};
+use s39_cli::{Job, NoJob, read_words};
 use s39_fixtures::devices::Full;
 use s39_fixtures::{ONE_OF_ONE, WRITE_FAILED_LINE, expect_told, run_on};
 use s39_tool::SecretForm;
@@ -8,22 +8,15 @@ use std::alloc::Global;
 use std::process::Abort;
 use std::test::Fail;
 
-/// Each of the command lines gives this job, and names no file.
+/// Each of the command lines gives this job.
 fn expect_jobs(rt: &impl Abort, alloc: Global, cases: &[(&[&str], Job)]) {
-    let files = ValueFiles {
-        secret: None,
-        passphrase: None,
-    };
     for (words, job) in cases {
-        assert_eq!(rt;
-            read_words(alloc, words).ok(),
-            Some(Call { job: *job, files })
-        );
+        assert_eq!(rt; read_words(alloc, words).ok(), Some(*job));
     }
 }
 
 /// Each of the command lines is refused, with a message and no output.
-pub(crate) fn expect_refusals(rt: &impl Abort, alloc: Global, cases: &[&[&str]]) {
+fn expect_refusals(rt: &impl Abort, alloc: Global, cases: &[&[&str]]) {
     for words in cases {
         assert!(rt; matches!(read_words(alloc, words), Err(NoJob::Refused(_))));
         let run = run_on(alloc, words, ONE_OF_ONE.as_bytes());
@@ -36,19 +29,19 @@ pub(crate) fn expect_refusals(rt: &impl Abort, alloc: Global, cases: &[&[&str]])
 fn reads_show_and_recover(rt: HostRuntime) {
     let form = SecretForm::Digits;
     let empty = Job::Recover {
-        passphrase: b"",
+        passphrase: "",
         form,
     };
     let trezor = Job::Recover {
-        passphrase: b"TREZOR",
+        passphrase: "TREZOR",
         form,
     };
     let dashed = Job::Recover {
-        passphrase: b"-x",
+        passphrase: "-x",
         form,
     };
     let fingerprint = Job::Recover {
-        passphrase: b"TREZOR",
+        passphrase: "TREZOR",
         form: SecretForm::Fingerprint,
     };
     let cases: [(&[&str], Job); 9] = [
@@ -110,15 +103,15 @@ const FULL: [&str; 10] = [
 fn reads_create(rt: HostRuntime) {
     let plain = Job::Create {
         plan: "1of1",
-        secret: b"00",
-        passphrase: b"",
+        secret: "00",
+        passphrase: "",
         exponent: 0,
         extendable: false,
     };
     let full = Job::Create {
         plan: "2of3",
-        secret: b"zz",
-        passphrase: b"TREZOR",
+        secret: "zz",
+        passphrase: "TREZOR",
         exponent: 15,
         extendable: true,
     };
@@ -144,8 +137,9 @@ fn reads_create(rt: HostRuntime) {
 
 #[test]
 fn refuses_words_of_create(rt: HostRuntime) {
-    let refused: [&[&str]; 6] = [
+    let refused: [&[&str]; 7] = [
         &["shamir", "create"],
+        &["shamir", "create", "1of1"],
         &["shamir", "create", "--master-secret", "00"],
         &["shamir", "create", "1of1", "1of1", "--master-secret", "00"],
         &[
@@ -180,13 +174,13 @@ fn refuses_words_of_create(rt: HostRuntime) {
 #[test]
 fn reads_drill(rt: HostRuntime) {
     let first = Job::Drill {
-        passphrase: b"",
+        passphrase: "",
         after: None,
         limit: 1000,
         form: SecretForm::Digits,
     };
     let rest = Job::Drill {
-        passphrase: b"TREZOR",
+        passphrase: "TREZOR",
         after: Some("0.0+1.0"),
         limit: 4_294_967_295,
         form: SecretForm::Fingerprint,

@@ -30,19 +30,17 @@ Options:
 
 const HELP_OF_CREATE: &str = "Creates a backup from a secret and the random bytes on standard input
 
-Usage: shamir create [OPTIONS] <PLAN>
+Usage: shamir create [OPTIONS] --master-secret <HEX> <PLAN>
 
 Arguments:
   <PLAN>  The plan of the groups: TofN, or GT/T1ofN1,T2ofN2,..
 
 Options:
-      --master-secret <HEX>        The secret in hexadecimal, 16 to 128 bytes and an even number of them
-      --master-secret-file <FILE>  The file of the secret's digits, or - for the first line of standard input
-      --passphrase <TEXT>          The passphrase of the backup, by default empty
-      --passphrase-file <FILE>     The file of the passphrase, or - for the first line of standard input
-      --exponent <E>               The iteration exponent, 0 to 15: a recovery takes 10,000 * 2^E iterations, twice that for over 64 bytes [default: 0]
-      --extendable                 Leaves the identifier out of the encryption
-  -h, --help                       Print help
+      --master-secret <HEX>  The secret in hexadecimal, 16 to 128 bytes and an even number of them
+      --passphrase <TEXT>    The passphrase of the backup, by default empty
+      --exponent <E>         The iteration exponent, 0 to 15: a recovery takes 10,000 * 2^E iterations, twice that for over 64 bytes [default: 0]
+      --extendable           Leaves the identifier out of the encryption
+  -h, --help                 Print help
 ";
 
 const HELP_OF_RECOVER: &str = "Recovers the secret from the mnemonics on standard input
@@ -50,10 +48,9 @@ const HELP_OF_RECOVER: &str = "Recovers the secret from the mnemonics on standar
 Usage: shamir recover [OPTIONS]
 
 Options:
-      --passphrase <TEXT>       The passphrase of the backup, by default empty
-      --passphrase-file <FILE>  The file of the passphrase, or - for the first line of standard input
-      --fingerprint             Tells the secret by its fingerprint, eight hexadecimal digits, and not by its own
-  -h, --help                    Print help
+      --passphrase <TEXT>  The passphrase of the backup, by default empty
+      --fingerprint        Tells the secret by its fingerprint, eight hexadecimal digits, and not by its own
+  -h, --help               Print help
 ";
 
 const HELP_OF_DRILL: &str = "Tries the quorums of the mnemonics on standard input, a line for each
@@ -61,12 +58,11 @@ const HELP_OF_DRILL: &str = "Tries the quorums of the mnemonics on standard inpu
 Usage: shamir drill [OPTIONS]
 
 Options:
-      --passphrase <TEXT>       The passphrase of the backup, by default empty
-      --passphrase-file <FILE>  The file of the passphrase, or - for the first line of standard input
-      --after <Q>               Goes on after this quorum, by default from the first
-      --limit <N>               How many quorums are tried at most [default: 1000]
-      --fingerprint             Tells the secret by its fingerprint, eight hexadecimal digits, and not by its own
-  -h, --help                    Print help
+      --passphrase <TEXT>  The passphrase of the backup, by default empty
+      --after <Q>          Goes on after this quorum, by default from the first
+      --limit <N>          How many quorums are tried at most [default: 1000]
+      --fingerprint        Tells the secret by its fingerprint, eight hexadecimal digits, and not by its own
+  -h, --help               Print help
 ";
 
 const HELP_OF_REISSUE: &str =
@@ -118,8 +114,8 @@ fn says_why_words_are_refused(rt: HostRuntime) -> Result<(), Fail> {
     let alloc = rt.alloc();
     let cases: [(&[&str], &str); 6] = [
         (
-            &["shamir", "create", "--master-secret=00"],
-            "error: the following required arguments were not provided:\n  <PLAN>\n\nUsage: shamir create --master-secret <HEX> <PLAN>\n\nFor more information, try '--help'.\n",
+            &["shamir", "create", "1of1"],
+            "error: the following required arguments were not provided:\n  --master-secret <HEX>\n\nUsage: shamir create --master-secret <HEX> <PLAN>\n\nFor more information, try '--help'.\n",
         ),
         (
             &WRONG_EXPONENT,
