@@ -1,10 +1,10 @@
 # shamir: `make` proves and builds, `make test` is the merge gate.
 #
 #   make lib         proves and builds the library: libshamir.a, and libshamir.so for the Python binding
-#   make check       the fast checks: commands and tables of the documents, the manual page, completions, terminals, refused
-#                    memory, the library (make test runs them too)
+#   make check       the fast checks: commands and tables of the documents, the manual page, completions, terminals, values of
+#                    files, refused memory, the library (make test runs them too)
 #   make check-library   the library alone: its header, examples from C, the Python binding, the cuts of a drill, made cases
-#   make faults      lets each allocation, read and write of the program fail in turn
+#   make faults      lets each allocation, open, read and write of the program fail in turn
 #   make compare     compares made cases with a plain reading of the standard in Python
 #   make bench       measures
 #   make install     the program and the library, into the folders below, behind DESTDIR; it proves nothing, and says what
@@ -71,9 +71,11 @@ check: shamir check-library check-packages
 	@test "$$(./shamir --version)" = "shamir $(VERSION)"
 	@tools/recipes
 	@tools/texts
+	@tools/examples
 	@tools/manual
 	@tools/completions
 	@tools/terminal
+	@tools/values
 	@tools/faults --allocations
 
 check-library: shamir libshamir.so

@@ -1,6 +1,6 @@
 /*
- * Stands in the place of munmap for examples/c/cleared.c: what it gives back has to be all zeros, and if so, that is said in
- * the file that CLEARED names. tools/library links it (ld's option --wrap=munmap).
+ * This function replaces munmap in examples/c/cleared.c. If all bytes of the memory are 0, it writes "cleared" to a file. The
+ * environment variable CLEARED names that file. tools/library links this file with the option --wrap=munmap of ld.
  */
 #include <stdio.h>
 #include <stdlib.h>

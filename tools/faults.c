@@ -1,22 +1,27 @@
-/* Preloaded into the program by tools/faults. It counts the allocations, the reads of standard input and the writes
-   that the program itself makes, lets those fail that the environment names, and logs each.
+/* Preloaded into the program by tools/faults. It counts the allocations, the opens and the reads of files, the reads of
+   standard input and the writes that the program itself makes, lets those fail that the environment names, and logs each.
 
    FAULT_LOG               the descriptor of the log: a line 'KIND SIZE RESULT' for each call, of which kinds are
-                           allocation, read, write (of standard output) and error (a write of standard error)
+                           allocation, open, file (a read of what was opened), read (of standard input), write (of
+                           standard output) and error (a write of standard error)
    FAULT_ALLOCATION        the number, from 1, of the allocation that is refused
    FAULT_ALLOCATIONS_FROM  all from this one on are refused
-   FAULT_READ              the number of the read that fails, and
+   FAULT_OPEN              the number of the open that fails
+   FAULT_FILE              the number of the read of a file that fails
+   FAULT_READ              the number of the read of standard input that fails, and
    FAULT_READ_BYTES        the number of bytes that come before a read fails
    FAULT_WRITE             the number of the write of standard output that fails, and
    FAULT_WRITE_BYTES       the number of bytes that are taken before a write fails
    FAULT_WRITE_NONE        the number of the write of standard output that takes no byte
    FAULT_ERRORS            each write of standard error fails
    FAULT_SINGLE            a read gives, and a write takes, one byte at most
-   FAULT_ERRNO             the error of a failing read or write, by default EIO */
+   FAULT_ERRNO             the error of a failing open, read or write, by default EIO */
 #define _GNU_SOURCE
 #include <dlfcn.h>
 #include <errno.h>
+#include <fcntl.h>
 #include <link.h>
+#include <stdarg.h>
 #include <stdint.h>
 #include <stdio.h>
 #include <stdlib.h>
@@ -25,9 +30,9 @@
 #include <unistd.h>
 
 static uintptr_t first_address, last_address;
-static long log_to, allocation, allocations_from, read_at, read_bytes;
+static long log_to, allocation, allocations_from, open_at, file_at, read_at, read_bytes;
 static long write_at, write_bytes, write_none, errors, single, failure;
-static long allocations, reads, read_sum, writes, write_sum;
+static long allocations, opens, files, reads, read_sum, writes, write_sum;
 
 static long setting(const char *name, long otherwise)
 {
@@ -53,6 +58,8 @@ __attribute__((constructor)) static void begin(void)
     log_to = setting("FAULT_LOG", 2);
     allocation = setting("FAULT_ALLOCATION", -1);
     allocations_from = setting("FAULT_ALLOCATIONS_FROM", -1);
+    open_at = setting("FAULT_OPEN", -1);
+    file_at = setting("FAULT_FILE", -1);
     read_at = setting("FAULT_READ", -1);
     read_bytes = setting("FAULT_READ_BYTES", -1);
     write_at = setting("FAULT_WRITE", -1);
@@ -121,11 +128,35 @@ static size_t least(size_t a, size_t b)
     return a < b ? a : b;
 }
 
+int open(const char *name, int flags, ...)
+{
+    va_list more;
+    va_start(more, flags);
+    int mode = flags & O_CREAT ? va_arg(more, int) : 0;
+    va_end(more);
+    opens++;
+    long result = opens == open_at ? fail() : syscall(SYS_openat, AT_FDCWD, name, flags, mode);
+    int kept = errno;
+    tell("open", 0, result);
+    errno = kept;
+    return (int)result;
+}
+
+static ssize_t read_file(int from, void *to, size_t size)
+{
+    files++;
+    long result = files == file_at ? fail() : syscall(SYS_read, from, to, size);
+    int kept = errno;
+    tell("file", size, result);
+    errno = kept;
+    return result;
+}
+
 ssize_t read(int from, void *to, size_t size)
 {
     size_t wanted = single ? least(size, 1) : size;
     if (from != 0)
-        return syscall(SYS_read, from, to, wanted);
+        return read_file(from, to, wanted);
     reads++;
     if (read_bytes >= 0)
         wanted = least(wanted, (size_t)(read_bytes - read_sum));

@@ -1,11 +1,12 @@
 /*
- * Makes the calls of libshamir that are greatest, in memory of the sizes that shamir.h names and on a stack that is no
- * longer than it says: a call that takes more meets pages that may not be touched, and ends the program.
+ * This program makes the largest calls of libshamir, in buffers of the lengths that shamir.h names. Its stack has
+ * SHAMIR_STACK_BYTES bytes, and the pages below it can't be touched. So a call that uses more stack ends the program.
  *
- * It creates backups of sixteen groups, all needed, of a secret of the most bytes, reads each mnemonic, tells the status,
- * computes mnemonics again, recovers, drills in parts of one quorum, and asks for the text of each code. The backups, statuses,
- * mnemonics and drills go to standard output, as the commands print them, and how many bytes of the stack were touched to
- * standard error. tools/library compares them with the program.
+ * It creates backups of the longest secret with sixteen groups, and reads each mnemonic. It recovers, and drills in parts of
+ * one quorum. Then it reports a status, computes mnemonics and a fingerprint, and gets the text of each code.
+ *
+ * It prints the backups, drills, statuses, mnemonics and the fingerprint as the commands do. tools/library compares them with
+ * what the command prints. The number of bytes of the stack that were touched goes to standard error.
  */
 #define _DEFAULT_SOURCE
 #include <pthread.h>
@@ -16,7 +17,7 @@
 
 #include "shamir.h"
 
-/* What lies below the stack, so much that no call reaches over it. */
+/* The length of the memory below the stack that can't be touched. It is so long that no call reaches past it. */
 #define GUARD_BYTES (16 * 1024 * 1024)
 #define UNTOUCHED 0xA5
 
@@ -36,7 +37,7 @@ static char status[SHAMIR_STATUS_BYTES_MAX];
 static char fingerprint[SHAMIR_FINGERPRINT_BYTES_MAX];
 static char text[SHAMIR_TEXT_BYTES_MAX];
 
-/* Ends the program where a call refused. */
+/* Returns the number of bytes written, or ends the program if the call was refused. */
 static size_t done(const char *call, shamir_answer answer)
 {
     if (answer.code != 0) {
@@ -46,7 +47,7 @@ static size_t done(const char *call, shamir_answer answer)
     return (size_t)answer.written;
 }
 
-/* Reads each mnemonic of a backup, in a buffer of its own. */
+/* Reads each mnemonic of a backup, from a buffer of the maximum length of a mnemonic. */
 static void parse_each(size_t bytes)
 {
     size_t begin = 0;
@@ -66,7 +67,7 @@ static void parse_each(size_t bytes)
     }
 }
 
-/* Lists the names of all members of sixteen groups; gives how many bytes they have. */
+/* Writes the list of the names of all members of sixteen groups, and returns its length. */
 static size_t list_names(void)
 {
     char *end = names;
@@ -81,7 +82,7 @@ static size_t list_names(void)
     return (size_t)(end - names);
 }
 
-/* Creates a backup by a plan; gives how many bytes its mnemonics have. */
+/* Creates a backup by a plan, prints it, and returns the length of its mnemonics. */
 static size_t create(const char *plan)
 {
     size_t plan_bytes = strlen(plan);
@@ -99,7 +100,7 @@ static size_t create(const char *plan)
     return bytes;
 }
 
-/* Tells the status of a backup, gives all its mnemonics again, and computes its last one from the others, of all groups. */
+/* Prints the status of a backup, all its mnemonics, and the last of them, computed from the others of all groups. */
 static void status_and_reissue(void)
 {
     static const char plan[] = "15/16of16," GROUPS;
@@ -118,7 +119,7 @@ static void status_and_reissue(void)
         plan, strlen(plan), last, sizeof last - 1, mnemonics, begin, again, sizeof again)), stdout);
 }
 
-/* Drills a backup in parts, for each of which the listing has room. */
+/* Drills a backup in parts of one quorum. Its lines are so long that the buffer holds only one of them, and a last line. */
 static void drill_parts(size_t bytes)
 {
     static const char more[] = "\nmore after ";
@@ -145,7 +146,7 @@ static void drill_parts(size_t bytes)
     }
 }
 
-/* Asks for the text of each code, with the greatest details. */
+/* Gets the text of each code, with the largest details. */
 static void text_of_each(void)
 {
     shamir_answer answer;

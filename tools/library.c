@@ -1,8 +1,8 @@
 /*
- * Calls each export of libshamir with worked examples, and compares what it answers and writes with values from outside:
- * published vectors, and what another program made. tools/library compiles and runs it.
+ * This program calls each export of libshamir with worked examples. It compares the answers and the outputs with values from
+ * outside: published vectors, and what other programs computed. tools/library compiles and runs it.
  *
- * It prints what differs, and ends with status 1 then.
+ * It prints each difference, and its exit status is 1 if there is any.
  */
 #include <stdio.h>
 #include <string.h>
@@ -20,17 +20,17 @@
 #define FIVE_PLAN "2/2of3,1of1,1of1"
 #define FIVE_RANDOM "000102030405060708090a0b0c0d0e0f10111213141516171819"
 
-/* The first vector, and it with a bad checksum. */
+/* The first vector, and the same mnemonic with a wrong last word, so that its checksum is wrong. */
 #define ONE_BUT_LAST \
     "duckling enlarge academic academic agency result length solution fridge kidney coal piece deal husband erode duke ajar critical decision "
 #define ONE ONE_BUT_LAST "keyboard"
 #define ONE_WRONG ONE_BUT_LAST "kidney"
 
-/* An extendable vector. */
+/* A vector whose extendable flag is set. */
 #define EXTENDABLE \
     "testify swimming academic academic column loyalty smear include exotic bedroom exotic wrist lobe cover grief golden smart junior estimate learn"
 
-/* The vector of two mnemonics that are both needed, members 0 and 2; member 1 is another program's. */
+/* Members 0 and 2 are a vector of two mnemonics, both of which are needed. Another program computed member 1. */
 #define TWO_0 \
     "shadow pistol academic acid actress prayer class unknown daughter sweater depict flip twice unkind craft early superior advocate guest smoking"
 #define TWO_1 \
@@ -38,7 +38,7 @@
 #define TWO_2 \
     "shadow pistol academic always adequate wildlife fancy gross oasis cylinder mustang wrist rescue view short owner flip making coding armed"
 
-/* The backup of the first vector's secret that another program makes by the plan and the random bytes above. */
+/* Another program created this backup of the first vector's secret, from the plan and the random bytes above. */
 #define FIVE_0 \
     "academic aluminum acrobat leaf buyer drink heat negative damage union purchase photo inmate training amazing yield bucket wrote mule cluster"
 #define FIVE_1 \
@@ -51,18 +51,18 @@
     "academic aluminum ceramic leader cylinder decorate mobile devote echo finger program firm starting dwarf grumpy harvest enforce raisin sprinkle phantom"
 #define FIVE FIVE_0, FIVE_1, FIVE_2, FIVE_3, FIVE_4
 
-/* Member 3 of group 0, where the plan gives this group four members. */
+/* Member 3 of group 0, by a plan that gives this group four members. */
 #define FIVE_LARGER_PLAN "2/2of4,1of1,1of1"
 #define FIVE_0_3 \
     "academic aluminum acrobat marathon crisis luxury step activity teammate unfair fumes endorse always ranked alto problem mailman ounce teacher bumpy"
 
-/* Members 0 and 2 of group 0 with the first byte of the values exchanged. */
+/* Members 0 and 2 of group 0, with the first bytes of their values exchanged. */
 #define FORGED_0 \
     "academic aluminum acrobat leaf civil drink heat negative damage union purchase photo inmate training amazing yield bucket lend glance junk"
 #define FORGED_2 \
     "academic aluminum acrobat lungs alcohol behavior mobile ting perfect ultimate weapon join paper involve clinic acrobat jerky pencil username device"
 
-/* Two members of a group, and a member of each of two groups, that are no parts of one secret; another program made them. */
+/* Two members of a group, and one member of each of two groups. Another program made them, with digests that don't match. */
 #define UNEVEN_0 \
     "academic academic academic acid disease prepare husky home result arcade lunar cover shame email oven tension nylon carpet prospect hand"
 #define UNEVEN_1 \
@@ -72,13 +72,13 @@
 #define UNEVEN_GROUP_1 \
     "academic academic beard easy dragon mineral broken simple lips custody flame cylinder ending prune party scout beaver presence thank adapt"
 
-/* A slice that is handed in, of a text or of bytes. */
+/* An argument of a call: a text or bytes, and its length. */
 typedef struct slice {
     const void *bytes;
     size_t length;
 } slice;
 
-/* What an answer has to be, but for the bytes written; and its text. */
+/* The expected answer, except the number of bytes written, and its text. */
 typedef struct wanted {
     uint32_t code;
     uint64_t line;
@@ -118,7 +118,7 @@ typedef struct recover_example {
     const char *secret;
 } recover_example;
 
-/* The room is how many bytes the slice has. */
+/* The room is the length of the output buffer. */
 typedef struct drill_example {
     const char *lines[LINES_MAX];
     const char *passphrase;
@@ -156,7 +156,7 @@ typedef struct reissue_example {
 #define HIGH {3, 0, 2, 0, "exponent 2 above the most"}
 #define NO_SHARE {65535, 255, 255, 255, 255, 255, 255, 255}
 
-/* NULL is handed in as NULL with no bytes. */
+/* NULL stands for the pointer NULL with the length 0. */
 static const parse_example parse_examples[] = {
     {ONE, DONE, "11bc609d21747c49ba78c0701293e417", {7945, 0, 0, 0, 1, 1, 0, 1}},
     {TWO_0, DONE, "06ab48fef4bedc8ce58baeef0a73f76e", {25653, 0, 2, 0, 1, 1, 0, 2}},
@@ -213,7 +213,7 @@ static const recover_example recover_examples[] = {
 #define FIRST_PART LISTED("0.0+0.1+1.0") LISTED("0.0+0.1+2.0") LISTED("0.0+0.2+1.0") LISTED("0.0+0.2+2.0") "more after 0.0+0.2+2.0\n"
 #define LAST_PART LISTED("0.1+0.2+1.0") LISTED("0.1+0.2+2.0") LISTED("1.0+2.0") "end\n"
 
-/* Of the five a line has 45 bytes, and the last line 23, but for "end". */
+/* In a listing of the five, a line of a quorum of three has 45 bytes. The last line has 23 bytes, unless it is "end". */
 static const drill_example drill_examples[] = {
     {{ONE}, KEY, 0, NULL, 9, 41, DONE, 0, LISTED("0.0") "end\n"},
     {{TWO_0, TWO_2}, KEY, 2, "", 9, 45, DONE, 0, "0.0+0.2 " TWO_SECRET "\nend\n"},
@@ -240,7 +240,7 @@ static const drill_example drill_examples[] = {
     {{FIVE}, NULL, SHAMIR_EXPONENT_MAX, "0.1", 1, ROOM_BYTES, {62, 0, 0, 0, "cursor is no quorum"}, 0, ""}
 };
 
-/* Of a status first and second are the complete groups and those that are needed. */
+/* In the answers, first is the number of complete groups, and second is the group threshold. */
 static const status_example status_examples[] = {
     {{ONE}, {0, 0, 1, 1, "done"}, "groups 1 of 1\ngroup 0 members 1 of 1 0.0\n"},
     {{TWO_2}, {0, 0, 0, 1, "done"}, "groups 0 of 1\ngroup 0 members 1 of 2 0.2\n"},
@@ -252,7 +252,7 @@ static const status_example status_examples[] = {
     {{NULL}, {29, 0, 0, 0, "no shares"}, ""}
 };
 
-/* Of 66 first is 256 * group + member, and second four counts. */
+/* For the code 66, first is 256 * group + member, and second has four counts. */
 static const reissue_example reissue_examples[] = {
     {FIVE_PLAN, "0.1", {FIVE_0, FIVE_2}, DONE, {FIVE_1}},
     {FIVE_PLAN, "0.0+0.1", {FIVE_2, FIVE_3, FIVE_4}, DONE, {FIVE_0, FIVE_1}},
@@ -273,7 +273,7 @@ static const reissue_example reissue_examples[] = {
     {FIVE_PLAN, "0.1", {FORGED_0, FORGED_2}, {51, 0, 0, 0, "digest mismatch in group 0"}, {NULL}}
 };
 
-/* Python's hmac computed them. */
+/* Python's hmac computed these fingerprints. */
 static const fingerprint_example fingerprint_examples[] = {
     {SECRET, DONE, "df41d8fe"},
     {TWO_SECRET, DONE, "5f5702dc"},
@@ -283,12 +283,12 @@ static const fingerprint_example fingerprint_examples[] = {
     {NULL, {42, 0, 0, 0, "secret of 0 bytes"}, ""}
 };
 
-/* What is being tried, an example of a table from 0, for messages; and how often something differed. */
+/* The export and the example of its table, from 0, for messages; and the number of differences. */
 static const char *export_name;
 static size_t example_number;
 static int differences;
 
-/* The memory of which the slices that are written are the front. */
+/* Each output buffer is at the start of this memory. */
 static uint8_t room[ROOM_BYTES];
 
 static void differ(const char *what)
@@ -314,7 +314,7 @@ static slice slice_of(const char *text)
     return found;
 }
 
-/* The bytes of hexadecimal digits, which are kept at a place. */
+/* Writes the bytes that the hexadecimal digits stand for to kept, and returns them. */
 static slice bytes_of(const char *digits, uint8_t *kept)
 {
     slice found = {NULL, 0};
@@ -329,7 +329,7 @@ static slice bytes_of(const char *digits, uint8_t *kept)
     return found;
 }
 
-/* Lines, each with a line feed behind it, which are kept at a place. */
+/* Writes the lines, with a line feed after each, to kept, and returns them. */
 static slice joined(const char *const *lines, char *kept)
 {
     size_t i;
@@ -341,7 +341,7 @@ static slice joined(const char *const *lines, char *kept)
     return slice_of(i == 0 ? NULL : kept);
 }
 
-/* The room with nothing in it, or NULL where a call is to get none of it. */
+/* Marks all of the room as untouched. Returns the room, or NULL if the output buffer has no bytes. */
 static void *fresh(size_t bytes)
 {
     memset(room, UNTOUCHED, sizeof room);
@@ -388,7 +388,7 @@ static void compare_shares(shamir_share found, shamir_share right)
     }
 }
 
-/* These bytes stand at the front of the room, and behind them it is as it was. */
+/* Checks that these bytes are at the start of the room, and that the rest of it is untouched. */
 static void compare_room(slice bytes)
 {
     size_t i;
@@ -404,14 +404,14 @@ static void compare_room(slice bytes)
     }
 }
 
-/* An answer is the right one, with these bytes in the room. */
+/* Checks an answer, and that these bytes and no others are in the room. */
 static void compare(shamir_answer found, shamir_answer right, slice bytes)
 {
     compare_answers(found, right);
     compare_room(bytes);
 }
 
-/* The text of an answer is the right one, and a slice one byte too short for it, or NULL, is refused. */
+/* Checks the text of an answer, and that a buffer that is one byte too short for it is refused, and NULL too. */
 static void check_text(shamir_answer answer, const char *told)
 {
     const char *of = export_name;
@@ -472,7 +472,7 @@ static void check_create(const create_example *example)
     size_t i;
     shamir_answer found;
 
-    /* The right room, one byte less, and none; only the first where the call is refused. */
+    /* A buffer of the right length, one that is a byte shorter, and none. A call that is refused gets only the first. */
     bytes[0] = text.length == 0 ? ROOM_BYTES : text.length;
     bytes[1] = text.length - 1;
     for (i = 0; i < (text.length == 0 ? 1 : 3); i++) {
@@ -553,7 +553,7 @@ static void check_reissue(const reissue_example *example)
     size_t i;
     shamir_answer found;
 
-    /* The right room, one byte less, and none; only the first where the call is refused. */
+    /* A buffer of the right length, one that is a byte shorter, and none. A call that is refused gets only the first. */
     bytes[0] = text.length == 0 ? ROOM_BYTES : text.length;
     bytes[1] = text.length - 1;
     for (i = 0; i < (text.length == 0 ? 1 : 3); i++) {
@@ -585,7 +585,7 @@ static void check_fingerprint(const fingerprint_example *example)
     }
 }
 
-/* The library has the header's version, and says so in a slice of just its bytes, or refuses a shorter one. */
+/* Checks that the library gives the header's version into a buffer of exactly its length, and refuses a shorter one. */
 static void check_version(void)
 {
     slice version = slice_of(SHAMIR_VERSION);
@@ -598,7 +598,7 @@ static void check_version(void)
     compare(shamir_version(fresh(0), 0), too_short(version.length), none);
 }
 
-/* Numbers that no export answers have a text too. */
+/* Checks the text of a code that no export gives. */
 static void check_unknown(void)
 {
     wanted unknown = {4, 0, 0, 0, NULL};

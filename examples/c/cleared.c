@@ -1,11 +1,11 @@
 /*
- * Recovers the secret of a file of mnemonics on a stack of its own, and clears that stack before it gives it back: what the
- * library leaves on its stack, copies of secrets and passphrases among it, is gone then.
+ * This program does what recover.c does, on a stack of its own. The library may leave copies of secrets and passphrases on
+ * its stack. So this program clears the stack before it frees it.
  *
  *   cc -std=c99 -Iinclude examples/c/cleared.c libshamir.a -pthread -o cleared
  *   ./cleared FILE [PASSPHRASE]
  *
- * What it prints, and its status, are those of recover.c. call_cleared is what to take from here.
+ * Its output and its exit status are those of recover.c. Other programs can reuse call_cleared.
  */
 #define _GNU_SOURCE
 #include <pthread.h>
@@ -16,12 +16,12 @@
 #include "recover.c"
 #undef main
 
-/* Bytes for the library, and as many for the C library. */
+/* The library uses half of this at most. The other half is for the C library. */
 #define STACK_BYTES (2 * SHAMIR_STACK_BYTES)
 
 /*
- * Makes a call in a thread with a stack of its own, which is kept out of swap where the system allows it, waits for its
- * end, and clears the stack. It gives 0 where there is no memory or no thread, and then the call wasn't made.
+ * Makes a call in a thread with a stack of its own, waits until the call ends, and clears the stack. mlock keeps the stack
+ * out of swap if the system allows it. Returns 0 if there is no memory or no thread; the call wasn't made then.
  */
 static int call_cleared(void *(*call)(void *), void *what)
 {
@@ -44,7 +44,7 @@ static int call_cleared(void *(*call)(void *), void *what)
     return made;
 }
 
-/* The words of the command line, and the status. */
+/* The arguments of the program, and its exit status. */
 typedef struct command {
     int count;
     char **words;

@@ -1,25 +1,25 @@
 /*
- * Recovers the secret of a file of mnemonics, and prints it in hexadecimal.
+ * This program recovers the master secret from a file of mnemonics, and prints it in hexadecimal digits.
  *
  *   cc -std=c89 -Iinclude examples/c/recover.c libshamir.a -o recover
  *   ./recover FILE [PASSPHRASE]
  *
- * It ends with status 1 where the library refuses the file, with 2 where the file can't be read or the words are others, and
- * with 3 where the secret can't be written.
+ * The exit status is 0 if the secret was printed, and 1 if the library refuses the file or the passphrase. It is 2 if the
+ * program has other arguments or can't read the file, and 3 if it can't write the secret.
  */
 #include <stdio.h>
 #include <string.h>
 
 #include "shamir.h"
 
-/* More lines than a backup has, of the longest. */
+/* This is enough for a backup of the maximum length, with as many bytes of comments. */
 static char lines[2 * SHAMIR_MNEMONICS_BYTES_MAX];
 static uint8_t secret[SHAMIR_SECRET_BYTES_MAX];
 
-/* The digits of the secret, and a line feed. */
+/* The hexadecimal digits of the secret, and a line feed. */
 static char digits[2 * SHAMIR_SECRET_BYTES_MAX + 1];
 
-/* Clears memory; volatile keeps the compiler from leaving that out. */
+/* Clears memory. Without volatile, the compiler could leave this out. */
 static void clear(volatile void *memory, size_t count)
 {
     volatile char *bytes = memory;
@@ -29,7 +29,7 @@ static void clear(volatile void *memory, size_t count)
     }
 }
 
-/* Reads a file into lines; gives 0 where it can't be read or is too long. */
+/* Reads a file into lines. Returns 0 if the file can't be read or is too long. */
 static int read_lines(const char *name, size_t *bytes)
 {
     FILE *file = fopen(name, "rb");
@@ -39,10 +39,10 @@ static int read_lines(const char *name, size_t *bytes)
         perror(name);
         return 0;
     }
-    /* no buffer, which would keep a copy */
+    /* A buffer of the stream would keep a copy of the mnemonics. */
     setvbuf(file, NULL, _IONBF, 0);
     *bytes = fread(lines, 1, sizeof lines, file);
-    /* one byte more, as a file of just so many ends only there */
+    /* fread may have read only the beginning of a longer file, so getc looks for one more byte. */
     whole = !ferror(file) && getc(file) == EOF && !ferror(file);
     if (!whole) {
         fprintf(stderr, "%s: it can't be read, or is too long\n", name);
@@ -51,7 +51,7 @@ static int read_lines(const char *name, size_t *bytes)
     return whole;
 }
 
-/* Prints a refusal as the command shamir does: its line where it has one, its number and its text. */
+/* Prints a refusal as the command shamir does: its line if it has one, its number and its text. */
 static void print_refusal(const shamir_answer *answer)
 {
     char text[SHAMIR_TEXT_BYTES_MAX];
@@ -64,7 +64,7 @@ static void print_refusal(const shamir_answer *answer)
     fprintf(stderr, "%lu %.*s\n", (unsigned long)answer->code, (int)bytes, text);
 }
 
-/* Prints so many bytes of the secret, and gives the status. */
+/* Prints a secret of this many bytes, and returns the exit status. */
 static int print_secret(size_t bytes)
 {
     static const char hexadecimal[] = "0123456789abcdef";
@@ -75,7 +75,7 @@ static int print_secret(size_t bytes)
         digits[2 * i + 1] = hexadecimal[secret[i] & 15];
     }
     digits[2 * bytes] = '\n';
-    /* no buffer here either */
+    /* This buffer would keep a copy of the secret. */
     setvbuf(stdout, NULL, _IONBF, 0);
     if (fwrite(digits, 1, 2 * bytes + 1, stdout) != 2 * bytes + 1 || fflush(stdout) != 0) {
         perror("recover: the secret can't be written");
@@ -84,7 +84,7 @@ static int print_secret(size_t bytes)
     return 0;
 }
 
-/* Prints the secret of what was read, or why there is none, and gives the status. */
+/* Prints the secret that the lines give, or the refusal, and returns the exit status. */
 static int recover(size_t bytes, const char *passphrase)
 {
     shamir_answer answer = shamir_recover(lines, bytes, passphrase, strlen(passphrase), SHAMIR_EXPONENT_MAX, secret, sizeof secret);

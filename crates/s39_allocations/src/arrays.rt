@@ -1,8 +1,21 @@
 //! A reader and a writer over arrays, which take no memory.
 
 use arrayvec::ArrayVec;
+use s39_cli::Shelf;
 use std::io;
-use std::io::{ErrorKind, Read, Write};
+use std::io::{Empty, ErrorKind, Read, Write};
+
+/// A shelf with no file on it.
+#[derive(Clone, Copy, Drop)]
+pub struct NoFiles;
+
+impl Shelf for NoFiles {
+    type File = Empty;
+
+    fn open(&self, _name: &str) -> io::Result<Empty> {
+        Err(io::Error::from(ErrorKind::NotFound))
+    }
+}
 
 /// A reader of bytes that counts its calls.
 #[derive(Drop)]

@@ -10,7 +10,7 @@
 mod arrays;
 mod examples;
 
-use crate::arrays::{Sheet, Source};
+use crate::arrays::{NoFiles, Sheet, Source};
 use crate::examples::{Example, example_of, run_of};
 use s39_cli::{Destination, program};
 use std::alloc::Global;
@@ -35,6 +35,7 @@ fn ending_of(alloc: Global, example: &Example) -> Ending {
     let mut output = Sheet::new();
     let mut errors = Sheet::new();
     let status = program(
+        &NoFiles,
         alloc,
         example.words,
         &mut input,

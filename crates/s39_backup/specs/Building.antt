@@ -15,11 +15,11 @@ pub record IsHeader (group_threshold group_count : ℕ) : Type 0 where
   pub enough : group_threshold ≤ group_count
   pub few : group_count ≤ most_groups
 
--- the bytes of all of these are as many, a number with this property
+-- all of these have the same number of bytes, which has this property
 abbrev pub ShareOneLength : List (ArrayVec ℕ) → (ℕ → Type 0) → Type 0
 ShareOneLength shares P = (n : ℕ) × All (λ share. array_vec_len share ≡ n) shares × P n
 
--- The shares of these groups were appended to others, and took a beginning of the random bytes.
+-- The shares of these groups were appended to others. They took a beginning of the random bytes.
 pub record AreCreatedGroups (params : Params) (group_threshold group_count : ℕ) (groups : List Members) (group_shares : List (List ℕ))
     (random : List ℕ) (old new : List ShareFields) : Type 0 where
   pub pieces : List (List ℕ)
@@ -28,7 +28,7 @@ pub record AreCreatedGroups (params : Params) (group_threshold group_count : ℕ
   pub split : AreSplitAmong groups group_shares pieces values
   pub shares_are : new ≡ old ++ created_groups params group_threshold group_count 0 groups values
 
--- The shares of the groups before this one were created, and the rest of the random bytes wasn't taken.
+-- The shares of the groups before this one were created. The rest of the random bytes is still to be taken.
 pub record AreCreatedBefore (params : Params) (group_threshold group_count : ℕ) (groups : List Members) (group_shares : List (List ℕ))
     (random : List ℕ) (group : ℕ) (rest : List ℕ) (shares : List ShareFields) : Type 0 where
   pub pieces : List (List ℕ)

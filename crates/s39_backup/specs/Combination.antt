@@ -1,4 +1,4 @@
--- What the shares of a quorum combine to (SLIP-0039, "Shamir's secret sharing"). No passphrase has a part in it.
+-- What the shares of a quorum combine to (SLIP-0039, "Shamir's secret sharing"). It doesn't depend on the passphrase.
 use Rattle.std.specs.Prelude.{◌≡◌, ℕ, List, [], ◌∷◌, ◌++◌, length, map, filter, find, zip, Option, Some, None, nat_lt, Result, Ok, Err, IsSomeAnd}
 use Rattle.std.specs.List.{AllZip, range_with_len}
 use Rattle.std.specs.Option.{option_map_or}
@@ -14,15 +14,15 @@ use Rattle.s39_backup.specs.declared.combination.Mismatch.TheVariants.{InGroup, 
 abbrev pub value_of : List ShareFields → Name → List ℕ
 value_of set name = option_map_or (λ share. share.value.items) (find (has_name name.0 name.1) set) []
 
--- the shares of a group among these names, each its member index and its value
+-- the shares of a group among these names, each as its member index and its value
 abbrev pub member_shares : List ShareFields → Names → ℕ → List (ℕ × List ℕ)
 member_shares set names group = map (λ name. (name.1, value_of set name)) (names_in_group group names)
 
--- the groups of which a name is among these
+-- the groups that have a name among these
 abbrev pub groups_of : Names → List ℕ
 groups_of names = filter (λ group. nat_lt 0 (length (names_in_group group names))) (range_with_len 0 most_groups)
 
--- the shares of a group combine to this group share, or are refused, which is None
+-- the shares of a group combine to this group share; None if they are refused
 abbrev pub GroupCombines : List ShareFields → Names → ℕ → Option (List ℕ) → Type 0
 GroupCombines set names group outcome =
     IsSomeAnd (member_threshold_of set group) (λ threshold. Combines threshold (member_shares set names group) outcome)
@@ -36,7 +36,7 @@ abbrev pub GroupsCombine : List ShareFields → List ℕ → List (List ℕ) →
 GroupsCombine set groups shares outcome =
     IsSomeAnd (group_threshold_of set) (λ threshold. Combines threshold (zip groups shares) outcome)
 
--- all groups combine, and their group shares to this encrypted secret
+-- all groups combine, and the group shares combine to this encrypted secret
 pub record CombinesTo (set : List ShareFields) (names : Names) (encrypted : List ℕ) : Type 0 where
   pub shares : List (List ℕ)
   pub groups : AllCombine set names (groups_of names) shares
@@ -51,14 +51,14 @@ pub record MismatchesInGroup (set : List ShareFields) (names : Names) (group : �
   pub earlier : AllCombine set names before shares
   pub refused : GroupCombines set names group None
 
--- all groups combine, and the group shares are refused
+-- all groups combine, but the group shares are refused
 pub record MismatchesOfGroups (set : List ShareFields) (names : Names) : Type 0 where
   pub shares : List (List ℕ)
   pub groups : AllCombine set names (groups_of names) shares
   pub refused : GroupsCombine set (groups_of names) shares None
 
--- what the names of a quorum combine to: an encrypted secret, or a mismatch of digests, in the lowest group of which
--- that is so, or else of the groups
+-- what the names of a quorum combine to: an encrypted secret, or a mismatch of digests, in the lowest group that has
+-- one, or else of the groups
 abbrev pub IsCombination : List ShareFields → Names → Result (List ℕ) Mismatch → Type 0
 IsCombination set names (Ok encrypted) = CombinesTo set names encrypted
 IsCombination set names (Err (InGroup group)) = MismatchesInGroup set names group

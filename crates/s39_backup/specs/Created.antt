@@ -15,7 +15,7 @@ use Rattle.s39_backup.specs.declared.create_error.CreateError.{CreateError}
 use Rattle.s39_backup.specs.declared.create_error.CreateError.TheVariants.{Passphrase, SecretLength, BadRandomLength}
 use Rattle.s39_backup.specs.Plan.{IsPlan}
 
--- the random bytes of the identifier
+-- how many random bytes the identifier takes
 abbrev pub identifier_length : ℕ
 identifier_length = 2
 
@@ -25,7 +25,7 @@ abbrev pub random_needed : ℕ → List Members → ℕ → ℕ
 random_needed group_threshold groups n =
     identifier_length + level_random_needed group_threshold n + sum_by (λ members. level_random_needed members.threshold n) groups
 
--- what a backup is created from, but for the random bytes
+-- what a backup is created from, besides the random bytes
 pub record Asked : Type 0 where
   pub secret : List ℕ
   pub passphrase : List ℕ
@@ -33,7 +33,7 @@ pub record Asked : Type 0 where
   pub groups : List Members
   pub options : Options
 
--- all of that
+-- a record of all of these
 abbrev pub asked_for : List ℕ → List ℕ → ℕ → List Members → Options → Asked
 asked_for secret passphrase group_threshold groups options = record {
   secret = secret;
@@ -47,12 +47,12 @@ asked_for secret passphrase group_threshold groups options = record {
 abbrev pub needed_by : Asked → ℕ
 needed_by asked = random_needed asked.group_threshold asked.groups (length asked.secret)
 
--- the most random bytes that a backup takes: those of sixteen groups of which all sixteen members are needed, and all
--- groups, with the longest secret
+-- the most random bytes that a backup takes: those of sixteen groups of sixteen members, all of which are needed, with
+-- the longest secret
 abbrev pub most_random : ℕ
 most_random = 32574
 
--- the identifier that random bytes give: big-endian, the highest bit left out
+-- the identifier that two random bytes give: big-endian, without the highest bit
 abbrev pub identifier_of : ℕ → ℕ → ℕ
 identifier_of high low = (256 * high + low) % 2 ^ id_bits
 
@@ -62,7 +62,7 @@ pub record AreCreatedParams (options : Options) (high low : ℕ) (params : Param
   pub extendable : params.extendable ≡ options.extendable
   pub exponent : params.exponent ≡ options.exponent
 
--- the share of a group is split among its members by the group's piece of the random bytes, for each group
+-- each group's share is split among its members by the group's piece of the random bytes
 abbrev pub AreSplitAmong : List Members → List (List ℕ) → List (List ℕ) → List (List (List ℕ)) → Type 0
 AreSplitAmong [] [] [] [] = Unit {0}
 AreSplitAmong (members ∷ groups) (share ∷ shares) (piece ∷ pieces) (values ∷ others) =
@@ -114,7 +114,7 @@ pub record IsCreatedFrom (asked : Asked) (random : List ℕ) (shares : List Shar
   pub members_split : AreSplitAmong asked.groups group_shares pieces values
   pub shares_are : shares ≡ created_groups params asked.group_threshold (length asked.groups) 0 asked.groups values
 
--- what the creation of a backup gives: its shares, or the first cause that applies
+-- what the creation of a backup gives: its shares, or the first cause of a refusal that applies
 abbrev pub IsCreation : Asked → List ℕ → Result (List ShareFields) CreateError → Type 0
 IsCreation asked random (Ok shares) =
     All IsPrintable asked.passphrase × IsSecretLength (length asked.secret) × (length random ≡ needed_by asked)
@@ -132,7 +132,8 @@ create_cause_of (Passphrase bad) = passphrase_cause bad.position
 create_cause_of (SecretLength bad) = length_cause bad.bytes
 create_cause_of (BadRandomLength needed) = cause 43 needed 0
 
--- shares of a backup that was created from this secret with this passphrase, whatever plan, options and random bytes
+-- shares of a backup that was created from this secret with this passphrase, whatever the plan, options and random
+-- bytes
 pub record AreOfBackup (set : List ShareFields) (passphrase secret : List ℕ) : Type 0 where
   pub group_threshold : ℕ
   pub groups : List Members

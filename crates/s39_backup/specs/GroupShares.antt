@@ -19,12 +19,12 @@ abbrev pub value_bytes_of : List ShareFields → ℕ
 value_bytes_of [] = 0
 value_bytes_of (share ∷ shares) = length share.value.items
 
--- names with just the groups and members that the thresholds of a share set ask
+-- names with exactly as many groups and members as the thresholds of a share set ask for
 pub record IsExactQuorum (set : List ShareFields) (names : Names) : Type 0 where
   pub is_set : IsShareSet set
   pub exact : HasJustTheGroups set names
 
--- shares that can be combined: at least one, each with an index of its own, and all of one length
+-- shares that can be combined: at least one, with distinct indices, and all of the same length
 pub record AreOfOneLevel (bytes : ℕ) (shares : List (ℕ × List ℕ)) : Type 0 where
   pub some : 0 < length shares
   pub few : length shares ≤ most_shares
@@ -33,7 +33,7 @@ pub record AreOfOneLevel (bytes : ℕ) (shares : List (ℕ × List ℕ)) : Type 
   pub lengths : All (λ share. length share.1 ≡ bytes) shares
   pub long : shortest_secret ≤ bytes
 
--- the groups below a number of which a name is among these
+-- the groups below a number that have a name among these
 abbrev pub groups_below : Names → ℕ → List ℕ
 groups_below names n = filter (λ group. nat_lt 0 (length (names_in_group group names))) (range_with_len 0 n)
 

@@ -1,14 +1,14 @@
--- Secrets that were deciphered once and are kept.
+-- Deciphered secrets that are kept.
 use Rattle.std.specs.Prelude.{ℕ, ◌-◌, List, All, drop, length, map}
 use Rattle.s39_kdf.specs.declared.params.Params.{Params}
 use Rattle.s39_kdf.specs.Cipher.{IsEncryption}
 use Rattle.s39_backup.specs.declared.memo.Deciphered.{Deciphered}
 
--- a memo keeps at most so many secrets
+-- how many secrets a memo keeps at most
 abbrev pub most_kept : ℕ
 most_kept = 4
 
--- the last of these, no more than are kept
+-- the last of these, at most as many as are kept
 abbrev pub newest : List (List ℕ × List ℕ) → List (List ℕ × List ℕ)
 newest kept = drop (length kept - most_kept) kept
 
@@ -16,8 +16,8 @@ newest kept = drop (length kept - most_kept) kept
 abbrev pub AreDeciphered : List ℕ → Params → List (List ℕ × List ℕ) → Type 0
 AreDeciphered passphrase params kept = All (λ entry. IsEncryption entry.1 passphrase params entry.0) kept
 
--- A memo: a passphrase and parameters, how many values it deciphered, and the last of them, each with its secret,
--- oldest first.
+-- A memo has a passphrase and parameters. It counts the values that it deciphered, and keeps the last of them, each
+-- with its secret, oldest first.
 pub record MemoState : Type 0 where
   pub passphrase : List ℕ
   pub params : Params

@@ -13,7 +13,7 @@ AreParams [] params = ⊥
 AreParams (share ∷ shares) params =
     (params.id ≡ share.id) × (params.extendable ≡ share.extendable) × (params.exponent ≡ share.exponent)
 
--- the quorum combines to what is the encryption of this secret
+-- the quorum combines to the encryption of this secret
 pub record Recovers (set : List ShareFields) (names : Names) (passphrase secret : List ℕ) : Type 0 where
   pub encrypted : List ℕ
   pub params : Params

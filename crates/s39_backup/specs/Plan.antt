@@ -9,12 +9,12 @@ use Rattle.s39_backup.specs.declared.plan.Members.{Members}
 use Rattle.s39_backup.specs.declared.plan_error.PlanError.{PlanError}
 use Rattle.s39_backup.specs.declared.plan_error.PlanError.TheVariants.{BadPlan, PlanGroups, PlanMembers, OneOfMany}
 
--- a group has no more members than there may be, and enough for its threshold
+-- a group has at most 16 members, and at least as many as its threshold
 pub record HasEnoughMembers (members : Members) : Type 0 where
   pub few : members.count ≤ most_members
   pub enough : members.threshold ≤ members.count
 
--- one of many is enough, so that each of them is the group's share
+-- one of several members is enough, so that each of them is the group's share
 abbrev pub IsOneOfMany : Members → Type 0
 IsOneOfMany members = (members.threshold ≡ 1) × (1 < members.count)
 
@@ -24,12 +24,12 @@ pub record IsGroup (members : Members) : Type 0 where
   pub enough : HasEnoughMembers members
   pub not_one_of_many : ¬ IsOneOfMany members
 
--- there are no more groups than there may be, and enough for the group threshold
+-- there are at most 16 groups, and at least as many as the group threshold
 pub record HasEnoughGroups (group_threshold : ℕ) (groups : List Members) : Type 0 where
   pub few : length groups ≤ most_groups
   pub enough : group_threshold ≤ length groups
 
--- a plan: how many groups are needed, and each group's members
+-- a plan: how many groups are needed, and the members of each group (SLIP-0039, "Generating the shares")
 pub record IsPlan (group_threshold : ℕ) (groups : List Members) : Type 0 where
   pub positive : 1 ≤ group_threshold
   pub enough : HasEnoughGroups group_threshold groups
@@ -50,7 +50,7 @@ members_text members = decimal members.threshold ++ (codes "of" ++ decimal membe
 abbrev pub groups_text : List Members → List ℕ
 groups_text groups = join_with_byte 44 (map members_text groups)
 
--- The text is `TofN`, which is one group at group threshold 1, or `GT/T1ofN1,T2ofN2,..`, whatever the numbers.
+-- The text is `TofN`, which is one group with the group threshold 1, or `GT/T1ofN1,T2ofN2,..`, whatever the numbers.
 pub record HasPlanForm (text : List ℕ) (group_threshold : ℕ) (groups : List Members) : Type 0 where
   pub some : groups ≢ []
   pub threshold_number : IsPlanNumber group_threshold
@@ -59,13 +59,13 @@ pub record HasPlanForm (text : List ℕ) (group_threshold : ℕ) (groups : List 
   pub written : (text ≡ decimal group_threshold ++ (codes "/" ++ groups_text groups))
       ⊎ ((group_threshold ≡ 1) × (length groups ≡ 1) × (text ≡ groups_text groups))
 
--- what is read from a text of the form of a plan: the group threshold, and each group's members
+-- what is read from a text that has the form of a plan: the group threshold, and the members of each group
 pub record PlanForm (text : List ℕ) : Type 0 where
   pub group_threshold : ℕ
   pub groups : List Members
   pub form : HasPlanForm text group_threshold groups
 
--- the group at this place, from 0, is the first that a plan can't have, and refused so
+-- the group at this place, counted from 0, is the first that a plan can't have, and it is refused for this cause
 pub record IsFirstRefusedGroup (groups : List Members) (place : ℕ) (IsRefused : Members → Type 0) : Type 0 where
   pub before : List Members
   pub members : Members
@@ -75,8 +75,9 @@ pub record IsFirstRefusedGroup (groups : List Members) (place : ℕ) (IsRefused 
   pub accepted : All IsGroup before
   pub refused : IsRefused members
 
--- What a text is read as: a plan, its group threshold and its groups, or the first cause that applies: it has another
--- form; the number of groups; and then group by group the number of members, and one of many.
+-- What a text is read as: the group threshold and the groups of a plan, or the first cause that applies. The causes
+-- are, in this order: another form; the number of groups; and then, group by group, the number of members, and one of
+-- many.
 abbrev pub IsPlanReading : List ℕ → Result (ℕ × List Members) PlanError → Type 0
 IsPlanReading text (Ok plan) = HasPlanForm text plan.0 plan.1 × IsPlan plan.0 plan.1
 IsPlanReading text (Err BadPlan) = ¬ PlanForm text

@@ -8,7 +8,7 @@ use Rattle.s39_backup.specs.declared.plan_error.PlanError.{PlanError}
 use Rattle.s39_backup.specs.declared.plan_error.PlanError.TheVariants.{BadPlan, PlanGroups, PlanMembers, OneOfMany}
 use Rattle.s39_backup.specs.Plan.{HasEnoughMembers, IsOneOfMany, IsPlanNumber, members_text, groups_text, HasPlanForm, IsFirstRefusedGroup}
 
--- the text is this number
+-- the text is the decimal form of this number
 pub record IsNumberText (text : List ℕ) (n : ℕ) : Type 0 where
   pub number : IsPlanNumber n
   pub text_is : text ≡ decimal n
@@ -22,19 +22,19 @@ pub record IsMembersText (text : List ℕ) (members : Members) : Type 0 where
   pub numbers : HasPlanNumbers members
   pub text_is : text ≡ members_text members
 
--- the text is that of these groups
+-- the text is the one of these groups
 pub record IsGroupsText (text : List ℕ) (groups : List Members) : Type 0 where
   pub some : groups ≢ []
   pub thresholds : All (λ members. IsPlanNumber members.threshold) groups
   pub counts : All (λ members. IsPlanNumber members.count) groups
   pub text_is : text ≡ groups_text groups
 
--- the list has the number of these groups, and the first of them
+-- the list has the number of these groups, and the first sixteen of them
 pub record IsListOf (list : GroupList) (groups : List Members) : Type 0 where
   pub count : list.count ≡ length groups
   pub first : list.first.items ≡ take most_groups groups
 
--- these parts of a text are groups, and in the list
+-- these parts of a text are groups, and the list has them
 pub record AreListed (parts : List (List ℕ)) (list : GroupList) : Type 0 where
   pub groups : List Members
   pub numbers : All HasPlanNumbers groups
@@ -53,7 +53,7 @@ pub record ListsPlanOf (text : List ℕ) (form : ℕ × GroupList) : Type 0 wher
   pub has_form : HasPlanForm text form.0 groups
   pub is_list : IsListOf form.1 groups
 
--- the first group that a plan can't have is refused so
+-- the first group that a plan can't have is refused for this cause
 abbrev pub RefusesAGroup : List Members → PlanError → Type 0
 RefusesAGroup groups BadPlan = ⊥
 RefusesAGroup groups PlanGroups = ⊥

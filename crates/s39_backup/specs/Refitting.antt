@@ -9,7 +9,7 @@ use Rattle.s39_backup.specs.declared.plan.Members.{Members}
 use Rattle.s39_backup.specs.Created.{AreCreatedParams, AreSplitAmong, Asked}
 use Rattle.s39_backup.specs.TwoShort.{is_held, held_groups}
 
--- indices of shares in order, at least two fewer than a threshold, or none
+-- indices of shares in order, at most the threshold less two of them, or none
 pub record AreKept (threshold count : ℕ) (kept : List ℕ) : Type 0 where
   pub ascending : AllPairs (λ a b. a < b) kept
   pub below : All (λ index. index < count) kept
@@ -19,8 +19,8 @@ pub record AreKept (threshold count : ℕ) (kept : List ℕ) : Type 0 where
 abbrev pub AreSameAt : List ℕ → List (List ℕ) → List (List ℕ) → Type 0
 AreSameAt kept shares others = All (λ index. slice_get shares index ≡ slice_get others index) kept
 
--- Indices of shares of a level, as many as its threshold less two, none where that is 1: those that are kept, and the
--- lowest others.
+-- Indices of shares of a level, exactly its threshold less two of them, or none if that is 1: those that are kept, and
+-- the lowest others.
 pub record AreStaying (threshold : ℕ) (kept indices : List ℕ) : Type 0 where
   pub ascending : AllPairs (λ a b. a < b) indices
   pub number : length indices ≡ threshold - 2
@@ -35,14 +35,14 @@ pub record StayTheSame (threshold : ℕ) (secret kept random fitted : List ℕ) 
   pub same : AreSameAt indices shares others
   pub key : take (length secret - digest_length) random ≡ take (length secret - digest_length) fitted
 
--- splits of two secrets, each with its random bytes, of which the key of the digest and the staying shares are the same
+-- splits of two secrets, each with its random bytes, with the same key of the digest and the same staying shares
 pub record AreLevels (threshold count : ℕ) (secret other : List ℕ) (kept : List ℕ) (random fitted : List ℕ)
     (shares others : List (List ℕ)) : Type 0 where
   pub split : IsSplit threshold count secret random shares
   pub refitted : IsSplit threshold count other fitted others
   pub stay : StayTheSame threshold secret kept random fitted shares others
 
--- of each group from this one on, the shares with these names are the same
+-- the shares with these names are the same in each group from this one on
 abbrev pub AreSameAmong : Names → ℕ → List (List (List ℕ)) → List (List (List ℕ)) → Type 0
 AreSameAmong names group [] [] = Unit {0}
 AreSameAmong names group (values ∷ more) (others ∷ rest) =
@@ -50,19 +50,20 @@ AreSameAmong names group (values ∷ more) (others ∷ rest) =
     × AreSameAmong names (group + 1) more rest
 AreSameAmong names group _ _ = ⊥
 
--- the names of each group from this one on are of members that it has
+-- each group from this one on has the members of its names
 abbrev pub AreNamesOfGroups : Names → ℕ → List Members → Type 0
 AreNamesOfGroups names group groups = (i : ℕ) (d : Members) → i < length groups
     → All (λ name. name.1 < (slice_index_or groups i d).count) (names_in_group (group + i) names)
 
--- the share of each group that is held, from this one on, is the same
+-- the share of each held group, from this one on, is the same
 abbrev pub HeldAreSame : Names → ℕ → List Members → List (List ℕ) → List (List ℕ) → Type 0
 HeldAreSame names group groups shares others = (i : ℕ) (d : Members) → i < length groups
     → is_held names (group + i, slice_index_or groups i d) ≡ true
     → slice_get shares i ≡ slice_get others i
 
--- Splits of a group's share in two backups, each with its random bytes, that have the shares with these names in common.
--- Where the group is held, the random bytes are the same, and else the key of the digest and the staying shares.
+-- Splits of a group's share in two backups, each with its random bytes, that have the shares with these names in
+-- common. If the group is held, the random bytes are the same. Otherwise the key of the digest and the staying shares
+-- are.
 pub record IsRefittedGroup (names : Names) (group : ℕ) (members : Members) (share other : List ℕ)
     (random fitted : List ℕ) : Type 0 where
   pub values : List (List ℕ)
@@ -81,7 +82,7 @@ EachIsRefitted names group (members ∷ groups) (share ∷ shares) (other ∷ ot
     IsRefittedGroup names group members share other piece fitted × EachIsRefitted names (group + 1) groups shares others pieces more
 EachIsRefitted names group _ _ _ _ _ = ⊥
 
--- the same of all of them
+-- the same for all of them
 pub record AreRefittedGroups (names : Names) (group : ℕ) (groups : List Members) (shares others : List (List ℕ))
     (random fitted : List ℕ) : Type 0 where
   pub pieces : List (List ℕ)
@@ -96,9 +97,9 @@ pub record AreRefittedGroups (names : Names) (group : ℕ) (groups : List Member
   pub each : EachIsRefitted names group groups shares others pieces fitted_pieces
 
 -- Random bytes of the creation of a backup of one secret, and those of another secret of its length, with the same
--- passphrase, plan and options. The bytes of the identifier are the same, and at each level the key of the digest and as
--- many shares as its threshold less two: those that the names keep, which are the held groups and the names' members, and
--- the lowest others. Of a held group all random bytes are the same.
+-- passphrase, plan and options. The bytes of the identifier are the same, and at each level the key of the digest and
+-- as many shares as its threshold less two: those that the names keep, which are the held groups and the names'
+-- members, and the lowest others. Of a held group all random bytes are the same.
 pub record IsRefitting (names : Names) (asked : Asked) (other random fitted : List ℕ) : Type 0 where
   pub high : ℕ
   pub low : ℕ

@@ -13,12 +13,12 @@ use Rattle.s39_backup.specs.declared.reissue_error.ReissueError.{ReissueError}
 use Rattle.s39_backup.specs.declared.reissue_error.ReissueError.TheVariants.{Undetermined, DigestMismatch}
 use Rattle.s39_backup.specs.Reissue.{members_at_hand, is_at_hand, IsGroupShare}
 
--- the members of a group that are at hand, of those below an index
+-- the members of a group below an index that are at hand
 abbrev pub members_below : List ShareFields → ℕ → ℕ → List (ℕ × List ℕ)
 members_below set group index =
     map (λ share. (share.member_index, share.value.items)) (filter (λ share. is_in_group group share && nat_lt share.member_index index) set)
 
--- points that can be completed: at least one, each at a place of its own, and all of one length
+-- points that can be completed: at least one, at distinct places, and all of the same length
 pub record ArePointsOfOneLevel (bytes : ℕ) (points : List (ℕ × List ℕ)) : Type 0 where
   pub some : 0 < length points
   pub few : length points ≤ most_shares
@@ -35,7 +35,7 @@ pub record AreComplete (set : List ShareFields) (groups : List (ℕ × Members))
   pub are_groups : All (λ group. IsGroup group.1) groups
   pub at_hand : All (λ group. is_at_hand set group ≡ true) groups
 
--- the value of a member of a group that is one member short, by the share of the group that other groups say, or the
+-- the value of a member of a group that is one member short, by the share of the group that other groups give, or the
 -- mismatch of a digest
 abbrev pub IsValueBy : List ShareFields → List (ℕ × Members) → ℕ × Members → ℕ → Result (List ℕ) ReissueError → Type 0
 IsValueBy set others group member (Ok value) =

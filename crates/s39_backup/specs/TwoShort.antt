@@ -6,7 +6,7 @@ use Rattle.s39_set.specs.Names.{Name, Names, names_in_group}
 use Rattle.s39_set.specs.ShareSet.{name_of}
 use Rattle.s39_backup.specs.declared.plan.Members.{Members}
 
--- a group is held where the names have at least one of it, and more than its member threshold less two
+-- a group is held if the names have at least one of it, and more than its member threshold less two
 abbrev pub is_held : Names → ℕ × Members → Bool
 is_held names group =
     let count = length (names_in_group group.0 names) in
@@ -20,7 +20,7 @@ held_groups names groups = map (λ group. group.0) (filter (is_held names) (enum
 abbrev pub IsNameOfPlan : List Members → Name → Type 0
 IsNameOfPlan groups name = IsSomeAnd (slice_get groups name.0) (λ members. name.1 < members.count)
 
--- Names of a plan's shares, by which at most as many groups are held as the group threshold less two: none where that
+-- Names of a plan's shares by which at most the group threshold less two groups are held, or none if that threshold
 -- is 1.
 pub record IsTwoShort (group_threshold : ℕ) (groups : List Members) (names : Names) : Type 0 where
   pub of_plan : All (IsNameOfPlan groups) names

@@ -17,8 +17,18 @@ use s39_words::Share;
 /// Groups of a plan, each with its index.
 pub(crate) type Groups = ArrayVec<(u8, Members), GROUPS>;
 
-/// Whether all shares of a set are shares that a backup of this plan may have: their group threshold and their number of
-/// groups are the plan's, and it has their names, with their member thresholds.
+/// Returns whether a backup of this plan can have all shares of a set: their group threshold and their number of groups
+/// are the plan's, and the plan has their names with their member thresholds. An empty set is of every plan.
+///
+/// ```rust
+/// let mut set = ShareSet::new();
+/// set.add(parse(
+///     b"shadow pistol academic always adequate wildlife fancy gross oasis cylinder mustang \
+///     wrist rescue view short owner flip making coding armed",
+/// )?)?;
+/// assert!(rt; is_of_plan(&set, &Plan::parse("2of3")?));
+/// assert!(rt; !is_of_plan(&set, &Plan::parse("3of3")?));
+/// ```
 pub fn is_of_plan(set: &ShareSet, plan: &Plan) -> bool
     ensures { IsTrue result ↔ AreOfPlan plan.now.group_threshold plan.now.groups.items set.now }
 {
@@ -33,7 +43,7 @@ pub fn is_of_plan(set: &ShareSet, plan: &Plan) -> bool
     true
 }
 
-/// Whether a backup of a plan may have this share.
+/// Whether a backup of a plan can have this share.
 fn may_have(plan: &Plan, share: &Share) -> bool
     ensures { IsTrue result ↔ IsOfPlan plan.now.group_threshold plan.now.groups.items share.now }
 {
@@ -48,7 +58,7 @@ fn may_have(plan: &Plan, share: &Share) -> bool
     }
 }
 
-/// A share of a set, which has one.
+/// A share of a set that isn't empty.
 pub(crate) fn any_share(set: &ShareSet) -> &Share
     requires { set.now ≢ [] }
     ensures { Contains set.now result.now }
@@ -62,7 +72,7 @@ pub(crate) fn any_share(set: &ShareSet) -> &Share
     unreachable!()
 }
 
-/// The share of the name at this place of all names in order.
+/// The share of a set whose name stands at this place among all names in order.
 fn at_place(set: &ShareSet, place: usize) -> Option<&Share>
     requires { place < most_names }
     ensures { option_copied result
@@ -84,7 +94,7 @@ pub(crate) fn push_least<'a>(points: &mut Points<'a>, set: &'a ShareSet, group: 
     }
 }
 
-/// Adds the point of a share, where there is one, unless there are as many points as the threshold.
+/// Adds the point of a share, if there is one, unless there are as many points as the threshold.
 fn add_found<'a>(points: &mut Points<'a>, share: Option<&'a Share>, threshold: u8)
     requires { threshold ≤ most_shares }
     ensures none { option_copied share.entry ≡ None → points.new ≡ points.old }

@@ -20,18 +20,18 @@ use s39_set::{MAX_GROUPS, Quorum, ShareSet, are_a_share_set, share_at};
 use s39_split::{DigestMismatch, MAX_SHARES, Points, combine};
 use s39_words::Share;
 
-/// Where the digest of what shares combine to isn't the one that they have: a share is wrong, or they aren't all of
-/// one split.
+/// The shares whose digest doesn't match what they combine to (SLIP-0039, "Shamir's secret sharing"). One of them is
+/// wrong, or they aren't all from one split.
 #[derive(Clone, Copy, Debug, PartialEq, Eq)]
 pub enum Mismatch {
-    /// The shares of this group, the lowest such.
+    /// The member shares of this group, counted from 0: the first group whose digest doesn't match.
     InGroup { group: u8 },
-    /// The group shares, where those of each group combine.
+    /// The group shares. The member shares of each group combine.
     OfGroups,
 }
 
 impl Mismatch {
-    /// What the refusal says: 51, and the group, or `OF_GROUPS`.
+    /// Returns the number of the refusal, 51, and the group, or `s39_refusal::code::OF_GROUPS`.
     pub fn cause(&self) -> Cause
         ensures { result ≡ mismatch_cause_of self.now }
     {
@@ -45,11 +45,24 @@ impl Mismatch {
 /// Group shares, each its group index and its bytes.
 pub(crate) type GroupShares = ArrayVec<(u8, Bytes), MAX_SHARES>;
 
-/// The encrypted secret to which the shares of a quorum of the set combine, or the mismatch of a digest. It is as
-/// long as the values of the set: an even number of bytes, from 16 to 128.
+/// Combines the shares of a quorum of the set to the encrypted master secret (SLIP-0039, "Shamir's secret sharing"). It
+/// combines the member shares of each group, and then the group shares.
 ///
-/// The shares of each group are combined, and then the group shares.
-/// The caller knows that the names are a quorum (`s39_set::is_quorum`).
+/// The encrypted secret is as long as the values of the set's shares: an even number of bytes, from 16 to 128. If a
+/// digest doesn't match, the error names the lowest group in which it doesn't, or else the group shares.
+///
+/// The caller makes sure that the names are a quorum of the set (`s39_set::is_quorum`).
+///
+/// ```rust
+/// let mut set = ShareSet::new();
+/// set.add(parse(
+///     b"duckling enlarge academic academic agency result length solution fridge kidney coal \
+///     piece deal husband erode duke ajar critical decision keyboard",
+/// )?)?;
+/// let quorum = first(&set)?;
+/// let encrypted = combine_quorum(&set, &quorum)?;
+/// assert!(rt; encrypted.starts_with(b"\x11\xbc\x60\x9d\x21\x74\x7c\x49"));
+/// ```
 pub fn combine_quorum(set: &ShareSet, quorum: &Quorum) -> Result<Bytes, Mismatch>
     requires { IsQuorum set.now quorum.now }
     ensures encrypted { IfOk result (λ encrypted.
@@ -75,8 +88,21 @@ pub fn combine_quorum(set: &ShareSet, quorum: &Quorum) -> Result<Bytes, Mismatch
     }
 }
 
-/// The parameters of the cipher, in which all shares of the set agree.
-/// The caller knows that the names are a quorum, so that there is a share.
+/// Returns the parameters of the cipher: the identifier, the extendable flag and the iteration exponent, in which all
+/// shares of the set agree (SLIP-0039, "Format of the share mnemonic").
+///
+/// The caller makes sure that the names are a quorum of the set, so that the set has a share.
+///
+/// ```rust
+/// let mut set = ShareSet::new();
+/// set.add(parse(
+///     b"duckling enlarge academic academic agency result length solution fridge kidney coal \
+///     piece deal husband erode duke ajar critical decision keyboard",
+/// )?)?;
+/// let quorum = first(&set)?;
+/// let params = params_of(&set, &quorum);
+/// assert_eq!(rt; (params.id, params.exponent), (7945, 0));
+/// ```
 pub fn params_of(set: &ShareSet, quorum: &Quorum) -> Params
     requires { IsQuorum set.now quorum.now }
     ensures { AreParams set.now result }
@@ -101,7 +127,7 @@ fn first_share<'a>(set: &'a ShareSet, names: &[(u8, u8)]) -> &'a Share
     share_at(set, name.0, name.1).unwrap()
 }
 
-/// What the shares of each group combine to, with the group's index, or the first group that is refused.
+/// The group shares to which the shares of each group combine, or the first group that is refused.
 fn group_shares(set: &ShareSet, names: &[(u8, u8)]) -> Result<GroupShares, Mismatch>
     requires { IsExactQuorum set.now names.now }
     ensures shares { IfOk result (λ shares.
@@ -123,7 +149,7 @@ fn group_shares(set: &ShareSet, names: &[(u8, u8)]) -> Result<GroupShares, Misma
     Ok(shares)
 }
 
-/// The shares of a group among these names, each its member index and its value, lent.
+/// The shares of a group among these names, each as its member index and its lent value.
 fn member_shares<'a>(set: &'a ShareSet, names: &[(u8, u8)], group: u8) -> Points<'a>
     requires { IsExactQuorum set.now names.now }
     ensures { result ≡ member_shares set.now names.now group }
@@ -156,7 +182,7 @@ pub(crate) fn lend(shares: &GroupShares) -> Points<'_>
     lent
 }
 
-/// What shares combine to, as many as their threshold asks.
+/// What shares combine to, if there are exactly as many as their threshold.
 pub(crate) fn combine_all(shares: &Points<'_>) -> Result<Bytes, DigestMismatch>
     requires { (bytes : ℕ) × AreOfOneLevel bytes shares.now }
     ensures secret { IfOk result (λ secret.

@@ -8,16 +8,17 @@ use s39_refusal::{Cause, code};
 /// Why no backup is created.
 #[derive(Clone, Copy, Debug, PartialEq, Eq)]
 pub enum CreateError {
-    /// A byte of the passphrase isn't printable.
+    /// A byte of the passphrase isn't printable ASCII, which is 32 to 126.
     Passphrase(BadPassphrase),
     /// The secret has an odd number of bytes, or fewer than 16, or more than 128.
     SecretLength(BadSecretLength),
-    /// There aren't as many random bytes as the backup takes.
+    /// The backup takes `needed` random bytes, and more or fewer were passed.
     BadRandomLength { needed: usize },
 }
 
 impl CreateError {
-    /// What the refusal says: 41 to 43, and the position, the length or the number that is needed.
+    /// Returns the number of the refusal, 41 to 43, and its detail: the position of the byte (counted from 1), the
+    /// length of the secret in bytes, or the number of random bytes that are needed.
     pub fn cause(&self) -> Cause
         ensures { result ≡ create_cause_of self.now }
     {

@@ -1,4 +1,4 @@
-//! Shares of a created backup.
+//! The shares of a created backup.
 ghost use Rattle.std.specs.Prelude.{◌≡◌, ◌<◌, ◌≤◌, [], ◌∷◌, ◌++◌, length, All};
 ghost use Rattle.s39_set.specs.Names.{most_names};
 ghost use Rattle.s39_words.specs.Share.{IsShare};
@@ -9,8 +9,10 @@ use s39_words::{Share, ShareFields};
 use std::array;
 use std::marker::Model;
 
-/// Shares of a created backup, in the order in which they are appended: 256 at most. `create` appends all of them, by
-/// group, then member. They have fixed slots and take no memory.
+/// The shares of a created backup, at most 256, in the order in which they were appended.
+///
+/// `create` puts all shares of a new backup in the place of those that were there, by group, then member. Its example
+/// shows how to read them. The shares stand in fixed slots, so no memory is allocated.
 #[derive(Drop)]
 pub struct Created {
     slots: [Share; MAX_NAMES],
@@ -32,7 +34,7 @@ impl Model for Created {
 }
 
 impl Created {
-    /// No shares.
+    /// Returns a list that has no shares yet.
     pub fn new() -> Created
         ensures { result ≡ [] }
     {
@@ -42,7 +44,7 @@ impl Created {
         }
     }
 
-    /// The shares.
+    /// Returns the shares, at most 256.
     pub fn shares(&self) -> &[Share]
         ensures shares { result.now ≡ self.now }
         ensures few { length self.now ≤ most_names }
@@ -51,14 +53,14 @@ impl Created {
         &self.slots[..self.len]
     }
 
-    /// Takes the shares away.
+    /// Removes all shares.
     pub(crate) fn clear(&mut self)
         ensures { self.new ≡ [] }
     {
         self.len = 0;
     }
 
-    /// Appends a share. The caller keeps them at most 256.
+    /// Appends a share. The caller makes sure that there are fewer than 256 shares before.
     pub fn push(&mut self, share: Share)
         requires { length self.old < most_names }
         ensures { self.new ≡ self.old ++ share ∷ [] }
@@ -70,7 +72,7 @@ impl Created {
     }
 }
 
-/// A share that stands where none is yet.
+/// The share that fills a slot that isn't in use.
 fn blank() -> Share {
     let fields = ShareFields {
         id: 0,

@@ -21,17 +21,32 @@ use s39_words::{ID_BITS, Share, ShareFields};
 /// How many random bytes the identifier takes.
 pub(crate) const ID_BYTES: usize = 2;
 
-/// Creates a backup of a secret with a passphrase (SLIP-0039): its shares, by group, then member.
+/// Creates a backup of a secret with a passphrase (SLIP-0039, "Encryption of the master secret" and "Generating the
+/// shares"). It puts the shares into `out`, by group, then member, in the place of those that `out` had.
 ///
-/// The random bytes are consumed in this order: two for the identifier, big-endian, of which the highest bit is left
-/// out; those of the group level; then those of each group in order, each level as many as
-/// `s39_split::random_needed` says. `Plan::random_needed` says how many there are in all.
+/// The random bytes are consumed in this order: two for the identifier, big-endian and without the highest bit; those
+/// of the group level; then those of each group in order. Each level takes as many as `s39_split::random_needed` says,
+/// and all of them together as many as `Plan::random_needed` says.
 ///
-/// The first that applies is answered, and then `out` is unchanged:
+/// The first error that applies is returned, and then `out` is unchanged:
 ///
-/// - `Passphrase` where a byte of it isn't printable;
-/// - `SecretLength` where the secret has an odd number of bytes, or fewer than 16, or more than 128;
-/// - `BadRandomLength` where there are more or fewer random bytes than the backup takes, with that number.
+/// - `Passphrase` if a byte of the passphrase isn't printable ASCII;
+/// - `SecretLength` if the secret has an odd number of bytes, fewer than 16, or more than 128;
+/// - `BadRandomLength` if there are more or fewer random bytes than the backup takes, with that number.
+///
+/// ```rust
+/// let plan = Plan::parse("1of1")?;
+/// let secret = *b"\xbb\x54\xaa\xc4\xb8\x9d\xc8\x68\xba\x37\xd9\xcc\x21\xb2\xce\xce";
+/// let options = Options {
+///     exponent: 0,
+///     extendable: false,
+/// };
+/// let random = b"\x1f\x09";
+/// let mut created = Created::new();
+/// create(&plan, &secret, b"TREZOR", options, random, &mut created)?;
+/// assert_eq!(rt; created.shares().len(), 1);
+/// assert!(rt; print(&created.shares()[0]).starts_with(b"duckling enlarge academic academic "));
+/// ```
 pub fn create(
     plan: &Plan,
     secret: &[u8],
@@ -107,7 +122,8 @@ struct Header {
     ghost is_header: { IsHeader group_threshold group_count },
 }
 
-/// Appends the shares of all groups, each split from its group share by its piece of the random bytes.
+/// Appends the shares of all groups. Each group's shares are split from its group share by its piece of the random
+/// bytes.
 fn push_groups(
     header: &Header,
     groups: &[Members],

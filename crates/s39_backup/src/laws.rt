@@ -1,4 +1,4 @@
-//! Facts about the definitions, each the contract of a function that does nothing.
+//! Facts about the definitions. Each is the contract of a function that does nothing.
 ghost use Rattle.std.specs.Prelude.{◌≡◌, ℕ, ◌<◌, List, length, map, All, Contains, Result, Ok, Err, None, replicate};
 ghost use Rattle.s39_kdf.specs.Bytes.{AreBytes};
 ghost use Rattle.s39_kdf.specs.Limits.{longest_secret, IsSecretLength};
@@ -38,8 +38,8 @@ use s39_split::laws::{
     shares_combine_once, shares_of_a_split,
 };
 
-/// The program's constants are the numbers by which the definitions go, and the plan of sixteen groups of sixteen members,
-/// all of them needed, takes `most_random` random bytes; that no plan takes more, `Plan::random_needed` says.
+/// The constants of the code are the numbers of the definitions. A plan of sixteen groups of sixteen members, all of
+/// which are needed, takes `most_random` random bytes, and `Plan::random_needed` says that no plan takes more.
 pub fn numbers()
     ensures identifier { ID_BYTES ≡ identifier_length }
     ensures kept { MAX_KEPT ≡ most_kept }
@@ -48,7 +48,7 @@ pub fn numbers()
         longest_secret ≡ most_random }
 {}
 
-/// A secret, passphrase, plan, options and random bytes give one backup.
+/// A secret, a passphrase, a plan, options and random bytes give at most one backup.
 pub fn one_created_backup()
     ensures { (asked : Asked) (random : List ℕ) (shares other : List ShareFields)
         → IsCreatedFrom asked random shares → IsCreatedFrom asked random other
@@ -60,8 +60,8 @@ pub fn one_created_backup()
     one_encryption();
 }
 
-/// A backup exists for each secret of an accepted length, passphrase, plan and options, and as many random bytes as it
-/// takes.
+/// There is a backup for each secret of an accepted length, passphrase, plan and options, with exactly as many random
+/// bytes as it takes.
 pub fn every_backup_can_be_created()
     ensures { (asked : Asked) (random : List ℕ)
         → IsPlan asked.group_threshold asked.groups
@@ -75,7 +75,7 @@ pub fn every_backup_can_be_created()
     encryption_keeps_length_and_bytes();
 }
 
-/// What a backup consists of are shares: their fields are in range.
+/// A backup consists of shares: their fields are in range.
 pub fn created_shares_are_shares()
     ensures { (asked : Asked) (random : List ℕ) (shares : List ShareFields)
         → IsPlan asked.group_threshold asked.groups
@@ -87,7 +87,8 @@ pub fn created_shares_are_shares()
     encryption_keeps_length_and_bytes();
 }
 
-/// Random bytes that are refitted to another secret of one length, and then back with the same names, are what they were.
+/// Random bytes that are refitted to another secret of the same length, and then back with the same names, are what
+/// they were.
 pub fn refitted_back()
     ensures { (names : Names) (asked : Asked) (other random fitted back : List ℕ)
         → IsSecretLength (length asked.secret) → length other ≡ length asked.secret
@@ -102,7 +103,7 @@ pub fn refitted_back()
     encryption_keeps_length_and_bytes();
 }
 
-/// A creation from bytes with a plan gives one thing: its shares, or the first cause for which it is refused.
+/// A creation from bytes with a plan has exactly one result: its shares, or the first cause for which it is refused.
 pub fn one_creation()
     ensures exists { (asked : Asked) (random : List ℕ)
         → IsPlan asked.group_threshold asked.groups → AreBytes asked.secret → AreBytes random
@@ -118,19 +119,19 @@ pub fn one_creation()
     every_backup_can_be_created();
 }
 
-/// A text is at most one plan, or refused for one cause.
+/// A text has at most one reading: a plan, or the cause for which it is refused.
 pub fn one_plan_reading()
     ensures { (text : List ℕ) (reading other : Result (ℕ × List Members) PlanError)
         → IsPlanReading text reading → IsPlanReading text other → reading ≡ other }
 {}
 
-/// Every text is a plan, or refused.
+/// Every text has a reading: a plan, or a refusal.
 pub fn every_text_has_a_plan_reading()
     ensures { (text : List ℕ)
         → (reading : Result (ℕ × List Members) PlanError) × IsPlanReading text reading }
 {}
 
-/// A quorum of a share set combines to one encrypted secret or mismatch.
+/// A quorum of a share set combines to at most one encrypted secret or mismatch.
 pub fn one_combination()
     ensures { (set : List ShareFields) (names : Names)
         (combination other : Result (List ℕ) Mismatch)
@@ -142,7 +143,7 @@ pub fn one_combination()
     shares_combine_once();
 }
 
-/// A quorum of a share set has one outcome with a passphrase.
+/// A quorum of a share set has at most one outcome with a passphrase.
 pub fn one_outcome()
     ensures { (set : List ShareFields) (names : Names) (passphrase : List ℕ)
         (outcome other : Result (List ℕ) Mismatch)
@@ -176,7 +177,7 @@ pub fn every_quorum_has_an_outcome()
     one_encryption();
 }
 
-/// What a quorum of a share set recovers is as long as a secret may be, and a mismatch names a group that there may be.
+/// What a quorum of a share set recovers has the length of a secret, and a mismatch names a group from 0 to 15.
 pub fn outcomes_in_range()
     ensures secret { (set : List ShareFields) (names : Names) (passphrase secret : List ℕ)
         → IsShareSet set → IsQuorum set names → IsOutcome set names passphrase (Ok secret)
@@ -228,7 +229,7 @@ pub fn whole_backups_meet_the_thresholds()
         → All (Contains set) backup.shares → MeetsThresholds set (map name_of set) }
 {}
 
-/// The share of a name of a plan is one share, or it is missing for one cause.
+/// The share of a name of a plan is at most one share, or it is missing for one cause.
 pub fn one_reissue()
     ensures { (set : List ShareFields) (group_threshold : ℕ) (groups : List Members)
         (name : Name) (result other : Result ShareFields ReissueError)
@@ -241,7 +242,7 @@ pub fn one_reissue()
     points_complete();
 }
 
-/// The share of every name of a plan is a share, or missing for a cause.
+/// Every name of a plan has a share, or a cause for which it is missing.
 pub fn every_name_has_a_reissue()
     ensures { (set : List ShareFields) (group_threshold : ℕ) (groups : List Members)
         (name : Name)
@@ -254,7 +255,7 @@ pub fn every_name_has_a_reissue()
     secrets_are_like_their_shares();
 }
 
-/// The share of a name of a plan is a share that can be printed, where it is one.
+/// If a name of a plan has a share, the fields of this share are in range, so that it can be printed.
 pub fn reissued_shares_are_shares()
     ensures { (set : List ShareFields) (group_threshold : ℕ) (groups : List Members)
         (name : Name) (share : ShareFields)
@@ -267,8 +268,8 @@ pub fn reissued_shares_are_shares()
     one_reissue();
 }
 
-/// There is a share of a name of a plan only where the shares at hand determine it, and that they don't is answered only
-/// where they don't, with both counts.
+/// A name of a plan has a share only if the shares at hand determine it. `Undetermined` is the answer only if they
+/// don't, and it has both counts.
 pub fn names_are_determined_or_not()
     ensures determined { (set : List ShareFields) (group_threshold : ℕ) (groups : List Members)
         (name : Name) (share : ShareFields)
@@ -282,8 +283,8 @@ pub fn names_are_determined_or_not()
         → IsUndetermined set group_threshold groups name few }
 {}
 
-/// Shares of a created backup are of its plan. The share of a name of this plan that they determine is the backup's, and
-/// no digest refuses what it is computed from.
+/// Shares of a created backup are of its plan. If they determine the share of a name of this plan, it is the backup's
+/// share, and all digests match.
 pub fn backups_reissue_their_shares()
     ensures of_plan { (set : List ShareFields) (passphrase secret : List ℕ)
         → IsShareSet set → (backup : AreOfBackup set passphrase secret)
@@ -301,7 +302,8 @@ pub fn backups_reissue_their_shares()
     shares_are_points();
 }
 
-/// A plan with more members has a backup of which that of the plan is a part, with the same random bytes.
+/// A plan with more members has a backup with the same random bytes, and the backup of the smaller plan is a part of
+/// it.
 pub fn larger_plans_keep_the_shares()
     ensures exists { (asked : Asked) (larger : List Members) (random : List ℕ)
         → IsPlan asked.group_threshold larger → HaveMoreMembers asked.groups larger

@@ -1,6 +1,13 @@
-//! What SLIP-0039 backups are: plans, the creation of a backup, what a quorum of shares combines to and recovers, the
-//! random bytes by which another secret has the same shares, and shares that are computed from others. No device and no
-//! line has a part in it, and no call takes memory.
+//! Backups by SLIP-0039: this crate parses plans (`Plan`), creates backups (`create`), combines the shares of a quorum
+//! (`combine_quorum`), recovers its secret (`recover_by`, `recover_quorum`), and computes missing shares from others
+//! (`reissue`). `refit` computes the random bytes by which another secret has the same shares.
+//!
+//! A quorum is a set of shares that meets the thresholds, while none of its proper subsets does.
+//!
+//! The crate reads no device and no lines of text, and it allocates no memory.
+//!
+//! The examples also use `parse` and `print` of `s39_words`, `ShareSet`, `first` and `parse_quorum` of `s39_set`, and
+//! `Bytes` and `Params` of `s39_kdf`. In them `rt` is the runtime, or a reference to it.
 #![tactic(auto)]
 
 mod at_hand;
@@ -34,6 +41,8 @@ pub use plan_error::PlanError;
 pub use refitting::refit;
 pub use reissue_error::{ReissueError, TooFew};
 
+#[cfg(test)]
+mod examples;
 #[cfg(test)]
 mod reissue_tests;
 #[cfg(test)]

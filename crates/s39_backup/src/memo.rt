@@ -1,4 +1,4 @@
-//! Secrets that were deciphered once and are kept.
+//! Deciphered secrets that are kept, so that none of them is deciphered again.
 ghost use Rattle.std.specs.Prelude.{◌≡◌, ◌≢◌, ℕ, ◌+◌, ◌%◌, ◌≤◌, min, List, [], ◌∷◌, ◌++◌, length, map, All, Contains, None, IfSome};
 ghost use Rattle.arrayvec.specs.ArrayVec.{array_vec_len};
 ghost use Rattle.s39_kdf.specs.Limits.{shortest_secret};
@@ -20,9 +20,26 @@ struct Deciphered {
     secret: Bytes,
 }
 
-/// The secrets of the last four or fewer distinct encrypted values that were deciphered with a passphrase and parameters.
+/// Deciphers encrypted secrets with one passphrase and one set of parameters, and keeps the last four of them, so that
+/// a value that is kept isn't deciphered again.
 ///
-/// A contract sees it as these, oldest first, and the number of values that it deciphered.
+/// A contract sees a memo as its passphrase, its parameters, the number of values that it deciphered, and the values
+/// that it keeps, each with its secret, oldest first.
+///
+/// ```rust
+/// let params = Params {
+///     id: 7945,
+///     extendable: false,
+///     exponent: 0,
+/// };
+/// let mut memo = Memo::new(b"TREZOR", params);
+/// let encrypted = *b"\x11\xbc\x60\x9d\x21\x74\x7c\x49\xba\x78\xc0\x70\x12\x93\xe4\x17";
+/// let encrypted = Bytes::try_from(encrypted.as_slice()).unwrap();
+/// let secret = memo.secret(&encrypted);
+/// assert!(rt; secret.starts_with(b"\xbb\x54\xaa\xc4\xb8\x9d\xc8\x68"));
+/// assert_eq!(rt; memo.secret(&encrypted).as_slice(), secret.as_slice());
+/// assert_eq!(rt; memo.made(), 1);
+/// ```
 #[derive(Drop)]
 pub struct Memo<'a> {
     passphrase: &'a [u8],
@@ -48,7 +65,7 @@ impl<'a> Model for Memo<'a> {
 }
 
 impl<'a> Memo<'a> {
-    /// A memo that has deciphered nothing yet.
+    /// Returns a memo that has deciphered nothing yet.
     pub fn new(passphrase: &'a [u8], params: Params) -> Memo<'a>
         ensures passphrase { result.passphrase ≡ passphrase.now }
         ensures params { result.params ≡ params }
@@ -63,17 +80,20 @@ impl<'a> Memo<'a> {
         }
     }
 
-    /// How many values were deciphered. It stays at 2^64 - 1 once there.
+    /// Returns how many values the memo has deciphered. The count stays at 2^64 - 1 once it is there.
     pub fn made(&self) -> u64
         ensures { result ≡ self.now.made }
     {
         self.made
     }
 
-    /// The secret whose encryption this value is: an even number of bytes, at least 16. It is as long.
+    /// Returns the only secret whose encryption this value is (SLIP-0039, "Encryption of the master secret"). It is as
+    /// long as the value.
     ///
-    /// Where the value is kept, nothing is deciphered, and the memo stays as it is. Else it is deciphered and kept,
-    /// and the oldest of five goes.
+    /// If the memo keeps the value, it deciphers nothing and stays as it is. Otherwise it deciphers the value and
+    /// keeps it, and of five values it drops the oldest.
+    ///
+    /// The caller passes an even number of bytes, at least 16.
     pub fn secret(&mut self, encrypted: &Bytes) -> Bytes
         requires even { array_vec_len encrypted.now % 2 ≡ 0 }
         requires long { shortest_secret ≤ array_vec_len encrypted.now }
@@ -105,7 +125,7 @@ impl<'a> Memo<'a> {
     }
 }
 
-/// The secret that is kept of this value.
+/// The secret that is kept for this value.
 fn kept_secret(kept: &[Deciphered], encrypted: &Bytes) -> Option<Bytes>
     ensures found { IfSome result (λ secret.
         Contains (entries_of kept.now) (encrypted.now.items, secret.items)) }
@@ -120,7 +140,7 @@ fn kept_secret(kept: &[Deciphered], encrypted: &Bytes) -> Option<Bytes>
     None
 }
 
-/// Keeps what was deciphered, and lets the oldest of five go.
+/// Keeps what was deciphered, and drops the oldest of five.
 fn keep(kept: &mut ArrayVec<Deciphered, MAX_KEPT>, entry: Deciphered)
     ensures { entries_of kept.new.items
         ≡ newest (entries_of kept.old.items ++ (entry.encrypted.items, entry.secret.items) ∷ []) }

@@ -28,17 +28,35 @@ use s39_set::{ShareSet, are_a_share_set, share_at};
 use s39_split::{DigestMismatch, Points, SECRET_PLACE, complete};
 use s39_words::{Share, ShareFields};
 
-/// The share of a name of a plan, as the shares at hand determine it, by the first of:
+/// Computes the share with a name of a plan from the shares of a set, without the passphrase (SLIP-0039, "Shamir's
+/// secret sharing"). The first of these that applies gives it:
 ///
-/// - the set has it;
-/// - the set has at least as many members of its group as the group needs: it is computed from the least of them;
-/// - the set has one member fewer, and at least as many other groups as are needed have enough members: the least of
-///   these groups give the group's share, and this and the members give the share.
+/// - the set has the share;
+/// - the set has at least as many members of its group as the member threshold: the least of them determine the share;
+/// - the set has one member fewer, and at least as many other groups as the group threshold have enough members: the
+///   least of these groups give the group's share, and this and the members determine the share.
 ///
-/// Otherwise the answer is `Undetermined`, with both counts. Where a digest refuses what the share is computed from,
-/// the answer is `DigestMismatch`, in the group that is refused, or of the groups. No passphrase has a part in it.
+/// The error is `Undetermined` if none of them applies, with what is at hand and what is needed. It is
+/// `DigestMismatch` if a digest doesn't match on the way, with the group in which it doesn't, or for the group shares.
 ///
-/// The caller knows that the set is of the plan (`is_of_plan`), and that the plan has the name (`Plan::has_name`).
+/// The caller makes sure that the set is of the plan (`is_of_plan`), and that the plan has the name (`Plan::has_name`).
+///
+/// ```rust
+/// let mut set = ShareSet::new();
+/// set.add(parse(
+///     b"shadow pistol academic always adequate wildlife fancy gross oasis cylinder mustang \
+///     wrist rescue view short owner flip making coding armed",
+/// )?)?;
+/// set.add(parse(
+///     b"shadow pistol academic acid actress prayer class unknown daughter sweater depict flip \
+///     twice unkind craft early superior advocate guest smoking",
+/// )?)?;
+/// let plan = Plan::parse("2of3")?;
+/// assert!(rt; is_of_plan(&set, &plan));
+/// assert!(rt; plan.has_name(0, 1));
+/// let share = reissue(&plan, &set, 0, 1)?;
+/// assert!(rt; print(&share).starts_with(b"shadow pistol academic agency acid license obtain "));
+/// ```
 pub fn reissue(plan: &Plan, set: &ShareSet, group: u8, member: u8) -> Result<Share, ReissueError>
     requires of_plan { AreOfPlan plan.now.group_threshold plan.now.groups.items set.now }
     requires name { IsNameOfPlan plan.now.groups.items (group, member) }
@@ -159,7 +177,7 @@ fn missing_value(
     value_from_others(plan, set, group, member, at_hand)
 }
 
-/// The value of a member of a group of which fewer than it needs are at hand, so many.
+/// The value of a member of a group of which too few members are at hand: `at_hand` of them.
 fn value_from_others(
     plan: &Plan,
     set: &ShareSet,
@@ -200,7 +218,7 @@ fn value_from_others(
     value_by_others(set, &all[..required], group, member)
 }
 
-/// The value of a member of a group that is one member short, where other groups give its share.
+/// The value of a member of a group that is one member short, if other groups give the group's share.
 fn value_by_others(
     set: &ShareSet,
     others: &[(u8, Members)],
@@ -282,7 +300,7 @@ fn group_share(set: &ShareSet, others: &[(u8, Members)], group: u8) -> Result<By
     }
 }
 
-/// What the least members of each of these groups combine to, with the group's index, or the first group that is refused.
+/// The group shares to which the least members of each of these groups combine, or the first group that is refused.
 fn combine_each(set: &ShareSet, groups: &[(u8, Members)]) -> Result<GroupShares, Mismatch>
     requires { AreComplete set.now groups.now }
     ensures shares { IfOk result (λ shares.
@@ -314,7 +332,7 @@ fn combine_least(set: &ShareSet, group: (u8, Members)) -> Result<Bytes, DigestMi
     combine_all(&least_members(set, group))
 }
 
-/// What points give at an index, as many as their threshold asks.
+/// What points give at an index, if there are exactly as many as their threshold.
 fn complete_all(points: &Points<'_>, index: u8) -> Result<Bytes, DigestMismatch>
     requires { (bytes : ℕ) × ArePointsOfOneLevel bytes points.now }
     ensures share { IfOk result (λ share.

@@ -18,14 +18,14 @@ use s39_set::{Looks, NotAQuorum, Quorum, ShareSet, are_a_share_set, is_quorum};
 pub enum RecoverError {
     /// The names are no quorum of the set.
     NotAQuorum,
-    /// The digests of the quorum's shares, or of its group shares, aren't those of what they combine to.
+    /// The digest of the quorum's shares, or of its group shares, doesn't match what they combine to.
     DigestMismatch(Mismatch),
 }
 
 impl RecoverError {
     ghost use Rattle.s39_backup.specs.RecoverError.{cause_of};
 
-    /// What the refusal says: 62; or 51, and the group, or `OF_GROUPS`.
+    /// Returns the number of the refusal: 62; or 51, with the group or `s39_refusal::code::OF_GROUPS`.
     pub fn cause(&self) -> Cause
         ensures { result ≡ cause_of self.now }
     {
@@ -36,12 +36,29 @@ impl RecoverError {
     }
 }
 
-/// The secret that a quorum of a set recovers with a passphrase (SLIP-0039, "Shamir's secret sharing" and
-/// "Encryption of the master secret"). It is as long as the values of the set.
+/// Recovers the master secret from a quorum of a set with a passphrase (SLIP-0039, "Shamir's secret sharing" and
+/// "Encryption of the master secret"). The secret is as long as the values of the set's shares.
 ///
-/// Names that are no quorum of the set are refused first (`NotAQuorum`), and then shares that don't combine
-/// (`DigestMismatch`, with the answer of `combine_quorum`). A wrong passphrase isn't noticed: as a rule it gives
-/// another secret, and no error. The passphrase isn't checked here.
+/// The first error that applies is returned:
+///
+/// - `NotAQuorum` if the names aren't a quorum of the set;
+/// - `DigestMismatch` if the shares don't combine, with the error of `combine_quorum`.
+///
+/// A wrong passphrase isn't detected: as a rule it gives another secret, and no error. The function accepts any bytes
+/// as a passphrase.
+///
+/// ```rust
+/// let mut set = ShareSet::new();
+/// set.add(parse(
+///     b"duckling enlarge academic academic agency result length solution fridge kidney coal \
+///     piece deal husband erode duke ajar critical decision keyboard",
+/// )?)?;
+/// let quorum = parse_quorum(b"0.0")?;
+/// let secret = recover_by(&set, &quorum, b"TREZOR")?;
+/// assert!(rt; secret.starts_with(b"\xbb\x54\xaa\xc4\xb8\x9d\xc8\x68"));
+/// let other = recover_by(&set, &parse_quorum(b"0.1")?, b"TREZOR");
+/// assert_eq!(rt; other.err(), Some(RecoverError::NotAQuorum));
+/// ```
 pub fn recover_by(set: &ShareSet, quorum: &Quorum, passphrase: &[u8]) -> Result<Bytes, RecoverError>
     ensures is_set { IsShareSet set.now }
     ensures quorum { (result ≢ Err RecoverError.NotAQuorum) ↔ IsQuorum set.now quorum.now }
@@ -64,8 +81,21 @@ pub fn recover_by(set: &ShareSet, quorum: &Quorum, passphrase: &[u8]) -> Result<
     recover_quorum(set, quorum, passphrase).map_err(RecoverError::DigestMismatch)
 }
 
-/// The secret that a quorum of a set recovers with a passphrase, as `recover_by` gives it, or the mismatch to which
-/// its shares combine. The caller knows that the names are a quorum (`s39_set::is_quorum`).
+/// Recovers the master secret from a quorum of a set with a passphrase, as `recover_by` does. The error is the one of
+/// `combine_quorum`.
+///
+/// The caller makes sure that the names are a quorum of the set (`s39_set::is_quorum`).
+///
+/// ```rust
+/// let mut set = ShareSet::new();
+/// set.add(parse(
+///     b"duckling enlarge academic academic agency result length solution fridge kidney coal \
+///     piece deal husband erode duke ajar critical decision keyboard",
+/// )?)?;
+/// let quorum = first(&set)?;
+/// let secret = recover_quorum(&set, &quorum, b"TREZOR")?;
+/// assert!(rt; secret.starts_with(b"\xbb\x54\xaa\xc4\xb8\x9d\xc8\x68"));
+/// ```
 pub fn recover_quorum(set: &ShareSet, quorum: &Quorum, passphrase: &[u8]) -> Result<Bytes, Mismatch>
     requires { IsQuorum set.now quorum.now }
     ensures secret { IfOk result (λ secret.

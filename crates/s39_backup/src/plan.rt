@@ -1,4 +1,4 @@
-//! Plans: how many groups a backup has and how many of them are needed, and the same of the members of each group.
+//! Plans: how many groups a backup has and how many of them are needed, and the same for the members of each group.
 ghost use Rattle.std.specs.Prelude.{◌≡◌, ◌↔◌, ◌≤◌, length, All, IfErr, IsTrue, OnOk};
 ghost use Rattle.std.specs.Result.{result_map_both};
 ghost use Rattle.s39_set.specs.Names.{most_groups};
@@ -16,36 +16,50 @@ use arrayvec::ArrayVec;
 use s39_set::{GROUPS, MAX_MEMBERS};
 use s39_split::random_needed;
 
-/// How many members of a group are needed, and how many there are.
+/// How many members of a group are needed, and how many the group has.
 #[derive(Clone, Copy, Debug, Default, PartialEq, Eq)]
 pub struct Members {
-    /// The member threshold.
+    /// The member threshold: how many members are needed, from 1 to 16 in a plan.
     pub threshold: u8,
-    /// The number of members.
+    /// How many members the group has, from 1 to 16 in a plan.
     pub count: u8,
 }
 
-/// A plan of a backup: `1 <= group threshold <= number of groups <= 16`, and of each group
-/// `1 <= threshold <= count <= 16`, a threshold of 1 only where there is one member.
+/// The plan of a backup: its group threshold, and the members of each group (SLIP-0039, "Generating the shares").
+///
+/// In every plan `1 <= group threshold <= number of groups <= 16`, and in each group `1 <= threshold <= count <= 16`. A
+/// group has the member threshold 1 only if it has one member.
 #[derive(Debug, Drop)]
 pub struct Plan {
-    /// How many groups are needed.
+    /// The group threshold: how many groups are needed.
     pub group_threshold: u8,
-    /// Each group's members.
+    /// The members of each group, by its index.
     pub groups: ArrayVec<Members, GROUPS>,
     ghost is_plan: { IsPlan group_threshold groups.items },
 }
 
 impl Plan {
-    /// The plan of a text: `TofN`, which is one group at group threshold 1, or `GT/T1ofN1,T2ofN2,..`. The numbers have
-    /// one or two digits and don't begin with 0, and there are no spaces.
+    /// Parses a plan from its text: `TofN` for one group, with the group threshold 1, or `GT/T1ofN1,T2ofN2,..`. The
+    /// numbers have one or two digits and don't begin with 0, and the text has no spaces.
     ///
-    /// The first that applies is answered:
+    /// The first error that applies is returned:
     ///
-    /// - `BadPlan` where the text has another form, as for several groups without `GT/`;
-    /// - `PlanGroups` where there are more than 16 groups, or fewer than `GT`;
-    /// - then group by group, counted from 0: `PlanMembers` where `N` is above 16 or `T` above `N`, and `OneOfMany`
-    ///   where `T` is 1 and `N` above 1.
+    /// - `BadPlan` if the text has another form, for example several groups without `GT/`;
+    /// - `PlanGroups` if there are more than 16 groups, or fewer than `GT`;
+    /// - then, group by group (counted from 0), `PlanMembers` if `N` is above 16 or `T` is above `N`, and `OneOfMany`
+    ///   if `T` is 1 and `N` is above 1.
+    ///
+    /// ```rust
+    /// let plan = Plan::parse("2/2of3,1of1,1of1")?;
+    /// assert_eq!(rt; (plan.group_threshold, plan.groups.len()), (2, 3));
+    /// let members = Members {
+    ///     threshold: 2,
+    ///     count: 3,
+    /// };
+    /// assert_eq!(rt; plan.groups.first(), Some(&members));
+    /// let refused = Plan::parse("1of3");
+    /// assert_eq!(rt; refused.err(), Some(PlanError::OneOfMany { group: 0 }));
+    /// ```
     pub fn parse(text: &str) -> Result<Plan, PlanError>
         ensures { IsOnlyReading text.now (result_map_both
             (λ plan. (plan.group_threshold, plan.groups.items)) (λ error. error) result) }
@@ -53,7 +67,14 @@ impl Plan {
         Plan::parse_bytes(text.as_bytes())
     }
 
-    /// The plan of a text in bytes, which needn't be UTF-8, as `parse` gives it.
+    /// Parses a plan from bytes, which needn't be UTF-8. It returns what `parse` returns for a text.
+    ///
+    /// ```rust
+    /// let plan = Plan::parse_bytes(b"2of3")?;
+    /// assert_eq!(rt; (plan.group_threshold, plan.groups.len()), (1, 1));
+    /// let refused = Plan::parse_bytes(b"2of3\xff");
+    /// assert_eq!(rt; refused.err(), Some(PlanError::BadPlan));
+    /// ```
     pub fn parse_bytes(text: &[u8]) -> Result<Plan, PlanError>
         ensures { IsOnlyReading text.now (result_map_both
             (λ plan. (plan.group_threshold, plan.groups.items)) (λ error. error) result) }
@@ -71,8 +92,15 @@ impl Plan {
         })
     }
 
-    /// The number of random bytes that a backup of a secret of `n_bytes` bytes, from 16 to 128, takes: 2 for the
-    /// identifier, and those of the group level and of each group (`s39_split::random_needed`). It is at most 32,574.
+    /// Returns how many random bytes `create` takes for a secret of `n_bytes` bytes: 2 for the identifier, and those of
+    /// the group level and of each group (`s39_split::random_needed`). That is at most 32,574.
+    ///
+    /// The caller passes a length from 16 to 128.
+    ///
+    /// ```rust
+    /// let plan = Plan::parse("2/2of3,1of1,1of1")?;
+    /// assert_eq!(rt; plan.random_needed(16), 26);
+    /// ```
     pub fn random_needed(&self, n_bytes: usize) -> usize
         requires long { shortest_secret ≤ n_bytes }
         requires fits { n_bytes ≤ longest_secret }
@@ -87,7 +115,14 @@ impl Plan {
         needed
     }
 
-    /// Whether the plan has a share of this name.
+    /// Returns whether the plan has a share with this name: it has the group, and the group has the member. Both
+    /// indices count from 0.
+    ///
+    /// ```rust
+    /// let plan = Plan::parse("2/2of3,1of1,1of1")?;
+    /// assert!(rt; plan.has_name(0, 2));
+    /// assert!(rt; !plan.has_name(0, 3));
+    /// ```
     pub fn has_name(&self, group: u8, member: u8) -> bool
         ensures { IsTrue result ↔ IsNameOfPlan self.now.groups.items (group, member) }
     {
@@ -95,7 +130,7 @@ impl Plan {
     }
 }
 
-/// The first group that a plan can't have, and why.
+/// Refuses the first group that a plan can't have.
 fn check_groups(groups: &[Members]) -> Result<(), PlanError>
     requires few { length groups.now ≤ most_groups }
     requires thresholds { All (λ members. IsPlanNumber members.threshold) groups.now }

@@ -1,25 +1,25 @@
-//! Why a text gives no plan.
+//! Why a text isn't a plan.
 ghost use Rattle.std.specs.Prelude.{◌≡◌};
 ghost use Rattle.s39_backup.specs.Plan.{plan_cause_of};
 
 use s39_refusal::{Cause, code};
 
-/// Why a text gives no plan.
+/// Why a text isn't a plan.
 #[derive(Clone, Copy, Debug, PartialEq, Eq)]
 pub enum PlanError {
-    /// The text has another form than `TofN` or `GT/T1ofN1,T2ofN2,..`, with numbers of one or two digits that don't
-    /// begin with 0.
+    /// The text has another form than `TofN` or `GT/T1ofN1,T2ofN2,..`, in which numbers have one or two digits and
+    /// don't begin with 0.
     BadPlan,
     /// There are more than 16 groups, or fewer than the group threshold.
     PlanGroups,
-    /// This group, counted from 0, has more than 16 members, or fewer than its threshold.
+    /// This group, counted from 0, has more than 16 members, or fewer members than its threshold.
     PlanMembers { group: u8 },
-    /// One of several members of this group, counted from 0, is enough.
+    /// This group, counted from 0, has the member threshold 1 and more than one member.
     OneOfMany { group: u8 },
 }
 
 impl PlanError {
-    /// What the refusal says: 31 to 34, and the group that is named.
+    /// Returns the number of the refusal, 31 to 34, and the group if the refusal names one.
     pub fn cause(&self) -> Cause
         ensures { result ≡ plan_cause_of self.now }
     {

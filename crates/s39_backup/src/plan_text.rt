@@ -1,4 +1,4 @@
-//! The texts of plans, cut at their separators.
+//! The parsing of plans: their texts are cut at the separators.
 ghost use Rattle.std.specs.Prelude.{◌≡◌, ◌+◌, ◌<◌, ◌==◌, ℕ, List, [], ◌∷◌, ◌++◌, None, Some, IfSome};
 ghost use Rattle.s39_backup.specs.declared.plan.Members.{Members};
 ghost use Rattle.s39_backup.specs.Plan.{PlanForm};
@@ -9,7 +9,7 @@ use crate::plan::Members;
 use arrayvec::ArrayVec;
 use s39_set::{GROUPS, cut_at, small_number};
 
-/// The groups of a plan's text, whatever their numbers: how many there are, and the first sixteen.
+/// The groups of a plan's text, whatever their numbers: their count, and the first sixteen of them.
 #[derive(Drop)]
 pub(crate) struct GroupList {
     pub(crate) count: usize,
@@ -17,7 +17,7 @@ pub(crate) struct GroupList {
 }
 
 impl GroupList {
-    /// Appends a group, which is kept where it is among the first sixteen.
+    /// Appends a group, and keeps it if it is among the first sixteen.
     fn push(&mut self, members: Members)
         requires { self.old.count < usize.MAX }
         ensures count { self.new.count ≡ self.old.count + 1 }
@@ -31,8 +31,8 @@ impl GroupList {
     }
 }
 
-/// The group threshold and the groups of a text of the form `TofN`, which is one group at group threshold 1, or
-/// `GT/T1ofN1,T2ofN2,..`; `None` where it has another form.
+/// The group threshold and the groups of a text of the form `TofN`, which is one group with the group threshold 1, or
+/// `GT/T1ofN1,T2ofN2,..`; `None` if the text has another form.
 pub(crate) fn plan_form(text: &[u8]) -> Option<(u8, GroupList)>
     ensures form { IfSome result (ListsPlanOf text.now) }
     ensures none { result ≡ None → ¬ PlanForm text.now }
@@ -49,7 +49,7 @@ pub(crate) fn plan_form(text: &[u8]) -> Option<(u8, GroupList)>
     Some((group_threshold, groups))
 }
 
-/// The groups of a text of the form `T1ofN1,T2ofN2,..`, at least one; `None` where it has another form.
+/// The groups of a text of the form `T1ofN1,T2ofN2,..`, at least one; `None` if the text has another form.
 fn group_list(text: &[u8]) -> Option<GroupList>
     ensures groups { IfSome result (ListsGroupsOf text.now) }
     ensures none { result ≡ None → (groups : List Members) → ¬ IsGroupsText text.now groups }
@@ -71,7 +71,7 @@ fn is_comma(byte: &u8) -> bool
     *byte == b','
 }
 
-/// The members of a text of the form `TofN`; `None` where it has another form.
+/// The members of a text of the form `TofN`; `None` if the text has another form.
 fn members(text: &[u8]) -> Option<Members>
     ensures members { IfSome result (IsMembersText text.now) }
     ensures none { result ≡ None → (members : Members) → ¬ IsMembersText text.now members }
@@ -86,7 +86,7 @@ fn members(text: &[u8]) -> Option<Members>
     Some(Members { threshold, count })
 }
 
-/// The number of one or two digits that doesn't begin with 0 of which a text is the decimal form.
+/// The number whose decimal form the text is, if it has one or two digits and doesn't begin with 0.
 fn number(text: &[u8]) -> Option<u8>
     ensures number { IfSome result (IsNumberText text.now) }
     ensures only { (n : ℕ) → IsNumberText text.now n → result ≡ Some n }

@@ -25,19 +25,41 @@ use s39_set::Quorum;
 use s39_split::laws::{first_shares, one_split};
 use s39_split::{DIGEST_BYTES, MAX_SHARES, Points, fit, random_needed, split};
 
-/// Whether the names in `keep` are two short of the plan's thresholds (SLIP-0039, "Sharing a secret"): they are names
-/// of its shares, and the groups that they hold are at most the group threshold less two, none where that is 1. They
-/// hold a group where they have at least one of it, and more than its member threshold less two.
+/// Changes random bytes so that a backup of another secret has the same shares with the names in `keep`. This works if
+/// the names are two short of the plan's thresholds, and the function returns whether they are (SLIP-0039, "Sharing a
+/// secret").
 ///
-/// If so, `random` becomes bytes with which `create` from the secret `other` gives, at these names, the very shares
-/// that it gives from `secret` with the bytes that were handed in; plan, passphrase and options are the same. So
-/// these shares fit either secret. Else `random` is unchanged.
+/// The names are two short if the plan has all of them, and the groups that they hold are at most the group threshold
+/// less two. They must hold no group if the group threshold is 1. They hold a group if they have at least one name of
+/// it, and more than its member threshold less two.
 ///
-/// At each level the key of the digest stays, and of the shares that aren't kept the lowest, up to the threshold less two.
-/// So `refit` from `other` back to `secret`, with the same names, gives the bytes that were handed in.
+/// On `true`, `random` holds new bytes. With them `create` gives from `other` the same shares with these names as from
+/// `secret` with the old bytes, while the plan, the passphrase and the options are the same. So these shares fit either
+/// secret. On `false`, `random` is unchanged.
 ///
-/// `create` has to accept these arguments: the secrets have one length, an even number from 16 to 128 bytes, and
-/// there are as many random bytes as `Plan::random_needed` says of it.
+/// At each level the key of the digest stays. As many shares as the threshold less two stay too: those that are kept,
+/// and the lowest others. So `refit` from `other` back to `secret`, with the same names, restores the old bytes.
+///
+/// The caller passes what `create` accepts: two secrets of the same even length, from 16 to 128 bytes, and exactly as
+/// many random bytes as `Plan::random_needed` says.
+///
+/// ```rust
+/// let plan = Plan::parse("3of3")?;
+/// let options = Options {
+///     exponent: 0,
+///     extendable: false,
+/// };
+/// let mut random = [3; 30];
+/// assert_eq!(rt; random.len(), plan.random_needed(16));
+/// let keep = parse_quorum(b"0.1")?;
+/// let fits = refit(&plan, &[1; 16], &[2; 16], b"", options, &keep, &mut random);
+/// assert!(rt; fits);
+/// let mut created = Created::new();
+/// create(&plan, &[2; 16], b"", options, &random, &mut created)?;
+/// // The second share is the one that `create` gives from the first secret and the old bytes.
+/// assert_eq!(rt; created.shares().len(), 3);
+/// assert!(rt; print(&created.shares()[1]).starts_with(b"alarm branch academic agree advocate "));
+/// ```
 pub fn refit(
     plan: &Plan,
     secret: &[u8],
@@ -169,7 +191,7 @@ fn refit_groups(
     );
 }
 
-/// Refits the random bytes of a group's members for another group share, or leaves them where the group is held.
+/// Refits the random bytes of a group's members for another group share, or leaves them unchanged if the group is held.
 fn refit_group(
     names: &[(u8, u8)],
     group: u8,
@@ -248,8 +270,8 @@ fn refit_level(
     split(t, other, random, others);
 }
 
-/// Makes the random bytes, after the key of the digest, those by which a split of the secret has the kept shares,
-/// and as many others as the threshold less two asks.
+/// Makes the random bytes, after the key of the digest, those by which a split of the secret has the kept shares, and
+/// the lowest others up to the threshold less two.
 fn fit_level(t: u8, shares: &[Bytes], secret: &Bytes, kept: &[u8], random: &mut [u8])
     requires several { 2 ≤ t }
     requires enough { t ≤ length shares.now }
@@ -268,7 +290,7 @@ fn fit_level(t: u8, shares: &[Bytes], secret: &Bytes, kept: &[u8], random: &mut 
     random.copy_from_slice(&fitted);
 }
 
-/// As many indices as asked, in order: those that are kept, and the lowest others.
+/// Exactly `number` indices in order: those that are kept, and the lowest others.
 fn with_lowest(kept: &[u8], number: u8, count: u8) -> Indices
     requires kept { AllPairs (λ a b. a < b) kept.now }
     requires below { All (λ index. index < count) kept.now }

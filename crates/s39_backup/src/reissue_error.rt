@@ -1,16 +1,16 @@
-//! Why the shares at hand don't give the share of a name.
+//! Why the shares at hand don't give the share with a name.
 ghost use Rattle.std.specs.Prelude.{◌≡◌};
 ghost use Rattle.s39_backup.specs.Reissue.{reissue_cause_of};
 
 use crate::combination::Mismatch;
 use s39_refusal::{Cause, code};
 
-/// What there is of what would determine a share.
+/// What is at hand and what is needed to determine a share.
 #[derive(Clone, Copy, Debug, PartialEq, Eq)]
 pub struct TooFew {
-    /// The group of the share.
+    /// The group index of the share, from 0 to 15.
     pub group: u8,
-    /// Its member index.
+    /// The member index of the share, from 0 to 15.
     pub member: u8,
     /// How many members of the group are at hand.
     pub members: u8,
@@ -25,8 +25,8 @@ pub struct TooFew {
 impl TooFew {
     ghost use Rattle.s39_backup.specs.Reissue.{too_few_cause};
 
-    /// What the refusal says: 66, the name of the share as `256 * group + member`, and the four counts, each a byte, the
-    /// highest first.
+    /// Returns the number of the refusal, 66, and its details: the name of the share as `256 * group + member`, and the
+    /// four counts. Each count is a byte: the highest is `members`, and then come `threshold`, `others` and `required`.
     pub fn cause(&self) -> Cause
         ensures { result ≡ too_few_cause self.now }
     {
@@ -40,17 +40,18 @@ impl TooFew {
     }
 }
 
-/// Why the shares at hand don't give the share of a name.
+/// Why the shares at hand don't give the share with a name.
 #[derive(Clone, Copy, Debug, PartialEq, Eq)]
 pub enum ReissueError {
-    /// They don't determine it.
+    /// The shares at hand don't determine it.
     Undetermined(TooFew),
-    /// The digest of what it is computed from isn't the one that this has.
+    /// A digest doesn't match in what the share is computed from.
     DigestMismatch(Mismatch),
 }
 
 impl ReissueError {
-    /// What the refusal says: 66, the name of the share and what there is; or 51, and the group, or `OF_GROUPS`.
+    /// Returns the number of the refusal: 66, with the details of `TooFew::cause`; or 51, with the group or
+    /// `s39_refusal::code::OF_GROUPS`.
     pub fn cause(&self) -> Cause
         ensures { result ≡ reissue_cause_of self.now }
     {

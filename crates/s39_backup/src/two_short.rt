@@ -11,7 +11,7 @@ use s39_split::MAX_SHARES;
 pub(crate) type Indices = ArrayVec<u8, MAX_SHARES>;
 
 /// Whether names are two short of a plan's thresholds: they are names of its shares, and the groups that they hold are
-/// at most the group threshold less two, none where that is 1.
+/// at most the group threshold less two, or none if that is 1.
 pub(crate) fn are_two_short(plan: &Plan, names: &[(u8, u8)]) -> bool
     ensures { IsTrue result ↔ IsTwoShort plan.now.group_threshold plan.now.groups.items names.now }
 {
@@ -51,7 +51,7 @@ pub(crate) fn held_groups(groups: &[Members], names: &[(u8, u8)]) -> Indices
     held
 }
 
-/// Whether names hold a group: they have at least one of it, and more than its member threshold less two.
+/// Whether names hold a group: they have at least one name of it, and more than its member threshold less two.
 pub(crate) fn is_held(names: &[(u8, u8)], group: u8, members: Members) -> bool
     ensures { result ≡ is_held names.now (group, members) }
 {

@@ -1,4 +1,4 @@
-//! What a call answers.
+//! The answer of a call.
 ghost use Rattle.std.specs.Prelude.{◌≡◌, ℕ};
 ghost use Rattle.s39_c.specs.Answers.{done, number, counted, too_short, out_of_range, high_exponent, refusal, plan_refused, cursor_refused, names_refused, word_refused, refused};
 
@@ -8,36 +8,42 @@ use s39_set::{BadCursor, BadNames};
 use s39_tool::{Fault, Unwritten, WrittenStatus};
 use s39_words::WordError;
 
-/// The code of a slice that is too short for what would be written.
+/// The code of an output buffer that is too short.
 pub(crate) const TOO_SHORT: u8 = 1;
 
-/// The code of a number that is out of its range.
+/// The code of a number that is out of range.
 pub(crate) const OUT_OF_RANGE: u8 = 2;
 
-/// The code of mnemonics whose exponent is above the most that is allowed.
+/// The code of mnemonics whose iteration exponent is above the caller's maximum.
 pub(crate) const HIGH_EXPONENT: u8 = 3;
 
-/// What a call answers.
+/// The answer of a call: its code, the details of a refusal, and the number of bytes that the call wrote.
+///
+/// ```c
+/// size_t missing = answer.code == SHAMIR_TOO_SHORT ? (size_t)answer.first - sizeof text : 0;
+/// ```
 #[repr(C)]
 #[derive(Clone, Copy, Debug, PartialEq, Eq)]
 pub struct ShamirAnswer {
-    /// 0 where nothing is refused, or the number of the refusal.
+    /// The number of the refusal, or 0 if the call succeeded.
     pub code: u32,
-    /// How many of the quorums that a drill lists are refused for a digest.
+    /// The number of quorums with a digest mismatch in the listing of a drill. It is 0 for other calls.
     pub mismatches: u32,
-    /// The line that is refused, counted from 1, or 0.
+    /// The number of the refused line, counted from 1, if a call that takes lines refuses one. Otherwise it is 0.
     pub line: u64,
-    /// The first detail of the refusal: a position, a number, or a group, of a digest's mismatch 16 for the group shares;
-    /// or the number that is asked for; or, of a status, how many groups are complete; or 0.
+    /// The first detail of a refusal: a position, a number or a group. In a digest mismatch, 16 stands for the digest
+    /// of the group shares. After success, `shamir_random_needed` gives its result here, and `shamir_status` the number
+    /// of complete groups. Otherwise it is 0.
     pub first: u64,
-    /// Its second detail; or, of a status, how many groups are needed; or 0.
+    /// The second detail of a refusal. After success, `shamir_status` gives the group threshold here. It is 0
+    /// otherwise.
     pub second: u64,
-    /// How many bytes are written.
+    /// The number of bytes that the call wrote. It is 0 on refusal.
     pub written: u64,
 }
 
 impl ShamirAnswer {
-    /// So many bytes are written.
+    /// The answer of a call that succeeded and wrote this number of bytes.
     pub(crate) fn done(written: usize) -> ShamirAnswer
         ensures { result ≡ done written }
     {
@@ -51,28 +57,28 @@ impl ShamirAnswer {
         }
     }
 
-    /// A slice is too short: so many bytes are needed.
+    /// The refusal of an output buffer that is too short. The parameter is the number of bytes that the call needs.
     pub(crate) fn too_short(needed: usize) -> ShamirAnswer
         ensures { result ≡ too_short needed }
     {
         refusal(Cause::new(TOO_SHORT, needed as u64, 0), 0)
     }
 
-    /// A number is out of its range.
+    /// The refusal of a number that is out of range.
     pub(crate) fn out_of_range() -> ShamirAnswer
         ensures { result ≡ out_of_range }
     {
         refusal(Cause::of(OUT_OF_RANGE), 0)
     }
 
-    /// Mnemonics have this exponent, and it is above the most that is allowed.
+    /// The refusal of mnemonics whose iteration exponent, which is the parameter, is above the caller's maximum.
     pub(crate) fn high_exponent(exponent: u8) -> ShamirAnswer
         ensures { result ≡ high_exponent exponent }
     {
         refusal(Cause::new(HIGH_EXPONENT, u64::from(exponent), 0), 0)
     }
 
-    /// A number is asked for, and it is this.
+    /// The answer of a call that succeeded and whose result is this number.
     pub(crate) fn number(count: usize) -> ShamirAnswer
         ensures { result ≡ number count }
     {
@@ -82,7 +88,7 @@ impl ShamirAnswer {
         }
     }
 
-    /// The status of lines is written, and these are the numbers of its first line.
+    /// The answer of a call that wrote a status. The two details are the numbers of its first line.
     pub(crate) fn counted(told: WrittenStatus) -> ShamirAnswer
         ensures { result ≡ counted told.written told.status }
     {
@@ -147,7 +153,7 @@ impl From<Unwritten> for ShamirAnswer {
     }
 }
 
-/// A refusal by what it says, and its line, 0 where it has none.
+/// The refusal with this cause and this line. The line is 0 if the refusal has none.
 fn refusal(cause: Cause, line: u64) -> ShamirAnswer
     ensures { result ≡ refusal cause line }
 {

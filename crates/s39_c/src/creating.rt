@@ -1,4 +1,4 @@
-//! The creation of a backup.
+//! The calls that create a backup.
 ghost use Rattle.std.specs.Prelude.{◌≡◌, ◌≢◌, ◌↔◌, ◌<◌, ◌≤◌, ◌^◌, true, IfSome, None};
 ghost use Rattle.s39_kdf.specs.Limits.{exponent_bits};
 ghost use Rattle.s39_c.specs.Creating.{GivesMnemonics, GivesBackup, GivesNumber};
@@ -7,8 +7,15 @@ use crate::answer::ShamirAnswer;
 use s39_kdf::{MAX_EXPONENT, check_secret_length};
 use s39_tool::{Fault, Options, Plan, create_lines};
 
-/// How many random bytes a backup of a secret of so many bytes takes, by the text of a plan: `first` of the answer. What
-/// can be refused is the plan (31 to 34), and then the length (42).
+/// Gives the number of random bytes that a backup takes, in `first` of the answer. `plan` is the text of the plan, and
+/// `secret_bytes` is the length of the master secret, in bytes.
+///
+/// The call refuses with the first of these that applies: 31 to 34 (the plan), 42 (the length).
+///
+/// ```c
+/// shamir_answer answer = shamir_random_needed("2of3", 4, 16);
+/// // answer.code is SHAMIR_DONE, and answer.first is 14
+/// ```
 #[unsafe(no_mangle)]
 pub extern "C" fn shamir_random_needed(plan: &[u8], secret_bytes: usize) -> ShamirAnswer
     ensures { GivesNumber plan.now secret_bytes result }
@@ -22,12 +29,19 @@ pub extern "C" fn shamir_random_needed(plan: &[u8], secret_bytes: usize) -> Sham
     }
 }
 
-/// Creates a backup of a secret, by the text of a plan: its mnemonics go to the front of `mnemonics`, each with a line feed
-/// behind it, by group and member; `written` is the number of bytes. The exponent is 0 to 15, and the extendable flag is
-/// set where the number is not 0. There are as many random bytes as `shamir_random_needed` says.
+/// Creates a backup of a master secret. The mnemonics go to the start of `mnemonics`, in the order of groups and
+/// members, and a line feed follows each. `written` is their length in bytes; the bytes after them are unchanged.
 ///
-/// The first that applies is refused, and then the slice is unchanged: an exponent above 15 (2), the plan (31 to 34), what
-/// the command `create` refuses (41 to 43), and that `mnemonics` is too short (1).
+/// `plan` is the text of the plan. `passphrase` may be empty. `exponent` is the iteration exponent, 0 to 15. The
+/// extendable flag is set if `extendable` isn't 0. `random` has exactly as many bytes as `shamir_random_needed` says.
+///
+/// The call refuses with the first of these that applies, and `mnemonics` is then unchanged: 2 (the exponent), 31 to 34
+/// (the plan), 41 (the passphrase), 42 (the secret), 43 (the random bytes), 1 (`mnemonics` is too short).
+///
+/// ```c
+/// static char mnemonics[SHAMIR_MNEMONICS_BYTES_MAX];
+/// shamir_answer answer = shamir_create("2of3", 4, secret, 16, "", 0, 0, 1, random, 14, mnemonics, sizeof mnemonics);
+/// ```
 #[unsafe(no_mangle)]
 pub extern "C" fn shamir_create(
     plan: &[u8],
@@ -55,7 +69,7 @@ pub extern "C" fn shamir_create(
     }
 }
 
-/// The options that these numbers say, or `None` where the exponent is above 15.
+/// The options with this exponent and this extendable flag, or `None` if the exponent is above 15.
 fn options_of(exponent: u32, extendable: u32) -> Option<Options>
     ensures exponent { IfSome result (λ options. options.exponent ≡ exponent) }
     ensures extendable { IfSome result (λ options.
@@ -73,7 +87,7 @@ fn options_of(exponent: u32, extendable: u32) -> Option<Options>
     }
 }
 
-/// Creates a backup by a plan.
+/// Creates a backup by this plan.
 fn create_by(
     plan: &Plan,
     secret: &[u8],

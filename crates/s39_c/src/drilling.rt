@@ -1,4 +1,4 @@
-//! The drill.
+//! The call that drills.
 ghost use Rattle.std.specs.Option.{option_copied};
 ghost use Rattle.std.specs.Prelude.{◌≤◌};
 ghost use Rattle.s39_tool.specs.declared.secret_form.SecretForm.TheVariants.{Digits};
@@ -13,14 +13,27 @@ use s39_set::{Quorum, parse_quorum};
 use s39_tool::drill_lines;
 use s39_tool::laws::created_backups_drill;
 
-/// Tries the quorums of the lines' shares that come after the one that `after` writes, or all, where that text is empty:
-/// what the command `drill` writes of them goes to the front of `text`, with the limit, or with a lower one: it stops before
-/// the first quorum whose line doesn't fit with the last line behind it. `written` is the number of bytes, and `mismatches`
-/// how many of the listed quorums are refused for a digest. The last line is `end`, or `more after` and a text to go on after.
+/// Lists what each quorum recovers, in the format of the command `drill`. A quorum is a minimal set of mnemonics that
+/// meets the thresholds. The call lists the quorums that come after the one that `after` names, or all if `after` is
+/// empty.
 ///
-/// The first that applies is refused, and then the slice is unchanged: that the mnemonics have a quorum and an exponent
-/// above `max_exponent` (3), before any iteration; a limit of 0 (2), a text that is no list of names (61), what the command
-/// refuses of passphrase, lines and names, and that `text` is too short for one quorum, or for `end` where none is left (1).
+/// The listing goes to the start of `text`; `written` is its length in bytes, and the bytes after it are unchanged. It
+/// has at most `limit` quorums. It ends sooner if the line of the next quorum, with the last line after it, doesn't
+/// fit. The last line is `end`, or `more after` and the names for the next call. `mismatches` is the number of listed
+/// quorums with a digest mismatch.
+///
+/// The call refuses with the first of these that applies, and `text` is then unchanged:
+///
+/// - 3, if no line is refused, the mnemonics have a quorum, and their exponent is above `max_exponent`; the call then
+///   derives no key;
+/// - 2 (a limit of 0), 61 (`after` isn't a list of names), 41 (the passphrase);
+/// - the code of the first refused line (11 to 28, 71), then 29, 30, 62 (the names aren't those of a quorum);
+/// - 1, if `text` is too short for one quorum, or for `end` if no quorum is left.
+///
+/// ```c
+/// shamir_answer answer = shamir_drill(lines, lines_bytes, "", 0, SHAMIR_EXPONENT_MAX, after, after_bytes, 1000,
+///                                     text, sizeof text);
+/// ```
 #[unsafe(no_mangle)]
 pub extern "C" fn shamir_drill(
     lines: &[u8],
@@ -33,7 +46,8 @@ pub extern "C" fn shamir_drill(
     ensures drills { UpTo max_exponent lines.now text.old text.new result
         (GivesDrill (λ names n. IsDrillOutput Digits passphrase.now names n (whole lines.now))
         after.now limit text.old text.new result) }
-    // Of mnemonics of a created backup, with the passphrase of the creation: just the quorums, each with its secret.
+    // For mnemonics of a created backup and its passphrase, the call lists their quorums and no others, each with the secret.
+    // Or the refusal says that they have no quorum, or that the cursor doesn't name one.
     ensures complete { UpTo max_exponent lines.now text.old text.new result
         (GivesDrill (λ names n. DrillsCreated Digits passphrase.now names n (whole lines.now))
         after.now limit text.old text.new result) }
@@ -44,7 +58,7 @@ pub extern "C" fn shamir_drill(
     }
 }
 
-/// Drills lines, whatever their exponent.
+/// Drills lines with any exponent.
 fn drill(lines: &[u8], passphrase: &[u8], after: &[u8], limit: u32, text: &mut [u8]) -> ShamirAnswer
     ensures drills { GivesDrill (λ names n. IsDrillOutput Digits passphrase.now names n (whole lines.now))
         after.now limit text.old text.new result }
@@ -64,7 +78,7 @@ fn drill(lines: &[u8], passphrase: &[u8], after: &[u8], limit: u32, text: &mut [
     }
 }
 
-/// Writes what is listed after a quorum, or of all, to the front of a slice, up to the first line that doesn't fit.
+/// Writes the listing of the quorums after a given one, or of all quorums, up to the first line that doesn't fit.
 fn give_listing(
     passphrase: &[u8],
     after: Option<&Quorum>,

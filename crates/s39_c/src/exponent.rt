@@ -1,4 +1,4 @@
-//! The most exponent of a call.
+//! The check of mnemonics against the caller's maximum for the iteration exponent.
 ghost use Rattle.std.specs.Prelude.{◌≡◌, ℕ, ◌<◌, ◌≤◌, None, IfSome};
 ghost use Rattle.s39_tool.specs.Exponent.{HasExponent};
 ghost use Rattle.s39_tool.specs.Input.{whole};
@@ -6,7 +6,8 @@ ghost use Rattle.s39_tool.specs.Input.{whole};
 use s39_tool::exponent_in;
 use s39_tool::laws::one_exponent;
 
-/// The exponent of the lines' shares, where they have a quorum and it is above the most that is allowed.
+/// The iteration exponent of the mnemonics in `lines`, if they have a quorum and it is above the maximum `most`. It is
+/// `None` also if a line is refused.
 pub(crate) fn exponent_above(most: u32, lines: &[u8]) -> Option<u8>
     ensures some { IfSome result (λ exponent.
         HasExponent (whole lines.now) exponent × (most < exponent)) }

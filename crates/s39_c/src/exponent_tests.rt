@@ -1,16 +1,16 @@
-//! The most exponent, with a published vector of exponent 2.
+//! Tests of the maximum exponent, with a published vector of exponent 2.
 use super::*;
 
-/// Two mnemonics that are both needed.
+/// Two mnemonics of a backup that needs both.
 const TWO: &[u8] =
     b"shadow pistol academic always adequate wildlife fancy gross oasis cylinder mustang wrist rescue view short owner flip making coding armed\nshadow pistol academic acid actress prayer class unknown daughter sweater depict flip twice unkind craft early superior advocate guest smoking\n";
 
-/// The first of them.
+/// The length of the first mnemonic.
 const ONE_BYTES: usize = 137;
 
 const SECRET: [u8; 16] = *b"\xb4\x3c\xeb\x7e\x57\xa0\xea\x87\x66\x22\x16\x24\xd0\x1b\x08\x64";
 
-/// An answer by its code, its first and second detail, and the bytes that are written.
+/// An answer with this code, these two details, and this number of bytes written.
 const fn answer(code: u32, first: u64, second: u64, written: u64) -> ShamirAnswer {
     ShamirAnswer {
         code,

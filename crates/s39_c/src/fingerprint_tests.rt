@@ -1,7 +1,7 @@
-//! Fingerprints, which Python's `hmac` computed.
+//! Tests of fingerprints that Python's `hmac` computed.
 use super::*;
 
-/// An answer by its code, its first detail, and the bytes that are written.
+/// An answer with this code, this first detail, and this number of bytes written.
 const fn answer(code: u32, first: u64, written: u64) -> ShamirAnswer {
     ShamirAnswer {
         code,

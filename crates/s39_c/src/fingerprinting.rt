@@ -1,4 +1,4 @@
-//! The fingerprint of a secret.
+//! The call that computes a fingerprint.
 ghost use Rattle.std.specs.Prelude.{◌≡◌};
 ghost use Rattle.hex.specs.Hex.{encode_lower};
 ghost use Rattle.s39_kdf.specs.Fingerprint.{fingerprint_of};
@@ -10,12 +10,17 @@ use crate::memory::give;
 use s39_kdf::{check_secret_length, fingerprint};
 use s39_tool::Fault;
 
-/// The fingerprint of a secret, by which its owner knows it again without seeing it: eight hexadecimal digits, in small
-/// letters, of the first four bytes of the secret's HMAC-SHA256 under the key `shamir fingerprint`. They go to the front of
-/// `text`; `written` is their number.
+/// Computes the fingerprint of a master secret, by which its owner can recognise it without seeing it. The fingerprint
+/// is the first four bytes of the HMAC-SHA256 of the secret with the key `shamir fingerprint`, in eight lower-case
+/// hexadecimal digits. They go to the start of `text`; `written` is 8, and the bytes after them are unchanged.
 ///
-/// What can be refused is the length of the secret (42), and then that `text` is too short (1). After a refusal the slice is
-/// unchanged.
+/// The call refuses with the first of these that applies, and `text` is then unchanged: 42 (the length of the secret),
+/// 1 (`text` is too short).
+///
+/// ```c
+/// char text[SHAMIR_FINGERPRINT_BYTES_MAX];
+/// shamir_answer answer = shamir_fingerprint(secret, 16, text, sizeof text);
+/// ```
 #[unsafe(no_mangle)]
 pub extern "C" fn shamir_fingerprint(secret: &[u8], text: &mut [u8]) -> ShamirAnswer
     ensures { GivesFingerprint secret.now text.old text.new result }
@@ -26,7 +31,7 @@ pub extern "C" fn shamir_fingerprint(secret: &[u8], text: &mut [u8]) -> ShamirAn
     }
 }
 
-/// The digits of the fingerprint of a secret.
+/// The hexadecimal digits of the fingerprint of a secret.
 fn fingerprint_digits(secret: &[u8]) -> [u8; FINGERPRINT_BYTES_MAX]
     ensures { result ≡ encode_lower (fingerprint_of secret.now) }
 {

@@ -1,5 +1,7 @@
-//! Facts about the definitions, each the contract of a function that does nothing: of the same things, and of what was
-//! in memory before, a call gives one answer, and leaves one memory. A most exponent of 15 or more changes nothing.
+//! Facts about the definitions. Each is the contract of a function that has no effect.
+//!
+//! The arguments of a call, with what its buffers held before, determine its answer and what its buffers hold
+//! afterwards. A `max_exponent` of 15 or more refuses nothing.
 ghost use Rattle.std.specs.Prelude.{◌≡◌, ℕ, ◌≤◌, List};
 ghost use Rattle.s39_kdf.specs.Bytes.{AreBytes};
 ghost use Rattle.s39_tool.specs.declared.secret_form.SecretForm.TheVariants.{Digits};
@@ -27,7 +29,7 @@ use s39_tool::laws::{
 };
 use s39_words::laws::one_reading;
 
-/// A line gives one header, one value in a slice, and one answer.
+/// A line determines the fields, the buffer of the value and the answer of `shamir_parse`.
 pub fn one_share()
     ensures { (line : List ℕ) (header first second : Header) (old new other : List ℕ)
         (answer another : Answer) → GivesShare line header first old new answer
@@ -37,7 +39,7 @@ pub fn one_share()
     one_reading();
 }
 
-/// A plan's text and a secret's length give one number of random bytes, or one refusal.
+/// The text of a plan and the length of a secret determine the answer of `shamir_random_needed`.
 pub fn one_number()
     ensures { (plan : List ℕ) (n : ℕ) (answer another : Answer) → GivesNumber plan n answer
         → GivesNumber plan n another → answer ≡ another }
@@ -45,7 +47,7 @@ pub fn one_number()
     one_plan_reading();
 }
 
-/// What a creation is given gives one slice of mnemonics, and one answer.
+/// The arguments of `shamir_create` determine the buffer of mnemonics and the answer.
 pub fn one_backup()
     ensures { (wanted : Wanted) (random old new other : List ℕ) (answer another : Answer)
         → GivesBackup wanted random old new answer → GivesBackup wanted random old other another
@@ -55,14 +57,14 @@ pub fn one_backup()
     one_create_output();
 }
 
-/// A secret gives one fingerprint in a slice, and one answer.
+/// A secret determines the buffer and the answer of `shamir_fingerprint`.
 pub fn one_fingerprint()
     ensures { (secret old new other : List ℕ) (answer another : Answer)
         → GivesFingerprint secret old new answer → GivesFingerprint secret old other another
         → (new ≡ other) × (answer ≡ another) }
 {}
 
-/// Lines, passphrase and most exponent give one secret in a slice of bytes, and one answer.
+/// Lines, passphrase and maximum exponent determine the buffer of the secret and the answer of `shamir_recover`.
 pub fn one_secret()
     ensures { (most : ℕ) (passphrase lines old new other : List ℕ) (answer another : Answer)
         → AreBytes new → AreBytes other
@@ -76,7 +78,8 @@ pub fn one_secret()
     one_recover_output();
 }
 
-/// Lines, passphrase, most exponent, cursor and limit give one listing in a slice, and one answer.
+/// Lines, passphrase, maximum exponent, cursor and limit determine the buffer of the listing and the answer of
+/// `shamir_drill`.
 pub fn one_drill()
     ensures { (most : ℕ) (passphrase lines cursor : List ℕ) (limit : ℕ) (old new other : List ℕ)
         (answer another : Answer)
@@ -91,7 +94,7 @@ pub fn one_drill()
     written_forms();
 }
 
-/// A plan's text, a text that lists names, and lines give one slice of mnemonics, and one answer.
+/// The text of a plan, a list of names, and lines determine the buffer of mnemonics and the answer of `shamir_reissue`.
 pub fn one_reissue()
     ensures { (plan listed lines old new other : List ℕ) (answer another : Answer)
         → GivesReissued (λ threshold groups names. IsReissueOutput threshold groups names (whole lines))
@@ -105,7 +108,7 @@ pub fn one_reissue()
     one_reissue_output();
 }
 
-/// Lines give one status in a slice, and one answer.
+/// Lines determine the buffer and the answer of `shamir_status`.
 pub fn one_status()
     ensures { (lines old new other : List ℕ) (answer another : Answer)
         → GivesStatus (IsStatusOutput (whole lines)) old new answer
@@ -115,7 +118,7 @@ pub fn one_status()
     one_status_output();
 }
 
-/// A most exponent of 15 or more refuses nothing: a recovery and a drill give what they give without one.
+/// A maximum exponent of 15 or more refuses nothing: a recovery and a drill then give what they give without a maximum.
 pub fn a_most_of_15_refuses_nothing()
     ensures recovers { (most : ℕ) (passphrase lines old new : List ℕ) (answer : Answer) → 15 ≤ most
         → UpTo most lines old new answer

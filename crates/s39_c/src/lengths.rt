@@ -1,5 +1,5 @@
-//! For how many bytes a caller makes room, by the header: facts about the definitions, each the contract of a function that
-//! does nothing.
+//! The buffer lengths that the header names, in bytes, and facts about them. Each fact is the contract of a function
+//! that has no effect.
 ghost use Rattle.std.specs.Prelude.{◌≡◌, ◌*◌, ◌<◌, ◌≤◌, ℕ, List, length};
 ghost use Rattle.s39_kdf.specs.Fingerprint.{fingerprint_length};
 ghost use Rattle.s39_set.specs.Names.{Names};
@@ -24,22 +24,22 @@ use s39_tool::laws::{
     statuses_are_short,
 };
 
-/// The most bytes of a list of names, as of a quorum.
+/// The maximum length of a list of names, such as the names of a quorum.
 pub const NAMES_BYTES_MAX: usize = 1_215;
 
-/// So many bytes are enough for the line of a quorum and the last line, and so for each call of a drill.
+/// A buffer length that is enough for the line of any quorum with the last line, and so for each call of a drill.
 pub const LISTING_BYTES_ENOUGH: usize = 2_700;
 
-/// The most bytes of the mnemonics of a backup, each with its line feed.
+/// The maximum length of all mnemonics of a backup, each with its line feed.
 pub const MNEMONICS_BYTES_MAX: usize = 253_440;
 
-/// The bytes of the text of a fingerprint, two digits for each of its own.
+/// The length of the text of a fingerprint, which has two digits for each of its bytes.
 pub const FINGERPRINT_BYTES_MAX: usize = 8;
 
-/// The most bytes of the lines of a status.
+/// The maximum length of a status.
 pub const STATUS_BYTES_MAX: usize = 1_638;
 
-/// The numbers are those of the definitions.
+/// The constants equal the numbers of the definitions.
 pub fn lengths()
     ensures names { NAMES_BYTES_MAX ≡ longest_names }
     ensures listing { LISTING_BYTES_ENOUGH ≡ longest_listing }
@@ -48,7 +48,7 @@ pub fn lengths()
     ensures status { STATUS_BYTES_MAX ≡ longest_status }
 {}
 
-/// A list of names, as it stands in a listing and as a drill goes on after it, has no more bytes than the most.
+/// A list of names, as a listing has it and as a drill takes it, is no longer than the maximum.
 pub fn names_fit()
     ensures { (text : List ℕ) (names : Names) → IsWrittenForm text names
         → length text ≤ NAMES_BYTES_MAX }
@@ -56,7 +56,7 @@ pub fn names_fit()
     names_are_short();
 }
 
-/// A drill answers that a slice is too short only of one that has less than is enough.
+/// If a drill refuses a buffer as too short, the buffer is shorter than `LISTING_BYTES_ENOUGH`.
 pub fn listings_fit()
     ensures { (most : ℕ) (passphrase lines cursor : List ℕ) (limit : ℕ) (old new : List ℕ)
         (needed : ℕ) → UpTo most lines old new (too_short needed)
@@ -67,7 +67,7 @@ pub fn listings_fit()
     first_lines_are_short();
 }
 
-/// A creation answers that a slice is too short only of one that has less than the most that a backup takes.
+/// If a creation refuses a buffer as too short, the buffer is shorter than `MNEMONICS_BYTES_MAX`.
 pub fn backups_fit()
     ensures { (wanted : Wanted) (random old new : List ℕ) (needed : ℕ)
         → GivesBackup wanted random old new (too_short needed)
@@ -76,14 +76,15 @@ pub fn backups_fit()
     backups_are_short();
 }
 
-/// A fingerprint takes so many bytes, and a slice is too short for it only where it has fewer.
+/// If a buffer is refused as too short for a fingerprint, it is shorter than `FINGERPRINT_BYTES_MAX`, which is the
+/// length that the refusal asks for.
 pub fn fingerprints_fit()
     ensures { (secret old new : List ℕ) (needed : ℕ)
         → GivesFingerprint secret old new (too_short needed)
         → (needed ≡ FINGERPRINT_BYTES_MAX) × (length old < FINGERPRINT_BYTES_MAX) }
 {}
 
-/// A status answers that a slice is too short only of one that has less than its lines take at most.
+/// If a status refuses a buffer as too short, the buffer is shorter than `STATUS_BYTES_MAX`.
 pub fn statuses_fit()
     ensures { (lines old new : List ℕ) (needed : ℕ)
         → GivesStatus (IsStatusOutput (whole lines)) old new (too_short needed)
@@ -92,7 +93,7 @@ pub fn statuses_fit()
     statuses_are_short();
 }
 
-/// A reissue answers that a slice is too short only of one that has less than the most that a backup takes.
+/// If a reissue refuses a buffer as too short, the buffer is shorter than `MNEMONICS_BYTES_MAX`.
 pub fn reissues_fit()
     ensures { (plan listed lines old new : List ℕ) (needed : ℕ)
         → GivesReissued (λ threshold groups names. IsReissueOutput threshold groups names (whole lines))

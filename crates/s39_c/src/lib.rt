@@ -1,5 +1,8 @@
-//! The engine for programs in C, and in all languages that call C: each export calls the engine over memory of its
-//! caller, and answers a number. `include/shamir.h` declares them.
+//! The interface of the library for C, and for other languages that can call C. `include/shamir.h` declares its
+//! exports.
+//!
+//! Each export reads and writes buffers of its caller, and returns a `ShamirAnswer`. A slice `&[u8]` or `&mut [u8]`
+//! here is two parameters in C: a pointer, and a length in bytes. On refusal nothing is written.
 #![tactic(auto)]
 
 mod answer;

@@ -1,10 +1,10 @@
-//! Slices of the caller.
+//! The output buffers of the caller.
 ghost use Rattle.s39_c.specs.Answers.{Gives};
 
 use crate::answer::ShamirAnswer;
 use s39_tool::put;
 
-/// Writes bytes to the front of a slice, where they fit.
+/// Writes bytes to the start of an output buffer if they fit, and refuses the buffer otherwise.
 pub(crate) fn give(bytes: &[u8], out: &mut [u8]) -> ShamirAnswer
     ensures { Gives bytes.now out.old out.new result }
 {

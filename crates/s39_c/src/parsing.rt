@@ -1,4 +1,4 @@
-//! The reading of a mnemonic.
+//! The call that reads a mnemonic.
 ghost use Rattle.std.specs.Prelude.{◌≡◌};
 ghost use Rattle.s39_c.specs.Parsing.{header_of, GivesShare};
 
@@ -6,11 +6,11 @@ use crate::answer::ShamirAnswer;
 use crate::memory::give;
 use s39_words::{ShareFields, parse};
 
-/// The fields of a mnemonic but its value.
+/// The fields of a mnemonic, except its value.
 #[repr(C)]
 #[derive(Clone, Copy, Debug, PartialEq, Eq)]
 pub struct ShamirShare {
-    /// The identifier of the backup, below 2^15.
+    /// The identifier of the backup, 0 to 32,767.
     pub id: u16,
     /// The extendable flag, 0 or 1.
     pub extendable: u8,
@@ -20,7 +20,7 @@ pub struct ShamirShare {
     pub group_index: u8,
     /// The group threshold, 1 to the group count.
     pub group_threshold: u8,
-    /// The number of groups, 1 to 16.
+    /// The group count, 1 to 16.
     pub group_count: u8,
     /// The member index, 0 to 15.
     pub member_index: u8,
@@ -28,9 +28,18 @@ pub struct ShamirShare {
     pub member_threshold: u8,
 }
 
-/// Reads a text as the share that it spells: its fields go to `share` and its value, an even number of bytes from 16 to
-/// 128, to the front of `value`; `written` is their number. What can be refused is what `s39_words::parse` refuses (11
-/// to 15), and then that `value` is too short (1). After a refusal both are unchanged.
+/// Reads one mnemonic, which is a line without its line feed. The fields go to `share`. The value of the share goes to
+/// the start of `value`; it has an even number of bytes, 16 to 128, and `written` is that number. The bytes after it
+/// are unchanged.
+///
+/// The call refuses with the first of these that applies, and `share` and `value` are then unchanged: 11 to 15 (the
+/// line isn't a mnemonic), 1 (`value` is too short).
+///
+/// ```c
+/// shamir_share share;
+/// uint8_t value[SHAMIR_SECRET_BYTES_MAX];
+/// shamir_answer answer = shamir_parse(line, strlen(line), &share, value, sizeof value);
+/// ```
 #[unsafe(no_mangle)]
 pub extern "C" fn shamir_parse(
     line: &[u8],
@@ -52,7 +61,7 @@ pub extern "C" fn shamir_parse(
     }
 }
 
-/// The fields of a share but its value.
+/// The fields of a share, except its value.
 fn header_of(fields: &ShareFields) -> ShamirShare
     ensures { result ≡ header_of fields.now }
 {

@@ -1,4 +1,4 @@
-//! The recovery of a secret.
+//! The call that recovers a secret.
 ghost use Rattle.s39_tool.specs.declared.secret_form.SecretForm.TheVariants.{Digits};
 ghost use Rattle.s39_tool.specs.Input.{whole};
 ghost use Rattle.s39_tool.specs.OfBackup.{RecoversCreated};
@@ -12,10 +12,22 @@ use crate::memory::give;
 use s39_tool::laws::created_backups_recover;
 use s39_tool::recover_secret;
 
-/// Recovers the master secret, an even number of bytes from 16 to 128, of lines that hold mnemonics, with a passphrase:
-/// that of the least quorum. It goes to the front of `secret`; `written` is the number of its bytes. What can be refused
-/// is first that the mnemonics have a quorum and an exponent above `max_exponent` (3), before any iteration; then what the
-/// command `recover` refuses of lines; and then that `secret` is too short (1). After a refusal the slice is unchanged.
+/// Recovers the master secret from the mnemonics in `lines`, with a passphrase. The call takes the first quorum in the
+/// order of a drill; a quorum is a minimal set of mnemonics that meets the thresholds. The secret goes to the start of
+/// `secret`. It has an even number of bytes, 16 to 128, and `written` is that number. The bytes after it are unchanged.
+/// A wrong passphrase gives another secret, and isn't detected.
+///
+/// The call refuses with the first of these that applies, and `secret` is then unchanged:
+///
+/// - 3, if no line is refused, the mnemonics have a quorum, and their exponent is above `max_exponent`; the call then
+///   derives no key;
+/// - 41 (the passphrase), then the code of the first refused line (11 to 28, 71), then 29, 30, 51;
+/// - 1, if `secret` is too short.
+///
+/// ```c
+/// uint8_t secret[SHAMIR_SECRET_BYTES_MAX];
+/// shamir_answer answer = shamir_recover(lines, lines_bytes, "TREZOR", 6, SHAMIR_EXPONENT_MAX, secret, sizeof secret);
+/// ```
 #[unsafe(no_mangle)]
 pub extern "C" fn shamir_recover(
     lines: &[u8],
@@ -25,7 +37,7 @@ pub extern "C" fn shamir_recover(
 ) -> ShamirAnswer
     ensures recovers { UpTo max_exponent lines.now secret.old secret.new result
         (GivesSecret (IsRecoverOutput Digits passphrase.now (whole lines.now)) secret.old secret.new result) }
-    // Of mnemonics of a created backup, with the passphrase of the creation: its secret, or why they have no quorum.
+    // For mnemonics of a created backup and its passphrase, the result is its secret, or why there is no quorum.
     ensures created { UpTo max_exponent lines.now secret.old secret.new result
         (GivesSecret (RecoversCreated Digits passphrase.now (whole lines.now)) secret.old secret.new result) }
 {
@@ -35,7 +47,7 @@ pub extern "C" fn shamir_recover(
     }
 }
 
-/// Recovers the secret of lines, whatever their exponent.
+/// Recovers the secret of lines with any exponent.
 fn recover(lines: &[u8], passphrase: &[u8], secret: &mut [u8]) -> ShamirAnswer
     ensures recovers { GivesSecret (IsRecoverOutput Digits passphrase.now (whole lines.now))
         secret.old secret.new result }

@@ -1,4 +1,4 @@
-//! What is missing, and mnemonics computed from others, with values that another program computed.
+//! Tests of `shamir_status` and `shamir_reissue`, with values that another program computed.
 use super::*;
 use arrayvec::ArrayVec;
 
@@ -18,11 +18,11 @@ const GROUP_1: &[u8] =
 const GROUP_2: &[u8] =
     b"academic aluminum ceramic leader cylinder decorate mobile devote echo finger program firm starting dwarf grumpy harvest enforce raisin sprinkle phantom\n";
 
-/// Member 3 of group 0, where the plan is `2/2of4,1of1,1of1`.
+/// Member 3 of group 0, if the plan is `2/2of4,1of1,1of1`.
 const FOURTH: &[u8] =
     b"academic aluminum acrobat marathon crisis luxury step activity teammate unfair fumes endorse always ranked alto problem mailman ounce teacher bumpy\n";
 
-/// Members 0 and 2 of group 0 with the first byte of the values exchanged, so that they combine to nothing.
+/// Members 0 and 2 of group 0 with the first bytes of their values exchanged, so that their digest doesn't match.
 const FORGED_FIRST: &[u8] =
     b"academic aluminum acrobat leaf civil drink heat negative damage union purchase photo inmate training amazing yield bucket lend glance junk\n";
 
@@ -31,10 +31,10 @@ const FORGED_THIRD: &[u8] =
 
 const PLAN: &[u8] = b"2/2of3,1of1,1of1";
 
-/// Room for what the calls are given and write.
+/// The length of the buffers for what the calls read and write.
 const ROOM: usize = 600;
 
-/// Texts one after the other, as many as there is room for.
+/// These texts one after the other, as far as they fit.
 fn joined(texts: &[&[u8]]) -> ArrayVec<u8, ROOM> {
     let mut all = ArrayVec::new();
     for text in texts {
@@ -43,7 +43,7 @@ fn joined(texts: &[&[u8]]) -> ArrayVec<u8, ROOM> {
     all
 }
 
-/// An answer by its code, its line, its details, and the bytes that are written.
+/// An answer with this code, this line, these details, and this number of bytes written.
 const fn answer(code: u32, line: u64, first: u64, second: u64, written: usize) -> ShamirAnswer {
     ShamirAnswer {
         code,

@@ -1,4 +1,4 @@
-//! Mnemonics of a backup, computed from others of it.
+//! The call that computes lost mnemonics from others of their backup.
 ghost use Rattle.s39_tool.specs.Input.{whole};
 ghost use Rattle.s39_tool.specs.Reissue.{IsReissueOutput, ReissuesCreated};
 ghost use Rattle.s39_c.specs.Answers.{GivesOutput};
@@ -8,12 +8,21 @@ use crate::answer::ShamirAnswer;
 use s39_set::{Quorum, parse_names};
 use s39_tool::{Plan, reissue_lines};
 
-/// Computes mnemonics of a backup from those of lines, by the text of its plan: those of the names that `names` lists, as
-/// `0.1+2.0`. They go to the front of `mnemonics`, in this order, each with a line feed behind it; `written` is the number of
-/// bytes. No passphrase has a part in it.
+/// Computes mnemonics of a backup from those in `lines`. `plan` is the text of the plan of the backup. `names` lists
+/// the names of the wanted mnemonics, each once and in ascending order, as `0.1+2.0`. The mnemonics go to the start of
+/// `mnemonics` in this order, and a line feed follows each. `written` is their length in bytes; the bytes after them
+/// are unchanged. The call needs no passphrase.
 ///
-/// The first that applies is refused, and then the slice is unchanged: the plan (31 to 34), a text that is no list of names
-/// (63), what the command `reissue` refuses of names and lines, and that `mnemonics` is too short (1).
+/// The call refuses with the first of these that applies, and `mnemonics` is then unchanged:
+///
+/// - 31 to 34 (the plan), 63 (`names` isn't a list of names), 64 (a name isn't in the plan);
+/// - the code of the first refused line (11 to 28, 71), then 29, 65 (the mnemonics are of another plan);
+/// - for each name in turn, 66 (its mnemonic isn't determined) or 51 (a digest mismatch);
+/// - 1, if `mnemonics` is too short.
+///
+/// ```c
+/// shamir_answer answer = shamir_reissue("2of3", 4, "0.1", 3, lines, lines_bytes, mnemonics, sizeof mnemonics);
+/// ```
 #[unsafe(no_mangle)]
 pub extern "C" fn shamir_reissue(
     plan: &[u8],
@@ -24,8 +33,8 @@ pub extern "C" fn shamir_reissue(
     ensures reissues { GivesReissued
         (λ threshold groups wanted. IsReissueOutput threshold groups wanted (whole lines.now))
         plan.now names.now mnemonics.old mnemonics.new result }
-    // Of mnemonics of a backup that was created by the plan: those of these names, or both counts for the first that
-    // isn't determined.
+    // For names of the plan and mnemonics of a backup created by it, the result is the backup's own mnemonics with these
+    // names. Or it is the refusal of the first name whose mnemonic isn't determined, or of lines without a mnemonic.
     ensures created { GivesReissued
         (λ threshold groups wanted. ReissuesCreated threshold groups wanted (whole lines.now))
         plan.now names.now mnemonics.old mnemonics.new result }
@@ -36,7 +45,7 @@ pub extern "C" fn shamir_reissue(
     }
 }
 
-/// Computes the mnemonics of the names that a text lists, by a plan.
+/// Computes the mnemonics with the names that a text lists, by this plan.
 fn reissue_named(plan: &Plan, names: &[u8], lines: &[u8], mnemonics: &mut [u8]) -> ShamirAnswer
     ensures reissues { GivesNamed
         (λ wanted. IsReissueOutput plan.now.group_threshold plan.now.groups.items wanted (whole lines.now))
@@ -51,7 +60,7 @@ fn reissue_named(plan: &Plan, names: &[u8], lines: &[u8], mnemonics: &mut [u8]) 
     }
 }
 
-/// Computes the mnemonics of these names, by a plan.
+/// Computes the mnemonics with these names, by this plan.
 fn reissue(plan: &Plan, names: &Quorum, lines: &[u8], mnemonics: &mut [u8]) -> ShamirAnswer
     ensures reissues { GivesOutput
         (IsReissueOutput plan.now.group_threshold plan.now.groups.items names.now (whole lines.now))

@@ -1,4 +1,4 @@
-//! What is at hand of each group, and whether it is enough.
+//! The call that tells whether mnemonics are enough for a recovery.
 ghost use Rattle.s39_tool.specs.Input.{whole};
 ghost use Rattle.s39_tool.specs.Status.{IsStatusOutput};
 ghost use Rattle.s39_c.specs.Status.{GivesStatus};
@@ -6,12 +6,21 @@ ghost use Rattle.s39_c.specs.Status.{GivesStatus};
 use crate::answer::ShamirAnswer;
 use s39_tool::status_lines;
 
-/// Tells what lines that hold mnemonics have of each group: what the command `status` writes of them goes to the front of
-/// `text`; `written` is the number of bytes. `first` of the answer is how many groups are complete, and `second` how many are
-/// needed: there are enough mnemonics exactly where `first` is at least `second`. No passphrase has a part in it.
+/// Tells how many members of each group are among the mnemonics in `lines`, in the format of the command `status`. The
+/// text goes to the start of `text`; `written` is its length in bytes, and the bytes after it are unchanged. The call
+/// needs no passphrase.
 ///
-/// What can be refused is what the command refuses of lines (11 to 29, 71), and then that `text` is too short (1). After a
-/// refusal the slice is unchanged.
+/// `first` of the answer is the number of complete groups, and `second` is the group threshold. The mnemonics have a
+/// quorum if and only if `first` is at least `second`. If they have none, the code is still 0.
+///
+/// The call refuses with the first of these that applies, and `text` is then unchanged: the code of the first refused
+/// line (11 to 28, 71), 29 (there is no mnemonic), 1 (`text` is too short).
+///
+/// ```c
+/// char text[SHAMIR_STATUS_BYTES_MAX];
+/// shamir_answer answer = shamir_status(lines, lines_bytes, text, sizeof text);
+/// int enough = answer.code == SHAMIR_DONE && answer.first >= answer.second;
+/// ```
 #[unsafe(no_mangle)]
 pub extern "C" fn shamir_status(lines: &[u8], text: &mut [u8]) -> ShamirAnswer
     ensures { GivesStatus (IsStatusOutput (whole lines.now)) text.old text.new result }

@@ -1,4 +1,4 @@
-//! The texts of answers.
+//! The call that gives the text of an answer.
 ghost use Rattle.s39_c.specs.Telling.{GivesText};
 
 use crate::answer::{HIGH_EXPONENT, OUT_OF_RANGE, ShamirAnswer, TOO_SHORT};
@@ -8,10 +8,10 @@ use s39_text::RefusalText;
 use std::fmt::InlineText;
 use thiserror::Error;
 
-/// The most bytes of a text.
+/// The maximum length of a text in bytes.
 const TEXT_BYTES: usize = 64;
 
-/// What an answer is called: as the program calls the refusal, but for those that only the library answers.
+/// The text of an answer. A refusal that the program has too has the program's text.
 #[derive(Debug, Drop, Error)]
 enum AnswerText {
     #[error("done")]
@@ -28,8 +28,16 @@ enum AnswerText {
     Unknown,
 }
 
-/// Writes the text of an answer's code and details to the front of `text`, without its number and its line: what the program
-/// prints behind them. `written` is the number of its bytes, at most 64; where the slice is shorter, it is unchanged (1).
+/// Writes the text of an answer to the start of `text`. The text has no code and no line; the program prints it after
+/// these. `written` is its length in bytes, at most 64, and the bytes after it are unchanged.
+///
+/// The only refusal is 1 (`text` is too short), and `text` is then unchanged.
+///
+/// ```c
+/// char text[SHAMIR_TEXT_BYTES_MAX];
+/// shamir_answer told = shamir_text(&answer, text, sizeof text);
+/// printf("%.*s", (int)told.written, text);
+/// ```
 #[unsafe(no_mangle)]
 pub extern "C" fn shamir_text(answer: &ShamirAnswer, text: &mut [u8]) -> ShamirAnswer
     ensures { GivesText text.old text.new result }
@@ -38,7 +46,7 @@ pub extern "C" fn shamir_text(answer: &ShamirAnswer, text: &mut [u8]) -> ShamirA
     give(said.as_str().as_bytes(), text)
 }
 
-/// What an answer is called.
+/// The text of an answer, by its code and details.
 fn answer_text(answer: &ShamirAnswer) -> AnswerText {
     let Ok(code) = u8::try_from(answer.code) else {
         return AnswerText::Unknown;
@@ -48,7 +56,7 @@ fn answer_text(answer: &ShamirAnswer) -> AnswerText {
         TOO_SHORT => AnswerText::TooShort(answer.first),
         OUT_OF_RANGE => AnswerText::OutOfRange,
         HIGH_EXPONENT => AnswerText::HighExponent(answer.first),
-        // The library reads and writes by no device.
+        // No call gives these codes, as the library uses no device.
         code::READ_FAILED | code::WRITE_FAILED => AnswerText::Unknown,
         _ => match RefusalText::of(Cause::new(code, answer.first, answer.second)) {
             Some(text) => AnswerText::Refused(text),

@@ -1,7 +1,7 @@
-//! The texts of answers, and the version.
+//! Tests of the texts of answers, and of the version.
 use super::*;
 
-/// A refusal by its number, line and details.
+/// A refusal with this number, this line and these details.
 const fn refusal(code: u32, line: u64, first: u64, second: u64) -> ShamirAnswer {
     ShamirAnswer {
         code,

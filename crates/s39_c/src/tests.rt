@@ -1,10 +1,10 @@
-//! The exports, with values from outside.
+//! Tests of the exports, with published vectors and values that other programs computed.
 use super::*;
 
 /// The master secret of a published vector.
 const SECRET: [u8; 16] = *b"\xbb\x54\xaa\xc4\xb8\x9d\xc8\x68\xba\x37\xd9\xcc\x21\xb2\xce\xce";
 
-/// The mnemonic of that vector, of which one is enough.
+/// The only mnemonic of that vector, which is enough by itself.
 const ONE: &[u8] =
     b"duckling enlarge academic academic agency result length solution fridge kidney coal piece deal husband erode duke ajar critical decision keyboard";
 
@@ -15,15 +15,15 @@ const FIVE: &[u8] =
 
 const FIVE_BYTES: usize = 715;
 
-/// Two members of a group that are no parts of one secret; another program made them.
+/// Two members of a group whose digest doesn't match. Another program made them.
 const UNEVEN: &[u8] =
     b"academic academic academic acid disease prepare husky home result arcade lunar cover shame email oven tension nylon carpet prospect hand\nacademic academic academic agency dragon mineral broken simple lips custody flame cylinder ending prune party scout beaver enlarge glasses bundle";
 
-/// The same of two groups, with one member each.
+/// The only members of two groups. The digest of the groups doesn't match.
 const UNEVEN_GROUPS: &[u8] =
     b"academic academic acrobat easy disease prepare husky home result arcade lunar cover shame email oven tension nylon lawsuit smear antenna\nacademic academic beard easy dragon mineral broken simple lips custody flame cylinder ending prune party scout beaver presence thank adapt";
 
-/// A header that no mnemonic has.
+/// Fields that no mnemonic has.
 const NO_SHARE: ShamirShare = ShamirShare {
     id: 65_535,
     extendable: 255,
@@ -35,7 +35,7 @@ const NO_SHARE: ShamirShare = ShamirShare {
     member_threshold: 255,
 };
 
-/// A refusal by its number, line and details.
+/// A refusal with this number, this line and these details.
 const fn refusal(code: u32, line: u64, first: u64, second: u64) -> ShamirAnswer {
     ShamirAnswer {
         code,
@@ -272,7 +272,7 @@ fn drills(rt: HostRuntime) {
     }
 }
 
-/// So many bytes were written.
+/// The answer of a call that wrote this number of bytes.
 fn written(bytes: usize) -> ShamirAnswer {
     ShamirAnswer {
         written: bytes as u64,
@@ -301,7 +301,7 @@ fn lists_mismatches(rt: HostRuntime) {
 
 #[test]
 fn drills_what_fits(rt: HostRuntime) {
-    // A line has 45 bytes, and the last line 23.
+    // A line of a quorum has 45 bytes, and the last line has 23.
     let mut text = [7; 140];
     for (room, bytes) in [(68, 68), (112, 68), (113, 113), (140, 113)] {
         let answer = shamir_drill(FIVE, b"TREZOR", 15, b"", 7, &mut text[..room]);

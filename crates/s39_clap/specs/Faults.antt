@@ -1,4 +1,4 @@
--- What the first step that fails may say, in a command whose arguments stand alone.
+-- What the first failing step may say, in a command whose arguments have no rules on one another.
 use Rattle.std.specs.Prelude.{◌≡◌, ◌⊎◌, ◌&&◌, Bool, true, false, List, [], ◌∷◌}
 use Rattle.std.specs.List.{list_all}
 use Rattle.clap.specs.Words.{App, Kinds, Shape, Text, built, fault_of, is_simple, takes}
@@ -6,23 +6,23 @@ use Rattle.clap.specs.Takes.{default_passes}
 use Rattle.clap.specs.declared.error.kind.ErrorKind.{ErrorKind}
 use Rattle.clap.specs.declared.error.kind.ErrorKind.TheVariants.{DisplayHelp, DisplayVersion}
 
--- the kind is of a mistake in the words, and asks for no text
+-- the kind is a mistake in the words, and no request for a text
 abbrev pub is_mistake : ErrorKind → Bool
 is_mistake DisplayHelp = false
 is_mistake DisplayVersion = false
 is_mistake _ = true
 
--- help alone is asked for, or the version alone, or all kinds are mistakes
+-- the words ask for help alone, or for the version alone, or all kinds are mistakes
 abbrev pub IsRequestOrMistakes : Kinds → Type 0
 IsRequestOrMistakes kinds = (kinds ≡ DisplayHelp ∷ [])
     ⊎ ((kinds ≡ DisplayVersion ∷ []) ⊎ (list_all is_mistake kinds ≡ true))
 
--- there is no subcommand `help`, no argument has a rule on another, and the defaults pass
+-- there is no subcommand `help`, no argument has a rule on another one, and the defaults are accepted
 abbrev pub is_settled : Shape → Bool
 is_settled s = s.disable_help_subcommand
     && (list_all default_passes s.rules && list_all (λ a. a.is_free) s.rules)
 
--- the command is simple, and it and its subcommands are such
+-- the command is simple, and this holds for it and its subcommands
 abbrev pub is_settled_app : App → Bool
 is_settled_app a =
     is_simple a && (is_settled (built a).top && list_all is_settled (built a).subs)

@@ -24,12 +24,12 @@ abbrev pub has_some : List Text → Bool
 has_some [] = false
 has_some (text ∷ rest) = true
 
--- a use of the argument gives it at least one value, or asks for a text
+-- each use of the argument gives it at least one value, or asks for a text
 abbrev pub gives_a_value : Rule → Bool
 gives_a_value a = is_request (action_of a) || (is_setting (action_of a)
     && (nat_lt 0 (unwrap_or_range a.range).start_inclusive || has_some a.missing))
 
--- each argument of the level is such, and may be used once
+-- this holds for each argument of the level, which may be used once
 abbrev pub is_single : Shape → Bool
 is_single s = not s.args_override_self && list_all gives_a_value s.rules
 
@@ -49,7 +49,7 @@ abbrev pub AllFit : List Rule → List Row → Type 0
 AllFit rules [] = Unit {0}
 AllFit rules (r ∷ rest) = FitsOne rules r × AllFit rules rest
 
--- what is found has values of the arguments, among them of each that is required or has a default
+-- what is found has values of the arguments, and of each argument that is required or has a default
 pub record IsFilled (rules : List Rule) (rows : List Row) : Type 0 where
   pub fits : AllFit rules rows
   pub present : list_all (λ a. not (a.required || has_some a.defaults) || has_row a.id rows)
@@ -62,7 +62,7 @@ EntersOne (s ∷ rest) found =
     ((rows : List Row) × (found ≡ Some (s.name, rows)) × IsFilled s.rules rows)
     ⊎ EntersOne rest found
 
--- words that a command takes, which has to be given a subcommand, name one of its subcommands
+-- words that a command takes name one of its subcommands, if it requires one
 abbrev pub TakenWordsEnterOne : Type 0
 TakenWordsEnterOne = (a : App) (words : List Text)
     → list_all is_single (built a).subs ≡ true → (built a).top.subcommand_required ≡ true
@@ -84,14 +84,14 @@ ArgumentsHaveValues = (rules : List Rule) (rows : List Row) (a : Rule) (id : Tex
     → IsOnly a id rules → (a.required || has_some a.defaults) ≡ true → IsFilled rules rows
     → (text : Text) × HasValue a id rows text
 
--- and a flag is said or isn't
+-- a flag that is required or has a default has the value true or false
 abbrev pub FlagsAreSaidOrNot : Type 0
 FlagsAreSaidOrNot = (rules : List Rule) (rows : List Row) (a : Rule) (id : Text)
     → IsOnly a id rules → (a.required || has_some a.defaults) ≡ true → a.parser ≡ Some flag_parser
     → IsFilled rules rows
     → (one_of id rows ≡ Some (codes "true")) ⊎ (one_of id rows ≡ Some (codes "false"))
 
--- the number that the first value that is found for the id writes
+-- the number that the first value found for the id writes in decimal
 abbrev pub HasNumber : Text → List Row → ℕ → Type 0
 HasNumber id rows n =
     option_map (λ text. digits_value 10 (without_leading_plus text)) (one_of id rows) ≡ Some n

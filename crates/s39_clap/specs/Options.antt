@@ -15,7 +15,7 @@ abbrev pub joined_word : Text → Text → Text
 joined_word name value = codes "--" ++ (name ++ (codes "=" ++ value))
 
 -- the words of an option of this name with this value: the one word `--name=value`, or the two words
--- `--name` and `value`, of which the second doesn't begin with a dash
+-- `--name` and `value`, if the second doesn't begin with a dash
 abbrev pub AreOptionWords : Text → Text → List Text → Type 0
 AreOptionWords name value words = (words ≡ joined_word name value ∷ [])
     ⊎ (HasNoDash value × (words ≡ name_word name ∷ value ∷ []))

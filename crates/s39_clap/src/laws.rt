@@ -1,4 +1,4 @@
-//! Laws of simple commands, each proved as the contract of a function that does nothing.
+//! Laws of simple commands. Each is the contract of a function that does nothing.
 ghost use Rattle.s39_clap.specs.Faults.{FaultlessWordsAreTaken, FaultsAreOneRequestOrMistakes};
 ghost use Rattle.s39_clap.specs.Found.{ArgumentsHaveValues, FlagsAreSaidOrNot, TakenWordsEnterOne};
 
@@ -12,8 +12,8 @@ pub fn faults_are_one_request_or_mistakes()
     ensures { FaultsAreOneRequestOrMistakes }
 {}
 
-/// Words that are taken by a command that has to be given a subcommand name one of its subcommands, and what is found
-/// for that one's arguments are values that their parsers accept.
+/// If a command requires a subcommand, the words that it takes name one of its subcommands. What is found for the
+/// arguments of that subcommand are values that their parsers accept.
 pub fn taken_words_enter_one()
     ensures { TakenWordsEnterOne }
 {}
@@ -23,7 +23,7 @@ pub fn arguments_have_values()
     ensures { ArgumentsHaveValues }
 {}
 
-/// A flag is said, or it isn't.
+/// A flag has the value true or false.
 pub fn flags_are_said_or_not()
     ensures { FlagsAreSaidOrNot }
 {}

@@ -1,4 +1,4 @@
-//! What `clap`'s definition of a simple command gives its callers, as laws: which words are refused and how, which
+//! Laws on what `clap`'s definition of a simple command gives its callers: which words are refused and how, which
 //! subcommand they name, and which values its arguments have.
 #![tactic(auto)]
 

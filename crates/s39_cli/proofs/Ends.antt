@@ -1,61 +1,79 @@
 -- How the program ends, from how its parts do.
-use Rattle.std.proofs.Common.{◌≡◌, ◌∙◌, ℕ, List, [], Option, true, true≢false, inl, inr, subst, sym}
+use Rattle.std.proofs.Common.{◌≡◌, ◌⊎◌, ◌∙◌, ⊎_elim, ℕ, List, [], Option, string_bytes, true, true≢false, inl, inr, subst, sym}
 use Rattle.clap.specs.Words.{Text, fault_of, takes}
+use Rattle.s39_cli.specs.declared.command.BadValues.{BadValues}
+use Rattle.s39_cli.specs.declared.command.Call.{Call}
 use Rattle.s39_cli.specs.declared.command.Job.{Job}
+use Rattle.s39_cli.specs.declared.command.NoJob.{NoJob}
+use Rattle.s39_cli.specs.declared.command.NoJob.TheVariants.{Help, Refused, Values, Memory}
 use Rattle.s39_cli.specs.declared.runner.Ended.{Ended}
 use Rattle.s39_cli.specs.declared.runner.Ended.TheVariants.{With, NoMemory}
 use Rattle.s39_cli.specs.declared.runner.Source.{Source}
 use Rattle.s39_cli.specs.declared.work.Unready.{Unready}
 use Rattle.s39_cli.specs.declared.work.Unready.TheVariants as unready
 use Rattle.s39_cli.specs.declared.work.Work.{Work}
-use Rattle.s39_cli.specs.Command.{AsksForText, GivesJob, shamir_app}
-use Rattle.s39_cli.specs.Ending.{Delivers, Ends, EndsAs, EndsUnbegun, HasStatus, IsTyped, TakesJob}
+use Rattle.s39_cli.specs.Command.{AnswersWords, GivesCall, shamir_app}
+use Rattle.s39_cli.specs.Ending.{Delivers, DoesJob, Ends, EndsAs, EndsUnbegun, EndsUnread, EndsWithoutJob, HasStatus, IsTyped, OnEnd, TakesCall}
 use Rattle.s39_cli.specs.Unready.{IsUnready}
+use Rattle.s39_cli.specs.Values.{FillsJob, LacksValue}
 use Rattle.s39_cli.specs.Work.{IsWorkOf, IsWorkOutput}
 use Rattle.s39_cli.proofs.Deliveries.{Delivers-map}
+use Rattle.s39_cli.proofs.Jobs.{asks_none}
 use Rattle.s39_cli.proofs.Works.{output_of_job, ready_of_work}
 
--- words in which no step fails ask for no text
-asks_none : (words : List Text) → fault_of shamir_app words ≡ [] → AsksForText words → ⊥
-asks_none words none (inl help) = cc
-asks_none words none (inr version) = cc
+module _ {R W : Type 0} (remaining : R → Option (List ℕ)) (contents : W → Option (List ℕ)) (job : Job) (reader : R) (writer : W) where
+  pub does_work : (w : Work) (status : ℕ) (read_to : R) (written_to : W) (ended : Ended R W) → IsWorkOf job w
+      → Delivers remaining contents (HasStatus (IsWorkOutput w)) reader writer status read_to written_to → ended ≡ With status read_to written_to
+      → OnEnd ended (DoesJob remaining contents job reader writer)
+  does_work w status read_to written_to ended is delivers same =
+      subst (λ e. OnEnd e (DoesJob remaining contents job reader writer)) (sym same)
+      (inr (inr (inr (inr (
+        ready_of_work job w is,
+        Delivers-map remaining contents _ _ reader writer status read_to written_to delivers
+            (λ input text full out. (out.0, output_of_job job w is input text out.0 out.1, out.2)),
+      )))))
 
 module _ {R W : Type 0} (remaining : R → Option (List ℕ)) (contents : W → Option (List ℕ)) (source : Source) (words : List Text) (reader : R)
     (writer : W) where
-  pub without_memory : (ended : Ended R W) → ended ≡ NoMemory → Ends remaining contents source words reader writer ended
-  without_memory ended none = subst (Ends remaining contents source words reader writer) (sym none) tt
+  -- words that give no job
+  pub ends_without_job : (no_job : NoJob) (ended : Ended R W) → AnswersWords no_job words
+      → (takes shamir_app words ≡ true → (no_job ≡ Memory) ⊎ ((bad : BadValues) × (no_job ≡ Values bad)))
+      → EndsWithoutJob contents no_job reader writer ended → Ends remaining contents source words reader writer ended
+  ends_without_job Memory ended answers wanting none = subst (Ends remaining contents source words reader writer) (sym none) tt
+  ends_without_job no_job NoMemory answers wanting ends = tt
+  ends_without_job (Help text) (With status read_to written_to) answers wanting ends = record {
+    asked = λ _. (string_bytes text, ends);
+    refused = λ _ none. absurd (none answers);
+    taken = λ taken. ⊎_elim (λ memory. cc) (λ values. cc) (wanting taken);
+  }
+  ends_without_job (Refused text) (With status read_to written_to) answers wanting ends = record {
+    asked = λ asks. absurd (answers.1 asks);
+    refused = λ _ _. ends;
+    taken = λ taken. absurd (true≢false (sym taken ∙ answers.0));
+  }
+  ends_without_job (Values bad) (With status read_to written_to) answers wanting ends = record {
+    asked = λ asks. absurd (answers.1 asks);
+    refused = λ refused _. absurd (true≢false (sym answers.0 ∙ refused));
+    taken = λ _. inl ((bad, answers.2), ends);
+  }
 
-  module _ (job : Job) (gives : GivesJob words job) (taken : takes shamir_app words ≡ true) (faultless : fault_of shamir_app words ≡ []) where
-    pub ends_by_job : (status : ℕ) (read_to : R) (written_to : W) → TakesJob remaining contents source job reader writer status read_to written_to
+  module _ (call : Call) (gives : GivesCall words call) (taken : takes shamir_app words ≡ true) (faultless : fault_of shamir_app words ≡ []) where
+    pub ends_by_call : (status : ℕ) (read_to : R) (written_to : W) → TakesCall remaining contents source call reader writer status read_to written_to
         → EndsAs remaining contents source words reader writer status read_to written_to
-    ends_by_job status read_to written_to does = record {
+    ends_by_call status read_to written_to does = record {
       asked = λ asks. absurd (asks_none words faultless asks);
       refused = λ refused _. absurd (true≢false (sym taken ∙ refused));
-      taken = λ _. (job, gives, does);
+      taken = λ _. inr (call, gives, does);
     }
 
-    pub ends_unbegun : (cause : Unready) (ended : Ended R W) → (IsTyped source job → ⊥) → IsUnready job cause → EndsUnbegun cause reader writer ended
-        → Ends remaining contents source words reader writer ended
-    ends_unbegun unready.Memory ended untyped is ends = without_memory ended ends
-    ends_unbegun cause NoMemory untyped is ends = tt
-    ends_unbegun unready.Secret (With status read_to written_to) untyped is ends = ends_by_job status read_to written_to (inr (untyped, inl (is, ends)))
-    ends_unbegun (unready.Plan error) (With status read_to written_to) untyped is ends =
-        ends_by_job status read_to written_to (inr (untyped, inr (inl ((error, is), ends))))
-    ends_unbegun (unready.Cursor bad) (With status read_to written_to) untyped is ends =
-        ends_by_job status read_to written_to (inr (untyped, inr (inr (inl (is, ends)))))
-    ends_unbegun (unready.Names bad) (With status read_to written_to) untyped is ends =
-        ends_by_job status read_to written_to (inr (untyped, inr (inr (inr (inl (is, ends))))))
+    pub ends_unread : (behind : R) (ended : Ended R W) → (IsTyped source call.job → ⊥) → LacksValue call.files reader behind
+        → EndsUnread behind writer ended → Ends remaining contents source words reader writer ended
+    ends_unread behind NoMemory untyped lacks ends = tt
+    ends_unread behind (With status read_to written_to) untyped lacks ends =
+        ends_by_call status read_to written_to (inr (inl (untyped, (subst (LacksValue call.files reader) (sym ends.0) lacks, ends.1))))
 
-    pub ends_by_work : (w : Work) (status : ℕ) (read_to : R) (written_to : W) (ended : Ended R W) → (IsTyped source job → ⊥) → IsWorkOf job w
-        → Delivers remaining contents (HasStatus (IsWorkOutput w)) reader writer status read_to written_to → ended ≡ With status read_to written_to
-        → Ends remaining contents source words reader writer ended
-    ends_by_work w status read_to written_to ended untyped is delivers same =
-        subst (Ends remaining contents source words reader writer) (sym same) (ends_by_job status read_to written_to
-        (inr (
-          untyped,
-          inr (inr (inr (inr (
-            ready_of_work job w is,
-            Delivers-map remaining contents _ _ reader writer status read_to written_to delivers
-                (λ input text full out. (out.0, output_of_job job w is input text out.0 out.1, out.2)),
-          )))),
-        )))
+    pub ends_by_job : (job : Job) (behind : R) (ended : Ended R W) → (IsTyped source call.job → ⊥) → FillsJob remaining call job reader behind
+        → OnEnd ended (DoesJob remaining contents job behind writer) → Ends remaining contents source words reader writer ended
+    ends_by_job job behind NoMemory untyped fills does = tt
+    ends_by_job job behind (With status read_to written_to) untyped fills does =
+        ends_by_call status read_to written_to (inr (inr (untyped, (job, behind, fills, does))))

@@ -48,11 +48,11 @@ cursor_given o t text names some same cursor =
     let c = subst (λ (x : Option (Bor Text)). IsCursor x names) some cursor in
     (c.0, c.1, subst (λ (x : Text). IsWrittenForm x c.0) same c.2)
 
-said_same : {a b : Text} → Some a ≡ Some b → a ≡ b
+pub said_same : {a b : Text} → Some a ≡ Some b → a ≡ b
 said_same same = cc
 
 -- the flag is said for one form
-one_form : (rows : List Row) (form given : SecretForm) → IsFormSaid rows form → IsFormSaid rows given → given ≡ form
+pub one_form : (rows : List Row) (form given : SecretForm) → IsFormSaid rows form → IsFormSaid rows given → given ≡ form
 one_form rows Digits Digits is also = refl
 one_form rows Fingerprint Fingerprint is also = refl
 one_form rows Digits Fingerprint is also = absurd (other_text (codes "true") (codes "false") refl (said_same (sym also ∙ is)))
@@ -207,8 +207,7 @@ creation_of secret passphrase random text name rows job.Status found gives answe
 creation_of secret passphrase random text name rows (job.Reissue p g) found gives answer output done =
     absurd (other_text (codes "create") (codes "reissue") refl (sym found.name_is ∙ gives.0))
 creation_of secret passphrase random text name rows (job.Create p s w e x) found gives answer output done =
-    let given : Some secret ≡ Some s.now = sym found.secret_is ∙ gives.1.secret_given in
-    let same_secret : s.now ≡ secret = cc in
+    let same_secret : s.now ≡ secret = gives.1.secret_or_empty ∙ ap (λ (o : Option Text). unwrap_or o []) found.secret_is in
     let same_passphrase : w.now ≡ passphrase = gives.1.passphrase_or_empty ∙ ap (λ (o : Option Text). unwrap_or o []) found.passphrase_is in
     creation_done secret passphrase random text p.now s.now w.now e x output.0 same_secret same_passphrase output.1 (done ∙ ap status_of output.2)
 

@@ -27,11 +27,11 @@ use Rattle.s39_clap.proofs.Values.{flag_said, has_value, number_read}
 use Rattle.s39_cli.specs.Command.{AnswersKind, AnswersWords, AsksForText, IsFormSaid, commands, exponent_rule, extendable_rule, fingerprint_rule, flag_text}
 use Rattle.s39_cli.specs.Command.{is_fingerprint, limit_rule, names_rule}
 use Rattle.s39_cli.specs.Command.{plan_rule}
-use Rattle.s39_cli.specs.Command.{secret_rule, shamir_app, text_or_empty}
+use Rattle.s39_cli.specs.Command.{IsGiven, shamir_app, text_or_empty}
 use Rattle.s39_tool.specs.declared.secret_form.SecretForm.{SecretForm}
 use Rattle.s39_tool.specs.declared.secret_form.SecretForm.TheVariants.{Digits, Fingerprint}
 use Rattle.s39_cli.specs.declared.command.NoJob.{NoJob}
-use Rattle.s39_cli.specs.declared.command.NoJob.TheVariants.{Help, Refused, Memory}
+use Rattle.s39_cli.specs.declared.command.NoJob.TheVariants.{Help, Refused, Values, Memory}
 
 -- the text of an option, or another text in place of none
 text_or : (found : Option (Bor Text)) (other : Bor Text) → (unwrap_or found other).now ≡ unwrap_or (option_map (λ text. text.now) found) other.now
@@ -152,13 +152,6 @@ plan_there f got enters given =
     let value = has_value create_rules (rows_of f) (with_index 1 (filled plan_rule)) (codes "plan") refl refl (create_filled (rows_of f) enters) in
     some_of_rows f (codes "plan") got value.0 given value.1.first
 
-pub secret_there : (f : Found) (got : Option (Bor Text)) → EntersCreate f → option_map (λ t. t.now) got ≡ first_value f (codes "master-secret")
-    → is_some got ≡ true
-unfolding shamir_app create_rules
-secret_there f got enters given =
-    let value = has_value create_rules (rows_of f) (with_index 2 (filled secret_rule)) (codes "master-secret") refl refl (create_filled (rows_of f) enters) in
-    some_of_rows f (codes "master-secret") got value.0 given value.1.first
-
 -- what was found enters `reissue`
 abbrev EntersReissue : Found → Type 0
 EntersReissue f = EntersOne commands (Some (codes "reissue", rows_of f))
@@ -251,6 +244,18 @@ or_empty_of_rows f id got text other given is empty =
     ap (λ (t : Bor Text). t.now) is ∙ text_or got other ∙ ap (unwrap_or (option_map (λ (t : Bor Text). t.now) got)) empty
     ∙ ap (λ (o : Option Text). unwrap_or o []) (given ∙ first_value-rows f id)
 
+-- a text is found where a getter has one
+pub given_of_rows : (f : Found) (id : Text) (got : Option (Bor Text)) → option_map (λ t. t.now) got ≡ first_value f id → is_some got ≡ true
+    → IsGiven id (rows_of f)
+given_of_rows f id None given some = absurd (true≢false (sym some))
+given_of_rows f id (Some text) given some = (text.now, sym (first_value-rows f id) ∙ sym given)
+
+-- and none where it has none
+pub missing_of_rows : (f : Found) (id : Text) (got : Option (Bor Text)) → option_map (λ t. t.now) got ≡ first_value f id → is_some got ≡ false
+    → first_of id (rows_of f) ≡ None
+missing_of_rows f id None given none = sym (first_value-rows f id) ∙ sym given
+missing_of_rows f id (Some text) given none = absurd (true≢false none)
+
 -- what a parse met is what the words give
 rows_given : (a : App) (words : List Text) (m : ArgMatches) → a ≡ shamir_app → HasMatchesOf a words m → subcommand_rows_of m ≡ subcommand_of shamir_app words
 rows_given a words m is matches = (matches (ap is_simple is ∙ simple)).1 ∙ ap (λ (x : App). subcommand_of x words) is
@@ -287,6 +292,7 @@ met_enters a words name rows is none met = subst (EntersOne commands) met (enter
 pub answer_by_kind : (answer : NoJob) (k : ErrorKind) (a : App) (words : List Text) → a ≡ shamir_app → AnswersKind answer k
     → (k ≡ OutOfMemory) ⊎ IsAmong k (fault_of a words) → (takes a words ≡ true → k ≡ OutOfMemory) → AnswersWords answer words
 answer_by_kind Memory k a words is shown among passes = tt
+answer_by_kind (Values bad) k a words is shown among passes = absurd shown
 answer_by_kind (Help text) k a words is shown among passes =
     let asks : is_mistake k ≡ false = ⊎_elim (λ h. ap is_mistake h) (λ v. ap is_mistake v) shown in
     ⊎_elim (λ lacks. absurd (true≢false (sym (ap is_mistake lacks) ∙ asks)))
@@ -306,3 +312,8 @@ answer_by_kind (Refused text) k a words is shown among passes = (not_taken (take
     no_request : AsksForText words → ⊥
     no_request (inl help) = ⊎_elim (λ lacks. shown.2 lacks) (λ same. shown.0 same) (only DisplayHelp help)
     no_request (inr version) = ⊎_elim (λ lacks. shown.2 lacks) (λ same. shown.1 same) (only DisplayVersion version)
+
+-- words in which no step fails ask for no text
+pub asks_none : (words : List Text) → fault_of shamir_app words ≡ [] → AsksForText words → ⊥
+asks_none words none (inl help) = cc
+asks_none words none (inr version) = cc

@@ -1,5 +1,5 @@
 -- Why a job isn't begun.
-use Rattle.std.proofs.Common.{◌≡◌, ◌⊎◌, ◌∙◌, ℕ, Bor, List, Option, Some, None, IsSomeAnd, Err, ap, inl, inr, subst, sym}
+use Rattle.std.proofs.Common.{◌≡◌, ◌⊎◌, ℕ, Bor, List, Option, Some, None, IsSomeAnd, Err, inl, inr, subst, sym}
 use Rattle.hex.specs.Hex.{decode_of}
 use Rattle.hex.specs.declared.error.FromHexError.{FromHexError}
 use Rattle.hex.specs.declared.error.FromHexError.TheVariants.{OutOfMemory}
@@ -10,11 +10,10 @@ use Rattle.s39_cli.specs.Outcome.{HasBadCursor, WritesNoNames}
 use Rattle.s39_cli.specs.Unready.{IsNoSecret, unready_of}
 
 -- the text of a secret that isn't decoded
-pub no_secret : (text shown : List ℕ) (error : FromHexError) → shown ≡ text → (error ≡ OutOfMemory) ⊎ (decode_of shown ≡ Err error)
-    → IsNoSecret text (unready_of error)
-no_secret text shown OutOfMemory same why = tt
-no_secret text shown error same (inl none) = let bad : ⊥ = cc in absurd bad
-no_secret text shown error same (inr is) = (error, ap decode_of (sym same) ∙ is)
+pub no_secret : (text : List ℕ) (error : FromHexError) → (error ≡ OutOfMemory) ⊎ (decode_of text ≡ Err error) → IsNoSecret text (unready_of error)
+no_secret text OutOfMemory why = tt
+no_secret text error (inl none) = let bad : ⊥ = cc in absurd bad
+no_secret text error (inr is) = (error, is)
 
 -- a drill whose cursor is none isn't begun
 pub bad_cursor : (job : Job) (passphrase : Bor (List ℕ)) (after : Option (Bor (List ℕ))) (limit : ℕ) (form : SecretForm)

@@ -1,6 +1,6 @@
 -- Words that are taken, and what is found in them.
-use Rattle.std.proofs.Common.{◌≡◌, ◌∙◌, ◌++◌, ℕ, true, false, List, [], ◌∷◌, codes, pos, Option, Some, ap, option_map, option_and_then, refl, slice_get, sym}
-use Rattle.std.proofs.Common.{unwrap_or}
+use Rattle.std.proofs.Common.{◌≡◌, ◌∙◌, ◌++◌, ℕ, true, false, List, [], ◌∷◌, codes, pos, Option, Some, None, ap, option_map, option_and_then, refl}
+use Rattle.std.proofs.Common.{slice_get, sym, unwrap_or}
 use Rattle.std.specs.List.{fold}
 use Rattle.clap.specs.Lexer.{without_minus}
 use Rattle.clap.specs.ValueTests.{is_signed_in}
@@ -108,17 +108,24 @@ drill_words_are_taken form p q n words are limit =
     are.program 1 (drill_rows form p q n) (drill_reads form p q n words are)
     (drill_fits form p q n (Accepts-accepts false (vp.Signed (pos 1) (pos 4294967295)) n limit)) (drill_completes form p q n)
 
+-- what is found for the files of values
+abbrev Files : Type 0
+Files = Option Text × Option Text
+
+abbrev files : List Row → Files
+files rows = (first_of (codes "master-secret-file") rows, first_of (codes "passphrase-file") rows)
+
 -- the name of the command, and what is found for its options
 abbrev DrillValues : Type 0
-DrillValues = Text × Option Text × Option Text × Option Text × Option Text
+DrillValues = Text × Option Text × Option Text × Option Text × Option Text × Files
 
 abbrev drill_values : Text × List Row → DrillValues
 drill_values f =
-    (f.0, first_of (codes "passphrase") f.1, first_of (codes "after") f.1, one_of (codes "limit") f.1, one_of (codes "fingerprint") f.1)
+    (f.0, first_of (codes "passphrase") f.1, first_of (codes "after") f.1, one_of (codes "limit") f.1, one_of (codes "fingerprint") f.1, files f.1)
 
 drill_values_are : (form : SecretForm) (p q n : Text)
     → drill_values ((shape_at 3).name, fold with_default (drill_rows form p q n) (shape_at 3).rules)
-    ≡ (codes "drill", Some p, Some q, Some (without_minus n), Some (flag_text (is_fingerprint form)))
+    ≡ (codes "drill", Some p, Some q, Some (without_minus n), Some (flag_text (is_fingerprint form)), (None, None))
 unfolding shamir_app
 drill_values_are Digits p q n = refl
 drill_values_are Fingerprint p q n = refl
@@ -130,12 +137,14 @@ pub record IsDrillFound (form : SecretForm) (passphrase after limit name : Text)
   pub after_is : first_of (codes "after") rows ≡ Some after
   pub limit_is : one_of (codes "limit") rows ≡ Some (without_minus limit)
   pub form_is : IsFormSaid rows form
+  pub no_secret_file : first_of (codes "master-secret-file") rows ≡ None
+  pub no_passphrase_file : first_of (codes "passphrase-file") rows ≡ None
 
 pub drill_found : (form : SecretForm) (p q n : Text) (words : List Text) (name : Text) (rows : List Row) → AreDrillWords form p q n words
     → subcommand_of shamir_app words ≡ Some (name, rows) → IsDrillFound form p q n name rows
 drill_found form p q n words name rows are met =
     let same : Some (drill_values (name, rows))
-    ≡ Some (codes "drill", Some p, Some q, Some (without_minus n), Some (flag_text (is_fingerprint form))) =
+    ≡ Some (codes "drill", Some p, Some q, Some (without_minus n), Some (flag_text (is_fingerprint form)), (None, None)) =
     ap (option_map drill_values) (sym met ∙ ap (subcommand_of shamir_app) are.words_are
     ∙ reading_found shamir_app (codes "drill") (shape_at 3) has_drill (form_words form ++ are.passphrase_words ++ are.after_words ++ are.limit_words)
     are.program 1 (drill_rows form p q n) (drill_reads form p q n words are)) ∙ ap (λ (v : DrillValues). Some v) (drill_values_are form p q n) in
@@ -146,6 +155,8 @@ drill_found form p q n words name rows are met =
       after_is = ap (option_and_then (λ (v : DrillValues). v.2)) same;
       limit_is = ap (option_and_then (λ (v : DrillValues). v.3)) same;
       form_is = ap (option_and_then (λ (v : DrillValues). v.4)) same;
+      no_secret_file = ap (option_and_then (λ (v : DrillValues). v.5.0)) same;
+      no_passphrase_file = ap (option_and_then (λ (v : DrillValues). v.5.1)) same;
     }
 
 -- ---- a recovery
@@ -198,14 +209,14 @@ recover_words_are_taken form p words are =
     (recover_reads form p words are) (recover_fits form p) (recover_completes form p)
 
 abbrev RecoverValues : Type 0
-RecoverValues = Text × Option Text × Option Text
+RecoverValues = Text × Option Text × Option Text × Files
 
 abbrev recover_values : Text × List Row → RecoverValues
-recover_values f = (f.0, first_of (codes "passphrase") f.1, one_of (codes "fingerprint") f.1)
+recover_values f = (f.0, first_of (codes "passphrase") f.1, one_of (codes "fingerprint") f.1, files f.1)
 
 recover_values_are : (form : SecretForm) (p : Text)
     → recover_values ((shape_at 2).name, fold with_default (recover_rows form p) (shape_at 2).rules)
-    ≡ (codes "recover", Some p, Some (flag_text (is_fingerprint form)))
+    ≡ (codes "recover", Some p, Some (flag_text (is_fingerprint form)), (None, None))
 unfolding shamir_app
 recover_values_are Digits p = refl
 recover_values_are Fingerprint p = refl
@@ -215,11 +226,13 @@ pub record IsRecoverFound (form : SecretForm) (passphrase name : Text) (rows : L
   pub name_is : name ≡ codes "recover"
   pub passphrase_is : first_of (codes "passphrase") rows ≡ Some passphrase
   pub form_is : IsFormSaid rows form
+  pub no_secret_file : first_of (codes "master-secret-file") rows ≡ None
+  pub no_passphrase_file : first_of (codes "passphrase-file") rows ≡ None
 
 pub recover_found : (form : SecretForm) (p : Text) (words : List Text) (name : Text) (rows : List Row) → AreRecoverWords form p words
     → subcommand_of shamir_app words ≡ Some (name, rows) → IsRecoverFound form p name rows
 recover_found form p words name rows are met =
-    let same : Some (recover_values (name, rows)) ≡ Some (codes "recover", Some p, Some (flag_text (is_fingerprint form))) =
+    let same : Some (recover_values (name, rows)) ≡ Some (codes "recover", Some p, Some (flag_text (is_fingerprint form)), (None, None)) =
     ap (option_map recover_values) (sym met ∙ ap (subcommand_of shamir_app) are.words_are
     ∙ reading_found shamir_app (codes "recover") (shape_at 2) has_recover (form_words form ++ are.passphrase_words) are.program 1 (recover_rows form p)
     (recover_reads form p words are)) ∙ ap (λ (v : RecoverValues). Some v) (recover_values_are form p) in
@@ -228,6 +241,8 @@ recover_found form p words name rows are met =
       name_is = cc;
       passphrase_is = ap (option_and_then (λ (v : RecoverValues). v.1)) same;
       form_is = ap (option_and_then (λ (v : RecoverValues). v.2)) same;
+      no_secret_file = ap (option_and_then (λ (v : RecoverValues). v.3.0)) same;
+      no_passphrase_file = ap (option_and_then (λ (v : RecoverValues). v.3.1)) same;
     }
 
 -- ---- a creation
@@ -292,13 +307,14 @@ create_words_are_taken plan secret p words are =
     (create_rows plan secret p) (create_reads plan secret p words are) (create_fits plan secret p) (create_completes plan secret p)
 
 abbrev CreateValues : Type 0
-CreateValues = Text × Option Text × Option Text
+CreateValues = Text × Option Text × Option Text × Files
 
 abbrev create_values : Text × List Row → CreateValues
-create_values f = (f.0, first_of (codes "master-secret") f.1, first_of (codes "passphrase") f.1)
+create_values f = (f.0, first_of (codes "master-secret") f.1, first_of (codes "passphrase") f.1, files f.1)
 
 create_values_are : (plan secret p : Text)
-    → create_values ((shape_at 1).name, fold with_default (create_rows plan secret p) (shape_at 1).rules) ≡ (codes "create", Some secret, Some p)
+    → create_values ((shape_at 1).name, fold with_default (create_rows plan secret p) (shape_at 1).rules)
+    ≡ (codes "create", Some secret, Some p, (None, None))
 unfolding shamir_app
 create_values_are plan secret p = refl
 
@@ -307,11 +323,13 @@ pub record IsCreateFound (secret passphrase name : Text) (rows : List Row) : Typ
   pub name_is : name ≡ codes "create"
   pub secret_is : first_of (codes "master-secret") rows ≡ Some secret
   pub passphrase_is : first_of (codes "passphrase") rows ≡ Some passphrase
+  pub no_secret_file : first_of (codes "master-secret-file") rows ≡ None
+  pub no_passphrase_file : first_of (codes "passphrase-file") rows ≡ None
 
 pub create_found : (plan secret p : Text) (words : List Text) (name : Text) (rows : List Row) → AreCreateWords plan secret p words
     → subcommand_of shamir_app words ≡ Some (name, rows) → IsCreateFound secret p name rows
 create_found plan secret p words name rows are met =
-    let same : Some (create_values (name, rows)) ≡ Some (codes "create", Some secret, Some p) =
+    let same : Some (create_values (name, rows)) ≡ Some (codes "create", Some secret, Some p, (None, None)) =
     ap (option_map create_values) (sym met ∙ ap (subcommand_of shamir_app) are.words_are
     ∙ reading_found shamir_app (codes "create") (shape_at 1) has_create (are.secret_words ++ are.passphrase_words ++ plan ∷ []) are.program 2
     (create_rows plan secret p) (create_reads plan secret p words are)) ∙ ap (λ (v : CreateValues). Some v) (create_values_are plan secret p) in
@@ -320,4 +338,6 @@ create_found plan secret p words name rows are met =
       name_is = cc;
       secret_is = ap (option_and_then (λ (v : CreateValues). v.1)) same;
       passphrase_is = ap (option_and_then (λ (v : CreateValues). v.2)) same;
+      no_secret_file = ap (option_and_then (λ (v : CreateValues). v.3.0)) same;
+      no_passphrase_file = ap (option_and_then (λ (v : CreateValues). v.3.1)) same;
     }

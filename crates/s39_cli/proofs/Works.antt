@@ -17,7 +17,8 @@ use Rattle.s39_tool.specs.Drill.{IsDrillOutput}
 use Rattle.s39_cli.specs.declared.command.Job.{Job}
 use Rattle.s39_cli.specs.declared.command.Job.TheVariants as job
 use Rattle.s39_cli.specs.declared.work.Work.{Work}
-use Rattle.s39_cli.specs.Outcome.{IsJobOutput, IsReady, judged}
+use Rattle.s39_backup.specs.Plan.{IsPlanReading}
+use Rattle.s39_cli.specs.Outcome.{GivesPlan, HasNoCause, IsJobOutput, IsReady, judged}
 use Rattle.s39_cli.specs.Work.{IsWorkOf, IsWorkOutput}
 
 same_reads : {T : Type 0} (is_well : T → Bool) (answer : Result T Fault) → read_failures (judged is_well answer) ≡ read_failures answer
@@ -55,31 +56,51 @@ Runs-judged remaining contents is_well IsOutput Follows reader read_to writer wr
 ok_or_err : {T E : Type 0} (r : Result T E) (t : T) (e : E) → r ≡ Ok t → r ≡ Err e → ⊥
 ok_or_err r t e good bad = cc
 
-plan_or_error : (p : ℕ × List Members) (error : PlanError) → Ok p ≡ Err error → ⊥
-plan_or_error p error same = cc
+plan_or_error : (text : List ℕ) (error : PlanError) → GivesPlan text → IsPlanReading text (Err error) → ⊥
+plan_or_error text error gives refused =
+    let same : ◌≡◌ {A = Result (ℕ × List Members) PlanError} (Ok (gives.0, gives.1)) (Err error) =
+    reading_once text (Ok (gives.0, gives.1)) (Err error) gives.2 refused in
+    cc
 
 -- a job that a work is of can be begun
 pub ready_of_work : (j : Job) (w : Work) → IsWorkOf j w → IsReady j
-ready_of_work job.Show w is = (λ b. b, λ b. b.1, λ b. b, λ b. b)
 ready_of_work (job.Create plan secret passphrase exponent extendable) w is = (
-  λ bad. ok_or_err (decode_of secret.now) is.0.secret.items bad.0 is.2.read.secret_is bad.1,
-  λ bad. plan_or_error (is.0.plan.group_threshold, is.0.plan.groups.items) bad.0
-      (reading_once plan.now (Ok (is.0.plan.group_threshold, is.0.plan.groups.items)) (Err bad.0) is.2.read.plan_is bad.1.1),
-  λ bad. bad,
-  λ bad. bad,
+  (is.0.secret.items, is.2.read.secret_is),
+  (is.0.plan.group_threshold, is.0.plan.groups.items, is.2.read.plan_is),
 )
-ready_of_work (job.Recover passphrase form) w is = (λ b. b, λ b. b.1, λ b. b, λ b. b)
-ready_of_work (job.Drill passphrase None limit form) w is = (λ b. b, λ b. b.1, λ b. b, λ b. b)
-ready_of_work (job.Drill passphrase (Some after) limit form) w is =
-    (λ b. b, λ b. b.1, λ bad. bad is.2.cursor.0 is.2.cursor.2, λ b. b)
-ready_of_work job.Status w is = (λ b. b, λ b. b.1, λ b. b, λ b. b)
-ready_of_work (job.Reissue plan names) w is = (
-  λ b. b,
-  λ bad. plan_or_error (is.0.plan.group_threshold, is.0.plan.groups.items) bad.0
-      (reading_once plan.now (Ok (is.0.plan.group_threshold, is.0.plan.groups.items)) (Err bad.0) is.2.plan_is bad.1),
-  λ bad. bad,
-  λ bad. bad.1 is.0.names is.2.names_are,
-)
+ready_of_work (job.Drill passphrase (Some after) limit form) w is = (is.2.cursor.0, is.2.cursor.2)
+ready_of_work (job.Reissue plan names) w is = ((is.0.plan.group_threshold, is.0.plan.groups.items, is.2.plan_is), (is.0.names, is.2.names_are))
+ready_of_work job.Show w is = tt
+ready_of_work (job.Recover passphrase form) w is = tt
+ready_of_work (job.Drill passphrase None limit form) w is = tt
+ready_of_work job.Status w is = tt
+
+-- and has no cause for which it isn't begun
+pub no_cause : (j : Job) → IsReady j → HasNoCause j
+no_cause (job.Create plan secret passphrase exponent extendable) ready = record {
+  no_bad_secret = λ bad. ok_or_err (decode_of secret.now) ready.0.0 bad.0 ready.0.1 bad.1;
+  no_bad_plan = λ error bad. plan_or_error plan.now error ready.1 bad.1;
+  no_bad_cursor = λ bad. bad;
+  no_bad_names = λ bad. bad;
+}
+no_cause (job.Drill passphrase (Some after) limit form) ready = record {
+  no_bad_secret = λ bad. bad;
+  no_bad_plan = λ error bad. bad;
+  no_bad_cursor = λ bad. bad ready.0 ready.1;
+  no_bad_names = λ bad. bad;
+}
+no_cause (job.Reissue plan names) ready = record {
+  no_bad_secret = λ bad. bad;
+  no_bad_plan = λ error bad. plan_or_error plan.now error ready.0 bad;
+  no_bad_cursor = λ bad. bad;
+  no_bad_names = λ bad. bad.1 ready.1.0 ready.1.1;
+}
+no_cause job.Show ready = record { no_bad_secret = λ bad. bad; no_bad_plan = λ error bad. bad; no_bad_cursor = λ bad. bad; no_bad_names = λ bad. bad }
+no_cause (job.Recover passphrase form) ready =
+    record { no_bad_secret = λ bad. bad; no_bad_plan = λ error bad. bad; no_bad_cursor = λ bad. bad; no_bad_names = λ bad. bad }
+no_cause (job.Drill passphrase None limit form) ready =
+    record { no_bad_secret = λ bad. bad; no_bad_plan = λ error bad. bad; no_bad_cursor = λ bad. bad; no_bad_names = λ bad. bad }
+no_cause job.Status ready = record { no_bad_secret = λ bad. bad; no_bad_plan = λ error bad. bad; no_bad_cursor = λ bad. bad; no_bad_names = λ bad. bad }
 
 -- what a work writes is what its job writes
 pub output_of_job : (j : Job) (w : Work) → IsWorkOf j w → (input : Input) (text : List ℕ) (answer : Result Bool Fault) → IsWorkOutput w input text answer

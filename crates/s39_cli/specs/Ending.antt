@@ -18,7 +18,10 @@ use Rattle.s39_cli.specs.declared.runner.Source.{Source}
 use Rattle.s39_cli.specs.declared.runner.Source.TheVariants.{Terminal}
 use Rattle.s39_cli.specs.declared.work.Unready.{Unready}
 use Rattle.s39_cli.specs.declared.work.Unready.TheVariants as unready
-use Rattle.s39_cli.specs.Command.{AsksForText, GivesJob, shamir_app}
+use Rattle.s39_cli.specs.Command.{AsksForText, GivesBadValues, GivesCall, shamir_app}
+use Rattle.s39_cli.specs.declared.command.BadValues.{BadValues}
+use Rattle.s39_cli.specs.declared.command.Call.{Call}
+use Rattle.s39_cli.specs.Values.{FillsJob, LacksValue}
 use Rattle.s39_cli.specs.Outcome.{HasBadSecret, HasBadPlan, HasBadCursor, HasBadNames, IsJobOutput, IsReady, status_of}
 
 -- the text is written for the input by an answer with this exit status
@@ -45,6 +48,10 @@ IsFrom told left input = ((input.ended ≡ true) × AreAllOf told input.bytes) �
 -- the writer holds a beginning of what it held with this text behind it
 abbrev pub HoldsBeginning : Option (List ℕ) → Option (List ℕ) → List ℕ → Type 0
 HoldsBeginning old new text = (lost : List ℕ) × Keeps (append_known old text) (append_known new lost)
+
+-- the exit status is 2 or 3, and nothing is written
+abbrev pub EndsUnwritten : {W : Type 0} → W → ℕ → W → Type 0
+EndsUnwritten writer status written_to = ((status ≡ 2) ⊎ (status ≡ 3)) × (written_to ≡ writer)
 
 module _ {R W : Type 0} where
   -- this is so of the exit status and of the devices then, unless there was no memory
@@ -92,18 +99,23 @@ module _ {R W : Type 0} (remaining : R → Option (List ℕ)) (contents : W → 
       ⊎ (HasBadNames job × EndsAtOnce 1 reader writer status read_to written_to)
       ⊎ (IsReady job × Delivers (IsOutcome job) reader writer status read_to written_to)
 
-  -- a creation whose random bytes would be typed is 2, with nothing read or written; else the job is done
-  abbrev pub TakesJob : Source → Job → R → W → ℕ → R → W → Type 0
-  TakesJob source job reader writer status read_to written_to =
-      (IsTyped source job × EndsAtOnce 2 reader writer status read_to written_to)
-      ⊎ ((IsTyped source job → ⊥) × DoesJob job reader writer status read_to written_to)
+  -- The call is done. In this order: a creation whose random bytes would be typed ends with 2, and nothing is read or written; if a
+  -- value isn't read from its file, the status is 2 or 3, and nothing is written; else the job with the values is done.
+  abbrev pub TakesCall : Source → Call → R → W → ℕ → R → W → Type 0
+  TakesCall source call reader writer status read_to written_to =
+      (IsTyped source call.job × EndsAtOnce 2 reader writer status read_to written_to)
+      ⊎ ((IsTyped source call.job → ⊥) × (LacksValue call.files reader read_to × EndsUnwritten writer status written_to))
+      ⊎ ((IsTyped source call.job → ⊥) × ((job : Job) × (behind : R) × FillsJob remaining call job reader behind
+      × DoesJob job behind writer status read_to written_to))
 
   -- how the program ends with these words and this source of its input: with help or the version where they ask for it; with 2 where
-  -- they are no command; else by the job that they give
+  -- they are no command, or a value of it is missing or given twice; else by the call that they give
   pub record EndsAs (source : Source) (words : List Text) (reader : R) (writer : W) (status : ℕ) (read_to : R) (written_to : W) : Type 0 where
     pub asked : AsksForText words → (text : List ℕ) × ShowsText contents text reader writer status read_to written_to
     pub refused : takes shamir_app words ≡ false → (AsksForText words → ⊥) → EndsAtOnce 2 reader writer status read_to written_to
-    pub taken : takes shamir_app words ≡ true → (job : Job) × GivesJob words job × TakesJob source job reader writer status read_to written_to
+    pub taken : takes shamir_app words ≡ true
+        → (((bad : BadValues) × GivesBadValues words bad) × EndsAtOnce 2 reader writer status read_to written_to)
+        ⊎ ((call : Call) × GivesCall words call × TakesCall source call reader writer status read_to written_to)
 
   -- that is so unless there was no memory
   abbrev pub Ends : Source → List Text → R → W → Ended R W → Type 0
@@ -132,9 +144,14 @@ module _ {R W : Type 0} (contents : W → Option (List ℕ)) where
   abbrev pub EndsWithoutJob : NoJob → R → W → Ended R W → Type 0
   EndsWithoutJob (no_job.Help text) reader writer ended = OnEnd ended (ShowsText contents (string_bytes text) reader writer)
   EndsWithoutJob (no_job.Refused text) reader writer ended = OnEnd ended (EndsAtOnce 2 reader writer)
+  EndsWithoutJob (no_job.Values bad) reader writer ended = OnEnd ended (EndsAtOnce 2 reader writer)
   EndsWithoutJob no_job.Memory reader writer ended = ended ≡ NoMemory
 
 module _ {R W : Type 0} where
+  -- how a call ends of which a value isn't read
+  abbrev pub EndsUnread : R → W → Ended R W → Type 0
+  EndsUnread reader writer ended = OnEnd ended (λ status read_to written_to. (read_to ≡ reader) × EndsUnwritten writer status written_to)
+
   -- how a job ends that isn't begun
   abbrev pub EndsUnbegun : Unready → R → W → Ended R W → Type 0
   EndsUnbegun unready.Secret reader writer ended = OnEnd ended (EndsAtOnce 2 reader writer)

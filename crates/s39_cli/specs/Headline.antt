@@ -1,10 +1,11 @@
 -- The words of a drill, of a recovery and of a creation, all their values given, and what is written for them.
-use Rattle.std.specs.Prelude.{◌≡◌, ◌⊎◌, ◌++◌, ℕ, true, List, [], ◌∷◌, codes, pos, Some, Ok}
+use Rattle.std.specs.Prelude.{◌≡◌, ◌⊎◌, ◌++◌, ℕ, true, List, [], ◌∷◌, codes, pos, Some, None, Ok}
 use Rattle.std.specs.Str.Parse.{digits_value, without_leading_plus}
 use Rattle.hex.specs.Hex.{decode_of}
 use Rattle.clap.specs.Lexer.{without_minus}
 use Rattle.clap.specs.Words.{IsSignedIn, Text, takes}
 use Rattle.s39_clap.specs.Options.{AreOptionWords, HasNoDash}
+use Rattle.s39_kdf.specs.Bytes.{AreBytes}
 use Rattle.s39_words.specs.declared.ShareFields.{ShareFields}
 use Rattle.s39_set.specs.Names.{Names}
 use Rattle.s39_set.specs.Quorums.{IsQuorum}
@@ -20,8 +21,10 @@ use Rattle.s39_tool.specs.OfBackup.{HoldsMnemonicsOf}
 use Rattle.s39_tool.specs.Recover.{secret_line}
 use Rattle.s39_tool.specs.Drill.{IsUndrilled, ListsSecret}
 use Rattle.s39_cli.specs.declared.command.Job.{Job}
-use Rattle.s39_cli.specs.Command.{GivesJob, shamir_app}
+use Rattle.s39_cli.specs.declared.command.Call.{Call}
+use Rattle.s39_cli.specs.Command.{AreSameCalls, GivesCall, HaveSameValues, IsInRange, shamir_app}
 use Rattle.s39_cli.specs.Ending.{IsOutcome}
+use Rattle.s39_cli.specs.Outcome.{IsReady}
 
 -- ---- the words
 
@@ -103,7 +106,11 @@ CreateWordsAreTaken = (plan secret passphrase : Text) (words : List Text) → Ar
 
 -- ---- what is written
 
--- the job of these words writes this text for the input, with this exit status
+-- the words give this job, and name no file of a value
+abbrev pub GivesJob : List Text → Job → Type 0
+GivesJob words job = GivesCall words (record { job = job; files = record { secret = None; passphrase = None } })
+
+-- the job of these words, all of whose values stand in them, writes this text for the input, with this exit status
 abbrev pub WordsWrite : List Text → Input → List ℕ → ℕ → Type 0
 WordsWrite words input text status = (job : Job) × GivesJob words job × IsOutcome job input text status
 
@@ -111,6 +118,20 @@ WordsWrite words input text status = (job : Job) × GivesJob words job × IsOutc
 abbrev pub OneOutcome : Type 0
 OneOutcome = (job : Job) (input : Input) (text other : List ℕ) (status another : ℕ) → IsOutcome job input text status
     → IsOutcome job input other another → (text ≡ other) × (status ≡ another)
+
+-- words give one call: its values, and the files of values, are the same whatever call they give
+abbrev pub OneCall : Type 0
+OneCall = (words : List Text) (call other : Call) → GivesCall words call → GivesCall words other → AreSameCalls call other
+
+-- jobs with the same values write the same, with the same exit status
+abbrev pub SameValuesWriteTheSame : Type 0
+SameValuesWriteTheSame = (job other : Job) → HaveSameValues job other → (input : Input) (text : List ℕ) (status : ℕ)
+    → IsOutcome job input text status → IsOutcome other input text status
+
+-- a job that can be begun, with its numbers in their ranges, writes some text for each input of bytes, with some exit status
+abbrev pub SomeOutcome : Type 0
+SomeOutcome = (job : Job) (input : Input) → IsReady job → IsInRange job → AreBytes input.bytes
+    → (text : List ℕ) × (status : ℕ) × IsOutcome job input text status
 
 -- just the quorums after these are listed, each with the secret, and the exit status is 0; or nothing is written, and it is 1, as
 -- the set has no quorum, or these are none

@@ -4,4 +4,5 @@ pub mod Headline
 pub mod Outcome
 pub mod Terminal
 pub mod Unready
+pub mod Values
 pub mod Work

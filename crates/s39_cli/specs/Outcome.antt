@@ -28,9 +28,17 @@ use Rattle.s39_cli.specs.declared.command.Job.TheVariants.{Show, Create, Recover
 
 -- ---- a job that isn't begun
 
+-- the text is hexadecimal
+abbrev pub IsHexadecimal : Text → Type 0
+IsHexadecimal text = (bytes : List ℕ) × (decode_of text ≡ Ok bytes)
+
 -- the text isn't hexadecimal: it has an odd number of digits, or a byte that is none
 abbrev pub IsNotHexadecimal : Text → Type 0
 IsNotHexadecimal text = (error : FromHexError) × (decode_of text ≡ Err error)
+
+-- the text is the written form of names
+abbrev pub WritesNames : Text → Type 0
+WritesNames text = (names : Names) × IsWrittenForm text names
 
 -- the text is the written form of no names
 abbrev pub WritesNoNames : Text → Type 0
@@ -45,10 +53,9 @@ abbrev pub HasBadSecret : Job → Type 0
 HasBadSecret (Create plan secret passphrase exponent extendable) = IsNotHexadecimal secret.now
 HasBadSecret _ = ⊥
 
--- the text of the job's secret is hexadecimal, where it has one, and that of its plan gives none for this cause
+-- the text of the job's secret is hexadecimal, if it has one, and that of its plan gives none for this cause
 abbrev pub HasBadPlan : Job → PlanError → Type 0
-HasBadPlan (Create plan secret passphrase exponent extendable) error =
-    ((bytes : List ℕ) × (decode_of secret.now ≡ Ok bytes)) × IsPlanReading plan.now (Err error)
+HasBadPlan (Create plan secret passphrase exponent extendable) error = IsHexadecimal secret.now × IsPlanReading plan.now (Err error)
 HasBadPlan (Reissue plan names) error = IsPlanReading plan.now (Err error)
 HasBadPlan _ error = ⊥
 
@@ -62,9 +69,19 @@ abbrev pub HasBadNames : Job → Type 0
 HasBadNames (Reissue plan names) = GivesPlan plan.now × WritesNoNames names.now
 HasBadNames _ = ⊥
 
--- none of these is so, and the job can be begun
+-- the job can be begun: each of its texts gives its value, the secret, the plan, the cursor and the names
 abbrev pub IsReady : Job → Type 0
-IsReady job = (HasBadSecret job → ⊥) × (((error : PlanError) × HasBadPlan job error) → ⊥) × (HasBadCursor job → ⊥) × (HasBadNames job → ⊥)
+IsReady (Create plan secret passphrase exponent extendable) = IsHexadecimal secret.now × GivesPlan plan.now
+IsReady (Drill passphrase (Some after) limit form) = WritesNames after.now
+IsReady (Reissue plan names) = GivesPlan plan.now × WritesNames names.now
+IsReady _ = Unit {0}
+
+-- the job has no cause for which it isn't begun
+pub record HasNoCause (job : Job) : Type 0 where
+  pub no_bad_secret : HasBadSecret job → ⊥
+  pub no_bad_plan : (error : PlanError) → HasBadPlan job error → ⊥
+  pub no_bad_cursor : HasBadCursor job → ⊥
+  pub no_bad_names : HasBadNames job → ⊥
 
 -- ---- what is written
 

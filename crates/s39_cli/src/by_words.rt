@@ -1,4 +1,4 @@
-//! What the program gives by its words, from the words on: theorems, each the contract of a function that only calls it.
+//! What the program does for its words: theorems, each the contract of a function that only calls the program.
 ghost use Rattle.std.specs.Prelude.{◌≡◌, ◌≢◌, ℕ, List, [], map, Some, IfErr, IfOk};
 ghost use Rattle.std.specs.Io.KnownBytes.{Appends};
 ghost use Rattle.clap.specs.Words.{Text};
@@ -11,14 +11,16 @@ ghost use Rattle.s39_cli.specs.Headline.{GivesSecret, WordsDrill, WordsRecover};
 
 use crate::laws::{created_words_recover, drill_words_list, recover_words_recover};
 use crate::runner::{Destination, Ended, Source, program};
+use crate::values::Shelf;
 use std::alloc::Global;
 use std::collections::VecDeque;
 use std::io::{Read, Write};
 
-/// The program with the words of a drill: what these words write goes out, and of mnemonics of a backup that was created
-/// with their passphrase that is just the quorums after the given one, each with the secret in the form that the words ask
-/// for, and the exit status is 0.
-pub fn drill<R: Read + Drop, W: Write + Drop, E: Write>(
+/// The program with the words of a drill. What these words write goes out. Of mnemonics of a backup that was created with their
+/// passphrase, that is exactly the quorums after the given one, each with the secret in the form that the words ask for, and the
+/// exit status is 0.
+pub fn drill<S: Shelf, R: Read + Drop, W: Write + Drop, E: Write>(
+    shelf: &S,
     alloc: Global,
     words: &[&str],
     input: R,
@@ -34,12 +36,22 @@ pub fn drill<R: Read + Drop, W: Write + Drop, E: Write>(
         form passphrase after (limit_of limit)) input output) }
 {
     drill_words_list();
-    program(alloc, words, input, output, errors, source, destination)
+    program(
+        shelf,
+        alloc,
+        words,
+        input,
+        output,
+        errors,
+        source,
+        destination,
+    )
 }
 
-/// The program with the words of a recovery: what these words write goes out, and of such mnemonics that meet the
-/// thresholds that is the secret in the form that the words ask for, and the exit status is 0.
-pub fn recover<R: Read + Drop, W: Write + Drop, E: Write>(
+/// The program with the words of a recovery. What these words write goes out. Of such mnemonics that meet the thresholds, that is
+/// the secret in the form that the words ask for, and the exit status is 0.
+pub fn recover<S: Shelf, R: Read + Drop, W: Write + Drop, E: Write>(
+    shelf: &S,
     alloc: Global,
     words: &[&str],
     input: R,
@@ -54,13 +66,23 @@ pub fn recover<R: Read + Drop, W: Write + Drop, E: Write>(
         (WordsRecover (map (λ word. word.now) words.now) form passphrase) input output) }
 {
     recover_words_recover();
-    program(alloc, words, input, output, errors, source, destination)
+    program(
+        shelf,
+        alloc,
+        words,
+        input,
+        output,
+        errors,
+        source,
+        destination,
+    )
 }
 
-/// The program with the words of a creation, and then with the words of a recovery and the same passphrase, whose input is
-/// what the first wrote: where no device of the second fails, the secret goes out, and its exit status is 0. Gives
-/// how the second ended, or how the first did, where that didn't end with status 0.
-pub fn create_and_recover<R: Read + Drop, W: Write + Drop, E: Write>(
+/// The program with the words of a creation, and then with the words of a recovery and the same passphrase, whose input is what
+/// the first wrote. If no device of the second fails, the secret goes out, and its exit status is 0. The result is how the second
+/// ended, or how the first did if that wasn't with status 0.
+pub fn create_and_recover<S: Shelf, R: Read + Drop, W: Write + Drop, E: Write>(
+    shelf: &S,
     alloc: Global,
     creating: &[&str],
     recovering: &[&str],
@@ -83,6 +105,7 @@ pub fn create_and_recover<R: Read + Drop, W: Write + Drop, E: Write>(
     created_words_recover();
     let backup = VecDeque::new(alloc);
     match program(
+        shelf,
         alloc,
         creating,
         random,
@@ -104,6 +127,7 @@ pub fn create_and_recover<R: Read + Drop, W: Write + Drop, E: Write>(
                 });
             }
             Ok(program(
+                shelf,
                 alloc,
                 recovering,
                 backup,

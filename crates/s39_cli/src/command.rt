@@ -1,17 +1,15 @@
-//! The command line.
-ghost use Rattle.std.specs.Prelude.{◌≡◌, [], codes, false, Some, true, map, IfOk, IfErr, OnOk};
-ghost use Rattle.clap.specs.Words.{app_of, fault_of, found_of, kind_of, one_text, rows_of, rule_of, takes, with_rule, with_subcommand};
-ghost use Rattle.clap.specs.declared.builder.Command.TheViews.{out-Command};
+//! The command line: which command its words give, with which values.
+ghost use Rattle.std.specs.Prelude.{◌≡◌, ◌⊎◌, [], codes, None, Some, true, map, IfOk, IfErr, IfNone, IfSome, IsFalse, IsTrue, OnOk};
+ghost use Rattle.clap.specs.Words.{fault_of, first_of, found_of, kind_of, one_text, rows_of, takes};
 ghost use Rattle.s39_clap.specs.Found.{EntersOne};
-ghost use Rattle.s39_cli.specs.Command.{flag_rule, option_rule, plan_rule, secret_rule, passphrase_rule, exponent_rule, extendable_rule};
-ghost use Rattle.s39_cli.specs.Command.{after_rule, fingerprint_rule, limit_rule, names_rule, text_or_empty};
-ghost use Rattle.s39_cli.specs.Command.{show_app, create_app, recover_app, drill_app, status_app, reissue_app, shamir_top, shamir_app, commands};
-ghost use Rattle.s39_cli.specs.Command.{Gives, GivesJob, IsInRange, AnswersKind, AnswersWords};
+ghost use Rattle.s39_cli.specs.Command.{shamir_app, commands, text_or_empty};
+ghost use Rattle.s39_cli.specs.Command.{Gives, GivesCall, IsInRange, AnswersKind, AnswersWords};
+ghost use Rattle.s39_cli.specs.Command.{HasBadValues, IsGiven, NamesFiles};
+ghost use Rattle.s39_cli.specs.declared.command.BadValues.{BadValues};
 
-use clap::builder::ValueParser;
+use crate::definition::shamir;
 use clap::error::ErrorKind;
-use clap::{Arg, ArgAction, ArgMatches, Command, Error};
-use s39_kdf::MAX_EXPONENT;
+use clap::{ArgMatches, Error};
 use s39_tool::SecretForm;
 use std::alloc::{AllocError, Global};
 
@@ -20,40 +18,40 @@ use std::alloc::{AllocError, Global};
 pub enum Job<'a> {
     /// Shows the fields of the mnemonics on standard input.
     Show,
-    /// Creates a backup from a secret and the random bytes on standard input.
+    /// Creates a backup of a secret from the random bytes on standard input.
     Create {
         /// The text of the plan.
         plan: &'a str,
-        /// The text of the secret in hexadecimal.
-        secret: &'a str,
-        /// The passphrase as it was given, and the empty text where none was.
-        passphrase: &'a str,
-        /// The iteration exponent, 0 to 15, and 0 where none was given.
+        /// The text of the secret in hexadecimal, and the empty text if a file holds it.
+        secret: &'a [u8],
+        /// The passphrase as it was given, and the empty text if none was, or if a file holds it.
+        passphrase: &'a [u8],
+        /// The iteration exponent, 0 to 15, and 0 if none was given.
         exponent: u8,
-        /// Whether the extendable backup flag was given.
+        /// Whether the extendable flag was given.
         extendable: bool,
     },
     /// Recovers the secret from the mnemonics on standard input.
     Recover {
-        /// The passphrase as it was given, and the empty text where none was.
-        passphrase: &'a str,
-        /// The form in which the secret is told: its digits, if the flag of its fingerprint wasn't given.
+        /// The passphrase as it was given, and the empty text if none was, or if a file holds it.
+        passphrase: &'a [u8],
+        /// The form in which the secret is written: its fingerprint if `--fingerprint` was given, and else its digits.
         form: SecretForm,
     },
     /// Tries the quorums of the mnemonics on standard input.
     Drill {
-        /// The passphrase as it was given, and the empty text where none was.
-        passphrase: &'a str,
-        /// The text of the quorum after which to go on, where one was given.
+        /// The passphrase as it was given, and the empty text if none was, or if a file holds it.
+        passphrase: &'a [u8],
+        /// The text of the quorum after which the drill starts, if one was given.
         after: Option<&'a str>,
-        /// How many quorums are tried at most, from 1, and 1000 where no number was given.
+        /// How many quorums are tried at most: 1 or more, and 1000 if no number was given.
         limit: u32,
-        /// The form in which each secret is told: its digits, if the flag of its fingerprint wasn't given.
+        /// The form in which each secret is written: its fingerprint if `--fingerprint` was given, and else its digits.
         form: SecretForm,
     },
     /// Tells which members of each group are on standard input, and whether they are enough.
     Status,
-    /// Computes mnemonics of a backup from others of it on standard input.
+    /// Computes lost mnemonics of a backup from the mnemonics on standard input.
     Reissue {
         /// The text of the plan.
         plan: &'a str,
@@ -62,14 +60,46 @@ pub enum Job<'a> {
     },
 }
 
-/// Why the words of a command line are no job.
+/// The names of the files that hold values of a command, instead of its words. The name `-` stands for the first line of the
+/// input.
+#[derive(Clone, Copy, Debug, PartialEq, Eq)]
+pub struct ValueFiles<'a> {
+    /// The file of the secret's digits, if one was named.
+    pub secret: Option<&'a str>,
+    /// The file of the passphrase, if one was named.
+    pub passphrase: Option<&'a str>,
+}
+
+/// What the words of a command line ask for.
+#[derive(Clone, Copy, Debug, PartialEq, Eq)]
+pub struct Call<'a> {
+    /// The command with the values that stand in the words.
+    pub job: Job<'a>,
+    /// The files of the values that don't.
+    pub files: ValueFiles<'a>,
+}
+
+/// What is wrong with the values of a command.
+#[derive(Clone, Copy, Debug, PartialEq, Eq)]
+pub enum BadValues {
+    /// The command creates a backup, and neither a secret nor a file of it is given.
+    NoSecret,
+    /// Both a secret and a file of it are given.
+    TwoSecrets,
+    /// Both a passphrase and a file of it are given.
+    TwoPassphrases,
+}
+
+/// Why the words of a command line give no command.
 #[derive(Debug, Drop)]
 pub enum NoJob {
-    /// Help or the version was asked for. The text goes to the standard output.
+    /// They ask for help or the version. The text goes to standard output.
     Help(String),
-    /// The words are no command of the program. The text goes to the standard error.
+    /// They are no command of the program. The text goes to standard error.
     Refused(String),
-    /// There is no memory.
+    /// A value is missing, or it is given twice.
+    Values(BadValues),
+    /// The program is out of memory.
     Memory,
 }
 
@@ -81,224 +111,6 @@ impl From<AllocError> for NoJob {
     fn from(_error: AllocError) -> NoJob {
         NoJob::Memory
     }
-}
-
-/// The version that `--version` answers.
-const VERSION: &str = "1.0.0";
-
-fn plan<'a>(alloc: Global) -> Arg<'a>
-    ensures rule { rule_of result ≡ plan_rule }
-    ensures local { result.global ≡ false }
-{
-    Arg::new(alloc, "plan")
-        .value_name("PLAN")
-        .required(true)
-        .help("The plan of the groups: TofN, or GT/T1ofN1,T2ofN2,..")
-}
-
-/// An option with a value, which help calls as `value` says, and without a default.
-fn option<'a>(alloc: Global, name: &'a str, value: &'a str) -> Arg<'a>
-    ensures rule { rule_of result ≡ option_rule name.now }
-    ensures local { result.global ≡ false }
-{
-    Arg::new(alloc, name).long(name).value_name(value)
-}
-
-/// A flag.
-fn flag<'a>(alloc: Global, name: &'a str) -> Arg<'a>
-    ensures rule { rule_of result ≡ flag_rule name.now }
-    ensures local { result.global ≡ false }
-{
-    Arg::new(alloc, name).long(name).action(ArgAction::SetTrue)
-}
-
-fn master_secret<'a>(alloc: Global) -> Arg<'a>
-    ensures rule { rule_of result ≡ secret_rule }
-    ensures local { result.global ≡ false }
-{
-    option(alloc, "master-secret", "HEX").required(true).help(
-        "The secret in hexadecimal, 16 to 128 bytes and an even number of them",
-    )
-}
-
-fn passphrase<'a>(alloc: Global) -> Arg<'a>
-    ensures rule { rule_of result ≡ passphrase_rule }
-    ensures local { result.global ≡ false }
-{
-    option(alloc, "passphrase", "TEXT").help("The passphrase of the backup, by default empty")
-}
-
-fn exponent<'a>(alloc: Global) -> Arg<'a>
-    ensures rule { rule_of result ≡ exponent_rule }
-    ensures local { result.global ≡ false }
-{
-    option(alloc, "exponent", "E")
-        .default_value("0")
-        .value_parser(ValueParser::signed(0, i64::from(MAX_EXPONENT)))
-        .help(
-            "The iteration exponent, 0 to 15: a recovery takes 10,000 * 2^E iterations, twice that for over 64 bytes",
-        )
-}
-
-fn extendable<'a>(alloc: Global) -> Arg<'a>
-    ensures rule { rule_of result ≡ extendable_rule }
-    ensures local { result.global ≡ false }
-{
-    flag(alloc, "extendable").help("Leaves the identifier out of the encryption")
-}
-
-fn create<'a>(alloc: Global) -> Result<Command<'a>, AllocError>
-    ensures app { IfOk result (λ command. app_of command ≡ create_app) }
-    ensures local { IfOk result (λ command. (out-Command command).has_globals ≡ false) }
-{
-    let command = Command::new(alloc, "create")
-        .about("Creates a backup from a secret and the random bytes on standard input")
-        .arg(plan(alloc))?
-        .arg(master_secret(alloc))?
-        .arg(passphrase(alloc))?;
-    with_options(alloc, command)
-}
-
-/// The command with the options of a creation.
-fn with_options<'a>(alloc: Global, command: Command<'a>) -> Result<Command<'a>, AllocError>
-    requires { (out-Command command).has_globals ≡ false }
-    ensures app { IfOk result (λ with_options. app_of with_options
-        ≡ with_rule (with_rule (app_of command.entry) exponent_rule) extendable_rule) }
-    ensures local { IfOk result (λ with_options. (out-Command with_options).has_globals ≡ false) }
-{
-    command.arg(exponent(alloc))?.arg(extendable(alloc))
-}
-
-fn fingerprint<'a>(alloc: Global) -> Arg<'a>
-    ensures rule { rule_of result ≡ fingerprint_rule }
-    ensures local { result.global ≡ false }
-{
-    flag(alloc, "fingerprint").help(
-        "Tells the secret by its fingerprint, eight hexadecimal digits, and not by its own",
-    )
-}
-
-fn recover<'a>(alloc: Global) -> Result<Command<'a>, AllocError>
-    ensures app { IfOk result (λ command. app_of command ≡ recover_app) }
-    ensures local { IfOk result (λ command. (out-Command command).has_globals ≡ false) }
-{
-    Command::new(alloc, "recover")
-        .about("Recovers the secret from the mnemonics on standard input")
-        .arg(passphrase(alloc))?
-        .arg(fingerprint(alloc))
-}
-
-fn after<'a>(alloc: Global) -> Arg<'a>
-    ensures rule { rule_of result ≡ after_rule }
-    ensures local { result.global ≡ false }
-{
-    option(alloc, "after", "Q").help("Goes on after this quorum, by default from the first")
-}
-
-fn limit<'a>(alloc: Global) -> Arg<'a>
-    ensures rule { rule_of result ≡ limit_rule }
-    ensures local { result.global ≡ false }
-{
-    option(alloc, "limit", "N")
-        .default_value("1000")
-        .value_parser(ValueParser::signed(1, i64::from(u32::MAX)))
-        .help("How many quorums are tried at most")
-}
-
-fn drill<'a>(alloc: Global) -> Result<Command<'a>, AllocError>
-    ensures app { IfOk result (λ command. app_of command ≡ drill_app) }
-    ensures local { IfOk result (λ command. (out-Command command).has_globals ≡ false) }
-{
-    Command::new(alloc, "drill")
-        .about("Tries the quorums of the mnemonics on standard input, a line for each")
-        .arg(passphrase(alloc))?
-        .arg(after(alloc))?
-        .arg(limit(alloc))?
-        .arg(fingerprint(alloc))
-}
-
-fn show<'a>(alloc: Global) -> Command<'a>
-    ensures app { app_of result ≡ show_app }
-    ensures local { (out-Command result).has_globals ≡ false }
-{
-    Command::new(alloc, "show").about(
-        "Shows the fields of the mnemonics on standard input, a line for each",
-    )
-}
-
-fn status<'a>(alloc: Global) -> Command<'a>
-    ensures app { app_of result ≡ status_app }
-    ensures local { (out-Command result).has_globals ≡ false }
-{
-    Command::new(alloc, "status").about(
-        "Tells which members of each group are on standard input, and whether they are enough",
-    )
-}
-
-fn names<'a>(alloc: Global) -> Arg<'a>
-    ensures rule { rule_of result ≡ names_rule }
-    ensures local { result.global ≡ false }
-{
-    Arg::new(alloc, "names")
-        .value_name("NAMES")
-        .required(true)
-        .help("The mnemonics to write, each by its group and its member, in order: G.M+G.M+..")
-}
-
-fn reissue<'a>(alloc: Global) -> Result<Command<'a>, AllocError>
-    ensures app { IfOk result (λ command. app_of command ≡ reissue_app) }
-    ensures local { IfOk result (λ command. (out-Command command).has_globals ≡ false) }
-{
-    Command::new(alloc, "reissue")
-        .about("Writes lost mnemonics again, from others of their backup on standard input")
-        .arg(plan(alloc))?
-        .arg(names(alloc))
-}
-
-/// The program without its commands.
-fn top<'a>(alloc: Global) -> Command<'a>
-    ensures app { app_of result ≡ record { top = shamir_top; subs = [] } }
-    ensures local { (out-Command result).has_globals ≡ false }
-{
-    Command::new(alloc, "shamir")
-        .about("SLIP-0039 backups of a secret")
-        .version(VERSION)
-        .subcommand_required(true)
-        .disable_help_subcommand(true)
-}
-
-/// The command with those that take the shares of one backup.
-fn with_recovery<'a>(alloc: Global, command: Command<'a>) -> Result<Command<'a>, AllocError>
-    requires { (out-Command command).has_globals ≡ false }
-    ensures app { IfOk result (λ whole. app_of whole ≡ with_subcommand
-        (with_subcommand (app_of command.entry) recover_app.top) drill_app.top) }
-    ensures local { IfOk result (λ whole. (out-Command whole).has_globals ≡ false) }
-{
-    command
-        .subcommand(recover(alloc)?)?
-        .subcommand(drill(alloc)?)
-}
-
-/// The command with those that tell what is missing, and compute it.
-fn with_missing<'a>(alloc: Global, command: Command<'a>) -> Result<Command<'a>, AllocError>
-    requires { (out-Command command).has_globals ≡ false }
-    ensures { IfOk result (λ whole. app_of whole ≡ with_subcommand
-        (with_subcommand (app_of command.entry) status_app.top) reissue_app.top) }
-{
-    command
-        .subcommand(status(alloc))?
-        .subcommand(reissue(alloc)?)
-}
-
-#[tactic(auto, unfolding(crate::specs::Command::shamir_app))]
-fn shamir<'a>(alloc: Global) -> Result<Command<'a>, AllocError>
-    ensures { IfOk result (λ command. app_of command ≡ shamir_app) }
-{
-    let command = top(alloc)
-        .subcommand(show(alloc))?
-        .subcommand(create(alloc)?)?;
-    let command = with_recovery(alloc, command)?;
-    with_missing(alloc, command)
 }
 
 fn no_job(alloc: Global, error: &Error) -> NoJob
@@ -315,11 +127,51 @@ fn no_job(alloc: Global, error: &Error) -> NoJob
     }
 }
 
-/// The passphrase that was found, and the empty text where none was.
-fn passphrase_of<'a>(options: &ArgMatches<'a>) -> &'a str
-    ensures { result.now ≡ text_or_empty (codes "passphrase") (rows_of (found_of options.now)) }
+/// The text that was found for this id, and the empty text if none was.
+fn text_of<'a>(options: &ArgMatches<'a>, id: &str) -> &'a [u8]
+    ensures { result.now ≡ text_or_empty id.now (rows_of (found_of options.now)) }
 {
-    options.get_str("passphrase").unwrap_or("")
+    options.get_str(id).unwrap_or("").as_bytes()
+}
+
+/// Whether a text was found for this id.
+fn is_given(options: &ArgMatches, id: &str) -> bool
+    ensures given { IsTrue result → IsGiven id.now (rows_of (found_of options.now)) }
+    ensures missing { IsFalse result → first_of id.now (rows_of (found_of options.now)) ≡ None }
+{
+    options.get_str(id).is_some()
+}
+
+/// The files of values that were found.
+fn files_of<'a>(options: &ArgMatches<'a>) -> ValueFiles<'a>
+    ensures { NamesFiles (rows_of (found_of options.now)) result }
+{
+    ValueFiles {
+        secret: options.get_str("master-secret-file"),
+        passphrase: options.get_str("passphrase-file"),
+    }
+}
+
+/// What is first wrong with the values that were found for the command with this name.
+fn bad_values(name: &str, options: &ArgMatches) -> Option<BadValues>
+    ensures bad { IfSome result (HasBadValues name.now (rows_of (found_of options.now))) }
+    ensures sound { IfNone result
+        (((bad : BadValues) × HasBadValues name.now (rows_of (found_of options.now)) bad) → ⊥) }
+{
+    let has_secret = is_given(options, "master-secret");
+    let has_secret_file = is_given(options, "master-secret-file");
+    let has_passphrase = is_given(options, "passphrase");
+    let has_passphrase_file = is_given(options, "passphrase-file");
+    if name == "create" && !has_secret && !has_secret_file {
+        return Some(BadValues::NoSecret);
+    }
+    if has_secret && has_secret_file {
+        return Some(BadValues::TwoSecrets);
+    }
+    if has_passphrase && has_passphrase_file {
+        return Some(BadValues::TwoPassphrases);
+    }
+    None
 }
 
 /// The job `create`, from what was found for its arguments.
@@ -331,8 +183,8 @@ fn create_job<'a>(options: &ArgMatches<'a>) -> Job<'a>
 {
     Job::Create {
         plan: options.get_str("plan").unwrap(),
-        secret: options.get_str("master-secret").unwrap(),
-        passphrase: passphrase_of(options),
+        secret: text_of(options, "master-secret"),
+        passphrase: text_of(options, "passphrase"),
         exponent: options.get_one("exponent").unwrap(),
         extendable: options.get_flag("extendable"),
     }
@@ -360,7 +212,7 @@ fn recover_job<'a>(options: &ArgMatches<'a>) -> Job<'a>
     ensures range { IsInRange result }
 {
     Job::Recover {
-        passphrase: passphrase_of(options),
+        passphrase: text_of(options, "passphrase"),
         form: form_of(options),
     }
 }
@@ -373,7 +225,7 @@ fn drill_job<'a>(options: &ArgMatches<'a>) -> Job<'a>
     ensures range { IsInRange result }
 {
     Job::Drill {
-        passphrase: passphrase_of(options),
+        passphrase: text_of(options, "passphrase"),
         after: options.get_str("after"),
         limit: options.get_one("limit").unwrap(),
         form: form_of(options),
@@ -411,17 +263,18 @@ fn job_of<'a>(name: &str, options: &ArgMatches<'a>) -> Job<'a>
     }
 }
 
-/// Reads the words of a command line, of which the first is the program's name.
+/// Reads the words of a command line, of which the first is the program's name, and gives the command with its values.
 ///
-/// A text that begins with a dash is given as `--passphrase=TEXT`. The text of help and of the version, and of the
-/// words that are refused, is `clap`'s.
-pub fn read_words<'a>(alloc: Global, words: &'a [&'a str]) -> Result<Job<'a>, NoJob>
-    // The command and its values are those that the words give, by `clap`'s definition of a simple command.
-    ensures job { IfOk result (GivesJob (map (λ word. word.now) words.now)) }
-    ensures range { IfOk result IsInRange }
-    // Where that definition takes the words, only memory can be wanting.
+/// A value that begins with a dash is given as one word, as in `--passphrase=TEXT`. `clap` writes the texts of help and of the
+/// version, and those that refuse words.
+pub fn read_words<'a>(alloc: Global, words: &'a [&'a str]) -> Result<Call<'a>, NoJob>
+    // The command, its values and the files of values are those that the words give, by `clap`'s definition of a simple
+    // command.
+    ensures call { IfOk result (GivesCall (map (λ word. word.now) words.now)) }
+    ensures range { IfOk result (λ call. IsInRange call.job) }
+    // Where that definition takes the words, only memory can be wanting, or a value is missing or given twice.
     ensures memory { takes shamir_app (map (λ word. word.now) words.now) ≡ true
-        → IfErr result (λ error. error ≡ NoJob.Memory) }
+        → IfErr result (λ error. (error ≡ NoJob.Memory) ⊎ ((bad : BadValues) × (error ≡ NoJob.Values bad))) }
     // Words that it doesn't take are no job.
     ensures taken { OnOk result (takes shamir_app (map (λ word. word.now) words.now) ≡ true) }
     // No step of the reading of words that are one fails.
@@ -436,7 +289,15 @@ pub fn read_words<'a>(alloc: Global, words: &'a [&'a str]) -> Result<Job<'a>, No
         Err(error) => return Err(no_job(alloc, &error)),
     };
     match matches.subcommand() {
-        Some((name, options)) => Ok(job_of(name, options)),
+        Some((name, options)) => {
+            if let Some(bad) = bad_values(name, options) {
+                return Err(NoJob::Values(bad));
+            }
+            Ok(Call {
+                job: job_of(name, options),
+                files: files_of(options),
+            })
+        }
         None => unreachable!(),
     }
 }

@@ -13,7 +13,7 @@ use s39_tool::{Counting, DeviceFailure, Fault, Refusal};
 use std::alloc::Global;
 use std::io::{BufWriter, Read, Write};
 
-/// What a command answered, whether all is well, and its devices.
+/// What a command answered (whether all is well, or its fault), and its devices.
 #[derive(Drop)]
 pub(crate) struct Finished<R, W> {
     pub(crate) answer: Result<bool, Fault>,
@@ -21,7 +21,7 @@ pub(crate) struct Finished<R, W> {
     pub(crate) output: W,
 }
 
-/// Runs a command whose output goes out as its buffer fills; nothing where there is no memory for that.
+/// Runs a command whose output goes out as its buffer fills, and gives `None` if there is no memory for the buffer.
 pub(crate) fn by_buffer<R: Read + Drop, W: Write + Drop>(
     alloc: Global,
     work: &Work,
@@ -46,7 +46,7 @@ pub(crate) fn by_buffer<R: Read + Drop, W: Write + Drop>(
     })
 }
 
-/// Hands on what a buffer keeps after a run that gave this answer, which becomes that the writer failed where that fails.
+/// Hands on what a buffer keeps after a run that gave this answer. If that fails, the answer is that the writer failed.
 fn handed_on<W: Write + Drop>(
     answer: Result<bool, Fault>,
     output: BufWriter<W>,
@@ -64,8 +64,8 @@ fn handed_on<W: Write + Drop>(
     }
 }
 
-/// Hands on what a buffer keeps after a run that gave this answer; whether all of the output has gone then. Where nothing
-/// was written before a refusal, the writer isn't asked.
+/// Hands on what a buffer keeps after a run that gave this answer, and says whether all of the output has gone out then. If
+/// nothing was written before a refusal, it doesn't call the writer.
 fn hand_on<W: Write + Drop>(answer: &Result<bool, Fault>, output: &mut BufWriter<W>) -> bool
     ensures kept { Keeps (writer_contents W.contents output.old)
         (writer_contents W.contents output.new) }
@@ -97,7 +97,7 @@ pub(crate) fn by_lines<R: Read + Drop, W: Write + Drop>(
     }
 }
 
-/// Flushes a writer after a run that gave this answer, which becomes that the writer failed where that fails.
+/// Flushes a writer after a run that gave this answer. If that fails, the answer is that the writer failed.
 fn flushed<W: Write>(answer: Result<bool, Fault>, output: Patient<W>) -> (Result<bool, Fault>, W)
     ensures { HandsOn (W.contents output.output) (W.contents result.1) answer result.0 }
 {
@@ -119,7 +119,7 @@ fn has_failed(answer: &Result<bool, Fault>) -> bool {
     }
 }
 
-/// Writes a text and flushes it; whether all of it has gone.
+/// Writes a text and flushes the writer, and says whether all of the text has gone out.
 pub(crate) fn show<W: Write>(text: &str, output: W) -> (bool, W)
     ensures { GoesOut (W.contents output) (W.contents result.1) text.now result.0 }
 {
@@ -128,7 +128,7 @@ pub(crate) fn show<W: Write>(text: &str, output: W) -> (bool, W)
     (is_whole, output.into_inner())
 }
 
-/// Writes a text; whether no write failed, or took no byte.
+/// Writes a text, and says whether all of it was taken: no write failed, or took no byte.
 fn write_whole<W: Write>(output: &mut W, text: &[u8]) -> bool
     ensures { GoesOut (W.contents output.old) (W.contents output.new) text.now result }
 {

@@ -1,30 +1,33 @@
-//! Facts about the definitions, each the contract of a function that does nothing, or only calls other laws.
+//! Facts about the definitions. Each is the contract of a function that does nothing, or only calls other laws.
 ghost use Rattle.std.specs.Prelude.{List, [], ◌∷◌, codes};
 ghost use Rattle.s39_set.specs.Written.{IsWrittenForm};
 ghost use Rattle.s39_tool.specs.declared.secret_form.SecretForm.TheVariants.{Digits, Fingerprint};
+ghost use Rattle.s39_cli.specs.declared.command.Job.{Job};
+ghost use Rattle.s39_cli.specs.Outcome.{HasNoCause, IsReady};
 ghost use Rattle.s39_cli.specs.Headline.{ApartDrill, AreCreateWords, AreDrillWords, AreRecoverWords};
 ghost use Rattle.s39_cli.specs.Headline.{IsLimit, JoinedDrill, drill_apart};
-ghost use Rattle.s39_cli.specs.Headline.{CreateWordsAreTaken, CreatedWordsRecover, DrillWordsAreTaken, DrillWordsList, OneOutcome};
+ghost use Rattle.s39_cli.specs.Headline.{CreateWordsAreTaken, CreatedWordsRecover, DrillWordsAreTaken, DrillWordsList, OneCall, OneOutcome};
+ghost use Rattle.s39_cli.specs.Headline.{SameValuesWriteTheSame, SomeOutcome};
 ghost use Rattle.s39_cli.specs.Headline.{RecoverWordsAreTaken, RecoverWordsRecover};
 
 use s39_backup::laws::one_plan_reading;
 use s39_set::laws::written_forms;
 use s39_tool::laws::{
     created_backups_drill, created_backups_recover, one_create_output, one_drill_output,
-    one_recover_output, one_reissue_output, one_show_output, one_status_output,
-    written_mnemonics_recover,
+    one_recover_output, one_reissue_output, one_show_output, one_status_output, some_drill_output,
+    some_recover_output, some_show_output, written_mnemonics_recover,
 };
 
-/// The definition of the command line takes the words of a drill, of a recovery and of a creation, whatever their texts,
-/// where the limit is a number in its range and the plan doesn't begin with a dash.
+/// The definition of the command line takes the words of a drill, of a recovery and of a creation, whatever their texts are,
+/// if the limit is a number in its range and the plan doesn't begin with a dash.
 pub fn words_are_taken()
     ensures drill { DrillWordsAreTaken }
     ensures recover { RecoverWordsAreTaken }
     ensures create { CreateWordsAreTaken }
 {}
 
-/// The words of a drill with each option in one word, and with each in two, are words of a drill; and there are such words
-/// of each command, a text that writes names, and one that writes a limit.
+/// The words of a drill with each option in one word are words of a drill, and so are those with each option in two. There are
+/// such words of each command, there is a text that writes names, and there is one that writes a limit.
 pub fn there_are_such_words()
     ensures joined { JoinedDrill }
     ensures apart { ApartDrill }
@@ -46,6 +49,30 @@ pub fn there_are_such_words()
     ensures limit { IsLimit (codes "5") }
 {}
 
+/// Words give one call: its values, and the files of values, are the same whatever call they give. Jobs with the same values
+/// write the same.
+pub fn one_call()
+    ensures call { OneCall }
+    ensures outcome { SameValuesWriteTheSame }
+{}
+
+/// A job that can be begun has none of the causes for which a job isn't begun.
+pub fn ready_jobs_have_no_cause()
+    ensures { (job : Job) → IsReady job → HasNoCause job }
+{}
+
+/// A job that can be begun writes a text for each input of bytes, and ends with an exit status.
+pub fn some_outcome()
+    ensures { SomeOutcome }
+{
+    some_show_output();
+    one_create_output();
+    some_recover_output();
+    some_drill_output();
+    one_status_output();
+    one_reissue_output();
+}
+
 /// A job writes one text for an input, and ends with one exit status.
 pub fn one_outcome()
     ensures { OneOutcome }
@@ -60,7 +87,7 @@ pub fn one_outcome()
     written_forms();
 }
 
-/// The words of a drill, on mnemonics of a backup that was created with their passphrase: just the quorums after the given
+/// If the words of a drill meet mnemonics of a backup that was created with their passphrase, exactly the quorums after the given
 /// one are listed, each with the secret in the form that the words ask for.
 pub fn drill_words_list()
     ensures { DrillWordsList }
@@ -68,15 +95,15 @@ pub fn drill_words_list()
     created_backups_drill();
 }
 
-/// The words of a recovery, on such mnemonics: the secret is written in the form that the words ask for.
+/// If the words of a recovery meet such mnemonics, the secret is written in the form that the words ask for.
 pub fn recover_words_recover()
     ensures { RecoverWordsRecover }
 {
     created_backups_recover();
 }
 
-/// What the words of a creation write, as the input of the words of a recovery with the same passphrase: the secret is
-/// written in the form that these ask for.
+/// If what the words of a creation write is the input of the words of a recovery with the same passphrase, the secret is
+/// written in the form that the latter ask for.
 pub fn created_words_recover()
     ensures { CreatedWordsRecover }
 {

@@ -1,4 +1,4 @@
-//! A writer that is asked again where the system interrupted it.
+//! A writer that tries a write again if the system interrupted it.
 ghost use Rattle.std.specs.Prelude.{◌≡◌};
 
 use std::io;

@@ -1,11 +1,13 @@
 //! The program: a command line, a reader and two writers.
 ghost use Rattle.std.specs.Prelude.{◌≡◌, ◌≢◌, map, IfOk, IsFalse, IsTrue};
 ghost use Rattle.std.specs.IoError.{error_kind};
-ghost use Rattle.s39_cli.specs.Ending.{Ends, EndsUnbegun, EndsWithoutJob, IsSilentAtNone, IsTyped, status_in};
+ghost use Rattle.s39_cli.specs.Command.{IsInRange};
+ghost use Rattle.s39_cli.specs.Ending.{DoesJob, Ends, EndsUnbegun, EndsUnread, EndsWithoutJob, IsSilentAtNone, IsTyped, OnEnd, status_in};
 ghost use Rattle.s39_cli.specs.Outcome.{status_of, status_of_refusal};
 
-use crate::command::{Job, NoJob, read_words};
+use crate::command::{BadValues, Call, Job, NoJob, read_words};
 use crate::delivery::{Finished, by_buffer, by_lines, show, write_failed};
+use crate::values::{NoValue, Shelf, Unread, Values};
 use crate::work::{Unready, Work};
 use s39_refusal::Cause;
 use s39_text::FaultText;
@@ -45,14 +47,14 @@ pub enum Destination {
 /// How the program ended.
 #[derive(Drop)]
 pub enum Ended<R, W> {
-    /// With this exit status. The devices are given back.
+    /// It ended with this exit status, and gives its devices back.
     With { status: u8, input: R, output: W },
-    /// For want of memory.
+    /// It ran out of memory, and its devices are gone.
     NoMemory,
 }
 
 impl<R: Drop, W: Drop> Ended<R, W> {
-    /// The exit status, which is 4 for want of memory.
+    /// The exit status, which is 4 if the program ran out of memory.
     pub fn status(self) -> u8
         ensures { result ≡ status_in self }
     {
@@ -67,16 +69,18 @@ impl<R: Drop, W: Drop> Ended<R, W> {
 ///
 /// | Status | When |
 /// |---|---|
-/// | 0 | the command is done, or help was asked for and written |
+/// | 0 | the command is done, or help or the version was asked for and written |
 /// | 1 | a refusal that isn't a device's, a drill that listed a refused quorum, or a status with too few complete groups |
-/// | 2 | the command line is refused, the master secret isn't hexadecimal, or random bytes would be typed |
-/// | 3 | a read or a write failed |
-/// | 4 | there is no memory |
+/// | 2 | the words or their values are refused, the secret isn't hexadecimal, or random bytes would be typed |
+/// | 3 | a file couldn't be opened, or a read or a write failed |
+/// | 4 | the program is out of memory |
 ///
-/// Results and help go to `output`: the lines of `drill`, and at a terminal those of `show`, as soon as each is known. A
-/// fault is a line on `errors`, where the text of a refused command line goes too. All memory is taken before the first
-/// byte of `input` is asked for. A failing `errors` changes no status.
-pub fn program<R: Read + Drop, W: Write + Drop, E: Write>(
+/// Values that the words name a file for are read first: those in files of `shelf`, and then those in the first lines of
+/// `input`. Results and help go to `output`: the lines of `drill`, and at a terminal those of `show`, as soon as each is known.
+/// A fault is a line on `errors`, where the text of a refused command line goes too. The program takes all its memory before it
+/// reads `input`, except for the lines that hold values. A failing `errors` changes no status.
+pub fn program<S: Shelf, R: Read + Drop, W: Write + Drop, E: Write>(
+    shelf: &S,
     alloc: Global,
     words: &[&str],
     input: R,
@@ -91,13 +95,34 @@ pub fn program<R: Read + Drop, W: Write + Drop, E: Write>(
     // Of any.
     ensures silent { IsSilentAtNone result errors.old errors.new }
 {
-    let job = match read_words(alloc, words) {
-        Ok(job) => job,
+    let Call { job, files } = match read_words(alloc, words) {
+        Ok(call) => call,
         Err(no_job) => return without_job(no_job, input, output, errors),
     };
     if is_typed(source, &job) {
         return typed(input, output, errors);
     }
+    let mut input = input;
+    let values = match Values::read(shelf, files, &mut input) {
+        Ok(values) => values,
+        Err(unread) => return without_value(unread, input, output, errors),
+    };
+    by_job(alloc, values.fill(job), input, output, errors, destination)
+}
+
+/// Does the job.
+fn by_job<R: Read + Drop, W: Write + Drop, E: Write>(
+    alloc: Global,
+    job: Job,
+    input: R,
+    output: W,
+    errors: &mut E,
+    destination: Destination,
+) -> Ended<R, W>
+    requires { IsInRange job }
+    ensures ends { OnEnd result (DoesJob R.remaining W.contents job.entry input output) }
+    ensures silent { IsSilentAtNone result errors.old errors.new }
+{
     let work = match Work::of(alloc, job) {
         Ok(work) => work,
         Err(unready) => return unbegun(unready, input, output, errors),
@@ -143,7 +168,70 @@ fn without_job<R: Drop, W: Write + Drop, E: Write>(
                 output,
             }
         }
+        NoJob::Values(bad) => {
+            let _ = errors.write_all(bad.text().as_bytes());
+            Ended::With {
+                status: NO_JOB,
+                input,
+                output,
+            }
+        }
         NoJob::Memory => no_memory_left(errors),
+    }
+}
+
+/// Says why a value isn't read.
+fn without_value<R: Drop, W: Drop, E: Write>(
+    unread: Unread,
+    input: R,
+    output: W,
+    errors: &mut E,
+) -> Ended<R, W>
+    ensures ends { EndsUnread input output result }
+    ensures too_long { unread.entry.cause ≡ NoValue.TooLong
+        → OnEnd result (λ status read_to written_to. status ≡ 2) }
+    ensures failed { unread.entry.cause ≢ NoValue.TooLong
+        → OnEnd result (λ status read_to written_to. status ≡ 3) }
+    ensures silent { IsSilentAtNone result errors.old errors.new }
+{
+    let Unread { name, cause } = unread;
+    let status = match cause {
+        NoValue::TooLong => {
+            let _ = writeln!(errors, "shamir: {name}: the value has more than 1024 bytes");
+            NO_JOB
+        }
+        NoValue::Failed(error) => {
+            let _ = writeln!(errors, "shamir: {name}: {error}");
+            DEVICE_FAILED
+        }
+    };
+    Ended::With {
+        status,
+        input,
+        output,
+    }
+}
+
+impl BadValues {
+    /// What is said of them.
+    fn text(self) -> &'static str {
+        match self {
+            BadValues::NoSecret =>
+                "error: one of --master-secret <HEX> and --master-secret-file <FILE> is required
+
+For more information, try '--help'.
+",
+            BadValues::TwoSecrets =>
+                "error: --master-secret <HEX> and --master-secret-file <FILE> can't be given together
+
+For more information, try '--help'.
+",
+            BadValues::TwoPassphrases =>
+                "error: --passphrase <TEXT> and --passphrase-file <FILE> can't be given together
+
+For more information, try '--help'.
+",
+        }
     }
 }
 
@@ -253,8 +341,8 @@ fn report<E: Write>(fault: Fault, errors: &mut E) -> u8
     }
 }
 
-/// Says why the arguments are no words, and gives the exit status: 4 where there is no memory for them, and 2 where
-/// they aren't UTF-8.
+/// Says why the arguments are no words, and gives the exit status: 4 if there is no memory for them, and 2 if they aren't
+/// UTF-8.
 pub fn no_words<E: Write>(error: &io::Error, errors: &mut E) -> u8
     ensures memory { error_kind error.now ≡ ErrorKind.OutOfMemory → result ≡ 4 }
     ensures other { error_kind error.now ≢ ErrorKind.OutOfMemory → result ≡ 2 }

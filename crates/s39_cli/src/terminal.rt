@@ -1,5 +1,5 @@
-//! A reader at a terminal: what is typed or pasted behind a refusal is dropped, so that no shell gets it.
-ghost use Rattle.std.specs.Prelude.{◌≡◌};
+//! A reader at a terminal: what is typed or pasted after a refusal is dropped, so that no shell gets it.
+ghost use Rattle.std.specs.Prelude.{◌≡◌, ◌≢◌};
 ghost use Rattle.s39_cli.specs.Ending.{OnEnd};
 ghost use Rattle.s39_cli.specs.Terminal.{ConsumesMore, EndsAlike};
 
@@ -10,15 +10,15 @@ use std::io::{ErrorKind, Read, Write};
 /// How far a reader was read.
 #[derive(Clone, Copy, Debug, PartialEq, Eq)]
 enum Progress {
-    /// It was never asked.
+    /// It was never read.
     Unread,
-    /// It was asked, and its end hasn't come.
+    /// It was read, but not to its end.
     Begun,
-    /// Its end came, or it failed.
+    /// It was read to its end, or a read failed.
     Ended,
 }
 
-/// A reader that knows whether its end came, or it failed. It gives the bytes that the reader below it gives.
+/// A reader that knows whether it was read to its end, or failed. It gives the bytes that the reader below it gives.
 #[derive(Drop)]
 pub struct Watched<R> {
     input: R,
@@ -26,7 +26,7 @@ pub struct Watched<R> {
 }
 
 impl<R: Read> Watched<R> {
-    /// The reader, which wasn't asked yet.
+    /// The reader, which nobody has read yet.
     pub fn new(input: R) -> Watched<R>
         ensures { result.input ≡ input }
     {
@@ -51,15 +51,21 @@ impl<R: Read> Read for Watched<R> {
     }
 }
 
-/// Reads and drops what is still typed or pasted behind a run that was refused before the end of its input, or before it
-/// read, until that end comes, and says so first on `errors`. The status and the output stay as they are. Behind help, and
-/// behind a refused command line, nothing is read.
+/// After a run that was refused before the end of its input, or before it read any, says so on `errors`, and then reads and drops
+/// what is still typed or pasted until that end comes. The status and the output stay as they are. After help, and after a
+/// refused command line, it reads nothing.
 pub fn with_rest_dropped<R: Read + Drop, W: Drop, E: Write>(
     ended: Ended<Watched<R>, W>,
     errors: &mut E,
 ) -> Ended<Watched<R>, W>
     ensures alike { EndsAlike (λ watched. R.remaining watched.input) ended result }
     ensures done { OnEnd ended (λ status read_to written_to. status ≡ 0
+        → (result ≡ ended) × (errors.new ≡ errors.old)) }
+    // Of a reader that nobody has read, only a refusal with status 1 reads on.
+    ensures unread { OnEnd ended (λ status read_to written_to. read_to.progress ≡ Progress.Unread
+        → status ≢ 1 → (result ≡ ended) × (errors.new ≡ errors.old)) }
+    // A reader that was read to its end, or that failed, isn't read on.
+    ensures ended { OnEnd ended (λ status read_to written_to. read_to.progress ≡ Progress.Ended
         → (result ≡ ended) × (errors.new ≡ errors.old)) }
 {
     match ended {
@@ -76,10 +82,13 @@ pub fn with_rest_dropped<R: Read + Drop, W: Drop, E: Write>(
     }
 }
 
-/// The reader at its end, if that hasn't come, and it was begun or a run was refused before it read.
+/// The reader, read to its end if it was begun and hasn't come to it, or if a run was refused before it read.
 fn at_end<R: Read, E: Write>(status: u8, input: Watched<R>, errors: &mut E) -> Watched<R>
     ensures further { ConsumesMore (R.remaining input.input) (R.remaining result.input) }
     ensures done { status ≡ 0 → (result ≡ input) × (errors.new ≡ errors.old) }
+    ensures unread { input.progress ≡ Progress.Unread → status ≢ 1
+        → (result ≡ input) × (errors.new ≡ errors.old) }
+    ensures ended { input.progress ≡ Progress.Ended → (result ≡ input) × (errors.new ≡ errors.old) }
 {
     let waits = match input.progress {
         Progress::Unread => status == REFUSED,

@@ -60,7 +60,7 @@ pub(crate) enum Work<'a> {
     Drill(Drill<'a>),
     /// Tells what is at hand of each group.
     Status,
-    /// Computes mnemonics from others.
+    /// Computes lost mnemonics from others.
     Reissue(Reissue),
 }
 
@@ -69,13 +69,13 @@ pub(crate) enum Work<'a> {
 pub(crate) enum Unready {
     /// The text of the master secret isn't hexadecimal, or has an odd number of digits.
     Secret,
-    /// The text of the plan gives none.
+    /// The text of the plan gives no plan.
     Plan(PlanError),
-    /// The text of a quorum is none.
+    /// The text of a quorum is the written form of no names.
     Cursor(BadCursor),
-    /// The text of names is no list of names.
+    /// The text of names is the written form of no names.
     Names(BadNames),
-    /// There is no memory.
+    /// The program is out of memory.
     Memory,
 }
 
@@ -123,14 +123,14 @@ impl From<FromHexError> for Unready {
 }
 
 /// The bytes of the text of a secret.
-fn secret_of(alloc: Global, text: &str) -> Result<Vec<u8>, Unready>
+fn secret_of(alloc: Global, text: &[u8]) -> Result<Vec<u8>, Unready>
     ensures secret { IfOk result (λ secret. decode_of text.now ≡ Ok secret.items) }
     ensures refused { IfErr result (IsNoSecret text.now) }
 {
-    Ok(hex::decode(alloc, text.as_bytes())?)
+    Ok(hex::decode(alloc, text)?)
 }
 
-/// The names after which a drill goes on, where a text gives some.
+/// The names after which a drill starts, if a text gives some.
 fn cursor_of(text: Option<&str>) -> Result<Option<Quorum>, BadCursor>
     ensures cursor { IfOk result (IsCursor text.entry) }
     ensures refused { IfErr result (λ bad. IsSomeAnd text.entry (λ text. WritesNoNames text.now)) }
@@ -158,8 +158,8 @@ impl Reissue {
 impl<'a> Work<'a> {
     ghost use Rattle.s39_cli.specs.Work.{IsWorkOf, IsWorkOutput};
 
-    /// The work of a job, whose texts are read here: of `create` first the secret and then the plan, and of `reissue` first
-    /// the plan and then the names.
+    /// The work of a job, whose texts are read here: those of `create` are the secret and then the plan, and those of
+    /// `reissue` the plan and then the names.
     pub(crate) fn of(alloc: Global, job: Job<'a>) -> Result<Work<'a>, Unready>
         requires { IsInRange job }
         ensures work { IfOk result (IsWorkOf job.entry) }
@@ -179,17 +179,14 @@ impl<'a> Work<'a> {
                 Ok(Work::Create(Creation {
                     plan,
                     secret,
-                    passphrase: passphrase.as_bytes(),
+                    passphrase,
                     options: Options {
                         exponent,
                         extendable,
                     },
                 }))
             }
-            Job::Recover { passphrase, form } => Ok(Work::Recover {
-                passphrase: passphrase.as_bytes(),
-                form,
-            }),
+            Job::Recover { passphrase, form } => Ok(Work::Recover { passphrase, form }),
             Job::Drill {
                 passphrase,
                 after,
@@ -198,7 +195,7 @@ impl<'a> Work<'a> {
             } => {
                 let after = cursor_of(after)?;
                 Ok(Work::Drill(Drill {
-                    passphrase: passphrase.as_bytes(),
+                    passphrase,
                     after,
                     limit,
                     form,
@@ -218,8 +215,8 @@ impl<'a> Work<'a> {
         }
     }
 
-    /// Runs the command, and gives whether all is well: no quorum was refused, and enough groups are complete, where the
-    /// command looks for that.
+    /// Runs the command, and gives whether all is well: no quorum was refused, and enough groups are complete, if the command
+    /// looks for that.
     pub(crate) fn run<R: Read, W: Write>(
         &self,
         input: &mut Counting<R>,
@@ -259,7 +256,7 @@ impl<'a> Work<'a> {
     }
 }
 
-/// All is well where this run is done.
+/// All is well if this run is done.
 fn where_done(answer: Result<(), Fault>) -> Result<bool, Fault>
     ensures { result ≡ judged where_done answer }
 {
@@ -279,7 +276,7 @@ fn without_mismatches(answer: Result<Done, Fault>) -> Result<bool, Fault>
     }
 }
 
-/// All is well where enough groups are complete.
+/// All is well if enough groups are complete.
 fn with_enough(answer: Result<Status, Fault>) -> Result<bool, Fault>
     ensures { result ≡ judged is_enough answer }
 {

@@ -1,7 +1,7 @@
 -- A field in which each element is its own negative, so that subtraction is addition.
 use Rattle.std.specs.Prelude.{◌≡◌, ◌≢◌}
 
--- What a field is made of. The operations may be defined on more than the elements, as on all
+-- The parts of a field. The operations may be defined on more than the elements, for example on all
 -- numbers.
 pub record Operations (F : Type 0) : Type 1 where
   pub IsElement : F → Type 0
@@ -11,8 +11,8 @@ pub record Operations (F : Type 0) : Type 1 where
   pub mul : F → F → F
   pub inv : F → F
 
--- The axioms. Where the operations are defined on more than the elements, the laws of sums and
--- products hold there too. That a * 1 is a, and that a has an inverse, is said of elements alone.
+-- The axioms. If the operations are defined on more than the elements, the laws of sums and products
+-- hold there too. That a * 1 is a, and that a has an inverse, is stated for elements alone.
 pub record IsField {F : Type 0} (f : Operations F) : Type 0 where
   pub zero_element : f.IsElement f.zero
   pub one_element : f.IsElement f.one

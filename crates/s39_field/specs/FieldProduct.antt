@@ -1,16 +1,16 @@
 -- Multiplication modulo a polynomial: the byte field and the word field of SLIP-0039 ("Shamir's
--- secret sharing" and "Checksum"). Both moduli go by one definition.
+-- secret sharing" and "Checksum"). One definition serves both moduli.
 use Rattle.std.specs.Prelude.{◌≡◌, ℕ, zero, suc, ◌+◌, ◌-◌, ◌*◌, ◌^◌, ◌<◌, ◌≤◌}
 use Rattle.std.specs.Int.{bit_at}
 use Rattle.s39_field.specs.BinaryPolynomial.{binary_sum, binary_product}
 use Rattle.s39_field.specs.Field.{Operations}
 
--- a modulus, and its degree
+-- a modulus and its degree
 pub record Modulus : Type 0 where
   pub degree : ℕ
   pub polynomial : ℕ
 
--- the polynomial of m has the degree that m gives it
+-- the polynomial of m has the degree that m states
 pub record HasDegree (m : Modulus) : Type 0 where
   pub at_least : 2 ^ m.degree ≤ m.polynomial
   pub below : m.polynomial < 2 ^ suc m.degree
@@ -30,14 +30,14 @@ pub record IsProduct (m : Modulus) (a b r : ℕ) : Type 0 where
   pub lower_degree : r < 2 ^ m.degree
   pub quotient : (q : ℕ) × (binary_product a b ≡ binary_sum (binary_product q m.polynomial) r)
 
--- n less the multiples of m that clear its coefficients at the places from degree + k - 1 down to
+-- n minus the multiples of m that clear its coefficients at the places from degree + k - 1 down to
 -- degree
 abbrev pub reduction : Modulus → ℕ → ℕ → ℕ
 reduction m zero n = n
 reduction m (suc k) n =
     reduction m k (binary_sum n (bit_at n (m.degree + k) * (2 ^ k * m.polynomial)))
 
--- the one r that IsProduct allows, by long division of the polynomial product, whose degree is below
+-- the only r that IsProduct allows, by long division of the polynomial product, whose degree is below
 -- a + b
 unfoldable pub product_modulo : Modulus → ℕ → ℕ → ℕ
 product_modulo m a b = reduction m (a + b) (binary_product a b)
@@ -47,7 +47,7 @@ unfoldable pub power_modulo : Modulus → ℕ → ℕ → ℕ
 power_modulo m a zero = 1
 power_modulo m a (suc n) = product_modulo m (power_modulo m a n) a
 
--- the field of the polynomials of lower degree than m, of whose inverses each is a power
+-- the field of the polynomials of lower degree than m; an inverse is a power of its element
 abbrev pub field_modulo : Modulus → Operations ℕ
 field_modulo m = record {
   IsElement = λ a. a < 2 ^ m.degree;
@@ -66,14 +66,14 @@ byte_field = field_modulo byte_modulus
 abbrev pub word_field : Operations ℕ
 word_field = field_modulo word_modulus
 
--- how many bytes there are but zero: as many as powers of a generator
+-- the number of nonzero bytes, which is that of the powers of a generator
 abbrev pub nonzero_bytes : ℕ
 nonzero_bytes = 2 ^ byte_modulus.degree - 1
 
--- how many words there are but zero
+-- the number of nonzero words
 abbrev pub nonzero_words : ℕ
 nonzero_words = 2 ^ word_modulus.degree - 1
 
--- the order of the word field: how many elements it has
+-- the order of the word field: the number of its elements
 abbrev pub word_field_order : ℕ
 word_field_order = 2 ^ word_modulus.degree

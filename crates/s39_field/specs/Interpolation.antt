@@ -50,8 +50,8 @@ module _ {F : Type 0} (f : Operations F) where
   weighted_sum (w ∷ ws) [] = f.zero
   weighted_sum (w ∷ ws) (value ∷ values) = f.add (f.mul w value) (weighted_sum ws values)
 
-  -- this holds of any two polynomials with no more coefficients than there are distinct places, equal
-  -- at each place
+  -- this holds for any two polynomials that have no more coefficients than there are distinct places and
+  -- are equal at each place
   abbrev pub PlacesDetermine : (List F → List F → Type 0) → Type 0
   PlacesDetermine Holds =
       (places cs ds : List F)
@@ -73,7 +73,7 @@ module _ {F : Type 0} (f : Operations F) where
   abbrev pub PlacesDetermineValues : Type 0
   PlacesDetermineValues = PlacesDetermine (λ cs ds. (x : F) → value_at f cs x ≡ value_at f ds x)
 
-  -- points at distinct places have one value at x
+  -- points at distinct places have at most one value at x
   abbrev pub PointsHaveOneValue : Type 0
   PointsHaveOneValue =
       (points : List (F × F)) (x y z : F)
@@ -103,7 +103,7 @@ StringsHaveAValue =
     → AllPairs (λ p q. p.0 ≢ q.0) strings
     → (y : List ℕ) × (length y ≡ count) × All byte_field.IsElement y × InterpolatesBytes strings x y
 
--- and, where there is at least one of them, no other
+-- and no other, if there is at least one of them
 abbrev pub StringsHaveOneValue : Type 0
 StringsHaveOneValue =
     (strings : List (ℕ × List ℕ)) (x : ℕ) (y z : List ℕ)

@@ -17,15 +17,15 @@ module _ {F : Type 0} (f : Operations F) where
   abbrev pub value_at : List F → F → F
   value_at cs x = value_from cs 0 x
 
-  -- the sum, coefficient by coefficient, where a list that ends first has zeros from there on
+  -- the sum, coefficient by coefficient; the list that ends first has zeros from there on
   abbrev pub sum_of : List F → List F → List F
   sum_of [] ys = ys
   sum_of (x ∷ xs) [] = x ∷ xs
   sum_of (x ∷ xs) (y ∷ ys) = f.add x y ∷ sum_of xs ys
 
-  -- The product, in which coefficient k is the sum of the xs i * ys j with i + j = k. Where ys isn't
-  -- empty, it has as many coefficients as both together, less one. Both lists and the product may be
-  -- read from the lowest power up, or all three from the highest down.
+  -- The product, in which coefficient k is the sum of the xs i * ys j with i + j = k. If ys isn't empty,
+  -- it has one coefficient fewer than both lists together. Both lists and the product may be read from
+  -- the lowest power up, or all three from the highest down.
   abbrev pub product_of : List F → List F → List F
   product_of [] ys = replicate (length ys - 1) f.zero
   product_of (x ∷ xs) ys = sum_of (map (f.mul x) ys) (f.zero ∷ product_of xs ys)

@@ -1,17 +1,17 @@
--- What tells few changed coefficients of a polynomial from none (SLIP-0039, "Checksum").
+-- Why a few changed coefficients of a polynomial are always detected (SLIP-0039, "Checksum").
 use Rattle.std.specs.Prelude.{◌≡◌, ◌≢◌, ℕ, ◌<◌, ◌≤◌, List, [], ◌∷◌, length, reverse, All, AllPairs}
 use Rattle.s39_field.specs.Field.{Operations}
 use Rattle.s39_field.specs.FieldProduct.{word_field, nonzero_words}
 use Rattle.s39_field.specs.Polynomial.{power, value_at, product_of, IsMultiple}
 
 module _ {F : Type 0} (f : Operations F) where
-  -- the sum of value times the n-th power of place, over points: a point is a place and a value
+  -- the sum of value times the n-th power of the place, over points; a point is a place and a value
   abbrev pub power_sum : List (F × F) → ℕ → F
   power_sum [] n = f.zero
   power_sum (point ∷ points) n = f.add (f.mul point.1 (power f point.0 n)) (power_sum points n)
 
-  -- values at distinct places but zero are zero where their sums with the first powers of the places,
-  -- the second, and so on to as many as there are points, are all zero
+  -- values at distinct nonzero places are all zero if their sums with the powers of the places are zero:
+  -- with the first powers, the second, and so on, up to the number of points
   abbrev pub PowerSumsDetermineValues : Type 0
   PowerSumsDetermineValues =
       (points : List (F × F))
@@ -29,7 +29,7 @@ module _ {F : Type 0} (f : Operations F) where
       → All f.IsElement q
       → value_at f (product_of f q g) x ≡ f.mul (value_at f q x) (value_at f g x)
 
-  -- the same of coefficients that are read from the highest power down
+  -- the same for coefficients that are read from the highest power down
   abbrev pub ReversedValuesMultiply : Type 0
   ReversedValuesMultiply =
       (q g : List F) (x : F)
@@ -38,7 +38,7 @@ module _ {F : Type 0} (f : Operations F) where
       → value_at f (reverse (product_of f q g)) x
       ≡ f.mul (value_at f (reverse q) x) (value_at f (reverse g) x)
 
-  -- a multiple of g is zero where g is, also read from the highest power down
+  -- a multiple of g is zero wherever g is
   abbrev pub MultiplesKeepRoots : Type 0
   MultiplesKeepRoots =
       (xs g : List F) (x : F)
@@ -46,6 +46,7 @@ module _ {F : Type 0} (f : Operations F) where
       → value_at f g x ≡ f.zero
       → value_at f xs x ≡ f.zero
 
+  -- the same for coefficients that are read from the highest power down
   abbrev pub ReversedMultiplesKeepRoots : Type 0
   ReversedMultiplesKeepRoots =
       (xs g : List F) (x : F)
@@ -54,7 +55,7 @@ module _ {F : Type 0} (f : Operations F) where
       → value_at f (reverse g) x ≡ f.zero
       → value_at f (reverse xs) x ≡ f.zero
 
--- the powers of 2 in the word field with exponents below the number of words but zero are distinct
+-- the powers of 2 in the word field with exponents below the number of nonzero words are distinct
 abbrev pub PowersOfTwoAreDistinct : Type 0
 PowersOfTwoAreDistinct =
     (i j : ℕ) → i < j → j < nonzero_words → power word_field 2 i ≢ power word_field 2 j

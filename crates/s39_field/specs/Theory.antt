@@ -1,5 +1,5 @@
--- What the laws of `Field` stand on, which may cite `specs` alone: polynomials over two elements, and the two fields. No
--- contract cites it.
+-- The theory on which the laws of `Field` rest: polynomials over two elements, and the two fields. It stands in `specs`,
+-- since these laws may cite that alone. No contract cites it.
 pub mod BinaryPolynomials
 pub mod Residues
 pub mod Powers

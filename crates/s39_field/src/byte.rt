@@ -8,8 +8,16 @@ use crate::logarithms;
 use crate::operations::Field;
 use std::marker::Model;
 
-/// A byte as an element of the field of 256 elements: a polynomial over two elements of degree 7 or
-/// less, modulo `x^8 + x^4 + x^3 + x + 1` (SLIP-0039, "Shamir's secret sharing").
+/// A byte as an element of the field of 256 elements (SLIP-0039, "Shamir's secret sharing").
+///
+/// The elements are the polynomials of degree 7 or less over the field of two elements, modulo
+/// `x^8 + x^4 + x^3 + x + 1`. Bit `i` of the byte is the coefficient of `x^i`. Every byte is an element,
+/// so conversions by `From` can't fail in either direction; the operations are those of [`Field`].
+///
+/// ```rust
+/// let product = Gf256::from(0x57).mul(Gf256::from(0x83));
+/// assert_eq!(rt; u8::from(product), 0xC1);
+/// ```
 #[derive(Clone, Copy, Debug, PartialEq, Eq)]
 pub struct Gf256(u8);
 

@@ -9,7 +9,7 @@ ghost use Rattle.s39_field.specs.Interpolation.{differences, weights_of, weighte
 use crate::byte::Gf256;
 use crate::operations::Field;
 
-/// The product of `x - place` over the places but the one at index `except`.
+/// The product of `x - place` over all places except the one at index `except`.
 fn product_of_differences(x: Gf256, places: &[Gf256], except: usize) -> Gf256
     requires { except < length places.now }
     ensures product { result ≡ differences byte_field x (remove places.now except) }
@@ -26,12 +26,19 @@ fn product_of_differences(x: Gf256, places: &[Gf256], except: usize) -> Gf256
     product
 }
 
-/// The Lagrange weights of distinct places at `at`: `out[i]` becomes the product over the other
-/// places `j` of `(at - xs[j]) / (xs[i] - xs[j])`. There are as many weights as places.
+/// Computes the Lagrange weights of distinct places at `at` (SLIP-0039, "Shamir's secret sharing"):
+/// `out[i]` becomes the product of `(at - xs[j]) / (xs[i] - xs[j])` over all `j` other than `i`.
 ///
-/// Whatever bytes stand at the places, the sum of weight times byte is the byte at `at` of a
-/// polynomial through them that has no more coefficients than there are places (SLIP-0039,
-/// "Shamir's secret sharing").
+/// No two places may be equal, and `out` must be as long as `xs`. For any bytes at the places, the sum of
+/// weight times byte is the value at `at` of a polynomial through these points that has no more
+/// coefficients than there are places.
+///
+/// ```rust
+/// let places = [Gf256::from(0x00), Gf256::from(0x01)];
+/// let mut out = [Gf256::ZERO; 2];
+/// weights(&places, Gf256::from(0xFF), &mut out);
+/// assert_eq!(rt; out, [Gf256::from(0xFE), Gf256::from(0xFF)]);
+/// ```
 pub fn weights(xs: &[Gf256], at: Gf256, out: &mut [Gf256])
     requires distinct { AllPairs (λ p q. p ≢ q) xs.now }
     requires same_length { length xs.now ≡ length out.old }

@@ -1,4 +1,4 @@
-//! Laws of the two fields, each the contract of a function that does nothing.
+//! Laws of the two fields. Each is the contract of a function that does nothing.
 
 ghost use Rattle.std.specs.Prelude.{◌≡◌, ◌≢◌, ◌-◌, ◌<◌, ℕ, length, slice_index};
 ghost use Rattle.s39_field.specs.Field.{IsField};
@@ -16,7 +16,7 @@ ghost use Rattle.s39_field.specs.PowerSums.{MultiplesKeepRoots, ReversedMultiple
 use crate::logarithms::{LOGARITHMS, POWERS};
 use crate::operations::Field;
 
-/// The definition of a product modulo either polynomial allows exactly one, for any two numbers.
+/// For any two numbers, exactly one number meets the definition of their product modulo either polynomial.
 pub fn one_product()
     ensures of_bytes { (a b : ℕ) → IsProduct byte_modulus a b (product_modulo byte_modulus a b) }
     ensures one_of_bytes { (a b r : ℕ) → IsProduct byte_modulus a b r
@@ -26,19 +26,19 @@ pub fn one_product()
         → r ≡ product_modulo word_modulus a b }
 {}
 
-/// The bytes and the ten-bit words keep the axioms of a field in which each element is its own
+/// The bytes and the ten-bit words satisfy the axioms of a field in which each element is its own
 /// negative.
 pub fn axioms()
     ensures of_bytes { IsField byte_field }
     ensures of_words { IsField word_field }
 {}
 
-/// Every implementation of `Field` keeps them.
+/// Every implementation of [`Field`] satisfies these axioms.
 pub fn axioms_of<F: Field>()
     ensures { IsField F.operations }
 {}
 
-/// The inverse of each element but zero is its inverse.
+/// The product of each nonzero element and its inverse is 1.
 pub fn inverses()
     ensures of_bytes { (a : ℕ) → byte_field.IsElement a → a ≢ 0
         → byte_field.mul a (byte_field.inv a) ≡ 1 }
@@ -46,8 +46,8 @@ pub fn inverses()
         → word_field.mul a (word_field.inv a) ≡ 1 }
 {}
 
-/// The tables by which bytes are multiplied: entry `i` of the powers is `3^i`, and the logarithm of
-/// that, at entry `3^i - 1` of the other table, is `i`.
+/// The tables by which bytes are multiplied are right: entry `i` of the powers is `3^i`, and entry
+/// `3^i - 1` of the logarithms is `i`.
 pub fn tables()
     ensures powers { (i : ℕ) → i < nonzero_bytes → slice_index POWERS i ≡ power byte_field 3 i }
     ensures logarithms { (i : ℕ) → i < nonzero_bytes
@@ -55,9 +55,9 @@ pub fn tables()
     ensures lengths { (length POWERS ≡ nonzero_bytes) × (length LOGARITHMS ≡ nonzero_bytes) }
 {}
 
-/// Distinct places determine a polynomial that has no more coefficients than there are places, up
-/// to zeros at the end of its list, and so its values everywhere. Points at distinct places have at
-/// most one value at each further place.
+/// The values at distinct places determine a polynomial that has no more coefficients than there are
+/// places, up to zeros at the end of its list. So they determine its values everywhere: points at
+/// distinct places have at most one value at each further place.
 pub fn one_polynomial<F: Field>()
     ensures coefficients { PlacesDetermineCoefficients F.operations }
     ensures places { PlacesDetermineValues F.operations }
@@ -70,15 +70,16 @@ pub fn weighted_values<F: Field>()
     ensures { WeightsInterpolate F.operations }
 {}
 
-/// Byte strings of one length at distinct places have a byte string at each further place, and,
-/// where there is at least one of them, no other.
+/// Byte strings of one length at distinct places interpolate a byte string at each further place. If
+/// there is at least one of them, they interpolate no other.
 pub fn one_byte_string()
     ensures some { StringsHaveAValue }
     ensures one { StringsHaveOneValue }
 {}
 
 /// The value of a product of polynomials is the product of their values, so a multiple of a
-/// polynomial is zero where that is: also where coefficients are read from the highest power down.
+/// polynomial is zero wherever that polynomial is. Both also hold for coefficients that are read from
+/// the highest power down.
 pub fn values_multiply<F: Field>()
     ensures values { ValuesMultiply F.operations }
     ensures reversed_values { ReversedValuesMultiply F.operations }
@@ -86,14 +87,14 @@ pub fn values_multiply<F: Field>()
     ensures reversed_roots { ReversedMultiplesKeepRoots F.operations }
 {}
 
-/// Values at distinct places but zero are zero where their sums with the powers of the places are, for
-/// as many powers as there are places: of three values, for the first, the second and the third.
+/// Values at distinct nonzero places are all zero if their sums with the powers of the places are. The
+/// powers are as many as the places: for three values, the first, the second and the third.
 pub fn power_sums<F: Field>()
     ensures { PowerSumsDetermineValues F.operations }
 {}
 
-/// The powers of 2 in the field of 1,024 elements are distinct up to the exponent 1,022, and none is
-/// zero.
+/// The powers of 2 in the field of 1,024 elements are distinct up to the exponent 1,022. All powers are
+/// elements, and none is zero.
 pub fn powers_of_two()
     ensures distinct { PowersOfTwoAreDistinct }
     ensures elements { (n : ℕ) → word_field.IsElement (power word_field 2 n) }

@@ -1,4 +1,13 @@
 //! The two fields of SLIP-0039: bytes for secret sharing, ten-bit words for the checksum.
+//!
+//! ```rust
+//! use s39_field::{Field, Gf256, Gf1024};
+//!
+//! let a = Gf256::from(0x53);
+//! assert_eq!(rt; a.mul(Gf256::from(0xCA)), Gf256::ONE);
+//! let b = Gf1024::try_from(2)?;
+//! assert_eq!(rt; u16::from(b.mul(Gf1024::try_from(516)?)), 1);
+//! ```
 #![tactic(auto)]
 
 mod byte;
@@ -18,5 +27,7 @@ pub use polynomial::eval;
 pub use rows::{lanes, scaled_sum};
 pub use word::{Gf1024, NotTenBits};
 
+#[cfg(test)]
+mod examples;
 #[cfg(test)]
 mod tests;

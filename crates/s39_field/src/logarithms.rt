@@ -1,10 +1,10 @@
-//! Products and inverses of bytes by logarithms: each byte but zero is a power of 3.
+//! Products and inverses of bytes by logarithms: each nonzero byte is a power of 3.
 
 ghost use Rattle.std.specs.Prelude.{◌≡◌, ◌≢◌, ◌+◌, ◌<◌};
 ghost use Rattle.s39_field.specs.FieldProduct.{byte_field};
 ghost use Rattle.s39_field.specs.Polynomial.{power};
 
-/// The number of bytes but zero, and so of the powers of 3: `3^255` is 1 again.
+/// The number of nonzero bytes, and so of the powers of 3: `3^255` is 1 again.
 const NONZERO_BYTES: usize = 255;
 
 /// The powers of 3: entry `i` is `3^i`.
@@ -81,7 +81,7 @@ pub(crate) fn product(a: u8, b: u8) -> u8
     }
 }
 
-/// The inverse of a byte but zero in the field.
+/// The inverse of a nonzero byte in the field.
 pub(crate) fn inverse(a: u8) -> u8
     requires { a ≢ 0 }
     ensures { result ≡ byte_field.inv a }

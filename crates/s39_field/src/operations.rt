@@ -5,34 +5,44 @@ ghost use Rattle.s39_field.specs.Field.{Operations, IsField};
 
 /// A field in which each element is its own negative, so that subtraction is addition.
 ///
-/// Each value of the type is an element: `add` and `mul` tell a proof so of both that they take.
+/// SLIP-0039 uses two such fields: [`Gf256`](crate::Gf256) and [`Gf1024`](crate::Gf1024). Every value of
+/// an implementing type is an element of the field, and the contracts of the operations state this of
+/// the values that they take. The law `laws::axioms_of` states the axioms.
+///
+/// ```rust
+/// let a = Gf256::from(0x53);
+/// assert_eq!(rt; a.add(Gf256::from(0xCA)), Gf256::from(0x99));
+/// assert_eq!(rt; a.add(a), Gf256::ZERO);
+/// assert_eq!(rt; a.mul(Gf256::from(0xCA)), Gf256::ONE);
+/// assert_eq!(rt; a.inv(), Gf256::from(0xCA));
+/// ```
 pub trait Field: Copy + Eq {
-    /// Elements, zero, one, sum, product and inverse, as clauses and laws speak of them.
+    /// The elements, zero, one, sum, product and inverse of which contracts and laws speak.
     ghost operations: { Operations Self };
 
     ghost ZERO: { Self };
 
     ghost ONE: { Self };
 
-    /// The element that a sum ignores.
+    /// The zero of the field: adding it changes no element.
     const ZERO: Self;
 
-    /// The element that a product ignores.
+    /// The one of the field: multiplying by it changes no element.
     const ONE: Self;
 
-    /// The sum, and as well the difference.
+    /// Returns the sum of two elements, which is also their difference.
     fn add(self, other: Self) -> Self
         ensures sum { result ≡ operations.add self other }
         ensures self_element { operations.IsElement self }
         ensures other_element { operations.IsElement other };
 
-    /// The product.
+    /// Returns the product of two elements.
     fn mul(self, other: Self) -> Self
         ensures product { result ≡ operations.mul self other }
         ensures self_element { operations.IsElement self }
         ensures other_element { operations.IsElement other };
 
-    /// The inverse of an element that is not zero.
+    /// Returns the multiplicative inverse of an element. The element must not be zero, which has none.
     fn inv(self) -> Self
         requires { self ≢ operations.zero }
         ensures inverse { result ≡ operations.inv self }

@@ -5,8 +5,16 @@ ghost use Rattle.s39_field.specs.Polynomial.{value_at};
 
 use crate::operations::Field;
 
-/// The value at `x` of the polynomial with these coefficients, of which `coeffs[i]` belongs to
-/// `x^i`: the sum of `coeffs[i] * x^i`. With no coefficient it is zero.
+/// Evaluates a polynomial at `x`: returns the sum of `coeffs[i] * x^i`.
+///
+/// Coefficients stand in ascending order of powers, so `coeffs[0]` is the constant term. A polynomial
+/// without coefficients is zero everywhere.
+///
+/// ```rust
+/// let coeffs = [Gf256::from(0x57), Gf256::from(0x83)];
+/// assert_eq!(rt; eval(&coeffs, Gf256::from(0)), Gf256::from(0x57));
+/// assert_eq!(rt; eval(&coeffs, Gf256::from(2)), Gf256::from(0x4A));
+/// ```
 pub fn eval<F: Field>(coeffs: &[F], x: F) -> F
     ensures { result ≡ value_at F.operations coeffs.now x }
 {

@@ -10,7 +10,7 @@ use std::simd::prelude::*;
 /// The number of bytes in a vector.
 const LANES: usize = 16;
 
-/// What stands for `x^8` in the field: `x^4 + x^3 + x + 1`.
+/// The element that equals `x^8` in the field: `x^4 + x^3 + x + 1`.
 const REDUCED: u8 = 0x1B;
 
 /// The product of `x` and each lane.
@@ -21,7 +21,13 @@ fn doubled_lanes(row: u8x16) -> u8x16
     (row << 1) ^ (carries & u8x16::splat(REDUCED))
 }
 
-/// The product of `w` and each lane, in the field of 256 elements.
+/// Multiplies each of sixteen bytes by `w`: returns the products in the field of 256 elements, in the
+/// order of the lanes.
+///
+/// ```rust
+/// let products = lanes(Gf256::from(0x57), u8x16::splat(0x83));
+/// assert_eq!(rt; products.to_array(), [0xC1; 16]);
+/// ```
 pub fn lanes(w: Gf256, row: u8x16) -> u8x16
     ensures { result ≡ map (byte_field.mul w) row }
 {
@@ -37,8 +43,8 @@ pub fn lanes(w: Gf256, row: u8x16) -> u8x16
     sum
 }
 
-/// Adds `w` times a row to another as far as it fills whole vectors, and gives the number of bytes
-/// of these.
+/// Adds `w` times a row to another as far as the row fills whole vectors, and returns how many bytes
+/// these have.
 fn scaled_sum_of_vectors(acc: &mut [u8], w: Gf256, row: &[u8]) -> usize
     requires { length acc.old ≡ length row.now }
     ensures within { result ≤ length acc.old }
@@ -58,8 +64,14 @@ fn scaled_sum_of_vectors(acc: &mut [u8], w: Gf256, row: &[u8]) -> usize
     done
 }
 
-/// Adds `w` times a row of bytes to another, which is as long: each `acc[k]` becomes
-/// `acc[k] + w * row[k]`.
+/// Adds `w` times a row of bytes to another row, in the field of 256 elements: each `acc[k]` becomes
+/// `acc[k] + w * row[k]`. Both rows must have the same length, and may be empty.
+///
+/// ```rust
+/// let mut sums = [0x00, 0xFF, 0xC1];
+/// scaled_sum(&mut sums, Gf256::from(0x57), &[0x83; 3]);
+/// assert_eq!(rt; sums, [0xC1, 0x3E, 0x00]);
+/// ```
 pub fn scaled_sum(acc: &mut [u8], w: Gf256, row: &[u8])
     requires { length acc.old ≡ length row.now }
     ensures { EachIndex acc.old (λ k. slice_index acc.new k

@@ -1,4 +1,4 @@
-//! The field of 1,024 elements, in which checksums are taken.
+//! The field of 1,024 elements, in which checksums are computed.
 
 ghost use Rattle.std.specs.Prelude.{◌≡◌, ◌<◌, ◌≤◌, ◌++◌, Some, MatchResult, codes, refl};
 ghost use Rattle.std.specs.Fmt.{decimal};
@@ -12,15 +12,24 @@ use std::error::Error;
 use std::fmt;
 use std::marker::Model;
 
-/// A ten-bit word as an element of the field of 1,024 elements: a polynomial over two elements of
-/// degree 9 or less, modulo `x^10 + x^3 + 1` (SLIP-0039, "Checksum").
+/// A ten-bit word as an element of the field of 1,024 elements (SLIP-0039, "Checksum").
+///
+/// The elements are the polynomials of degree 9 or less over the field of two elements, modulo
+/// `x^10 + x^3 + 1`. Bit `i` of the word is the coefficient of `x^i`. `try_from` takes numbers below
+/// 1,024 and refuses all others by [`NotTenBits`]; `u16::from` gives the number back.
+///
+/// ```rust
+/// let product = Gf1024::try_from(512)?.mul(Gf1024::try_from(2)?);
+/// assert_eq!(rt; u16::from(product), 9);
+/// assert_eq!(rt; Gf1024::try_from(1024), Err(NotTenBits(1024)));
+/// ```
 #[derive(Clone, Copy, Debug, PartialEq, Eq)]
 pub struct Gf1024(u16);
 
 /// The number of elements of the field.
 const ORDER: u16 = 1024;
 
-/// A number that is not below 1,024.
+/// The error of `Gf1024::try_from`: it holds a number that is not below 1,024, the one to be converted.
 #[derive(Clone, Copy, Debug, PartialEq, Eq)]
 pub struct NotTenBits(pub u16);
 

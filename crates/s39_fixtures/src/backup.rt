@@ -1,10 +1,10 @@
-//! A backup of three groups, and what its mnemonics give.
+//! A backup of three groups, and what the program writes for its mnemonics.
 
 use std::alloc::{AllocError, Global};
 
 pub const SECRET: &str = "bb54aac4b89dc868ba37d9cc21b2cece";
 
-/// The words of a creation with the passphrase of the vectors.
+/// The words of the command `create` with the passphrase of the vectors.
 pub fn create<'a>(plan: &'a str, secret: &'a str) -> [&'a str; 7] {
     [
         "shamir",
@@ -17,7 +17,7 @@ pub fn create<'a>(plan: &'a str, secret: &'a str) -> [&'a str; 7] {
     ]
 }
 
-/// The mnemonics of `2/2of3,1of1,1of1` from the random bytes 0 to 25; another program computes them.
+/// The mnemonics of the plan `2/2of3,1of1,1of1` from the random bytes 0 to 25. Another program computed them.
 pub const FIVE: [&str; 5] = [
     "academic aluminum acrobat leaf buyer drink heat negative damage union purchase photo inmate training amazing yield bucket wrote mule cluster",
     "academic aluminum acrobat lily august piece column laser headset unusual blimp nuclear sweater criminal credit eyebrow trouble silent axis skin",
@@ -41,10 +41,10 @@ pub const QUORUMS_OF_FIVE: [&str; 7] = [
     "1.0+2.0",
 ];
 
-/// What a drill of the five mnemonics writes.
+/// Returns what a drill of the five mnemonics writes.
 ///
 /// # Errors
-/// No memory is left.
+/// The allocation fails.
 pub fn drilled(alloc: Global) -> Result<String, AllocError> {
     let mut all = String::new(alloc);
     for quorum in QUORUMS_OF_FIVE {
@@ -54,10 +54,10 @@ pub fn drilled(alloc: Global) -> Result<String, AllocError> {
     Ok(all)
 }
 
-/// Lines of a text each.
+/// Returns a text in which each of these texts is a line.
 ///
 /// # Errors
-/// No memory is left.
+/// The allocation fails.
 pub fn lines(alloc: Global, texts: &[&str]) -> Result<String, AllocError> {
     let mut all = String::new(alloc);
     for text in texts {

@@ -1,10 +1,10 @@
-//! Readers and writers that give or take little, fail, or are interrupted.
+//! Readers and writers that give or take few bytes at a time, fail, or are interrupted.
 
 use std::alloc::Global;
 use std::io;
 use std::io::{ErrorKind, Read, Write};
 
-/// A reader that gives at most so many bytes a call, and fails once it has been called so often.
+/// A reader that gives a limited number of bytes at each call, and fails after a limited number of calls.
 #[derive(Drop)]
 pub struct Source<'a> {
     bytes: &'a [u8],
@@ -48,7 +48,7 @@ impl Read for Source<'_> {
     }
 }
 
-/// A reader of which the system interrupts the first call, and that has no bytes.
+/// A reader that has no bytes, and whose first call the system interrupts.
 #[derive(Drop)]
 pub struct InterruptedAtFirst {
     pub calls: usize,
@@ -64,7 +64,7 @@ impl Read for InterruptedAtFirst {
     }
 }
 
-/// A writer that takes at most so many bytes a call, and fails once there is no room.
+/// A writer that takes a limited number of bytes at each call, and fails once there is no room.
 #[derive(Drop)]
 pub struct Filling {
     pub bytes: Vec<u8>,
@@ -134,7 +134,7 @@ impl Write for Flushing {
     }
 }
 
-/// A writer of which the system interrupts so many calls before each that it takes.
+/// A writer of which the system interrupts a number of calls before each call that takes bytes.
 #[derive(Drop)]
 pub struct Interrupted {
     pub bytes: Vec<u8>,

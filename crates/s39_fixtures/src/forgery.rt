@@ -1,17 +1,18 @@
-//! Mnemonics whose values are changed.
+//! Mnemonics whose values were changed.
 
 use arrayvec::ArrayVec;
 use s39_kdf::check_secret;
 use s39_words::{MAX_TEXT_BYTES, Share, ShareFields, parse, print};
 
-/// The text is no mnemonic.
+/// The text isn't a mnemonic.
 #[derive(Clone, Copy, Debug, PartialEq, Eq)]
 pub struct NoForgery;
 
-/// A mnemonic of the fields of another, with the bits of `flip` changed in the first byte of its value.
+/// Returns the mnemonic with the fields of another one, except that the bits of `flip` are changed in the first byte of
+/// its value.
 ///
 /// # Errors
-/// The text is no mnemonic.
+/// The text isn't a mnemonic.
 pub fn forged(text: &str, flip: u8) -> Result<ArrayVec<u8, MAX_TEXT_BYTES>, NoForgery> {
     let Ok(share) = parse(text.as_bytes()) else {
         return Err(NoForgery);

@@ -1,18 +1,19 @@
-//! What the tests share: mnemonics of the published vectors, worked examples that another program computed, devices that
-//! fail, and a run of the program whose output, message and status are compared.
+//! What the tests share: mnemonics of the published vectors, worked examples that another program computed, devices
+//! that fail, and runs of the program whose output, message and status are compared.
 #![tactic(auto)]
 
 mod backup;
 pub mod devices;
 mod forgery;
 mod runs;
+pub mod shelves;
 mod vectors;
 
 pub use backup::{FIVE, QUORUMS_OF_FIVE, RANDOM, SECRET, create, drilled, lines};
 pub use forgery::{NoForgery, forged};
 pub use runs::{
-    DRILL, RECOVER, Run, SHOW, WRITE_FAILED_LINE, expect_bytes, expect_flushed, expect_run,
-    expect_told, program, program_at_terminal, run_on,
+    DRILL, RECOVER, Run, SHOW, WRITE_FAILED_LINE, expect_bytes, expect_flushed, expect_over,
+    expect_run, expect_told, program, program_at_terminal, run_on, run_over,
 };
 pub use vectors::{
     EXTENDABLE_ONE_OF_ONE, EXTENDABLE_ONE_OF_ONE_SHOWN, EXTENDABLE_TWO_WORDS_EXCHANGED,

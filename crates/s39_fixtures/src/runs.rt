@@ -1,6 +1,7 @@
 //! Runs of the program.
 
 use crate::devices::Flushing;
+use crate::shelves::{Held, NoFiles};
 use s39_cli::{Destination, Source};
 use std::alloc::Global;
 use std::io::{Read, Write};
@@ -12,10 +13,10 @@ pub const RECOVER: [&str; 4] = ["shamir", "recover", "--passphrase", "TREZOR"];
 
 pub const DRILL: [&str; 4] = ["shamir", "drill", "--passphrase", "TREZOR"];
 
-/// What is said where a write fails, with status 3.
+/// The message when a write fails; the exit status is 3.
 pub const WRITE_FAILED_LINE: &str = "shamir: 73 write failed\n";
 
-/// Runs the program where no terminal is, and gives its exit status.
+/// Runs the program without a terminal, and returns its exit status.
 pub fn program<R: Read + Drop, W: Write + Drop, E: Write + Drop>(
     alloc: Global,
     words: &[&str],
@@ -25,6 +26,7 @@ pub fn program<R: Read + Drop, W: Write + Drop, E: Write + Drop>(
 ) -> u8 {
     let mut errors = errors;
     s39_cli::program(
+        &NoFiles,
         alloc,
         words,
         input,
@@ -36,7 +38,7 @@ pub fn program<R: Read + Drop, W: Write + Drop, E: Write + Drop>(
     .status()
 }
 
-/// Runs the program at a terminal, and gives its exit status.
+/// Runs the program at a terminal, and returns its exit status.
 pub fn program_at_terminal<R: Read + Drop, W: Write + Drop, E: Write + Drop>(
     alloc: Global,
     words: &[&str],
@@ -46,6 +48,7 @@ pub fn program_at_terminal<R: Read + Drop, W: Write + Drop, E: Write + Drop>(
 ) -> u8 {
     let mut errors = errors;
     s39_cli::program(
+        &NoFiles,
         alloc,
         words,
         input,
@@ -57,7 +60,7 @@ pub fn program_at_terminal<R: Read + Drop, W: Write + Drop, E: Write + Drop>(
     .status()
 }
 
-/// What a run wrote, what it said on standard error, and its exit status.
+/// What a run wrote, its message on standard error, and its exit status.
 #[derive(Drop)]
 pub struct Run {
     pub written: Vec<u8>,
@@ -65,7 +68,7 @@ pub struct Run {
     pub status: u8,
 }
 
-/// Runs the words on an input.
+/// Runs the program with these words on an input.
 pub fn run_on(alloc: Global, words: &[&str], input: &[u8]) -> Run {
     let mut written = Vec::new(alloc);
     let mut told = Vec::new(alloc);
@@ -77,10 +80,32 @@ pub fn run_on(alloc: Global, words: &[&str], input: &[u8]) -> Run {
     }
 }
 
-/// Runs the words on the lines, and compares what is written, what is said on standard error, and the status.
+/// Runs the words on an input, over files that are held in memory.
+pub fn run_over(files: &[(&str, &[u8])], alloc: Global, words: &[&str], input: &[u8]) -> Run {
+    let mut written = Vec::new(alloc);
+    let mut told = Vec::new(alloc);
+    let status = s39_cli::program(
+        &Held { files },
+        alloc,
+        words,
+        input,
+        &mut written,
+        &mut told,
+        Source::Elsewhere,
+        Destination::Elsewhere,
+    )
+    .status();
+    Run {
+        written,
+        told,
+        status,
+    }
+}
+
+/// Runs the program with these words on lines, and compares its output, its message and its status with `wanted`.
 ///
 /// # Errors
-/// One of them is another; the text tells the words and what it is.
+/// One of them differs. The text of the error has the words and what came instead.
 pub fn expect_run(
     words: &[&str],
     input: &str,
@@ -90,27 +115,45 @@ pub fn expect_run(
     expect_bytes(words, input.as_bytes(), alloc, wanted)
 }
 
-/// Likewise on any bytes.
+/// Does what `expect_run` does, on any bytes.
 ///
 /// # Errors
-/// As of `expect_run`.
+/// The errors are those of `expect_run`.
 pub fn expect_bytes(
     words: &[&str],
     input: &[u8],
     alloc: Global,
     wanted: (&str, &str, u8),
 ) -> Result<(), Fail> {
+    expect_answer(words, run_on(alloc, words, input), wanted)
+}
+
+/// Likewise over files that are held in memory.
+///
+/// # Errors
+/// As of `expect_run`.
+pub fn expect_over(
+    files: &[(&str, &[u8])],
+    words: &[&str],
+    input: &[u8],
+    alloc: Global,
+    wanted: (&str, &str, u8),
+) -> Result<(), Fail> {
+    expect_answer(words, run_over(files, alloc, words, input), wanted)
+}
+
+/// Compares what a run of the words wrote, said and answered.
+fn expect_answer(words: &[&str], run: Run, wanted: (&str, &str, u8)) -> Result<(), Fail> {
     let (output, errors, status) = wanted;
-    let run = run_on(alloc, words, input);
     expect_text(words, "output", run.written.as_slice(), output)?;
     expect_text(words, "message", run.told.as_slice(), errors)?;
     expect_status(words, run.status, status)
 }
 
-/// Likewise over any reader and writer: what is said on standard error, and the status.
+/// Runs the program over any reader and writer, and compares its message and its status.
 ///
 /// # Errors
-/// As of `expect_run`.
+/// The errors are those of `expect_run`.
 pub fn expect_told<R: Read + Drop, W: Write + Drop>(
     words: &[&str],
     input: R,
@@ -125,11 +168,11 @@ pub fn expect_told<R: Read + Drop, W: Write + Drop>(
     expect_status(words, answer, status)
 }
 
-/// Likewise over a writer of which each flush fails, or none: what is written and said, the status, and how often the
-/// writer is flushed.
+/// Runs the program over a writer of which each flush fails, or none, and compares its output, its message, its status,
+/// and how often the writer is flushed.
 ///
 /// # Errors
-/// As of `expect_run`.
+/// The errors are those of `expect_run`.
 pub fn expect_flushed(
     words: &[&str],
     input: &[u8],

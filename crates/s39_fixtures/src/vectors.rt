@@ -1,4 +1,4 @@
-//! Mnemonics, and what comes of them.
+//! Mnemonics of published vectors, and what the program writes for them.
 
 // Vectors of SLIP-0039; their passphrase is `TREZOR`.
 pub const ONE_OF_ONE: &str =

@@ -7,7 +7,7 @@ use Rattle.s39_kdf.specs.Pbkdf2.{pbkdf2}
 use Rattle.s39_kdf.specs.declared.params.Params.{Params}
 
 -- what stands before the right half in a round's salt: `shamir` and the identifier as two big-endian
--- bytes, or nothing where the extendable backup flag is set
+-- bytes, or nothing if the extendable flag is set
 abbrev pub salt_prefix : Params → List ℕ
 salt_prefix params =
     if params.extendable then [] else codes "shamir" ++ to_be_bytes w16 params.id
@@ -21,7 +21,7 @@ unfoldable pub round_function : List ℕ → Params → ℕ → List ℕ → Lis
 round_function passphrase params i right =
     pbkdf2 (i ∷ passphrase) (salt_prefix params ++ right) (round_iterations params) (length right)
 
--- The secret's halves are h0 and h1. Round i makes h(i+2) of h(i) and h(i+1), and the result is h5
+-- The secret's halves are h0 and h1. Round i computes h(i+2) from h(i) and h(i+1), and the result is h5
 -- followed by h4.
 pub record IsEncryption (secret passphrase : List ℕ) (params : Params) (result : List ℕ) : Type 0 where
   pub h0 : List ℕ
@@ -38,28 +38,28 @@ pub record IsEncryption (secret passphrase : List ℕ) (params : Params) (result
   pub round_3 : h5 ≡ xor_of h3 (round_function passphrase params 3 h4)
   pub exchanged : result ≡ h5 ++ h4
 
--- a text is the encryption of at most one secret
+-- a byte string is the encryption of at most one secret
 abbrev pub EncryptsOneSecret : Type 0
 EncryptsOneSecret = (passphrase : List ℕ) (params : Params) (secret other result : List ℕ)
     → IsEncryption secret passphrase params result
     → IsEncryption other passphrase params result
     → secret ≡ other
 
--- a secret of an even number of bytes has one encryption
+-- a secret of an even number of bytes has exactly one encryption
 abbrev pub SecretsHaveOneEncryption : Type 0
 SecretsHaveOneEncryption = (passphrase : List ℕ) (params : Params) (secret : List ℕ)
     → length secret % 2 ≡ 0
     → (result : List ℕ) × IsEncryption secret passphrase params result
     × ((other : List ℕ) → IsEncryption secret passphrase params other → other ≡ result)
 
--- a text of an even number of bytes is the encryption of one secret
+-- a byte string of even length is the encryption of exactly one secret
 abbrev pub TextsHaveOneSecret : Type 0
 TextsHaveOneSecret = (passphrase : List ℕ) (params : Params) (result : List ℕ)
     → length result % 2 ≡ 0
     → (secret : List ℕ) × IsEncryption secret passphrase params result
     × ((other : List ℕ) → IsEncryption other passphrase params result → other ≡ secret)
 
--- a secret and its encryption have one length, and the one consists of bytes where the other does
+-- a secret and its encryption have the same length, and if one of them consists of bytes, so does the other
 abbrev pub EncryptionKeepsLengthAndBytes : Type 0
 EncryptionKeepsLengthAndBytes = (passphrase : List ℕ) (params : Params) (secret result : List ℕ)
     → IsEncryption secret passphrase params result

@@ -1,9 +1,9 @@
--- The fingerprint of a secret, by which its owner knows it again without seeing it. It is this program's own, and not the
--- standard's.
+-- The fingerprint of a secret, by which its owner recognises it without seeing it. It is this program's own definition,
+-- and not part of the standard.
 use Rattle.std.specs.Prelude.{ℕ, List, take, codes}
 use Rattle.s39_kdf.specs.Hmac.{hmac}
 
--- the bytes of a fingerprint
+-- the number of bytes of a fingerprint
 abbrev pub fingerprint_length : ℕ
 fingerprint_length = 4
 

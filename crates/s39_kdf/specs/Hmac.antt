@@ -3,19 +3,19 @@
 use Rattle.std.specs.Prelude.{ℕ, ◌-◌, List, ◌++◌, length, map, replicate, nat_lt, if◌then◌else◌, bit_xor}
 use Rattle.sha2.specs.Sha256.{sha256}
 
--- B, the bytes of a block of SHA-256
+-- B, the number of bytes of a block of SHA-256
 abbrev pub block_length : ℕ
 block_length = 64
 
--- L, the bytes of a value of SHA-256, so of HMAC
+-- L, the number of bytes of a digest of SHA-256, and so of an HMAC
 abbrev pub mac_length : ℕ
 mac_length = 32
 
--- the key, or its digest where it is longer than a block
+-- the key, or its digest if it is longer than a block
 abbrev pub short_key : List ℕ → List ℕ
 short_key key = if nat_lt block_length (length key) then sha256 key else key
 
--- the key with zero bytes appended up to a block: the K of the standard
+-- the key with zero bytes appended up to the length of a block: the K of the standard
 abbrev pub block_key : List ℕ → List ℕ
 block_key key = short_key key ++ replicate (block_length - length (short_key key)) 0
 

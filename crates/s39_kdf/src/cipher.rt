@@ -15,9 +15,23 @@ const MAX_HALF_BYTES: usize = MAX_SECRET_BYTES / 2;
 /// Half a secret, while it is encrypted or decrypted.
 type Half = ArrayVec<u8, MAX_HALF_BYTES>;
 
-/// Encrypts a secret of an even number of bytes (SLIP-0039, "Encryption of the master secret"). The result is as long
-/// as the secret. It takes `4 * params.round_iterations()` iterations of PBKDF2, and twice as many for a secret of
-/// more than 64 bytes, where the key for each half has two blocks.
+/// Encrypts a master secret under a passphrase (SLIP-0039, "Encryption of the master secret"). The secret must have an
+/// even number of bytes; the result has the same length.
+///
+/// The passphrase may be empty, and any bytes are accepted; the standard allows printable ASCII alone, which
+/// [`check_passphrase`](crate::check_passphrase) checks. The call takes `4 * params.round_iterations()` iterations of
+/// PBKDF2. A secret of more than 64 bytes takes twice that number, since the key for each half then has two blocks.
+///
+/// ```rust
+/// let params = Params {
+///     id: 7945,
+///     extendable: false,
+///     exponent: 0,
+/// };
+/// let secret = check_secret(b"\xbb\x54\xaa\xc4\xb8\x9d\xc8\x68\xba\x37\xd9\xcc\x21\xb2\xce\xce")?;
+/// let encrypted = encrypt(&secret, b"TREZOR", params);
+/// assert_eq!(rt; &encrypted[..4], b"\x11\xbc\x60\x9d".as_slice());
+/// ```
 pub fn encrypt(secret: &Bytes, passphrase: &[u8], params: Params) -> Bytes
     requires { array_vec_len secret.now % 2 ≡ 0 }
     ensures value { IsEncryption secret.now.items passphrase.now params result.items }
@@ -34,8 +48,23 @@ pub fn encrypt(secret: &Bytes, passphrase: &[u8], params: Params) -> Bytes
     join(&h5, &h4)
 }
 
-/// Decrypts what `encrypt` gives under the same passphrase and parameters, an even number of bytes, with as many
-/// iterations. The result is as long. A wrong passphrase isn't noticed: it gives bytes, as a rule others, and no error.
+/// Decrypts an encrypted master secret: returns the only secret that [`encrypt`] turns into these bytes under the same
+/// passphrase and parameters (SLIP-0039, "Encryption of the master secret"). The number of bytes must be even; the
+/// result has the same length. The call takes the same number of iterations as `encrypt`.
+///
+/// A wrong passphrase isn't detected, as the standard intends. The result is then another secret, as a rule, and never
+/// an error.
+///
+/// ```rust
+/// let params = Params {
+///     id: 7945,
+///     extendable: false,
+///     exponent: 0,
+/// };
+/// let bytes = check_secret(b"\x11\xbc\x60\x9d\x21\x74\x7c\x49\xba\x78\xc0\x70\x12\x93\xe4\x17")?;
+/// let secret = decrypt(&bytes, b"TREZOR", params);
+/// assert_eq!(rt; &secret[..4], b"\xbb\x54\xaa\xc4".as_slice());
+/// ```
 pub fn decrypt(encrypted: &Bytes, passphrase: &[u8], params: Params) -> Bytes
     requires { array_vec_len encrypted.now % 2 ≡ 0 }
     ensures value { IsEncryption result.items passphrase.now params encrypted.now.items }
@@ -61,7 +90,7 @@ fn halves(bytes: &Bytes) -> (&[u8], &[u8])
     bytes.split_at(bytes.len() / 2)
 }
 
-/// One half, xored with the round function of the other. A round is undone by the same step.
+/// Xors one half with the round function of the other. The same step undoes a round.
 fn round(i: u8, half: &[u8], other: &[u8], passphrase: &[u8], params: Params) -> Half
     requires same_length { length half.now ≡ length other.now }
     requires fits { length other.now ≤ MAX_HALF_BYTES }
@@ -79,7 +108,7 @@ fn round(i: u8, half: &[u8], other: &[u8], passphrase: &[u8], params: Params) ->
     changed
 }
 
-/// Fills `out`, as long as the half, with the round function of that half.
+/// Fills `out`, which is as long as the half, with the round function of that half.
 #[tactic(auto, unfolding(crate::specs::Cipher::round_function))]
 fn round_function(i: u8, half: &[u8], passphrase: &[u8], params: Params, out: &mut [u8])
     requires same_length { length out.old ≡ length half.now }

@@ -7,13 +7,17 @@ use crate::keyed_hash::hmac;
 /// The length of a fingerprint, in bytes.
 pub const FINGERPRINT_BYTES: usize = 4;
 
-/// The fingerprint of a secret: the first four bytes of its HMAC-SHA256 (RFC 2104) under the key `shamir fingerprint`.
+/// Returns the fingerprint of a secret of any length: the first four bytes of its HMAC-SHA256 (RFC 2104) under the key
+/// `shamir fingerprint`. The definition is this program's own, and not part of SLIP-0039.
 ///
-/// Whoever knows a secret's fingerprint knows it again without seeing it: another secret has the same one in one case of
-/// 4,294,967,296. To somebody else it tells whether a guess of the secret is right, with the same chance of an error, and
-/// nothing that helps to guess.
+/// A noted fingerprint identifies a secret without showing it: another secret has the same fingerprint in one case of
+/// 4,294,967,296. It lets anyone who reads it check a guess of the secret, with the same chance of an error, and it
+/// doesn't help to guess.
 ///
-/// Of the secret `bb54aac4b89dc868ba37d9cc21b2cece` the fingerprint is `df41d8fe`.
+/// ```rust
+/// let secret = b"\xbb\x54\xaa\xc4\xb8\x9d\xc8\x68\xba\x37\xd9\xcc\x21\xb2\xce\xce";
+/// assert_eq!(rt; fingerprint(secret), *b"\xdf\x41\xd8\xfe");
+/// ```
 pub fn fingerprint(secret: &[u8]) -> [u8; FINGERPRINT_BYTES]
     ensures { result ≡ fingerprint_of secret.now }
 {

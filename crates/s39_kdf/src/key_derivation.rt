@@ -8,12 +8,19 @@ ghost use Rattle.s39_kdf.specs.Pbkdf2.{iterate, block, pbkdf2, longest_derived_k
 use crate::keyed_hash::{MAC_BYTES, PreparedKey, absorb};
 use sha2::Digest;
 
-/// The most bytes that `pbkdf2` derives: two blocks.
+/// The most bytes that [`pbkdf2`] derives: two blocks of HMAC-SHA256, 64 bytes.
 pub const MAX_DERIVED_BYTES: usize = 2 * MAC_BYTES;
 
-/// Fills `out`, of at most 64 bytes, with the key that PBKDF2-HMAC-SHA256 derives from a password and
-/// a salt, each given as parts that are joined in order, in `iterations` iterations, at least one (RFC
-/// 8018, section 5.2).
+/// Fills `out` with the key that PBKDF2-HMAC-SHA256 derives from a password and a salt (RFC 8018, section 5.2).
+///
+/// Password and salt are given as parts, which are joined in order. `iterations` must be at least 1, and `out` may have
+/// 0 to [`MAX_DERIVED_BYTES`] bytes. A shorter key is the beginning of a longer one.
+///
+/// ```rust
+/// let mut key = [0; 8];
+/// pbkdf2(&[b"pass", b"wd"], &[b"salt"], 1, &mut key);
+/// assert_eq!(rt; key, *b"\x55\xac\x04\x6e\x56\xe3\x08\x9f");
+/// ```
 #[tactic(auto, using(crate::proofs::Lengths::pbkdf2_one_block, crate::proofs::Lengths::pbkdf2_two_blocks))]
 pub fn pbkdf2(password: &[&[u8]], salt: &[&[u8]], iterations: u32, out: &mut [u8])
     requires iterations { 1 ≤ iterations }
@@ -34,7 +41,7 @@ pub fn pbkdf2(password: &[&[u8]], salt: &[&[u8]], iterations: u32, out: &mut [u8
     }
 }
 
-/// The block of this number: the xor of as many HMACs as there are iterations, each of the one before.
+/// The block of this number: the xor of one HMAC for each iteration. Each HMAC is that of the one before it.
 #[tactic(auto, using(crate::proofs::Lengths::block_one), unfolding(crate::specs::Pbkdf2::block, crate::specs::Pbkdf2::iterate))]
 fn block(key: &PreparedKey, salt: &[&[u8]], number: u32, iterations: u32) -> [u8; MAC_BYTES]
     requires { 1 ≤ iterations }
@@ -62,7 +69,7 @@ fn first_iteration(key: &PreparedKey, salt: &[&[u8]], number: u32) -> [u8; MAC_B
     key.finish(inner)
 }
 
-/// The HMAC of the one before.
+/// The HMAC of the one before it.
 fn next_iteration(key: &PreparedKey, before: &[u8; MAC_BYTES]) -> [u8; MAC_BYTES]
     ensures { (password : List ℕ) → HoldsKey key.now password → result ≡ hmac password before.now }
 {

@@ -9,13 +9,20 @@ ghost use Rattle.s39_kdf.specs.PreparedKey.{HoldsKey};
 use arrayvec::ArrayVec;
 use sha2::{Digest, Sha256};
 
-/// The length of an HMAC-SHA256, in bytes.
+/// The length of an HMAC-SHA256 in bytes.
 pub const MAC_BYTES: usize = 32;
 
-/// The bytes of a block of SHA-256.
+/// The length of a block of SHA-256 in bytes.
 pub(crate) const BLOCK_BYTES: usize = 64;
 
-/// The HMAC-SHA256 of a message under a key, each given as parts that are joined in order (RFC 2104, section 2).
+/// Returns the HMAC-SHA256 of a message under a key (RFC 2104, section 2).
+///
+/// Key and message are given as parts, which are joined in order. Both may have any length, and may be empty.
+///
+/// ```rust
+/// let mac = hmac(&[b"Jefe"], &[b"what do ya want ", b"for nothing?"]);
+/// assert_eq!(rt; &mac[..4], b"\x5b\xdc\xc1\x46".as_slice());
+/// ```
 pub fn hmac(key: &[&[u8]], message: &[&[u8]]) -> [u8; MAC_BYTES]
     ensures { result ≡ hmac (joined_parts key.now) (joined_parts message.now) }
 {
@@ -25,7 +32,7 @@ pub fn hmac(key: &[&[u8]], message: &[&[u8]]) -> [u8; MAC_BYTES]
     key.finish(inner)
 }
 
-/// A key whose two padded blocks are hashed already, so that an HMAC of a short message costs two
+/// A key whose two padded blocks are already hashed, so an HMAC of a short message costs two
 /// compressions.
 #[derive(Drop)]
 pub(crate) struct PreparedKey {
@@ -34,7 +41,7 @@ pub(crate) struct PreparedKey {
 }
 
 impl PreparedKey {
-    /// The key in these parts, joined in order.
+    /// Prepares the key that these parts make, joined in order.
     pub(crate) fn new(key: &[&[u8]]) -> PreparedKey
         ensures { HoldsKey result (joined_parts key.now) }
     {
@@ -45,14 +52,14 @@ impl PreparedKey {
         }
     }
 
-    /// The hasher to which the message is added.
+    /// Returns the hasher to which the message is added.
     pub(crate) fn begin(&self) -> Sha256
         ensures { (key : List ℕ) → HoldsKey self.now key → Holds256 result (inner_pad key) }
     {
         self.inner.clone().unwrap()
     }
 
-    /// The HMAC of the message that was added to the hasher of `begin`.
+    /// Returns the HMAC of the message that was added to a hasher of `begin`.
     #[tactic(auto, unfolding(crate::specs::Hmac::hmac))]
     pub(crate) fn finish(&self, inner: Sha256) -> [u8; MAC_BYTES]
         ensures { (key message : List ℕ) → HoldsKey self.now key
@@ -74,7 +81,7 @@ pub(crate) fn absorb(hasher: &mut Sha256, parts: &[&[u8]])
     }
 }
 
-/// The key in these parts, or its digest where it is longer than a block.
+/// The key in these parts, or its digest if it is longer than a block.
 #[tactic(auto, using(crate::proofs::Parts::joined_front_le))]
 fn short_key(key: &[&[u8]]) -> ArrayVec<u8, BLOCK_BYTES>
     ensures { result.items ≡ short_key (joined_parts key.now) }

@@ -1,4 +1,4 @@
-//! Laws of the cipher and of the limits, each proved as the contract of a function that does nothing.
+//! Laws of the cipher and of the limits. Each is proved as the contract of a function that does nothing.
 ghost use Rattle.std.specs.Prelude.{◌≡◌, ◌+◌, ◌^◌};
 ghost use Rattle.s39_kdf.specs.Cipher.{EncryptsOneSecret, SecretsHaveOneEncryption, TextsHaveOneSecret, EncryptionKeepsLengthAndBytes};
 ghost use Rattle.s39_kdf.specs.Limits.{shortest_secret, longest_secret, exponent_bits};
@@ -13,7 +13,7 @@ use crate::keyed_hash::{BLOCK_BYTES, MAC_BYTES};
 use crate::limits::{MAX_SECRET_BYTES, MIN_SECRET_BYTES};
 use crate::params::MAX_EXPONENT;
 
-/// The constants are the numbers by which the definitions go.
+/// The constants of the code equal the numbers of the definitions.
 pub fn numbers()
     ensures shortest { MIN_SECRET_BYTES ≡ shortest_secret }
     ensures longest { MAX_SECRET_BYTES ≡ longest_secret }
@@ -24,24 +24,24 @@ pub fn numbers()
     ensures fingerprint { FINGERPRINT_BYTES ≡ fingerprint_length }
 {}
 
-/// A text is the encryption of at most one secret under a passphrase and parameters.
+/// Under one passphrase and one set of parameters, a byte string is the encryption of at most one secret.
 pub fn encrypts_one_secret()
     ensures { EncryptsOneSecret }
 {}
 
-/// A secret of an even number of bytes has one encryption, and a text of an even number of bytes is the
-/// encryption of one secret.
+/// A secret of an even number of bytes has exactly one encryption, and every byte string of even length is the
+/// encryption of exactly one secret.
 pub fn one_encryption()
     ensures of_secrets { SecretsHaveOneEncryption }
     ensures of_texts { TextsHaveOneSecret }
 {}
 
-/// A secret and its encryption have one length, and the one consists of bytes where the other does.
+/// A secret and its encryption have the same length, and if one of them consists of bytes, so does the other.
 pub fn encryption_keeps_length_and_bytes()
     ensures { EncryptionKeepsLengthAndBytes }
 {}
 
-/// The bytes of a passphrase are all printable, or there is one first that isn't.
+/// Either all bytes of a passphrase are printable, or exactly one byte is the first that isn't.
 pub fn passphrases_are_printable_or_not()
     ensures one { PassphrasesHaveOneFirstUnprintable }
     ensures none { PrintablePassphrasesHaveNone }

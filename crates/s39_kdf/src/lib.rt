@@ -1,5 +1,18 @@
 //! Key derivation and the encryption of master secrets for SLIP-0039: HMAC-SHA256 (RFC 2104),
 //! PBKDF2-HMAC-SHA256 (RFC 8018), the four-round cipher, and the limits of secrets and passphrases.
+//!
+//! ```rust
+//! use s39_kdf::{Params, check_secret, decrypt, encrypt};
+//!
+//! let params = Params {
+//!     id: 4660,
+//!     extendable: true,
+//!     exponent: 0,
+//! };
+//! let secret = check_secret(&[7; 16])?;
+//! let encrypted = encrypt(&secret, b"correct horse", params);
+//! assert_eq!(rt; decrypt(&encrypted, b"correct horse", params), secret);
+//! ```
 #![tactic(auto)]
 
 mod cipher;
@@ -20,5 +33,7 @@ pub use limits::{
 };
 pub use params::{MAX_EXPONENT, Params};
 
+#[cfg(test)]
+mod examples;
 #[cfg(test)]
 mod tests;

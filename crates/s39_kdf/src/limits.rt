@@ -6,24 +6,31 @@ ghost use Rattle.s39_kdf.specs.Limits.{IsPrintable, IsFirstUnprintable, IsSecret
 use arrayvec::ArrayVec;
 use s39_refusal::{Cause, code};
 
-/// The fewest bytes of a master secret.
+/// The fewest bytes of a master secret (SLIP-0039, "Generating the shares").
 pub const MIN_SECRET_BYTES: usize = 16;
 
-/// The most bytes of a master secret.
+/// The most bytes of a master secret. The limit is this program's own, and not the standard's.
 pub const MAX_SECRET_BYTES: usize = 128;
 
-/// The bytes of a master secret, an encrypted secret or a share value.
+/// The bytes of a master secret, an encrypted secret or a share value: at most [`MAX_SECRET_BYTES`], in place and
+/// without an allocation.
 pub type Bytes = ArrayVec<u8, MAX_SECRET_BYTES>;
 
-/// A passphrase has a byte outside 32 to 126, the printable characters of ASCII.
+/// The refusal of a passphrase that has a byte outside 32 to 126, the printable characters of ASCII (SLIP-0039,
+/// "Passphrase").
+///
+/// ```rust
+/// let cause = BadPassphrase { position: 2 }.cause();
+/// assert_eq!(rt; (cause.code, cause.first), (41, 2));
+/// ```
 #[derive(Clone, Copy, PartialEq, Eq, Debug)]
 pub struct BadPassphrase {
-    /// The place of the first such byte, counted from 1.
+    /// The position of the first such byte, counted from 1.
     pub position: usize,
 }
 
 impl BadPassphrase {
-    /// What the refusal says: 41, and the position.
+    /// Returns what the refusal says: its number, which is 41, and the position as the first detail.
     pub fn cause(&self) -> Cause
         ensures { result ≡ passphrase_cause self.now.position }
     {
@@ -31,15 +38,20 @@ impl BadPassphrase {
     }
 }
 
-/// A master secret's length is odd, below 16 bytes or above 128.
+/// The refusal of a master secret whose length is odd, below 16 bytes or above 128.
+///
+/// ```rust
+/// let cause = BadSecretLength { bytes: 14 }.cause();
+/// assert_eq!(rt; (cause.code, cause.first), (42, 14));
+/// ```
 #[derive(Clone, Copy, PartialEq, Eq, Debug)]
 pub struct BadSecretLength {
-    /// The length in bytes.
+    /// The refused length, in bytes.
     pub bytes: usize,
 }
 
 impl BadSecretLength {
-    /// What the refusal says: 42, and the length.
+    /// Returns what the refusal says: its number, which is 42, and the length as the first detail.
     pub fn cause(&self) -> Cause
         ensures { result ≡ length_cause self.now.bytes }
     {
@@ -47,8 +59,16 @@ impl BadSecretLength {
     }
 }
 
-/// Accepts a passphrase exactly where all its bytes are from 32 to 126, an empty one too. The refusal holds the
-/// position of the first byte that isn't, counted from 1.
+/// Checks a passphrase: accepts it if and only if all its bytes are from 32 to 126, the printable characters of ASCII
+/// (SLIP-0039, "Passphrase"). An empty passphrase is accepted, and the length has no limit.
+///
+/// The refusal holds the position of the first byte outside that range, counted from 1.
+///
+/// ```rust
+/// assert_eq!(rt; check_passphrase(b"correct horse"), Ok(()));
+/// let refusal = check_passphrase(b"a\x07").err();
+/// assert_eq!(rt; refusal, Some(BadPassphrase { position: 2 }));
+/// ```
 pub fn check_passphrase(passphrase: &[u8]) -> Result<(), BadPassphrase>
     ensures accepted { IsOk result ↔ All IsPrintable passphrase.now }
     ensures first { IfErr result (λ bad. IsFirstUnprintable passphrase.now bad.position) }
@@ -68,8 +88,13 @@ fn is_printable(byte: u8) -> bool
     matches!(byte, 32..=126)
 }
 
-/// Accepts a length of a master secret exactly where it is even, from 16 to 128 bytes. The refusal holds that
-/// length.
+/// Checks the length of a master secret in bytes: accepts it if and only if it is even and from 16 to 128. The refusal
+/// holds the length.
+///
+/// ```rust
+/// assert_eq!(rt; check_secret_length(16), Ok(()));
+/// assert_eq!(rt; check_secret_length(17), Err(BadSecretLength { bytes: 17 }));
+/// ```
 pub fn check_secret_length(bytes: usize) -> Result<(), BadSecretLength>
     ensures accepted { IsOk result ↔ IsSecretLength bytes }
     ensures length { IfErr result (λ bad. bad.bytes ≡ bytes) }
@@ -80,8 +105,15 @@ pub fn check_secret_length(bytes: usize) -> Result<(), BadSecretLength>
     Ok(())
 }
 
-/// Copies a master secret, exactly where its length is even, from 16 to 128 bytes. The refusal holds the number of
-/// its bytes.
+/// Copies a master secret if its length is even and from 16 to 128 bytes, and refuses it otherwise. The refusal holds
+/// the length.
+///
+/// ```rust
+/// let secret = check_secret(&[7; 16])?;
+/// assert_eq!(rt; secret.as_slice(), &[7; 16][..]);
+/// let refusal = check_secret(&[7; 14]).err();
+/// assert_eq!(rt; refusal, Some(BadSecretLength { bytes: 14 }));
+/// ```
 pub fn check_secret(secret: &[u8]) -> Result<Bytes, BadSecretLength>
     ensures accepted { IsOk result ↔ IsSecretLength (length secret.now) }
     ensures unchanged { IfOk result (λ bytes. bytes.items ≡ secret.now) }

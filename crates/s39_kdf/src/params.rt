@@ -2,18 +2,29 @@
 ghost use Rattle.std.specs.Prelude.{◌≡◌, ◌<◌, ◌^◌};
 ghost use Rattle.s39_kdf.specs.Limits.{id_bits, exponent_bits};
 
-/// The greatest iteration exponent.
+/// The greatest iteration exponent: the field has four bits (SLIP-0039, "Format of the share mnemonic").
 pub const MAX_EXPONENT: u8 = 15;
 
 /// The fields of a backup on which the encryption of its master secret depends (SLIP-0039, "Encryption
 /// of the master secret").
+///
+/// Code that makes a value must prove the ranges of `id` and `exponent`, which the ghost fields state.
+///
+/// ```rust
+/// let params = Params {
+///     id: 7945,
+///     extendable: false,
+///     exponent: 2,
+/// };
+/// assert_eq!(rt; params.round_iterations(), 10_000);
+/// ```
 #[derive(Clone, Copy, PartialEq, Eq, Debug)]
 pub struct Params {
-    /// The identifier, of 15 bits.
+    /// The identifier, which has 15 bits: 0 to 32,767.
     pub id: u16,
-    /// The extendable backup flag: whether the identifier is left out of the salt.
+    /// The extendable flag: if it is set, the identifier isn't part of the salt.
     pub extendable: bool,
-    /// The iteration exponent, of 4 bits: each of the four rounds takes `2500 * 2^exponent` iterations.
+    /// The iteration exponent, 0 to 15: each of the four rounds takes `2500 * 2^exponent` iterations.
     pub exponent: u8,
     ghost id_in_range: { id < 2 ^ id_bits },
     ghost exponent_in_range: { exponent < 2 ^ exponent_bits },
@@ -22,7 +33,7 @@ pub struct Params {
 impl Params {
     ghost use Rattle.s39_kdf.specs.Cipher.{round_iterations};
 
-    /// The iterations of PBKDF2 in each of the four rounds: `2500 * 2^exponent`.
+    /// Returns how many iterations of PBKDF2 each of the four rounds takes: `2500 * 2^exponent`.
     pub fn round_iterations(self) -> u32
         ensures { result ≡ round_iterations self }
     {

@@ -4,7 +4,7 @@ use sha2::{Digest, Sha256};
 use std::process::Abort;
 use std::test::Fail;
 
-// RFC 4231, section 4, but for the case of a truncated digest.
+// The test cases of RFC 4231, section 4, except the one with a truncated digest.
 #[test]
 fn hmac_vectors(rt: HostRuntime) {
     let mut ascending = [0; 25];
@@ -55,7 +55,7 @@ fn hmac_vectors(rt: HostRuntime) {
     }
 }
 
-// A key of a block isn't hashed, and a longer one is, as Python's hmac computes it.
+// A key of exactly one block isn't hashed, and a longer one is. Python's hmac computes the values.
 #[test]
 fn hmac_of_long_keys(rt: HostRuntime) {
     let mut ascending = [0; 124];
@@ -102,8 +102,8 @@ fn hmac_joins_parts(rt: HostRuntime) {
     );
 }
 
-// Of 64 bytes from the password `password` and the salt `salt`, as Python's hashlib computes them. A
-// shorter key is a beginning of a longer.
+// Keys of 64 bytes from the password `password` and the salt `salt`, as Python's hashlib computes them. A
+// shorter key is the beginning of a longer one.
 #[test]
 fn pbkdf2_vectors(rt: HostRuntime) {
     let cases: [(u32, &[u8; MAX_DERIVED_BYTES]); 3] = [
@@ -149,7 +149,7 @@ struct Case<'a> {
     encrypted: &'a [u8],
 }
 
-/// The secret of each case encrypts as it says, and the other way round.
+/// Checks that the secret of each case encrypts to the bytes that it states, and that these decrypt to the secret.
 fn check_cases(rt: &impl Abort, cases: &[Case]) -> Result<(), Fail> {
     for case in cases {
         let secret = check_secret(case.secret).expect(rt, "a secret");
@@ -161,7 +161,7 @@ fn check_cases(rt: &impl Abort, cases: &[Case]) -> Result<(), Fail> {
     Ok(())
 }
 
-// Vectors of SLIP-0039 for one share of one, whose share value is the encrypted secret.
+// Vectors of SLIP-0039 with a single share, whose value is the encrypted secret.
 #[test]
 fn cipher_vectors(rt: HostRuntime) -> Result<(), Fail> {
     let cases = [
@@ -318,7 +318,7 @@ fn secret_lengths(rt: HostRuntime) {
     assert_eq!(rt; BadSecretLength { bytes: 14 }.cause().code, 42);
 }
 
-// As Python's hmac computes them.
+// Python's hmac computes the values.
 #[test]
 fn fingerprints(rt: HostRuntime) {
     let cases: [(&[u8], &[u8; 4]); 3] = [

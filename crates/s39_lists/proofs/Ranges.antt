@@ -58,17 +58,17 @@ range-split a (suc m) n =
     let next : (a + 1) + m ≡ a + suc m = omega arith in
     ap (range_with_len a) long ∙ ap (λ l. a ∷ l) (range-split (a + 1) m n ∙ ap (λ b. range_with_len (a + 1) m ++ range_with_len b n) next)
 
--- one more element, where fewer are taken than asked for, is taken
+-- if fewer elements are taken than asked for, one more element is taken
 pub take_push_short : {X : Type 0} (n : ℕ) (xs : List X) (x : X) → length (take n xs) < n → take n (xs ++ x ∷ []) ≡ take n xs ++ x ∷ []
 take_push_short n xs x short =
     let few : length xs < n = omega (arith, length-take n xs) in
     take_all n (xs ++ x ∷ []) (omega (arith, length_push xs x)) ∙ ap (λ ys. ys ++ x ∷ []) (sym (take_all n xs (omega arith)))
 
--- where as many are taken, it isn't
+-- if as many are taken as asked for, it isn't taken
 pub take_push_full : {X : Type 0} (n : ℕ) (xs : List X) (x : X) → n ≤ length (take n xs) → take n (xs ++ x ∷ []) ≡ take n xs
 take_push_full n xs x full = take-append-le n xs (x ∷ []) (omega (arith, length-take n xs))
 
--- one number more is behind the others
+-- one more number stands behind the others
 range_more : (n : ℕ) → range_with_len 0 (n + 1) ≡ range_with_len 0 n ++ n ∷ []
 range_more n =
     sym (map-id (range_with_len 0 (n + 1)))
@@ -79,24 +79,24 @@ module _ (p : ℕ → Bool) (n : ℕ) where
   pub filter-range_more : filter p (range_with_len 0 (n + 1)) ≡ filter p (range_with_len 0 n) ++ cond (p n) (n ∷ []) []
   filter-range_more = ap (filter p) (range_more n) ∙ filter-append p (range_with_len 0 n) (n ∷ [])
 
-  -- a number that passes is behind those before it that do
+  -- a number that passes stands behind those before it that pass
   pub filter-range_more_yes : p n ≡ true → filter p (range_with_len 0 (n + 1)) ≡ filter p (range_with_len 0 n) ++ n ∷ []
   filter-range_more_yes passes = filter-range_more ∙ ap (λ xs. filter p (range_with_len 0 n) ++ xs) (cond-true (p n) (n ∷ []) [] passes)
 
-  -- one that doesn't changes nothing
+  -- a number that doesn't pass changes nothing
   pub filter-range_more_no : p n ≡ false → filter p (range_with_len 0 (n + 1)) ≡ filter p (range_with_len 0 n)
   filter-range_more_no fails =
       filter-range_more ∙ ap (λ xs. filter p (range_with_len 0 n) ++ xs) (cond-false (p n) (n ∷ []) [] fails) ∙ append-nil (filter p (range_with_len 0 n))
 
-  -- a number that passes is one more
+  -- a number that passes adds one to the count
   pub length-filter-range_more_yes : p n ≡ true → length (filter p (range_with_len 0 (n + 1))) ≡ length (filter p (range_with_len 0 n)) + 1
   length-filter-range_more_yes passes = ap length (filter-range_more_yes passes) ∙ length_push (filter p (range_with_len 0 n)) n
 
-  -- and another none
+  -- and another number adds none
   pub length-filter-range_more_no : p n ≡ false → length (filter p (range_with_len 0 (n + 1))) ≡ length (filter p (range_with_len 0 n))
   length-filter-range_more_no fails = ap length (filter-range_more_no fails)
 
-  -- no more pass than there are
+  -- no more numbers pass than there are
   pub length-filter-range-le : length (filter p (range_with_len 0 n)) ≤ n
   length-filter-range-le = omega (arith, length-filter p (range_with_len 0 n), count_by-le-length p (range_with_len 0 n), length-range_with_len 0 n)
 

@@ -35,7 +35,7 @@ pub one_of : {X : Type 0} (xs : List X) → 1 ≤ length xs → (x : X) × Conta
 one_of [] some = absurd (omega arith)
 one_of (x ∷ xs) some = (x, Contains-head x xs)
 
--- an element that passes the test is among those that do
+-- an element that passes the test is among those that pass it
 pub Contains-filter : {X : Type 0} (p : X → Bool) (xs : List X) (y : X) → Contains xs y → p y ≡ true → Contains (filter p xs) y
 Contains-filter p [] y h pass = absurd (Contains-nil y h)
 Contains-filter p (x ∷ xs) y h pass =
@@ -100,7 +100,8 @@ AllPairs-sublist R (keeps {x} {ys} {xs} s) h =
     AllPairs-cons R x ys (All-sublist (R x) ys xs s (AllPairs-head R x xs h)) (AllPairs-sublist R s (AllPairs-tail R x xs h))
 AllPairs-sublist R (leaves {x} {ys} {xs} s) h = AllPairs-sublist R s (AllPairs-tail R x xs h)
 
--- what holds of each two of each list, and of each of the one and each of the other, holds of each two of both joined
+-- what holds of each two elements of each list, and of an element of the one with an element of the other, holds of
+-- each two elements of the joined list
 pub AllPairs-append : {X : Type 0} (R : X → X → Type 0) (xs ys : List X) → AllPairs R xs → AllPairs R ys → ((x : X) → Contains xs x → All (R x) ys)
     → AllPairs R (xs ++ ys)
 AllPairs-append R [] ys first second across = second
@@ -127,7 +128,7 @@ cond-sublist x true false implies s = absurd (false≢true (implies refl))
 cond-sublist x false true implies s = leaves s
 cond-sublist x false false implies s = s
 
--- where a test that passes implies another, the elements that pass the one are some of those that pass the other
+-- if one test implies another, the elements that pass the one are some of those that pass the other
 pub filter_weaker : {X : Type 0} (p q : X → Bool) → ((x : X) → p x ≡ true → q x ≡ true) → (xs : List X) → IsSublist (filter p xs) (filter q xs)
 filter_weaker p q weaker [] = none
 filter_weaker p q weaker (x ∷ xs) = cond-sublist x (p x) (q x) (weaker x) (filter_weaker p q weaker xs)
@@ -158,14 +159,14 @@ Contains-from_filter p xs = Contains-sublist (filter_kept p xs)
 pub of_filter : {X : Type 0} (p : X → Bool) (xs : List X) (x : X) → Contains (filter p xs) x → Contains xs x × (p x ≡ true)
 of_filter p xs x among = (in_whole (filter_kept p xs) x among, All-contains (λ y. p y ≡ true) (filter p xs) x (filter_passes p xs) among)
 
--- where each element passes, so does the list
+-- if each element passes, all of the list is left
 pub filter-all : {X : Type 0} (p : X → Bool) (xs : List X) → All (λ x. p x ≡ true) xs → filter p xs ≡ xs
 filter-all p [] passes = refl
 filter-all p (x ∷ xs) passes =
     cond-true (p x) (x ∷ filter p xs) (filter p xs) (All-head (λ y. p y ≡ true) x xs passes)
     ∙ ap (λ ys. x ∷ ys) (filter-all p xs (All-tail (λ y. p y ≡ true) x xs passes))
 
--- where none does, nothing is left
+-- if no element passes, nothing is left
 pub filter-none : {X : Type 0} (p : X → Bool) (xs : List X) → All (λ x. p x ≡ false) xs → filter p xs ≡ []
 filter-none p [] fails = refl
 filter-none p (x ∷ xs) fails =

@@ -1,20 +1,20 @@
-//! What a refusal says.
+//! The cause of a refusal.
 ghost use Rattle.std.specs.Prelude.{◌≡◌};
 ghost use Rattle.s39_refusal.specs.Causes.{cause};
 
-/// What a refusal says: its number, and up to two details.
+/// The cause of a refusal: its number, and up to two details.
 #[derive(Clone, Copy, Debug, PartialEq, Eq)]
 pub struct Cause {
-    /// The number of the refusal, one of those in `code`.
+    /// The number of the refusal, as one of the constants in `code`.
     pub code: u8,
-    /// The first detail: a position, a number or a group, or 0 where there is none.
+    /// The first detail, which is a position, a number or a group. It is 0 if there is none.
     pub first: u64,
-    /// The second detail, or 0 where there is none.
+    /// The second detail. It is 0 if there is none.
     pub second: u64,
 }
 
 impl Cause {
-    /// The refusal of this number, with these details.
+    /// Makes the cause with this number and these details.
     pub fn new(code: u8, first: u64, second: u64) -> Cause
         ensures { result ≡ cause code first second }
     {
@@ -25,7 +25,7 @@ impl Cause {
         }
     }
 
-    /// The refusal of this number, without details.
+    /// Makes the cause with this number, without details.
     pub fn of(code: u8) -> Cause
         ensures { result ≡ cause code 0 0 }
     {

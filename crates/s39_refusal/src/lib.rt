@@ -1,4 +1,4 @@
-//! The numbers of refusals, and what a refusal says beside its number.
+//! The numbers of refusals, and the details of a refusal.
 #![tactic(auto)]
 
 mod cause;

@@ -1,5 +1,5 @@
 -- Names in ascending order.
-use Rattle.std.proofs.Common.{◌≡◌, ℕ, ◌<◌, ◌≤◌, List, length, arith}
+use Rattle.std.proofs.Common.{◌≡◌, ℕ, ◌<◌, ◌≤◌, length, arith}
 use Rattle.std.specs.Cmp.{IsTotalOrder}
 use Rattle.std.specs.List.{All, Contains}
 use Rattle.std.specs.declared.cmp.Ordering.TheVariants.{Less}

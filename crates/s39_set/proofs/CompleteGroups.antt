@@ -72,10 +72,6 @@ pub complete_groups-sublist : (T : ℕ → Option ℕ) {fewer names : Names} →
 complete_groups-sublist T {fewer} {names} part =
     filter_weaker (is_complete T fewer) (is_complete T names) (complete_weaker T part) (range_with_len 0 most_groups)
 
--- at a known threshold, a test on the number of the group's names
-pub is_complete-at : (T : ℕ → Option ℕ) (names : Names) (g t : ℕ) → T g ≡ Some t → is_complete T names g ≡ nat_le t (length (names_in_group g names))
-is_complete-at T names g t e = ap (λ o. option_map_or (λ threshold. nat_le threshold (length (names_in_group g names))) o false) e
-
 -- at a known threshold, so many of the group's names
 pub first_members-at : (T : ℕ → Option ℕ) (names : Names) (g t : ℕ) → T g ≡ Some t → first_members T names g ≡ take t (names_in_group g names)
 first_members-at T names g t e = ap (λ o. take (unwrap_or o 0) (names_in_group g names)) e

@@ -1,5 +1,5 @@
 -- A set has enough complete groups where it has a quorum.
-use Rattle.std.proofs.Common.{◌≤◌, ℕ, List, [], ◌∷◌, length, map, Contains, IsTrue, inl, inr, arith}
+use Rattle.std.proofs.Common.{◌≤◌, List, [], ◌∷◌, length, map, Contains, IsTrue, inl, inr, arith}
 use Rattle.std.proofs.lemmas.Bool.{leb-true, le-leb, false≢true}
 use Rattle.s39_words.specs.declared.share.ShareFields.{ShareFields}
 use Rattle.s39_set.specs.Names.{Names}

@@ -1,5 +1,5 @@
 -- What masks of names say of the names of a group, and which groups are complete.
-use Rattle.std.proofs.Common.{◌≡◌, ◌+◌, ◌-◌, ◌<◌, ◌≤◌, ℕ, Bool, false, List, length, get_or, set, filter, All, Contains, Option, Some, None, Less}
+use Rattle.std.proofs.Common.{◌≡◌, ◌+◌, ◌-◌, ◌<◌, ◌≤◌, ℕ, Bool, false, List, length, get_or, set, filter, All, Contains, Option, Less}
 use Rattle.std.proofs.Common.{nat_le, inl, inr, refl, sym, ap, subst, ◌∙◌, arith}
 use Rattle.std.specs.List.{range_with_len}
 use Rattle.std.specs.Prelude.{IsTrue}
@@ -19,7 +19,6 @@ use Rattle.s39_set.proofs.Ascending.{Precedes, same_names}
 use Rattle.s39_set.proofs.Ascending.{member-less}
 use Rattle.s39_lists.proofs.Images.{Contains-map, one_of_map}
 use Rattle.s39_lists.proofs.Pairs.{AllPairs-map}
-use Rattle.s39_set.proofs.CompleteGroups.{is_complete-at}
 use Rattle.s39_lists.proofs.Ranges.{range_from-ascending, range_from-bounds, Contains-range_from}
 use Rattle.s39_set.proofs.MembersOf.{of_group, in_group, group-ascending}
 use Rattle.s39_set.proofs.Step.{AreAbove}
@@ -61,8 +60,8 @@ module _ (masks : Masks) (names : Names) (masks_are : AreMasksOf masks names) (l
       (λ i j d before within. member-less g (get_or members i d) (get_or members j d)
       (AllPairs-filter (λ k l. k < l) (is_in masks g) numbers (range_from-ascending a (most_members - a)) i j d before within))
 
-  pub names_in_group-masks : IsAscending names → names_in_group g names ≡ members_from masks g 0
-  names_in_group-masks ascending =
+  pub names_in_group_masks : IsAscending names → names_in_group g names ≡ members_from masks g 0
+  names_in_group_masks ascending =
       same_names (names_in_group g names) (members_from masks g 0) (group-ascending g names ascending) (members_from-ascending 0)
       (each (Contains (names_in_group g names)) (members_from masks g 0) (λ n among. let is = listed 0 n among in in_group g names n is.0 is.1))
       (each (Contains (members_from masks g 0)) (names_in_group g names)
@@ -76,15 +75,11 @@ module _ (masks : Masks) (names : Names) (masks_are : AreMasksOf masks names) (l
     all = λ n among same less. let higher = higher_member n.0 m g n.1 same less in lists (m + 1) n among same (omega arith);
   }
 
--- a group with a threshold is complete where it has as many members in the masks
-pub complete_test : (T : ℕ → Option ℕ) (N : Names) (masks : Masks) → AreMasksOf masks N → All (λ n. n.1 < most_members) N → IsAscending N → (g t : ℕ)
-    → g < most_groups → T g ≡ Some t → is_complete T N g ≡ nat_le t (length (members_from masks g 0))
-complete_test T N masks masks_are low ascending g t low_g e =
-    is_complete-at T N g t e ∙ ap (λ l. nat_le t (length l)) (names_in_group-masks masks N masks_are low g low_g ascending)
-
--- a group without a threshold isn't
-pub no_threshold : (T : ℕ → Option ℕ) (N : Names) (g : ℕ) → T g ≡ None → is_complete T N g ≡ false
-no_threshold T N g e = ap (λ o. option_map_or (λ threshold. nat_le threshold (length (names_in_group g N))) o false) e
+-- a group is complete where it has its threshold's members in the masks
+pub complete_by_count : (T : ℕ → Option ℕ) (N : Names) (masks : Masks) → AreMasksOf masks N → All (λ n. n.1 < most_members) N → IsAscending N → (g : ℕ)
+    → g < most_groups → option_map_or (λ threshold. nat_le threshold (length (members_from masks g 0))) (T g) false ≡ is_complete T N g
+complete_by_count T N masks masks_are low ascending g low_g =
+    ap (λ l. option_map_or (λ threshold. nat_le threshold (length l)) (T g) false) (sym (names_in_group_masks masks N masks_are low g low_g ascending))
 
 -- one entry of a table more
 pub set_more : (table : List Bool) (f : ℕ → Bool) (group : ℕ) (value : Bool) → group < length table → ((g : ℕ) → g < group → get_or table g false ≡ f g)

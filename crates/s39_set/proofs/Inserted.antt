@@ -1,93 +1,59 @@
--- A name added to masks.
-use Rattle.std.proofs.Common.{◌≡◌, ◌<◌, ◌+◌, ◌==◌, ℕ, true, List, [], ◌∷◌, ◌++◌, Contains, ◌⊎◌, inl, inr}
-use Rattle.std.proofs.Common.{⊎_elim, sym, ap, ap₂, subst, ◌∙◌, arith}
-use Rattle.std.specs.Prelude.{IsTrue, ◌&&◌, ◌↔◌}
-use Rattle.std.proofs.lemmas.Bool.{cases_lt, and_parts, and_from, or_cases, or_left, or_right, eqb-true, eq-eqb}
-use Rattle.std.proofs.lemmas.List.Elements.{Contains-append_left, Contains-append_right, Contains-append_cases}
+-- Names put into masks.
+use Rattle.std.proofs.Common.{◌≡◌, ◌<◌, ◌+◌, ℕ, Bool, true, false, List, [], ◌∷◌, ◌++◌, length, get_or, set, Contains, ◌⊎◌, inl, inr}
+use Rattle.std.proofs.Common.{sym, ap, subst, ◌∙◌, arith}
+use Rattle.std.specs.Prelude.{IsTrue, ◌↔◌}
+use Rattle.std.proofs.lemmas.Bool.{cases_eq}
+use Rattle.std.proofs.lemmas.List.{get_or-set_same, get_or-set_other}
+use Rattle.std.proofs.lemmas.List.Elements.{Contains-append_left, Contains-append_right, Contains-push_cases}
 use Rattle.s39_set.specs.declared.masks.Masks.{Masks}
-use Rattle.s39_set.specs.Masks.{is_in, AddsName}
-use Rattle.s39_set.specs.Steps.{AreMasksOf}
-use Rattle.s39_lists.proofs.Sublists.{Contains-head, Contains-cases, Contains-nil}
-use Rattle.s39_set.specs.Names.{Name, Names, most_groups, most_members}
+use Rattle.s39_set.specs.Names.{Name, Names, most_members}
+use Rattle.s39_set.specs.Masks.{AddsName}
 use Rattle.s39_set.specs.Slots.{slot_of}
+use Rattle.s39_set.specs.Steps.{AreMasksOf}
+use Rattle.s39_lists.proofs.Sublists.{Contains-head}
+use Rattle.s39_set.proofs.Slots.{same_name}
 
--- a name is in the new masks where it was in the old ones or is the one added
-pub inserted_cases : (old new : Masks) (group member : ℕ) → AddsName old new (group, member) → (g m : ℕ) → IsTrue (is_in new g m)
-    → IsTrue (is_in old g m) ⊎ ((g ≡ group) × (m ≡ member))
-inserted_cases old new group member is g m h =
-    ⊎_elim
-    (λ (was : is_in old g m ≡ true). inl was)
-    (λ (added : ((g == group) && (m == member)) ≡ true). let parts =
-    and_parts (g == group) (m == member) added in inr (eqb-true g group parts.0, eqb-true m member parts.1))
-    (or_cases (is_in old g m) ((g == group) && (m == member)) (sym (is g m) ∙ h))
-
-pub inserted_old : (old new : Masks) (group member : ℕ) → AddsName old new (group, member) → (g m : ℕ) → IsTrue (is_in old g m) → IsTrue (is_in new g m)
-inserted_old old new group member is g m h = is g m ∙ or_left (is_in old g m) ((g == group) && (m == member)) h
-
-pub inserted_this : (old new : Masks) (group member : ℕ) → AddsName old new (group, member) → (g m : ℕ) → g ≡ group → m ≡ member → IsTrue (is_in new g m)
-inserted_this old new group member is g m same_group same_member =
-    is g m ∙ or_right (is_in old g m) ((g == group) && (m == member))
-    (and_from (g == group) (m == member) (eq-eqb g group same_group) (eq-eqb m member same_member))
+-- a flag that is set is a name more
+pub adds_name : (flags : List Bool) (name : Name) → slot_of name < length flags → name.1 < most_members → (g m : ℕ) → m < most_members
+    → (IsTrue (get_or (set flags (slot_of name) true) (slot_of (g, m)) false) ↔ (IsTrue (get_or flags (slot_of (g, m)) false) ⊎ ((g, m) ≡ name)))
+adds_name flags name inside low_name g m low =
+    elim (cases_eq (slot_of (g, m)) (slot_of name)) [
+      | inl here ↦ (
+        (λ _. inr (same_name (g, m) name low low_name here)),
+        (λ _. ap (λ k. get_or (set flags (slot_of name) true) k false) here ∙ get_or-set_same flags (slot_of name) true false inside),
+      )
+      | inr apart ↦ (
+          let kept = get_or-set_other flags (slot_of name) (slot_of (g, m)) true false apart in (
+            (λ h. inl (sym kept ∙ h)),
+            (λ either. elim either [ inl was ↦ kept ∙ was | inr same ↦ absurd (apart (ap slot_of same)) ]),
+          ))
+    ]
 
 -- masks with one name more
 pub masks_more : (old new : Masks) (names : Names) (name : Name) → AreMasksOf old names → AddsName old new name → AreMasksOf new (names ++ name ∷ [])
-masks_more old new names name were is g m low_g low_m = (
-  λ h.
-      ⊎_elim
-      (λ (was : IsTrue (is_in old g m)). Contains-append_left names (name ∷ []) (g, m) ((were g m low_g low_m).0 was))
-      (λ (this : (g ≡ name.0) × (m ≡ name.1)). Contains-append_right names (name ∷ []) (g, m)
-      (subst (Contains (name ∷ [])) (ap₂ (λ (x y : ℕ). (x, y)) (sym this.0) (sym this.1)) (Contains-head name [])))
-      (inserted_cases old new name.0 name.1 is g m h),
-  λ among.
-      ⊎_elim
-      (λ (earlier : Contains names (g, m)). inserted_old old new name.0 name.1 is g m ((were g m low_g low_m).1 earlier))
-      (λ (last : Contains (name ∷ []) (g, m)).
-      ⊎_elim
-      (λ (same : name ≡ (g, m)). inserted_this old new name.0 name.1 is g m (sym (ap (λ (n : Name). n.0) same)) (sym (ap (λ (n : Name). n.1) same)))
-      (λ (none : Contains [] (g, m)). absurd (Contains-nil (g, m) none))
-      (Contains-cases name [] (g, m) last))
-      (Contains-append_cases names (name ∷ []) (g, m) among),
+masks_more old new names name were adds g m low_g low_m = (
+  (λ h. elim ((adds g m low_m).0 h) [
+    | inl was ↦ Contains-append_left names (name ∷ []) (g, m) ((were g m low_g low_m).0 was)
+    | inr same ↦ subst (Contains (names ++ name ∷ [])) (sym same) (Contains-append_right names (name ∷ []) name (Contains-head name []))
+  ]),
+  (λ among. (adds g m low_m).1 (elim (Contains-push_cases names name (g, m) among) [
+    | inl earlier ↦ inl ((were g m low_g low_m).1 earlier)
+    | inr last ↦ inr (sym last)
+  ])),
 )
 
--- the masks have just those of these names whose slot is below a number
-abbrev pub AreMasksBelow : Masks → Names → ℕ → Type 0
-AreMasksBelow masks names n =
-    (g m : ℕ) → g < most_groups → m < most_members → (IsTrue (is_in masks g m) ↔ ((slot_of (g, m) < n) × Contains names (g, m)))
+-- the flags below a slot say which of these names there are
+abbrev pub AreFilled : List Bool → Names → ℕ → Type 0
+AreFilled flags names n = (g m : ℕ) → m < most_members → slot_of (g, m) < n → (IsTrue (get_or flags (slot_of (g, m)) false) ↔ Contains names (g, m))
 
-pub below_more_yes : (old new : Masks) (names : Names) (n group member : ℕ) → AreMasksBelow old names n → slot_of (group, member) ≡ n
-    → member < most_members → Contains names (group, member) → AddsName old new (group, member) → AreMasksBelow new names (n + 1)
-below_more_yes old new names n group member were at low_member among is g m low_g low_m = (
-  λ h.
-      ⊎_elim
-      (λ (was : IsTrue (is_in old g m)). let both = (were g m low_g low_m).0 was in let less : slot_of (g, m) < n = both.0 in (omega arith, both.1))
-      (λ (this : (g ≡ group) × (m ≡ member)).
-      let same_g = this.0 in
-      let same_m = this.1 in
-      let slot : slot_of (g, m) < n + 1 = omega arith in
-      (slot, subst (Contains names) (ap₂ (λ (x y : ℕ). (x, y)) (sym this.0) (sym this.1)) among))
-      (inserted_cases old new group member is g m h),
-  λ both.
-      elim (cases_lt (slot_of (g, m)) n) [
-        | inl less ↦ inserted_old old new group member is g m ((were g m low_g low_m).1 (less, both.1))
-        | inr here ↦ (
-            let upto : slot_of (g, m) < n + 1 = both.0 in
-            let slot : slot_of (g, m) ≡ n = omega arith in
-            inserted_this old new group member is g m (omega arith) (omega arith))
-      ],
-)
-
-pub below_more_no : (masks : Masks) (names : Names) (n group member : ℕ) → AreMasksBelow masks names n → slot_of (group, member) ≡ n
-    → member < most_members → (Contains names (group, member) → ⊥) → AreMasksBelow masks names (n + 1)
-below_more_no masks names n group member were at low_member apart g m low_g low_m = (
-  λ h. let both = (were g m low_g low_m).0 h in let less : slot_of (g, m) < n = both.0 in (omega arith, both.1),
-  λ both.
-      elim (cases_lt (slot_of (g, m)) n) [
-        | inl less ↦ (were g m low_g low_m).1 (less, both.1)
-        | inr here ↦ (
-            let upto : slot_of (g, m) < n + 1 = both.0 in
-            let slot : slot_of (g, m) ≡ n = omega arith in
-            let same_g : g ≡ group = omega arith in
-            let same_m : m ≡ member = omega arith in
-            absurd (apart (subst (Contains names) (ap₂ (λ (x y : ℕ). (x, y)) same_g same_m) both.1)))
-      ],
-)
+pub filled_more : (flags : List Bool) (names : Names) (n : ℕ) (name : Name) (there : Bool) → AreFilled flags names n → n < length flags → slot_of name ≡ n
+    → name.1 < most_members → (IsTrue there ↔ Contains names name) → AreFilled (set flags n there) names (n + 1)
+filled_more flags names n name there so_far inside at low_name says g m low below =
+    elim (cases_eq (slot_of (g, m)) n) [
+      | inl here ↦ (
+          let same : (g, m) ≡ name = same_name (g, m) name low low_name (here ∙ sym at) in
+          let flag : get_or (set flags n there) (slot_of (g, m)) false ≡ there =
+          ap (λ k. get_or (set flags n there) k false) here ∙ get_or-set_same flags n there false inside in
+          rw (flag, same) says)
+      | inr apart ↦ rw (get_or-set_other flags n (slot_of (g, m)) there false apart) (so_far g m low (omega arith))
+    ]

@@ -1,5 +1,5 @@
 -- A share that isn't refused has its slot in a set.
-use Rattle.std.proofs.Common.{◌≡◌, ◌⊎◌, ℕ, List, [], ◌∷◌, get_or, map, All, Contains, Ordering, Less, Equal, Greater, None, inl, inr, refl, ap, ◌∙◌, subst}
+use Rattle.std.proofs.Common.{◌≡◌, ◌⊎◌, List, [], ◌∷◌, get_or, map, All, Contains, Ordering, Less, Equal, Greater, None, inl, inr, refl, ap, ◌∙◌, subst}
 use Rattle.std.proofs.Common.{arith}
 use Rattle.std.specs.Ordering.{ordering_reverse}
 use Rattle.std.proofs.lemmas.List.{length-map, get_or-map}
@@ -14,7 +14,7 @@ use Rattle.s39_lists.proofs.Pairs.{AllPairs-head, AllPairs-tail, AllPairs-nil}
 use Rattle.s39_set.proofs.Ascending.{name_cmp_total}
 use Rattle.s39_set.proofs.NamesOrder.{name_cmp-equal}
 use Rattle.s39_set.proofs.Joins.{joins_from_none, same_from_joins}
-use Rattle.s39_set.proofs.Kept.{All-more, agree-more}
+use Rattle.s39_set.proofs.OneMore.{All-more, set_more}
 
 -- one of these shares has the name of that one
 abbrev HasNameOf : List ShareFields → ShareFields → Type 0
@@ -95,14 +95,5 @@ takes_share set share is valid allowed =
     let joins : CanJoin set share = joins_from_none set share allowed in
     elim (inserted set share is.ascending) [
       | inl (s, among, names) ↦ inl (subst (Contains set) (same_from_joins set s share joins among names) among)
-      | inr (more, has) ↦
-          inr (
-            more,
-            has.one_more,
-            record {
-              each = All-more set share more has.one_more IsShare is.each valid;
-              ascending = has.ascending;
-              agree = agree-more set share more has.one_more is joins;
-            },
-          )
+      | inr (more, has) ↦ inr (more, has.one_more, set_more set share more has.one_more is joins valid has.ascending)
     ]

@@ -1,5 +1,6 @@
 -- A share is refused by none exactly where it can join.
-use Rattle.std.proofs.Common.{◌≡◌, ℕ, Bool, true, false, List, length, get_or, filter, All, Contains, None, not, inl, inr, refl, sym, ap, ◌∙◌, subst, arith}
+use Rattle.std.proofs.Common.{◌≡◌, ℕ, Bool, true, false, List, length, get_or, filter, All, Contains, Option, Some, None, cond, not}
+use Rattle.std.proofs.Common.{inl, inr, refl, sym, ap, ◌∙◌, subst, arith}
 use Rattle.std.specs.Prelude.{◌==◌, bytes_eq}
 use Rattle.std.specs.List.{list_any}
 use Rattle.std.specs.Cmp.Lexicographic.{bytes_decides}
@@ -11,10 +12,8 @@ use Rattle.s39_words.specs.Share.{flag_bit}
 use Rattle.s39_set.specs.Names.{Name}
 use Rattle.s39_set.specs.ShareSet.{Agrees, IsShareSet, CanJoin, name_of, is_in_group, has_name, some_differs, refusal_of}
 use Rattle.s39_set.specs.declared.set_error.SetError.{SetError}
-use Rattle.s39_set.specs.declared.set_error.SetError.TheVariants.{OtherIdentifier}
 use Rattle.s39_lists.proofs.Sublists.{each, of_filter, Contains-filter}
-use Rattle.s39_set.proofs.Sets.{agree, one_share}
-use Rattle.s39_set.proofs.Refusals.{causes_of, none_apply, has_name-is, has_name-own}
+use Rattle.s39_set.proofs.Sets.{agree, one_share, has_name-is, has_name-own}
 
 -- where a test of some fails, it fails at each
 none_pass : {X : Type 0} (test : X → Bool) (xs : List X) → list_any test xs ≡ false → All (λ x. test x ≡ false) xs
@@ -96,6 +95,11 @@ same_from_joins shares s share joins has_s names =
     same_share s share (All-contains (λ t. Agrees t share) shares s joins.agrees has_s) names
     (All-contains (λ t. name_of t ≡ name_of share → t.value.items ≡ share.value.items) shares s joins.same_value has_s names)
 
+-- where there is no cause, the first one doesn't apply, and there is none behind it
+no_cause : (applies : Bool) (error : SetError) (rest : Option SetError) → cond applies (Some error) rest ≡ None → (applies ≡ false) × (rest ≡ None)
+no_cause true error rest h = absurd (let bad : Some error ≡ None = h in cc)
+no_cause false error rest h = (refl, h)
+
 module _ (shares : List ShareFields) (share : ShareFields) where
   -- the shares of its group, and of its name
   abbrev of_group : List ShareFields
@@ -118,17 +122,23 @@ module _ (shares : List ShareFields) (share : ShareFields) where
   -- a share that isn't refused can join
   pub joins_from_none : refusal_of shares share ≡ None → CanJoin shares share
   joins_from_none h =
-      let none : Bool × SetError = (false, OtherIdentifier) in
-      let fails = none_apply (causes_of shares share) h in
+      let (id, after_id) = no_cause _ _ _ h in
+      let (extendable, after_extendable) = no_cause _ _ _ after_id in
+      let (exponent, after_exponent) = no_cause _ _ _ after_extendable in
+      let (group_threshold, after_group_threshold) = no_cause _ _ _ after_exponent in
+      let (group_count, after_group_count) = no_cause _ _ _ after_group_threshold in
+      let (value_length, after_value_length) = no_cause _ _ _ after_group_count in
+      let (member_threshold, after_member_threshold) = no_cause _ _ _ after_value_length in
+      let (value, _) = no_cause _ _ _ after_member_threshold in
       record {
         agrees = each (λ s. Agrees s share) shares (λ s has_s. record {
-          id = none_differs (λ t. t.id) shares (fails 0 none (omega arith)) s has_s;
-          extendable = flag-from_bit s.extendable share.extendable (none_differs (λ t. flag_bit t.extendable) shares (fails 1 none (omega arith)) s has_s);
-          exponent = none_differs (λ t. t.exponent) shares (fails 2 none (omega arith)) s has_s;
-          group_threshold = none_differs (λ t. t.group_threshold) shares (fails 3 none (omega arith)) s has_s;
-          group_count = none_differs (λ t. t.group_count) shares (fails 4 none (omega arith)) s has_s;
-          value_length = none_differs (λ t. length t.value.items) shares (fails 5 none (omega arith)) s has_s;
-          member_threshold = λ group. none_differs (λ t. t.member_threshold) of_group (fails 6 none (omega arith)) s
+          id = none_differs (λ t. t.id) shares id s has_s;
+          extendable = flag-from_bit s.extendable share.extendable (none_differs (λ t. flag_bit t.extendable) shares extendable s has_s);
+          exponent = none_differs (λ t. t.exponent) shares exponent s has_s;
+          group_threshold = none_differs (λ t. t.group_threshold) shares group_threshold s has_s;
+          group_count = none_differs (λ t. t.group_count) shares group_count s has_s;
+          value_length = none_differs (λ t. length t.value.items) shares value_length s has_s;
+          member_threshold = λ group. none_differs (λ t. t.member_threshold) of_group member_threshold s
               (Contains-filter (is_in_group share.group_index) shares s has_s (eq-eqb s.group_index share.group_index group));
         });
         same_value = each (λ s. name_of s ≡ name_of share → s.value.items ≡ share.value.items) shares (λ s has_s names.
@@ -137,7 +147,7 @@ module _ (shares : List ShareFields) (share : ShareFields) where
             (bytes_decides s.value.items share.value.items).0
             (not-false (bytes_eq s.value.items share.value.items)
             (All-contains (λ t. not (bytes_eq t.value.items share.value.items) ≡ false) of_name s
-            (none_pass (λ t. not (bytes_eq t.value.items share.value.items)) of_name (fails 7 none (omega arith))) among)));
+            (none_pass (λ t. not (bytes_eq t.value.items share.value.items)) of_name value) among)));
       }
 
   -- and a share that can join isn't refused

@@ -6,9 +6,6 @@ pub mod CompleteGroups
 pub mod MembersOf
 pub mod Slots
 pub mod Sets
-pub mod Refusals
-pub mod Joins
-pub mod Kept
 pub mod SetQuorums
 pub mod NamesBefore
 pub mod JustMembers
@@ -16,9 +13,7 @@ pub mod OptionTests
 pub mod NumberText
 pub mod NameText
 pub mod WrittenNames
-pub mod Bits
 pub mod NamesOrder
-pub mod Inserting
 pub mod Listings
 pub mod AllQuorums
 pub mod RangesFrom
@@ -31,6 +26,10 @@ pub mod FromMasks
 pub mod Greedy
 pub mod Step
 pub mod StepOf
-pub mod SameShares
 pub mod OneLack
 pub mod Enough
+pub mod Joins
+pub mod OneMore
+pub mod Inserting
+pub mod SameShares
+pub mod Refusals

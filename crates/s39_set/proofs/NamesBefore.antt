@@ -1,5 +1,5 @@
 -- Ascending names that all come before another.
-use Rattle.std.proofs.Common.{◌≡◌, ℕ, suc, ◌+◌, ◌-◌, ◌*◌, ◌<◌, ◌≤◌, List, [], ◌∷◌, ◌++◌, length, get_or, All, Less, inl, inr, sym, ap, subst, ◌∙◌, arith}
+use Rattle.std.proofs.Common.{◌≡◌, ℕ, suc, ◌+◌, ◌-◌, ◌*◌, ◌<◌, ◌≤◌, [], ◌∷◌, ◌++◌, length, get_or, All, Less, inl, inr, sym, ap, subst, ◌∙◌, arith}
 use Rattle.std.proofs.lemmas.Bool.{cases_lt}
 use Rattle.std.proofs.lemmas.List.{get_or_default}
 use Rattle.std.proofs.lemmas.Bool.Decides.{nat_tests}
@@ -34,15 +34,15 @@ length_from_slot name b (x ∷ xs) ascending low from earlier first =
     omega arith
 
 -- they are no more than its slot says
-pub length-before : (names : Names) (name : Name) → AreNames names → All (λ x. name_cmp x name ≡ Less) names → length names ≤ slot_of name
-length-before names name are earlier =
+pub length_before : (names : Names) (name : Name) → AreNames names → All (λ x. name_cmp x name ≡ Less) names → length names ≤ slot_of name
+length_before names name are earlier =
     let most = length_from_slot name 0 names are.ascending are.members (λ k d below. omega arith) earlier (omega arith) in
     omega arith
 
 -- with it behind them they are still names in order
-pub AreNames-push : (names : Names) (name : Name) → AreNames names → name.0 < most_groups → name.1 < most_members
+pub are_names_push : (names : Names) (name : Name) → AreNames names → name.0 < most_groups → name.1 < most_members
     → All (λ x. name_cmp x name ≡ Less) names → AreNames (names ++ name ∷ [])
-AreNames-push names name are group member earlier = record {
+are_names_push names name are group member earlier = record {
   ascending = all_pairs_push (λ a b. name_cmp a b ≡ Less) names name are.ascending earlier;
   groups = All-push (λ x. x.0 < most_groups) names name are.groups group;
   members = All-push (λ x. x.1 < most_members) names name are.members member;

@@ -1,5 +1,5 @@
 -- The order of lists of names.
-use Rattle.std.proofs.Common.{◌≡◌, ◌≢◌, ℕ, List, [], ◌∷◌, ◌++◌, Ordering, Less, Equal, Greater, ◌⊎◌, inl, inr, refl, sym, ap₂, subst, arith}
+use Rattle.std.proofs.Common.{◌≡◌, ◌≢◌, ℕ, [], ◌∷◌, ◌++◌, Ordering, Less, Equal, Greater, ◌⊎◌, inl, inr, refl, sym, ap₂, subst, arith}
 use Rattle.std.specs.Cmp.{IsTotalOrder}
 use Rattle.std.specs.Ordering.{ordering_then, ordering_reverse, nat_cmp}
 use Rattle.std.proofs.lemmas.Bool.Decides.{nat_tests}

@@ -1,5 +1,5 @@
 -- Members of a group that stand behind names of earlier ones.
-use Rattle.std.proofs.Common.{◌≡◌, ◌<◌, ℕ, List, filter, take, All, Less, refl}
+use Rattle.std.proofs.Common.{◌≡◌, ◌<◌, ℕ, filter, take, All, Less, refl}
 use Rattle.std.specs.List.{range_with_len}
 use Rattle.std.proofs.lemmas.List.Elements.{All-map, All-take, All-weaker}
 use Rattle.s39_set.specs.declared.masks.Masks.{Masks}

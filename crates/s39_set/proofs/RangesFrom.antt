@@ -33,11 +33,11 @@ module _ (p : ℕ → Bool) (a j : ℕ) (from : a ≤ j) where
       filter-range_from ∙ ap (λ xs. filter p (range_with_len a (j - a)) ++ xs) (cond-false (p j) (j ∷ []) [] fails)
       ∙ append-nil (filter p (range_with_len a (j - a)))
 
-  pub length-filter-range_from_yes : p j ≡ true → length (filter p (range_with_len a ((j + 1) - a))) ≡ length (filter p (range_with_len a (j - a))) + 1
-  length-filter-range_from_yes passes = ap length (filter-range_from_yes passes) ∙ length_push (filter p (range_with_len a (j - a))) j
+  pub count_from_yes : p j ≡ true → length (filter p (range_with_len a ((j + 1) - a))) ≡ length (filter p (range_with_len a (j - a))) + 1
+  count_from_yes passes = ap length (filter-range_from_yes passes) ∙ length_push (filter p (range_with_len a (j - a))) j
 
-  pub length-filter-range_from_no : p j ≡ false → length (filter p (range_with_len a ((j + 1) - a))) ≡ length (filter p (range_with_len a (j - a)))
-  length-filter-range_from_no fails = ap length (filter-range_from_no fails)
+  pub count_from_no : p j ≡ false → length (filter p (range_with_len a ((j + 1) - a))) ≡ length (filter p (range_with_len a (j - a)))
+  count_from_no fails = ap length (filter-range_from_no fails)
 
 -- the first so many numbers from a on, below j, that pass
 abbrev pub first_from : (ℕ → Bool) → ℕ → ℕ → ℕ → List ℕ

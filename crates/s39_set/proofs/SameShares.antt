@@ -1,18 +1,17 @@
 -- Lists with the same shares.
-use Rattle.std.proofs.Common.{◌≡◌, ◌⊎◌, ℕ, Bool, true, false, not, List, length, get_or, map, filter, All, AllPairs, Contains, Less, inl, inr}
-use Rattle.std.proofs.Common.{refl, sym, ap, ◌∙◌, subst, subst₂, arith}
+use Rattle.std.proofs.Common.{◌≡◌, ℕ, Bool, true, false, not, List, length, get_or, map, filter, All, Contains, Less}
+use Rattle.std.proofs.Common.{refl, sym, ap, ◌∙◌, subst}
 use Rattle.std.specs.List.{list_any}
 use Rattle.std.specs.Prelude.{◌==◌, bytes_eq}
-use Rattle.std.proofs.lemmas.List.{length-map, get_or-map}
 use Rattle.std.proofs.lemmas.List.Elements.{All-contains, filter_passes}
 use Rattle.std.proofs.lemmas.List.Folds.{Any-from_list_any, list_any_at}
 use Rattle.s39_words.specs.declared.share.ShareFields.{ShareFields}
 use Rattle.s39_words.specs.Share.{flag_bit}
-use Rattle.s39_set.specs.Names.{Name, name_cmp, IsAscending}
-use Rattle.s39_set.specs.ShareSet.{HasOneMore, name_of, is_in_group, has_name, some_differs, refusal_of}
+use Rattle.s39_set.specs.Names.{name_cmp, IsAscending}
+use Rattle.s39_set.specs.ShareSet.{name_of, is_in_group, has_name, some_differs, refusal_of}
+use Rattle.s39_lists.proofs.Pairs.{AllPairs-from_map}
 use Rattle.s39_lists.proofs.Sublists.{Contains-filter, Contains-from_filter, same_from_elements}
 use Rattle.s39_set.proofs.Ascending.{name_cmp_one_way}
-use Rattle.s39_set.proofs.Kept.{Contains-more_cases, Contains-more, Contains-old}
 
 -- ---- tests of lists with the same elements
 
@@ -59,29 +58,9 @@ refusal-same_shares xs ys share first second =
     )
     refl
 
--- ---- one share more
-
-module _ (old : List ShareFields) (share : ShareFields) (new : List ShareFields) (more : HasOneMore old share new) (s : ShareFields) where
-  pub one_more_cases : Contains new s → Contains old s ⊎ (share ≡ s)
-  one_more_cases = Contains-more_cases old share new more s
-
-  pub one_more_has : Contains old s ⊎ (share ≡ s) → Contains new s
-  one_more_has (inl has_s) = Contains-old old share new more s has_s
-  one_more_has (inr same) = subst (Contains new) same (Contains-more old share new more)
-
--- ---- shares in order
-
-shares_ascend : (set : List ShareFields) → IsAscending (map name_of set) → AllPairs (λ s t. name_cmp (name_of s) (name_of t) ≡ Less) set
-shares_ascend set names i j d before below =
-    let names_before : name_cmp (get_or (map name_of set) i (name_of d)) (get_or (map name_of set) j (name_of d)) ≡ Less =
-    names i j (name_of d) before (omega (arith, length-map set name_of)) in
-    let first : get_or (map name_of set) i (name_of d) ≡ name_of (get_or set i d) = get_or-map name_of set i d (name_of d) (omega arith) in
-    let second : get_or (map name_of set) j (name_of d) ≡ name_of (get_or set j d) = get_or-map name_of set j d (name_of d) below in
-    subst₂ (λ (a b : Name). name_cmp a b ≡ Less) first second names_before
-
 -- they are known by which shares they are
 pub set_once : (set other : List ShareFields) → IsAscending (map name_of set) → IsAscending (map name_of other) → All (Contains set) other
     → All (Contains other) set → set ≡ other
 set_once set other first second =
     same_from_elements (λ s t. name_cmp (name_of s) (name_of t) ≡ Less) (λ s t. name_cmp_one_way (name_of s) (name_of t)) set other
-    (shares_ascend set first) (shares_ascend other second)
+    (AllPairs-from_map (λ a b. name_cmp a b ≡ Less) name_of set first) (AllPairs-from_map (λ a b. name_cmp a b ≡ Less) name_of other second)

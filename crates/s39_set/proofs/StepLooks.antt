@@ -1,5 +1,5 @@
 -- What a step adds to the looks, by its answer.
-use Rattle.std.proofs.Common.{◌≡◌, ℕ, suc, ◌+◌, ◌<◌, ◌==◌, ◌&&◌, ◌++◌, true, false, List, [], ◌∷◌, length}
+use Rattle.std.proofs.Common.{◌≡◌, ℕ, suc, ◌+◌, ◌<◌, ◌==◌, ◌&&◌, ◌++◌, true, false, [], ◌∷◌, length}
 use Rattle.std.proofs.Common.{get_or, take, drop, sum_by, All, Some, Ok, Less, refl, sym, ap, ◌∙◌, arith, drop-cons}
 use Rattle.std.proofs.lemmas.Bool.{cond-true, cond-false}
 use Rattle.std.proofs.lemmas.Bool.Decides.{nat_tests}
@@ -26,10 +26,10 @@ common_names-front (p ∷ ps) S R x later =
     omega arith
 
 -- a step's looks, where its answer differs at a place
-pub step_looks-next : (Q next R : Names) (i : ℕ) → i < length Q → next ≡ take i Q ++ R → All (λ n. name_cmp (get_or Q i (0, 0)) n ≡ Less) R
+pub step_looks_next : (Q next R : Names) (i : ℕ) → i < length Q → next ≡ take i Q ++ R → All (λ n. name_cmp (get_or Q i (0, 0)) n ≡ Less) R
     → step_looks Q (Ok (Some next))
     ≡ test_looks Q + context_looks Q + (place_looks (get_or Q i (0, 0)) + sum_by place_looks (drop (suc i) Q)) + completion_looks i (get_or Q i (0, 0))
-step_looks-next Q next R i below next_is later =
+step_looks_next Q next R i below next_is later =
     let x = get_or Q i (0, 0) in
     let S = drop (suc i) Q in
     let parts : Q ≡ take i Q ++ x ∷ S = sym (take-append-drop i Q) ∙ ap (λ l. take i Q ++ l) (drop-cons Q i (0, 0) below) in

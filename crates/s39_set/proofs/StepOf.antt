@@ -25,7 +25,7 @@ use Rattle.s39_set.proofs.Ascending.{member-less}
 use Rattle.s39_set.proofs.NamesOrder.{cmp-append, first-less}
 use Rattle.s39_lists.proofs.Ranges.{filter-range_agree}
 use Rattle.s39_set.proofs.Just.{alone, complete_is}
-use Rattle.s39_set.proofs.FromMasks.{names_in_group-masks, above_from_masks, higher_member}
+use Rattle.s39_set.proofs.FromMasks.{names_in_group_masks, above_from_masks, higher_member}
 use Rattle.s39_set.proofs.SetQuorums.{member_threshold-positive, groups-below, members-below, group_threshold-from_meets, just_of, of_just}
 use Rattle.s39_set.proofs.SetQuorums.{written_of_quorum, first_is}
 use Rattle.s39_set.proofs.Step.{AreAbove, nothing_greater, least_of_group, least_of_later}
@@ -41,7 +41,7 @@ module _ (shares : List ShareFields) (is : IsShareSet shares) where
   -- what is taken of a group are its first members at hand
   pub taken_is : (masks : Masks) → AreMasksOf masks N → (g : ℕ) → g < most_groups → members_taken shares masks g ≡ first_members T N g
   taken_is masks masks_are g low =
-      ap (take (unwrap_or (T g) 0)) (sym (names_in_group-masks masks N masks_are (members-below shares is) g low is.ascending))
+      ap (take (unwrap_or (T g) 0)) (sym (names_in_group_masks masks N masks_are (members-below shares is) g low is.ascending))
 
   -- ---- at a name of a quorum
 
@@ -209,6 +209,6 @@ module _ (shares : List ShareFields) (is : IsShareSet shares) where
       (taken_is context.at_hand at_hand) complete enough
 
   -- the table's groups are the complete ones
-  pub groups_from-complete : (context : StepContext) → AreCompleteGroups context.complete shares → groups_from context.complete 0 ≡ complete_groups T N
-  groups_from-complete context complete =
+  pub groups_from_complete : (context : StepContext) → AreCompleteGroups context.complete shares → groups_from context.complete 0 ≡ complete_groups T N
+  groups_from_complete context complete =
       filter-range_agree (λ g. get_or context.complete g false) (is_complete T N) 0 most_groups (λ g _ low. complete g (omega arith))

@@ -1,5 +1,5 @@
 -- Names that just meet thresholds.
-use Rattle.std.specs.Prelude.{◌≡◌, ℕ, List, length, Option, Some, All}
+use Rattle.std.specs.Prelude.{◌≡◌, ℕ, length, Option, Some, All}
 use Rattle.std.specs.List.{Contains}
 use Rattle.s39_set.specs.Names.{Names, IsAscending, names_in_group}
 use Rattle.s39_set.specs.Groups.{complete_groups}

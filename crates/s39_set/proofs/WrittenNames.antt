@@ -7,7 +7,7 @@ use Rattle.std.proofs.lemmas.List.Elements.{All-cons, All-append, All-take}
 use Rattle.s39_lists.proofs.Splits.{IsWithout, split-joined, joined-from_parts, same_texts, joined_once, part_is}
 use Rattle.s39_set.specs.Names.{Name, Names, name_cmp, AreNames, most_groups, most_members}
 use Rattle.s39_set.specs.Written.{name_text, IsNameText, IsWrittenForm}
-use Rattle.s39_set.proofs.Fronts.{front-before}
+use Rattle.s39_set.proofs.Fronts.{front_before}
 use Rattle.s39_set.proofs.NameText.{same_name}
 use Rattle.s39_set.proofs.NumberText.{decimal-without}
 
@@ -66,5 +66,5 @@ next_name text part before names k is are so_far inside here =
     (so_far ∙ ap (take k) parts ∙ take-map name_text k names) in
     record {
       text = record { group = (all k (0, 0) below).0; member = (all k (0, 0) below).1; text_is = part_text };
-      later = subst (All (λ earlier. name_cmp earlier name ≡ Less)) (sym same) (front-before names k is.are_names.ascending below);
+      later = subst (All (λ earlier. name_cmp earlier name ≡ Less)) (sym same) (front_before names k is.are_names.ascending below);
     }

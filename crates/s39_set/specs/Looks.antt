@@ -1,6 +1,6 @@
 -- How many looks a call adds: questions whether a set has a share, and turns of loops. Each loop runs to its end, but for
 -- the search for a greater quorum, which stops at the place at which its answer differs from the given names.
-use Rattle.std.specs.Prelude.{ℕ, ◌+◌, ◌-◌, ◌*◌, ◌==◌, ◌&&◌, List, [], ◌∷◌, length, drop, sum_by, Option, Some, None}
+use Rattle.std.specs.Prelude.{ℕ, ◌+◌, ◌-◌, ◌*◌, ◌==◌, ◌&&◌, [], ◌∷◌, length, drop, sum_by, Option, Some, None}
 use Rattle.std.specs.Prelude.{Result, Ok, Err, slice_index_or, if◌then◌else◌}
 use Rattle.s39_set.specs.declared.next.NotAQuorum.{NotAQuorum}
 use Rattle.s39_set.specs.Names.{Name, Names, most_groups, most_members, most_names}

@@ -1,5 +1,5 @@
 -- Facts about share sets, as laws state them.
-use Rattle.std.specs.Prelude.{◌≡◌, ◌↔◌, ◌⊎◌, ℕ, List, map, All, Contains}
+use Rattle.std.specs.Prelude.{◌≡◌, ◌↔◌, ◌⊎◌, List, map, All, Contains}
 use Rattle.s39_words.specs.declared.share.ShareFields.{ShareFields}
 use Rattle.s39_set.specs.Names.{Names, IsAscending}
 use Rattle.s39_set.specs.ShareSet.{name_of, refusal_of, HasOneMore}

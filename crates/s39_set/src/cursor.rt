@@ -36,10 +36,15 @@ impl BadCursor {
     }
 }
 
-/// The names of which a text is the written form: at least one `G.M`, a group and a member index from 0 to 15 in
-/// decimal without leading zeros, joined by `+`, in strictly ascending order of the pairs of numbers.
+/// The names of which a text is the written form: one `G.M` or more, joined by `+`, in strictly ascending order of the
+/// pairs of numbers. `G` is a group and `M` a member index, both from 0 to 15 in decimal without leading zeros.
 ///
 /// The error says that the text is no such form.
+///
+/// ```rust
+/// assert_eq!(rt; parse_names(b"0.2+0.10")?.pairs(), [(0, 2), (0, 10)].as_slice());
+/// assert!(rt; matches!(parse_names(b"0.10+0.2"), Err(BadNames)));
+/// ```
 pub fn parse_names(text: &[u8]) -> Result<Quorum, BadNames>
     ensures names { IfOk result (IsWrittenForm text.now) }
     ensures only { (names : Names) → IsWrittenForm text.now names → result ≡ Ok names }
@@ -57,9 +62,15 @@ pub fn parse_names(text: &[u8]) -> Result<Quorum, BadNames>
     Ok(quorum)
 }
 
-/// The names of which a cursor is the written form (`parse_names`).
+/// The names of which a cursor is the written form (`parse_names`). Whether they are a quorum depends on a set
+/// (`is_quorum`).
 ///
-/// Whether the names are a quorum depends on a set (`is_quorum`).
+/// The error says that the cursor is no such form.
+///
+/// ```rust
+/// assert_eq!(rt; parse_quorum(b"0.0+0.2")?.pairs(), [(0, 0), (0, 2)].as_slice());
+/// assert!(rt; matches!(parse_quorum(b"0.16"), Err(BadCursor)));
+/// ```
 pub fn parse_quorum(text: &[u8]) -> Result<Quorum, BadCursor>
     ensures names { IfOk result (IsWrittenForm text.now) }
     ensures only { (names : Names) → IsWrittenForm text.now names → result ≡ Ok names }

@@ -13,11 +13,17 @@ use crate::quorum::Quorum;
 use crate::set_lack::SetLack;
 use crate::share_set::{ShareSet, are_a_share_set};
 
-/// The quorum of a set whose list of names is least: lists are compared name by name, and names by group and then
+/// The quorum of a set whose list of names is least. Lists are compared name by name, and names by group and then
 /// by member index.
 ///
-/// The error is `NoShares` exactly where the set is empty, and `Incomplete` exactly where it has shares and no
-/// names of them meet the thresholds.
+/// The error is `NoShares` if the set is empty, and `Incomplete` if it has shares, but no names of them meet the
+/// thresholds.
+///
+/// ```rust
+/// // The set has members 0 and 2 of group 0, of which two are needed.
+/// assert_eq!(rt; first(&set)?.pairs(), [(0, 0), (0, 2)].as_slice());
+/// assert!(rt; matches!(first(&ShareSet::new()), Err(SetLack::NoShares)));
+/// ```
 pub fn first(set: &ShareSet) -> Result<Quorum, SetLack>
     ensures is_set { IsShareSet set.now }
     ensures first { IfOk result (IsFirstQuorumAfter set.now None) }
@@ -39,6 +45,7 @@ pub fn first(set: &ShareSet) -> Result<Quorum, SetLack>
 }
 
 /// How many groups a table says to be complete.
+#[tactic(auto, using(crate::proofs::RangesFrom::count_from_yes, crate::proofs::RangesFrom::count_from_no))]
 pub(crate) fn count_groups(complete: &[bool; GROUPS]) -> u8
     ensures { result ≡ length (groups_from complete.now 0) }
 {

@@ -1,7 +1,6 @@
 //! Share sets: the shares of one backup that are at hand, and the quorums among them.
 #![tactic(auto)]
 
-mod common;
 mod cursor;
 mod first_quorum;
 pub mod laws;

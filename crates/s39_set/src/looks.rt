@@ -52,8 +52,17 @@ impl Default for Looks {
     }
 }
 
-/// Whether a set has the share of this group and member index, `false` for an index over 15. The question is one look
-/// more; the caller keeps their count below `u64::MAX`.
+/// Whether a set has the share of this group and member index. It is `false` for an index over 15.
+///
+/// The question adds one look. The caller keeps their count below `u64::MAX`.
+///
+/// ```rust
+/// // The set has members 0 and 2 of group 0.
+/// let mut looks = Looks::new();
+/// assert!(rt; has(&set, 0, 2, &mut looks));
+/// assert!(rt; !has(&set, 0, 1, &mut looks));
+/// assert_eq!(rt; looks.count(), 2);
+/// ```
 pub fn has(set: &ShareSet, group: u8, member: u8, looks: &mut Looks) -> bool
     requires { looks.old < u64.MAX }
     ensures has { IsTrue result ↔ Contains (map name_of set.now) (group, member) }

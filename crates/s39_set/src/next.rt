@@ -1,6 +1,7 @@
 //! The quorum that comes next.
 ghost use Rattle.std.specs.Prelude.{◌≡◌, ◌+◌, ◌-◌, ◌*◌, ◌<◌, ◌≤◌, ◌++◌, Some, None, true, false, length, map, take, All, Contains, IsTrue};
-ghost use Rattle.std.specs.Prelude.{OnOk, OnErr, IfOk, IfSome, Ok};
+ghost use Rattle.std.specs.Prelude.{OnOk, OnErr, IfOk, IfSome, Ok, nat_le};
+ghost use Rattle.std.specs.Option.{option_map_or};
 ghost use Rattle.std.specs.declared.cmp.Ordering.TheVariants.{Less};
 ghost use Rattle.s39_set.specs.Causes.{no_quorum_cause};
 ghost use Rattle.s39_set.specs.Names.{most_groups, most_members, most_names, name_cmp, AreNames};
@@ -31,14 +32,25 @@ impl NotAQuorum {
     }
 }
 
-/// The first quorum of a set that comes after a given one, `None` where that is the last.
+/// The first quorum of a set that comes after a given one. It is `None` if the given one is the last.
 ///
-/// The error is answered exactly where the given list isn't a quorum of the set. The caller keeps the count of looks at
-/// most `u64::MAX - MAX_STEP_LOOKS`: the call adds at most `MAX_STEP_LOOKS`. How many it adds follows from the given names
-/// and the answer alone: those of `is_quorum`; then, unless that is the answer, two for each name that there is, 17 for
-/// each group and two for each name of the quorum; for each name of the quorum, from the last one back to the first that
-/// the answer doesn't have in its place, one, and one for each member and each group above it; and for that name one for
-/// each name before it, two for each member above it and 18 for each group above it.
+/// The error says that the given list isn't a quorum of the set.
+///
+/// The call adds at most `MAX_STEP_LOOKS` looks, and the caller keeps their count at most `u64::MAX - MAX_STEP_LOOKS`.
+/// How many it adds follows from the given names and the answer alone:
+///
+/// - It adds the looks of `is_quorum`, and after an error no others.
+/// - It adds two for each name that a share may have, 17 for each group and two for each name of the quorum.
+/// - It tries the names of the quorum from the last one back to the first that the answer doesn't have in its place. For
+///   each of these it adds one, and one for each member and each group above it.
+/// - If there is a next quorum, it adds for the last name that it tried one for each name before it, two for each member
+///   above it and 18 for each group above it.
+///
+/// ```rust
+/// // The set has members 0 and 2 of group 0, of which two are needed: these are its one quorum.
+/// let mut looks = Looks::new();
+/// assert!(rt; next_after(&set, &first(&set)?, &mut looks)?.is_none());
+/// ```
 pub fn next_after(
     set: &ShareSet,
     quorum: &Quorum,
@@ -138,6 +150,7 @@ fn has_spare_group(
 }
 
 /// How many groups above this one have chosen names.
+#[tactic(auto, using(crate::proofs::RangesFrom::count_from_yes, crate::proofs::RangesFrom::count_from_no))]
 fn groups_above(members: &[u16; GROUPS], group: u8, looks: &mut Looks) -> u8
     requires group { group < most_groups }
     requires looks { looks.old + (most_groups - (group + 1)) ≤ u64.MAX }
@@ -156,6 +169,7 @@ fn groups_above(members: &[u16; GROUPS], group: u8, looks: &mut Looks) -> u8
 }
 
 /// How many members of a group, from one on, are in the masks.
+#[tactic(auto, using(crate::proofs::RangesFrom::count_from_yes, crate::proofs::RangesFrom::count_from_no))]
 fn count_members(masks: &Masks, group: u8, from: u8, looks: &mut Looks) -> u8
     requires group { group < most_groups }
     requires from { from ≤ most_members }
@@ -219,6 +233,7 @@ impl StepContext {
     }
 
     /// The names before a position, and the least that can stand there and behind it.
+    #[tactic(auto, using(crate::proofs::Fronts::front_before_next, crate::proofs::Fronts::with_members_groups))]
     fn completed(
         &self,
         set: &ShareSet,
@@ -289,9 +304,7 @@ pub(crate) fn shares_at_hand(set: &ShareSet, looks: &mut Looks) -> Masks
     for slot in 0..MAX_NAMES {
         looks.turn();
         let (group, member) = indices_at(slot);
-        if has(set, group, member, looks) {
-            at_hand.insert(group, member);
-        }
+        at_hand.flags[slot] = has(set, group, member, looks);
     }
     at_hand
 }
@@ -323,14 +336,23 @@ fn groups_complete(set: &ShareSet, at_hand: &Masks, looks: &mut Looks) -> [bool;
     for group in 0..MAX_GROUPS {
         looks.turn();
         let members = count_members(at_hand, group, 0, looks);
-        if let Some(threshold) = set.member_threshold(group) {
-            complete[usize::from(group)] = threshold <= members;
-        }
+        complete[usize::from(group)] = meets(set.member_threshold(group), members);
     }
     complete
 }
 
+/// Whether so many members meet a member threshold. Where there is none, they don't.
+fn meets(threshold: Option<u8>, members: u8) -> bool
+    ensures { result ≡ option_map_or (λ threshold. nat_le threshold members) threshold false }
+{
+    match threshold {
+        Some(threshold) => threshold <= members,
+        None => false,
+    }
+}
+
 /// Whether the name before a position, if there is one, is of another group.
+#[tactic(auto, using(crate::proofs::Fronts::none_of_group, crate::proofs::Fronts::apart_from_test))]
 fn is_first_of_group(names: &[(u8, u8)], position: usize) -> bool
     requires names { AreNames names.now }
     requires position { position < length names.now }
@@ -341,6 +363,7 @@ fn is_first_of_group(names: &[(u8, u8)], position: usize) -> bool
 }
 
 /// A list of these names.
+#[tactic(auto, using(crate::proofs::Fronts::front_before))]
 fn copied(names: &[(u8, u8)], looks: &mut Looks) -> Quorum
     requires names { AreNames names.now }
     requires looks { looks.old + length names.now ≤ u64.MAX }

@@ -85,8 +85,15 @@ fn is_earlier(name: (u8, u8), group: u8, member: u8) -> bool
 /// Whether a list of names is a quorum of a set: all are names of its shares, they meet the thresholds, and no
 /// proper subset of them does.
 ///
-/// It adds three looks for each name and one for each group that there may be, whatever it answers: at most
+/// Whatever it answers, it adds three looks for each name and one for each group that there may be. These are at most
 /// `MAX_TEST_LOOKS`. The caller keeps their count at most `u64::MAX - MAX_TEST_LOOKS`.
+///
+/// ```rust
+/// // The set has members 0 and 2 of group 0, of which two are needed.
+/// let mut looks = Looks::new();
+/// assert!(rt; is_quorum(&set, &parse_quorum(b"0.0+0.2")?, &mut looks));
+/// assert!(rt; !is_quorum(&set, &parse_quorum(b"0.0")?, &mut looks));
+/// ```
 pub fn is_quorum(set: &ShareSet, quorum: &Quorum, looks: &mut Looks) -> bool
     requires { looks.old ≤ u64.MAX - most_test_looks }
     ensures quorum { IsTrue result ↔ IsQuorum set.now quorum.now }

@@ -1,26 +1,24 @@
 //! Share sets.
-ghost use Rattle.std.specs.Prelude.{◌≡◌, ◌<◌, ◌↔◌, [], find, map, Contains, IsTrue, Some, None, Ok, OnOk, OnErr, IfErr};
+ghost use Rattle.std.specs.Prelude.{◌≡◌, ◌<◌, ◌≤◌, ◌↔◌, [], find, map, All, Contains, IsTrue, Some, None, Ok, OnOk, OnErr, IfErr, IfSome};
 ghost use Rattle.std.specs.Option.{option_copied};
 ghost use Rattle.s39_set.specs.Names.{most_groups, most_members, most_names};
-ghost use Rattle.s39_set.specs.Slots.{slot_of, last_refusal_of};
+ghost use Rattle.s39_set.specs.Slots.{slot_of, threshold_differs, value_differs, first_cause, IsBefore};
 ghost use Rattle.s39_set.specs.Quorums.{group_threshold_of, member_threshold_of};
 ghost use Rattle.s39_set.specs.ShareSet.{IsShareSet, HasOneMore, refusal_of, name_of, has_name};
 
-use crate::common::Common;
 use crate::limits::{GROUPS, MAX_GROUPS, MAX_MEMBERS, MAX_NAMES};
-use crate::masks::Masks;
 use crate::set_error::{Added, SetError};
 use s39_words::Share;
 use std::array;
 use std::marker::Model;
 
-/// The shares of one backup that are at hand, each once, in the order of their group and member indices:
-/// `MAX_NAMES` at most. A set keeps the names as masks, a member threshold for each group, and a slot for each
-/// share, and takes no memory.
+/// The shares of one backup that are at hand, each once, in the order of their group and member indices.
+///
+/// A set has at most `MAX_NAMES` shares. It keeps a slot for each name that a share may have, and the thresholds, so that
+/// no loop looks for these. It allocates nothing.
 #[derive(Drop)]
 pub struct ShareSet {
-    common: Option<Common>,
-    at_hand: Masks,
+    group_threshold: Option<u8>,
     member_thresholds: [Option<u8>; GROUPS],
     slots: [Option<Share>; MAX_NAMES],
 }
@@ -35,7 +33,7 @@ impl Model for ShareSet {
 
     ghost view = { λ set. shares_at set.slots };
 
-    ghost invariant = { λ set. IsKept set.common set.at_hand set.member_thresholds set.slots };
+    ghost invariant = { λ set. IsKept set.group_threshold set.member_thresholds set.slots };
 }
 
 impl ShareSet {
@@ -44,18 +42,24 @@ impl ShareSet {
         ensures { result ≡ [] }
     {
         ShareSet {
-            common: None,
-            at_hand: Masks::new(),
+            group_threshold: None,
             member_thresholds: [None; GROUPS],
             slots: array::from_fn(|_| None),
         }
     }
 
-    /// Takes a share: `Added::New` where the set had none of its name, `Added::Repeat` where it had this very
-    /// share. Otherwise the error is the first that applies, in the order of the variants of `SetError`. An empty
-    /// set takes every share.
+    /// Takes a share. The answer is `Added::New` if the set had no share of its name, and `Added::Repeat` if it had
+    /// this very share. An empty set takes every share.
     ///
-    /// Unless the answer is `Added::New`, the set is unchanged.
+    /// The error is the first that applies, in the order of the variants of `SetError`. The set is unchanged unless
+    /// the answer is `Added::New`.
+    ///
+    /// ```rust
+    /// let mut set = ShareSet::new();
+    /// assert_eq!(rt; set.add(parse(MEMBER_0)?), Ok(Added::New));
+    /// assert_eq!(rt; set.add(parse(MEMBER_2)?), Ok(Added::New));
+    /// assert_eq!(rt; set.add(parse(MEMBER_2)?), Ok(Added::Repeat));
+    /// ```
     pub fn add(&mut self, share: Share) -> Result<Added, SetError>
         ensures refused { IfErr result (λ error. refusal_of self.old share ≡ Some error) }
         ensures accepted { OnOk result (refusal_of self.old share ≡ None) }
@@ -71,46 +75,60 @@ impl ShareSet {
         // `fields` tells a proof the ranges of the indices.
         let group = share.fields().group_index;
         let member = share.member_index();
-        if self.at_hand.has(group, member) {
+        if self.is_at_hand(group, member) {
             return Ok(Added::Repeat);
         }
-        self.common = Some(Common::of(&share));
-        self.at_hand.insert(group, member);
+        self.group_threshold = Some(share.group_threshold());
         self.member_thresholds[usize::from(group)] = Some(share.member_threshold());
         self.slots[slot_of(group, member)] = Some(share);
         Ok(Added::New)
     }
 
     /// The first cause for which a share can't join.
+    #[tactic(auto, using(crate::proofs::Refusals::refusal_by_one, crate::proofs::Slots::not_refused_by_none))]
     fn refusal(&self, share: &Share) -> Option<SetError>
-        ensures refusal { result ≡ refusal_of self.now share.now }
-        ensures is_set { IsShareSet self.now }
+        ensures { result ≡ refusal_of self.now share.now }
     {
+        are_a_share_set(self);
         // An empty set takes every share.
-        let Some(common) = self.common else {
-            return None;
-        };
-        if let Some(error) = common.refusal(share) {
-            return Some(error);
-        }
-        self.last_refusal(share)
+        let held = self.any_share()?;
+        let other_threshold = self.has_other_threshold(share);
+        let other_value = self.has_other_value(share);
+        first_cause(held, share, other_threshold, other_value)
     }
 
-    /// Another member threshold than the share's group has, or another value than the share of its name.
-    fn last_refusal(&self, share: &Share) -> Option<SetError>
-        ensures { result ≡ last_refusal_of self.now share.now }
+    /// Whether the share's group has another member threshold.
+    #[tactic(auto, using(crate::proofs::Refusals::threshold_test))]
+    fn has_other_threshold(&self, share: &Share) -> bool
+        ensures { result ≡ threshold_differs self.now share.now }
     {
-        let group = share.fields().group_index;
-        let member = share.member_index();
-        let held = share_at(self, group, member);
-        if let Some(threshold) = self.member_threshold(group) {
-            if threshold != share.member_threshold() {
-                return Some(SetError::OtherMemberThreshold { group });
-            }
+        are_a_share_set(self);
+        match self.member_threshold(share.fields().group_index) {
+            Some(threshold) => threshold != share.member_threshold(),
+            None => false,
         }
-        if let Some(held) = held {
-            if held.value().as_slice() != share.value().as_slice() {
-                return Some(SetError::ConflictingShare { group, member });
+    }
+
+    /// Whether the set has a share of the share's name with another value.
+    #[tactic(auto, using(crate::proofs::Refusals::value_test))]
+    fn has_other_value(&self, share: &Share) -> bool
+        ensures { result ≡ value_differs self.now share.now }
+    {
+        match share_at(self, share.group_index(), share.member_index()) {
+            Some(held) => held.value().as_slice() != share.value().as_slice(),
+            None => false,
+        }
+    }
+
+    /// A share of the set, if it has one.
+    #[tactic(auto, using(crate::proofs::Slots::placed, crate::proofs::Slots::own_slot, crate::proofs::Slots::none_before_more))]
+    fn any_share(&self) -> Option<&Share>
+        ensures some { IfSome (option_copied result) (Contains self.now) }
+        ensures none { result ≡ None → All (λ share. ¬ IsBefore most_names share) self.now }
+    {
+        for slot in 0..MAX_NAMES {
+            if let Some(share) = &self.slots[slot] {
+                return Some(share);
             }
         }
         None
@@ -120,11 +138,7 @@ impl ShareSet {
     pub(crate) fn is_at_hand(&self, group: u8, member: u8) -> bool
         ensures { IsTrue result ↔ Contains (map name_of self.now) (group, member) }
     {
-        if group < MAX_GROUPS && member < MAX_MEMBERS {
-            self.at_hand.has(group, member)
-        } else {
-            false
-        }
+        share_at(self, group, member).is_some()
     }
 
     /// Whether the set has no share.
@@ -134,7 +148,7 @@ impl ShareSet {
         self.group_threshold().is_none()
     }
 
-    /// The member threshold of the shares of a group, where the set has one.
+    /// The member threshold of the shares of a group, if the set has one.
     pub(crate) fn member_threshold(&self, group: u8) -> Option<u8>
         requires { group < most_groups }
         ensures { result ≡ member_threshold_of self.now group }
@@ -142,11 +156,11 @@ impl ShareSet {
         self.member_thresholds[usize::from(group)]
     }
 
-    /// The group threshold of the shares, where there is one.
+    /// The group threshold of the shares, if there is one.
     pub(crate) fn group_threshold(&self) -> Option<u8>
         ensures { result ≡ group_threshold_of self.now }
     {
-        Some(self.common?.group_threshold)
+        self.group_threshold
     }
 }
 
@@ -158,8 +172,44 @@ impl Default for ShareSet {
     }
 }
 
+/// The first cause for which a share can't join, by a share with what all have in common, and by whether the share's group
+/// has another member threshold and its name another value.
+fn first_cause(
+    held: &Share,
+    share: &Share,
+    other_threshold: bool,
+    other_value: bool,
+) -> Option<SetError>
+    ensures { result ≡ first_cause held.now share.now other_threshold other_value }
+{
+    if held.id() != share.id() {
+        Some(SetError::OtherIdentifier)
+    } else if held.extendable() != share.extendable() {
+        Some(SetError::OtherExtendable)
+    } else if held.exponent() != share.exponent() {
+        Some(SetError::OtherExponent)
+    } else if held.group_threshold() != share.group_threshold() {
+        Some(SetError::OtherGroupThreshold)
+    } else if held.group_count() != share.group_count() {
+        Some(SetError::OtherGroupCount)
+    } else if held.value().len() != share.value().len() {
+        Some(SetError::OtherLength)
+    } else if other_threshold {
+        Some(SetError::OtherMemberThreshold {
+            group: share.group_index(),
+        })
+    } else if other_value {
+        Some(SetError::ConflictingShare {
+            group: share.group_index(),
+            member: share.member_index(),
+        })
+    } else {
+        None
+    }
+}
+
 /// The slot of a name: as many for each group as it may have members.
-fn slot_of(group: u8, member: u8) -> usize
+pub(crate) fn slot_of(group: u8, member: u8) -> usize
     requires group { group < most_groups }
     requires member { member < most_members }
     ensures { result ≡ slot_of (group, member) }
@@ -187,7 +237,14 @@ pub fn are_a_share_set(set: &ShareSet)
     let _ = &set.slots;
 }
 
-/// The share of this group and member index: `None` exactly where the set has none, as for an index over 15.
+/// The share of this group and member index. It is `None` if the set has no such share, as for an index over 15.
+///
+/// ```rust
+/// // The set has members 0 and 2 of group 0, of which two are needed.
+/// assert_eq!(rt; share_at(&set, 0, 2).map(|share| share.member_threshold()), Some(2));
+/// assert!(rt; share_at(&set, 0, 1).is_none());
+/// ```
+#[tactic(auto, using(crate::proofs::Sets::none_past))]
 pub fn share_at(set: &ShareSet, group: u8, member: u8) -> Option<&Share>
     ensures share { option_copied result ≡ find (has_name group member) set.now }
     ensures is_set { IsShareSet set.now }

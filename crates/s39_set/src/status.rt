@@ -42,8 +42,13 @@ pub struct GroupStatus {
     pub names: Quorum,
 }
 
-/// How many groups of a set have at least their member threshold of shares, and its group threshold. It is `None`
-/// exactly where the set is empty. A share that was added more than once counts once.
+/// How many groups of a set have at least their member threshold of shares, and its group threshold. It is `None` if
+/// the set is empty. A share that was added more than once counts once.
+///
+/// ```rust
+/// // The set has members 0 and 2 of group 0, of which two are needed; one group is needed.
+/// assert_eq!(rt; status_of(&set), Some(Status { complete: 1, required: 1 }));
+/// ```
 pub fn status_of(set: &ShareSet) -> Option<Status>
     ensures { result ≡ status_of set.now }
 {
@@ -58,8 +63,14 @@ pub fn status_of(set: &ShareSet) -> Option<Status>
     Some(Status { complete, required })
 }
 
-/// What a set has of a group: its member threshold and the names of its shares, in order. It is `None` exactly where
-/// the set has no share of the group. The caller gives a group from 0 to 15.
+/// What a set has of a group: its member threshold and the names of its shares, in order. It is `None` if the set has
+/// no share of the group. The caller gives a group from 0 to 15.
+///
+/// ```rust
+/// // The set has members 0 and 2 of group 0, of which two are needed.
+/// assert_eq!(rt; group_status_of(&set, 0).map(|status| status.threshold), Some(2));
+/// assert!(rt; group_status_of(&set, 1).is_none());
+/// ```
 pub fn group_status_of(set: &ShareSet, group: u8) -> Option<GroupStatus>
     requires { group < most_groups }
     ensures { result ≡ group_status_of set.now group }

@@ -1,10 +1,17 @@
 use crate::{
     Added, BadCursor, BadNames, Looks, SetError, SetLack, ShareSet, Status, first, group_status_of,
-    has, is_quorum, parse_names, parse_quorum, share_at, status_of,
+    has, is_quorum, next_after, parse_names, parse_quorum, share_at, status_of,
 };
 use s39_kdf::check_secret;
-use s39_words::{Share, ShareFields};
+use s39_words::{Share, ShareFields, parse};
 use std::test::Fail;
+
+// Two mnemonics that are published for SLIP-0039: members 0 and 2 of a group, of which two are needed.
+const MEMBER_0: &[u8] =
+    b"shadow pistol academic acid actress prayer class unknown daughter sweater depict flip twice unkind craft early superior advocate guest smoking";
+
+const MEMBER_2: &[u8] =
+    b"shadow pistol academic always adequate wildlife fancy gross oasis cylinder mustang wrist rescue view short owner flip making coding armed";
 
 fn share(fields: ShareFields) -> Result<Share, Fail> {
     match Share::new(fields) {
@@ -63,6 +70,58 @@ pub(crate) fn three_groups(group_threshold: u8) -> Result<ShareSet, Fail> {
         set.add(zeros(group_threshold, group, member_threshold, member)?)?;
     }
     Ok(set)
+}
+
+/// The examples that stand above the functions.
+#[test]
+fn examples(rt: HostRuntime) -> Result<(), Fail> {
+    let mut set = ShareSet::new();
+    assert_eq!(rt; set.add(parse(MEMBER_0)?), Ok(Added::New));
+    assert_eq!(rt; set.add(parse(MEMBER_2)?), Ok(Added::New));
+    assert_eq!(rt; set.add(parse(MEMBER_2)?), Ok(Added::Repeat));
+
+    assert_eq!(rt;
+        share_at(&set, 0, 2).map(|share| share.member_threshold()),
+        Some(2)
+    );
+    assert!(rt; share_at(&set, 0, 1).is_none());
+
+    let mut looks = Looks::new();
+    assert!(rt; has(&set, 0, 2, &mut looks));
+    assert!(rt; !has(&set, 0, 1, &mut looks));
+    assert_eq!(rt; looks.count(), 2);
+
+    assert_eq!(rt; first(&set)?.pairs(), [(0, 0), (0, 2)].as_slice());
+    assert!(rt; matches!(first(&ShareSet::new()), Err(SetLack::NoShares)));
+
+    assert!(rt; is_quorum(&set, &parse_quorum(b"0.0+0.2")?, &mut looks));
+    assert!(rt; !is_quorum(&set, &parse_quorum(b"0.0")?, &mut looks));
+    assert!(rt; next_after(&set, &first(&set)?, &mut looks)?.is_none());
+
+    assert_eq!(rt;
+        parse_names(b"0.2+0.10")?.pairs(),
+        [(0, 2), (0, 10)].as_slice()
+    );
+    assert!(rt; matches!(parse_names(b"0.10+0.2"), Err(BadNames)));
+    assert_eq!(rt;
+        parse_quorum(b"0.0+0.2")?.pairs(),
+        [(0, 0), (0, 2)].as_slice()
+    );
+    assert!(rt; matches!(parse_quorum(b"0.16"), Err(BadCursor)));
+
+    assert_eq!(rt;
+        status_of(&set),
+        Some(Status {
+            complete: 1,
+            required: 1
+        })
+    );
+    assert_eq!(rt;
+        group_status_of(&set, 0).map(|status| status.threshold),
+        Some(2)
+    );
+    assert!(rt; group_status_of(&set, 1).is_none());
+    Ok(())
 }
 
 #[test]

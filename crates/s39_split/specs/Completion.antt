@@ -1,4 +1,4 @@
--- The share at another index of the split to which points belong (SLIP-0039, "Shamir's secret sharing"), and its laws.
+-- Computing the share at another index from points of a split (SLIP-0039, "Shamir's secret sharing"), and its laws.
 use Rattle.std.specs.Prelude.{◌≡◌, ◌⊎◌, ℕ, ◌<◌, ◌≤◌, List, ◌∷◌, Option, Some, None, length, All}
 use Rattle.std.specs.List.{slice_get}
 use Rattle.s39_field.specs.Interpolation.{InterpolatesBytes}
@@ -7,26 +7,28 @@ use Rattle.s39_split.specs.Shares.{AreDistinct, HaveByteIndices, HaveOneLength}
 use Rattle.s39_split.specs.Sharing.{secret_place, IsSplit}
 use Rattle.s39_split.specs.Recovery.{Combines, AreSharesOf}
 
--- Points, each a share with its index or the secret with its place, as many as the threshold, complete to this share at
--- an index: they combine, and interpolate it there. Where they don't combine they are refused, which is None.
+-- Points complete to this share at an index: they combine, and interpolate it there. If they don't combine, they are
+-- refused, which is None. A point is a share with its index or the secret with its place; they are as many as the
+-- threshold.
 abbrev pub Completes : ℕ → List (ℕ × List ℕ) → ℕ → Option (List ℕ) → Type 0
 Completes threshold points index None = Combines threshold points None
 Completes threshold points index (Some share) =
     ((secret : List ℕ) × Combines threshold points (Some secret)) × InterpolatesBytes points index share
 
--- some of a split's shares, each with its index, and its secret with its place, or not, in any order
+-- these are some of a split's shares, each with its index, and maybe its secret with its place, in any order
 pub record ArePointsOf (secret : List ℕ) (shares : List (List ℕ)) (chosen : List (ℕ × List ℕ)) : Type 0 where
   pub distinct : AreDistinct chosen
   pub belong : All (λ point. (slice_get shares point.0 ≡ Some point.1) ⊎ ((point.0 ≡ secret_place) × (point.1 ≡ secret))) chosen
 
--- some of a split's shares are points of it, and so are they with the secret at its place
+-- some of a split's shares are points of it, with or without the secret at its place
 abbrev pub SharesArePoints : Type 0
 SharesArePoints = (threshold count : ℕ) (secret random : List ℕ) (shares : List (List ℕ)) (chosen : List (ℕ × List ℕ))
     → IsSplit threshold count secret random shares
     → AreSharesOf shares chosen
     → ArePointsOf secret shares chosen × ArePointsOf secret shares ((secret_place, secret) ∷ chosen)
 
--- any threshold many points of a split, of bytes, complete to each of its shares at its index, and to nothing else
+-- any points of a split, as many as its threshold and consisting of bytes, complete to each of its shares at its index,
+-- and to nothing else
 abbrev pub AnyPointsComplete : Type 0
 AnyPointsComplete =
     (threshold count : ℕ) (secret random : List ℕ) (shares : List (List ℕ)) (chosen : List (ℕ × List ℕ)) (index : ℕ) (share : List ℕ)
@@ -43,7 +45,8 @@ PointsCompleteOnce = (threshold : ℕ) (points : List (ℕ × List ℕ)) (index 
     → 0 < length points → HaveByteIndices points → AreDistinct points
     → Completes threshold points index outcome → Completes threshold points index other → outcome ≡ other
 
--- one or more points at distinct places, of bytes and of one length, as many as the threshold, complete to an outcome
+-- points at distinct places, of bytes and of one length, complete to an outcome if they are as many as the threshold,
+-- at least one
 abbrev pub PointsComplete : Type 0
 PointsComplete = (threshold : ℕ) (points : List (ℕ × List ℕ)) (index : ℕ)
     → 1 ≤ threshold

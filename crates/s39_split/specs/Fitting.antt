@@ -1,11 +1,11 @@
--- Shares that are two fewer than the threshold tell nothing of the secret: whatever it is, with each key of
--- its digest just one list of random bytes gives these shares.
+-- Two shares fewer than the threshold reveal nothing about the secret. Whatever it is, and for each key of its digest,
+-- exactly one list of random bytes gives these shares.
 use Rattle.std.specs.Prelude.{◌≡◌, ℕ, List, ◌++◌}
 use Rattle.s39_split.specs.Sharing.{most_shares, IsSplit}
 use Rattle.s39_split.specs.Recovery.{AreSharesOf}
 
--- These random bytes begin with the key of the digest, and by them the split of the secret into as many
--- shares as there may be has the known shares, each with its index.
+-- These random bytes begin with the key of the digest, and with them the split of the secret into the most
+-- shares that there may be has the known shares, each with its index.
 pub record Fits (threshold : ℕ) (secret key : List ℕ) (known : List (ℕ × List ℕ)) (random : List ℕ) : Type 0 where
   pub rest : List ℕ
   pub begins : random ≡ key ++ rest

@@ -7,7 +7,7 @@ use Rattle.s39_kdf.specs.Bytes.{AreBytes}
 use Rattle.s39_split.specs.Shares.{AreDistinct, HaveByteIndices, HaveOneLength}
 use Rattle.s39_split.specs.Sharing.{digest_place, secret_place, digest_length, digest_of, IsSplit}
 
--- What two or more shares give: the secret S where the first 4 bytes of D are its digest under the
+-- The outcome of two or more shares: the secret S if the first 4 bytes of D are its digest under the
 -- rest of D as the key, and a refusal otherwise.
 pub record CombinesSeveral (shares : List (ℕ × List ℕ)) (outcome : Option (List ℕ)) : Type 0 where
   pub secret : List ℕ
@@ -19,20 +19,20 @@ pub record CombinesSeveral (shares : List (ℕ × List ℕ)) (outcome : Option (
   pub refused : take digest_length digest ≢ digest_of (drop digest_length digest) secret
       → outcome ≡ None
 
--- Shares, each with its index, as many as the threshold, combine to a secret, or are refused, which is
--- None. Where one share is enough, it is the secret.
+-- Shares, each with its index and as many as the threshold, combine to a secret or are refused, which is
+-- None. If one share is enough, it is the secret.
 pub record Combines (threshold : ℕ) (shares : List (ℕ × List ℕ)) (outcome : Option (List ℕ)) : Type 0 where
   pub number : length shares ≡ threshold
   pub one_needed : threshold ≡ 1
       → (index : ℕ) × (share : List ℕ) × (shares ≡ (index, share) ∷ []) × (outcome ≡ Some share)
   pub more_needed : threshold ≢ 1 → CombinesSeveral shares outcome
 
--- some of a split's shares, each with its index, in any order
+-- these are some of a split's shares, each with its index, in any order
 pub record AreSharesOf (shares : List (List ℕ)) (chosen : List (ℕ × List ℕ)) : Type 0 where
   pub distinct : AreDistinct chosen
   pub belong : All (λ share. slice_get shares share.0 ≡ Some share.1) chosen
 
--- any threshold many shares of a split combine to its secret, and to nothing else
+-- any shares of a split, as many as its threshold, combine to its secret and to nothing else
 abbrev pub AnySharesCombine : Type 0
 AnySharesCombine =
     (threshold count : ℕ) (secret random : List ℕ) (shares : List (List ℕ)) (chosen : List (ℕ × List ℕ))
@@ -47,7 +47,7 @@ SharesCombineOnce = (threshold : ℕ) (shares : List (ℕ × List ℕ)) (outcome
     → 0 < length shares → HaveByteIndices shares → AreDistinct shares
     → Combines threshold shares outcome → Combines threshold shares other → outcome ≡ other
 
--- one or more shares with different indices and one length, as many as the threshold, combine to an outcome
+-- shares with different indices and one length, as many as the threshold and at least one, combine to an outcome
 abbrev pub SharesCombine : Type 0
 SharesCombine = (threshold : ℕ) (shares : List (ℕ × List ℕ))
     → 1 ≤ threshold
@@ -58,7 +58,7 @@ SharesCombine = (threshold : ℕ) (shares : List (ℕ × List ℕ))
     → AreDistinct shares
     → (outcome : Option (List ℕ)) × Combines threshold shares outcome
 
--- the secret that shares of a length combine to has that length, and consists of bytes where they do
+-- the secret to which shares of one length combine has that length, and consists of bytes if they do
 abbrev pub SecretsAreLikeTheirShares : Type 0
 SecretsAreLikeTheirShares = (threshold n : ℕ) (shares : List (ℕ × List ℕ)) (secret : List ℕ)
     → 1 ≤ threshold

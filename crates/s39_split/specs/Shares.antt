@@ -1,4 +1,4 @@
--- Shares, or points, as a list of indices and byte strings, and what a contract sees of them in memory.
+-- Shares or points as a list of indices and byte strings, and how contracts see those in memory.
 use Rattle.std.specs.Prelude.{◌≡◌, ◌≢◌, ℕ, ◌<◌, List, length, map, All, AllPairs}
 use Rattle.std.specs.Borrow.{Bor}
 use Rattle.arrayvec.specs.ArrayVec.{ArrayVec}

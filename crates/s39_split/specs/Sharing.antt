@@ -18,7 +18,7 @@ digest_place = 254
 abbrev pub secret_place : ℕ
 secret_place = 255
 
--- the bytes of a secret's digest
+-- the number of bytes of a secret's digest
 abbrev pub digest_length : ℕ
 digest_length = 4
 
@@ -30,22 +30,22 @@ digest_of key secret = take digest_length (hmac key secret)
 abbrev pub digest_share : List ℕ → List ℕ → List ℕ
 digest_share key secret = digest_of key secret ++ key
 
--- How many random bytes a split of a secret of n bytes takes: none where one share is enough, else
+-- How many random bytes a split of a secret of n bytes takes: none if one share is enough, otherwise
 -- the n - 4 bytes of R and the n bytes of each of the shares 0 to threshold - 3.
 abbrev pub random_needed : ℕ → ℕ → ℕ
 random_needed threshold n =
     if threshold == 1 then 0 else (n - digest_length) + (threshold - 2) * n
 
--- the most random bytes of a split, those of the longest secret at the greatest threshold
+-- the most random bytes of a split: those for the longest secret at the greatest threshold
 abbrev pub most_random_bytes : ℕ
 most_random_bytes = random_needed most_shares longest_secret
 
--- the points of which a split makes its shares: the random shares 0, 1, .., then D, then the secret
+-- the points from which a split makes its shares: the random shares 0, 1, .., then D, then the secret
 abbrev pub base_points : List (List ℕ) → List ℕ → List ℕ → List (ℕ × List ℕ)
 base_points random_shares digest secret =
     enumerate_from 0 random_shares ++ (digest_place, digest) ∷ (secret_place, secret) ∷ []
 
--- The split where two or more shares are needed. The random bytes are R and then the shares 0 to
+-- The split if two or more shares are needed. The random bytes are R and then the shares 0 to
 -- threshold - 3, and each further share is interpolated at its index.
 pub record IsPolynomialSplit (threshold : ℕ) (secret random : List ℕ) (shares : List (List ℕ)) : Type 0 where
   pub key : List ℕ
@@ -57,8 +57,8 @@ pub record IsPolynomialSplit (threshold : ℕ) (secret random : List ℕ) (share
       → InterpolatesBytes
       (base_points (take (threshold - 2) shares) (digest_share key secret) secret) index share
 
--- A secret, split into count shares of which any threshold many give it back, where 1 ≤ threshold ≤
--- count ≤ 16. Where one share is enough, each share is the secret.
+-- A secret is split into count shares, of which any threshold recover it; 1 ≤ threshold ≤ count ≤ 16.
+-- If one share is enough, each share is the secret.
 pub record IsSplit (threshold count : ℕ) (secret random : List ℕ) (shares : List (List ℕ)) : Type 0 where
   pub positive : 1 ≤ threshold
   pub enough : threshold ≤ count
@@ -67,7 +67,7 @@ pub record IsSplit (threshold count : ℕ) (secret random : List ℕ) (shares : 
   pub one_needed : threshold ≡ 1 → (random ≡ []) × All (λ share. share ≡ secret) shares
   pub more_needed : threshold ≢ 1 → IsPolynomialSplit threshold secret random shares
 
--- the random bytes of a split are as many as are needed
+-- a split takes exactly as many random bytes as are needed
 abbrev pub SplitsTakeTheBytesNeeded : Type 0
 SplitsTakeTheBytesNeeded = (threshold count : ℕ) (secret random : List ℕ) (shares : List (List ℕ))
     → IsSplit threshold count secret random shares
@@ -79,7 +79,7 @@ SharesAreAsLong = (threshold count : ℕ) (secret random : List ℕ) (shares : L
     → IsSplit threshold count secret random shares
     → All (λ share. length share ≡ length secret) shares
 
--- and consist of bytes where the secret and the random bytes do
+-- the shares of a split consist of bytes if the secret and the random bytes do
 abbrev pub SharesAreBytes : Type 0
 SharesAreBytes = (threshold count : ℕ) (secret random : List ℕ) (shares : List (List ℕ))
     → IsSplit threshold count secret random shares
@@ -87,8 +87,8 @@ SharesAreBytes = (threshold count : ℕ) (secret random : List ℕ) (shares : Li
     → AreBytes random
     → All AreBytes shares
 
--- a threshold, a number of shares, a secret that is at least as long as a digest, and as many random
--- bytes as are needed have a split
+-- there is a split for a threshold, a number of shares, a secret that is at least as long as a digest,
+-- and as many random bytes as are needed
 abbrev pub HaveASplit : Type 0
 HaveASplit = (threshold count : ℕ) (secret random : List ℕ)
     → 1 ≤ threshold
@@ -100,14 +100,14 @@ HaveASplit = (threshold count : ℕ) (secret random : List ℕ)
     → length random ≡ random_needed threshold (length secret)
     → (shares : List (List ℕ)) × IsSplit threshold count secret random shares
 
--- and no other
+-- there is no other split for them
 abbrev pub HaveOneSplit : Type 0
 HaveOneSplit = (threshold count : ℕ) (secret random : List ℕ) (shares other : List (List ℕ))
     → IsSplit threshold count secret random shares
     → IsSplit threshold count secret random other
     → shares ≡ other
 
--- the first shares of a split, as many as the threshold or more, are the split into these
+-- the first shares of a split, if at least as many as the threshold, are the split into that many shares
 abbrev pub FirstSharesAreASplit : Type 0
 FirstSharesAreASplit = (threshold count fewer : ℕ) (secret random : List ℕ) (shares : List (List ℕ))
     → IsSplit threshold count secret random shares

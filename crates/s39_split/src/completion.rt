@@ -1,4 +1,4 @@
-//! Shares of a split that are computed from others (SLIP-0039, "Shamir's secret sharing").
+//! Computing shares of a split from others (SLIP-0039, "Shamir's secret sharing").
 ghost use Rattle.std.specs.Prelude.{◌≡◌, ◌⊎◌, ℕ, ◌<◌, ◌≤◌, Some, None, List, Option, length, All, IsOkAnd, IfOk, OnErr};
 ghost use Rattle.std.specs.List.{slice_get};
 ghost use Rattle.std.specs.Option.{option_map};
@@ -13,12 +13,23 @@ use crate::interpolation::interpolate;
 use crate::recovery::{DigestMismatch, combine_points};
 use s39_kdf::Bytes;
 
-/// The share at `index` of the split that `t` points belong to, as many as its threshold `t`, from 1 to 16. A point is
-/// a share with its index, up to 15, or the secret with its place, 255. The places differ, and all have one length, from
-/// 16 to 128 bytes.
+/// Computes the share at `index` of a split from `t` of its points (SLIP-0039, "Shamir's secret sharing"). If `t` is
+/// the threshold of the split, any `t` of its points give each of its shares.
 ///
-/// The points are combined first: where that is refused, so are they here, as `DigestMismatch`, and otherwise the
-/// share is what they interpolate at its index. Points of one split at threshold `t` give each of its shares.
+/// A point is a share with its index, 0 to 15, or the secret with its place, [`SECRET_PLACE`](crate::SECRET_PLACE).
+/// There must be exactly `t` points, 1 to 16, at different places and of one length, from 16 to 128 bytes. They may
+/// stand in any order.
+///
+/// The points are combined first, as by [`combine`](crate::combine). If they don't combine, the result is
+/// [`DigestMismatch`]. Otherwise it is the byte string that they interpolate at `index`, which has their length.
+///
+/// ```rust
+/// let secret = Bytes::try_from([7; 16].as_slice())?;
+/// let mut shares: [Bytes; 3] = Default::default();
+/// split(2, &secret, &[1; 12], &mut shares);
+/// let share = complete(2, &[(0, &shares[0]), (SECRET_PLACE, &secret)], 2)?;
+/// assert_eq!(rt; share, shares[2]);
+/// ```
 pub fn complete(t: u8, points: &[(u8, &Bytes)], index: u8) -> Result<Bytes, DigestMismatch>
     requires positive { 1 ≤ t }
     requires few { t ≤ most_shares }

@@ -1,4 +1,4 @@
-//! The digest of a secret, by which wrong shares are found (SLIP-0039, "Shamir's secret sharing").
+//! The digest of a secret, by which wrong shares are detected (SLIP-0039, "Shamir's secret sharing").
 ghost use Rattle.std.specs.Prelude.{◌≡◌, ◌+◌, length};
 ghost use Rattle.arrayvec.specs.ArrayVec.{array_vec_len};
 ghost use Rattle.s39_split.specs.Sharing.{digest_length, digest_of, digest_share};

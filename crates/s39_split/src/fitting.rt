@@ -13,12 +13,24 @@ use crate::places::{DIGEST_PLACE, MAX_RANDOM_BYTES, SECRET_PLACE};
 use arrayvec::ArrayVec;
 use s39_kdf::Bytes;
 
-/// The one list of random bytes that begins with `r`, and by which `split` into 16 shares at threshold `t`,
-/// from 2 to 16, gives the known shares. There is one for each secret: who knows two shares fewer than the
-/// threshold can't tell which it is.
+/// Returns the only random bytes that begin with `r` and with which [`split`](crate::split) into 16 shares at
+/// threshold `t`, from 2 to 16, gives the known shares.
 ///
-/// The secret has 16 to 128 bytes, and `r`, the key of its digest, 4 bytes fewer. There are `t - 2` known
-/// shares, each its index, up to 15, and its bytes, as many as the secret has. Their indices differ.
+/// Such bytes exist for every secret. So whoever knows two shares fewer than the threshold can't tell which secret they
+/// belong to.
+///
+/// The secret must have 16 to 128 bytes, and `r`, the key of its digest, must have 4 bytes fewer. There must be exactly
+/// `t - 2` known shares with different indices, 0 to 15, each as long as the secret. The result has as many bytes as
+/// [`random_needed`](crate::random_needed) says.
+///
+/// ```rust
+/// let secret = Bytes::try_from([7; 16].as_slice())?;
+/// let share = Bytes::try_from([9; 16].as_slice())?;
+/// let random = fit(3, &secret, &[1; 12], &[(5, &share)]);
+/// let mut shares: [Bytes; 16] = Default::default();
+/// split(3, &secret, &random, &mut shares);
+/// assert_eq!(rt; shares[5], share);
+/// ```
 pub fn fit(
     t: u8,
     secret: &Bytes,
@@ -52,7 +64,7 @@ pub fn fit(
     random
 }
 
-/// The known shares, then the digest share and the secret.
+/// Lists the known shares, then the digest share and the secret.
 fn points_of<'a, 'k: 'a>(
     known: &[(u8, &'k Bytes)],
     digest_share: &'a Bytes,

@@ -12,7 +12,7 @@ use crate::places::MAX_SHARES;
 use s39_field::{Field, Gf256, scaled_sum, weights};
 use s39_kdf::{Bytes, MAX_SECRET_BYTES};
 
-/// The one byte string that the points interpolate at `place`. A point is a place and a byte string.
+/// The only byte string that the points interpolate at `place`. A point is a place and a byte string.
 pub(crate) fn interpolate(points: &[(u8, &Bytes)], place: u8) -> Bytes
     requires some { 0 < length points.now }
     requires few { length points.now ≤ most_shares }
@@ -64,7 +64,7 @@ fn add_scaled(value: &mut Bytes, weight: Gf256, row: &[u8])
     scaled_sum(value, weight, row);
 }
 
-/// So many zero bytes.
+/// A string of `n` zero bytes.
 fn zeros(n: usize) -> Bytes
     requires { n ≤ longest_secret }
     ensures { result.items ≡ replicate n 0 }

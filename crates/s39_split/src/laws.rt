@@ -1,4 +1,4 @@
-//! Laws of splitting and combining, each proved as the contract of a function that does nothing.
+//! Laws of splitting and combining. Each is proved as the contract of a function that does nothing.
 ghost use Rattle.std.specs.Prelude.{◌≡◌};
 ghost use Rattle.s39_split.specs.Sharing.{most_shares, digest_place, secret_place, digest_length, most_random_bytes};
 ghost use Rattle.s39_split.specs.Sharing.{SplitsTakeTheBytesNeeded, SharesAreAsLong, SharesAreBytes, HaveASplit, HaveOneSplit, FirstSharesAreASplit};
@@ -7,7 +7,7 @@ ghost use Rattle.s39_split.specs.Recovery.{AnySharesCombine, SharesCombine, Shar
 
 use crate::places::{DIGEST_BYTES, DIGEST_PLACE, MAX_RANDOM_BYTES, MAX_SHARES, SECRET_PLACE};
 
-/// The constants are the numbers by which the definitions go.
+/// The constants of the code equal the numbers of the definitions.
 pub fn numbers()
     ensures shares { MAX_SHARES ≡ most_shares }
     ensures digest { DIGEST_PLACE ≡ digest_place }
@@ -16,36 +16,38 @@ pub fn numbers()
     ensures random { MAX_RANDOM_BYTES ≡ most_random_bytes }
 {}
 
-/// The random bytes of a split are as many as `random_needed` says.
+/// A split takes as many random bytes as `random_needed` says.
 pub fn needed_random_bytes()
     ensures { SplitsTakeTheBytesNeeded }
 {}
 
-/// The shares of a split are as long as the secret, and consist of bytes where the secret and the random
+/// The shares of a split are as long as the secret, and consist of bytes if the secret and the random
 /// bytes do.
 pub fn shares_of_a_split()
     ensures length { SharesAreAsLong }
     ensures bytes { SharesAreBytes }
 {}
 
-/// A threshold of at least 1, a number of shares from the threshold to 16, a secret of at least 4 bytes, and
-/// as many random bytes as `random_needed` says have a split, and no other.
+/// For a threshold of at least 1, a number of shares from the threshold to 16, a secret of at least 4 bytes, and
+/// as many random bytes as `random_needed` says, there is exactly one split.
 pub fn one_split()
     ensures some { HaveASplit }
     ensures one { HaveOneSplit }
 {}
 
-/// The first shares of a split, as many as its threshold or more, are the split into these.
+/// The first shares of a split, if they are at least as many as its threshold, are themselves the split into that
+/// many shares.
 pub fn first_shares()
     ensures { FirstSharesAreASplit }
 {}
 
-/// Any `threshold` shares of a split combine to its secret, in any order, and to nothing else.
+/// Any `threshold` shares of a split, in any order, combine to its secret and to nothing else.
 pub fn any_shares_combine()
     ensures { AnySharesCombine }
 {}
 
-/// One or more shares with different indices and one length, as many as the threshold, combine to an outcome.
+/// Shares combine to some outcome, a secret or a refusal, if they have different indices and one length and are as
+/// many as the threshold, at least one.
 pub fn shares_combine()
     ensures { SharesCombine }
 {}
@@ -55,25 +57,25 @@ pub fn shares_combine_once()
     ensures { SharesCombineOnce }
 {}
 
-/// The secret that shares combine to is as long as they are, and consists of bytes where they do.
+/// The secret to which shares combine is as long as they are, and consists of bytes if they do.
 pub fn secrets_are_like_their_shares()
     ensures { SecretsAreLikeTheirShares }
 {}
 
-/// Any `threshold` points of a split, of its shares and its secret, complete to each of its shares, in any order, and to
-/// nothing else.
+/// Any `threshold` points of a split, in any order, complete to each of its shares and to nothing else. A point is a
+/// share or the secret.
 pub fn any_points_complete()
     ensures { AnyPointsComplete }
 {}
 
-/// One or more points of bytes at different places and of one length, as many as the threshold, complete to an outcome,
-/// and points at different places to at most one.
+/// Points of bytes complete to some outcome if they have different places and one length and are as many as the
+/// threshold, at least one. Points at different places complete to at most one outcome.
 pub fn points_complete()
     ensures some { PointsComplete }
     ensures one { PointsCompleteOnce }
 {}
 
-/// Shares of a split are points of it, in any order, and so are they with the secret at its place.
+/// Shares of a split, in any order, are points of it, and they still are together with the secret at its place.
 pub fn shares_are_points()
     ensures { SharesArePoints }
 {}

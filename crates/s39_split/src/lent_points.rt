@@ -1,4 +1,4 @@
-//! Points of one level whose byte strings are lent.
+//! Points of one level, which borrow their byte strings.
 ghost use Rattle.std.specs.Prelude.{◌≡◌, ◌==◌, ◌<◌, [], ◌∷◌, ◌++◌, length};
 ghost use Rattle.s39_split.specs.Sharing.{most_shares};
 ghost use Rattle.s39_split.specs.Shares.{indexed_bytes};
@@ -7,15 +7,25 @@ use crate::places::MAX_SHARES;
 use s39_kdf::Bytes;
 use std::marker::Model;
 
-/// At most 16 points in the order in which they were added: each is a place, as the index of a share, and
-/// the byte string there, which is lent and not copied. Contracts see the list of places and byte strings.
+/// A list of at most 16 points, in the order in which they were added. Each point is a place, such as the index of a
+/// share, and the byte string there, which is borrowed and not copied. Contracts see the list of places and byte
+/// strings.
+///
+/// ```rust
+/// let share = Bytes::try_from([7; 16].as_slice())?;
+/// let mut points = Points::new();
+/// assert!(rt; points.is_empty());
+/// points.push(0, &share);
+/// assert_eq!(rt; points.len(), 1);
+/// assert_eq!(rt; combine(1, points.as_slice())?, share);
+/// ```
 #[derive(Drop)]
 pub struct Points<'a> {
     row: Option<Row<'a>>,
     len: usize,
 }
 
-/// As many points as there may be. An array has no empty place, so those that are left hold the first point.
+/// Room for as many points as there may be. An array has no empty places, so unused ones hold the first point.
 #[derive(Clone, Copy)]
 struct Row<'a> {
     points: [(u8, &'a Bytes); MAX_SHARES],
@@ -37,14 +47,14 @@ impl<'a> Model for Points<'a> {
 }
 
 impl<'a> Points<'a> {
-    /// No points.
+    /// Makes an empty list.
     pub fn new() -> Points<'a>
         ensures { result ≡ [] }
     {
         Points { row: None, len: 0 }
     }
 
-    /// Adds a point at the end. There are fewer than 16.
+    /// Appends a point. The list must have fewer than 16 points.
     pub fn push(&mut self, place: u8, value: &'a Bytes)
         requires { length self.old < most_shares }
         ensures { self.new ≡ self.old ++ (place, value.now.items) ∷ [] }
@@ -58,21 +68,21 @@ impl<'a> Points<'a> {
         self.len += 1;
     }
 
-    /// The number of points.
+    /// Returns the number of points.
     pub fn len(&self) -> usize
         ensures { result ≡ length self.now }
     {
         self.len
     }
 
-    /// Whether there is no point.
+    /// Returns whether there are no points.
     pub fn is_empty(&self) -> bool
         ensures { result ≡ (length self.now == 0) }
     {
         self.len == 0
     }
 
-    /// The points, as `combine` takes shares.
+    /// Returns the points as a slice, in the form in which [`combine`](crate::combine) takes shares.
     pub fn as_slice(&self) -> &[(u8, &'a Bytes)]
         ensures { indexed_bytes result.now ≡ self.now }
     {

@@ -1,4 +1,17 @@
-//! One level of Shamir's secret sharing as SLIP-0039 has it: splitting a secret and combining shares.
+//! One level of Shamir's secret sharing as SLIP-0039 defines it: splitting a secret, combining shares, and computing
+//! lost shares from others.
+//!
+//! ```rust
+//! use s39_kdf::Bytes;
+//! use s39_split::{combine, random_needed, split};
+//!
+//! let secret = Bytes::try_from([7; 16].as_slice())?;
+//! assert_eq!(rt; random_needed(2, 16), 12);
+//! let mut shares: [Bytes; 3] = Default::default();
+//! split(2, &secret, &[1; 12], &mut shares);
+//! let recovered = combine(2, &[(1, &shares[1]), (0, &shares[0])])?;
+//! assert_eq!(rt; recovered, secret);
+//! ```
 #![tactic(auto)]
 
 mod completion;
@@ -18,5 +31,7 @@ pub use places::{DIGEST_BYTES, DIGEST_PLACE, MAX_RANDOM_BYTES, MAX_SHARES, SECRE
 pub use recovery::{DigestMismatch, combine};
 pub use sharing::{random_needed, split};
 
+#[cfg(test)]
+mod examples;
 #[cfg(test)]
 mod tests;

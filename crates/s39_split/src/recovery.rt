@@ -17,13 +17,19 @@ use crate::sharing::copied;
 use s39_kdf::Bytes;
 use s39_refusal::{Cause, code};
 
-/// The digest that the shares give isn't that of the secret that they give: a share is wrong, they aren't
-/// all shares of one split, or `t` isn't that split's threshold.
+/// The refusal of shares whose digest doesn't match their secret: a share is wrong, they aren't all shares of one
+/// split, or `t` isn't the threshold of that split.
+///
+/// ```rust
+/// let cause = DigestMismatch.cause(3);
+/// assert_eq!(rt; (cause.code, cause.first), (51, 3));
+/// ```
 #[derive(Clone, Copy, PartialEq, Eq, Debug)]
 pub struct DigestMismatch;
 
 impl DigestMismatch {
-    /// What the refusal says of shares of this group, or of group shares where it is `OF_GROUPS`: 51, and the group.
+    /// Returns what the refusal says: its number, which is 51, and the group as the first detail. The caller names the
+    /// group whose member shares were combined, or passes `s39_refusal::code::OF_GROUPS` for group shares.
     pub fn cause(&self, group: u64) -> Cause
         ensures { result ≡ mismatch_cause group }
     {
@@ -31,12 +37,24 @@ impl DigestMismatch {
     }
 }
 
-/// The secret of the split that `t` shares belong to, from as many shares as its threshold `t` (SLIP-0039,
-/// "Recovery of the secret"). A share is its index, up to 15, and its bytes. The shares have different
-/// indices and one length, from 16 to 128 bytes, and stand in any order.
+/// Recovers the secret of a split from `t` of its shares (SLIP-0039, "Recovery of the secret"). If `t` is the threshold
+/// of the split, any `t` of its shares give its secret.
 ///
-/// Where `t` is 1 the secret is the one share. Otherwise the answer is `DigestMismatch` exactly where the
-/// shares' digest isn't that of their secret. Shares of one split at threshold `t` give its secret.
+/// A share is its index, 0 to 15, and its bytes. There must be exactly `t` shares, 1 to 16, with different indices and
+/// of one length, from 16 to 128 bytes. They may stand in any order. The secret has their length.
+///
+/// If `t` is 1, the secret is the share itself, and nothing can be checked. Otherwise the result is [`DigestMismatch`]
+/// if and only if the digest that the shares give isn't that of the secret that they give.
+///
+/// ```rust
+/// let secret = Bytes::try_from([7; 16].as_slice())?;
+/// let mut shares: [Bytes; 3] = Default::default();
+/// split(2, &secret, &[1; 12], &mut shares);
+/// let recovered = combine(2, &[(0, &shares[0]), (2, &shares[2])]);
+/// assert_eq!(rt; recovered, Ok(secret));
+/// let refused = combine(2, &[(1, &shares[0]), (2, &shares[2])]);
+/// assert_eq!(rt; refused, Err(DigestMismatch));
+/// ```
 pub fn combine(t: u8, shares: &[(u8, &Bytes)]) -> Result<Bytes, DigestMismatch>
     requires positive { 1 ≤ t }
     requires number { length shares.now ≡ t }
@@ -60,7 +78,8 @@ pub fn combine(t: u8, shares: &[(u8, &Bytes)]) -> Result<Bytes, DigestMismatch>
     combine_points(t, shares)
 }
 
-/// What points combine to, each a share with its index or the secret with its place, as many as the threshold `t`.
+/// Combines points, each of which is a share with its index or the secret with its place. They are as many as the
+/// threshold `t`.
 pub(crate) fn combine_points(t: u8, points: &[(u8, &Bytes)]) -> Result<Bytes, DigestMismatch>
     requires positive { 1 ≤ t }
     requires few { t ≤ most_shares }

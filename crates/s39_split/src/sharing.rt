@@ -13,9 +13,17 @@ use crate::lent_points::Points;
 use crate::places::{DIGEST_BYTES, DIGEST_PLACE, SECRET_PLACE};
 use s39_kdf::Bytes;
 
-/// The number of random bytes that the split of a secret of `n_bytes` bytes, from 16 to 128, takes at
-/// threshold `t`, from 1 to 16: none at threshold 1, else `n_bytes - 4` for the key of the digest and
-/// `n_bytes` for each of the shares 0 to `t - 3`.
+/// Returns how many random bytes [`split`] takes for a secret of `n_bytes` bytes, from 16 to 128, at threshold `t`,
+/// from 1 to 16.
+///
+/// At threshold 1 it takes none. Otherwise it takes `n_bytes - 4` for the key of the digest and `n_bytes` for each of
+/// the shares 0 to `t - 3`.
+///
+/// ```rust
+/// assert_eq!(rt; random_needed(1, 16), 0);
+/// assert_eq!(rt; random_needed(2, 16), 12);
+/// assert_eq!(rt; random_needed(16, 128), MAX_RANDOM_BYTES);
+/// ```
 pub fn random_needed(t: u8, n_bytes: usize) -> usize
     requires positive { 1 ≤ t }
     requires few { t ≤ most_shares }
@@ -30,12 +38,21 @@ pub fn random_needed(t: u8, n_bytes: usize) -> usize
     }
 }
 
-/// Splits a secret of 16 to 128 bytes at threshold `t`, from 1 to 16, into as many shares as `out` has
-/// places, from `t` to 16 (SLIP-0039, "Sharing a secret"). A share's index is its place, and it is as long
-/// as the secret. Any `t` of the shares combine to the secret.
+/// Splits a secret of 16 to 128 bytes into as many shares as `out` has elements; any `t` of them recover it (SLIP-0039,
+/// "Sharing a secret"). The threshold `t` must be 1 to 16, and `out` must have `t` to 16 elements.
 ///
-/// There are as many random bytes as `random_needed` says. They are first the key of the digest, 4 bytes
-/// shorter than the secret, and then the shares 0 to `t - 3`. At threshold 1 every share is the secret.
+/// What `out` held before doesn't matter. The share with index `i` becomes `out[i]`, and is as long as the secret.
+///
+/// `random` must have exactly as many bytes as [`random_needed`] says: first the key of the digest, which is 4 bytes
+/// shorter than the secret, then the shares 0 to `t - 3`. At threshold 1 there are none, and every share is the secret.
+/// The bytes must be unpredictable; those of the examples are fixed so that results can be compared.
+///
+/// ```rust
+/// let secret = Bytes::try_from([7; 16].as_slice())?;
+/// let mut shares: [Bytes; 3] = Default::default();
+/// split(2, &secret, &[1; 12], &mut shares);
+/// assert_eq!(rt; &shares[2][..4], b"\x7e\x99\xa2\x88".as_slice());
+/// ```
 pub fn split(t: u8, secret: &Bytes, random: &[u8], out: &mut [Bytes])
     requires positive { 1 ≤ t }
     requires enough { t ≤ length out.old }
@@ -61,7 +78,7 @@ fn fill(out: &mut [Bytes], secret: &Bytes)
     }
 }
 
-/// A copy of bytes, which takes no memory.
+/// Copies bytes, without an allocation.
 pub(crate) fn copied(bytes: &Bytes) -> Bytes
     ensures { result.items ≡ bytes.now.items }
 {
@@ -113,7 +130,7 @@ fn cut(bytes: &[u8], n: usize, shares: &mut [Bytes])
     }
 }
 
-/// The points of which a split makes its shares.
+/// Lists the points from which a split makes its shares.
 fn base_points<'a>(
     random_shares: &'a [Bytes],
     digest_share: &'a Bytes,

@@ -8,10 +8,10 @@ use s39_kdf::{Bytes, Params, decrypt};
 /// The share value of member 0 of two published mnemonics, both of which are needed.
 const MEMBER_0: [u8; 16] = *b"\x06\xab\x48\xfe\xf4\xbe\xdc\x8c\xe5\x8b\xae\xef\x0a\x73\xf7\x6e";
 
-/// That of member 2.
+/// The share value of member 2.
 const MEMBER_2: [u8; 16] = *b"\x08\xfb\x14\xb6\x6e\x69\x2e\x25\xdf\xe2\xed\xf5\x32\x89\xed\x62";
 
-/// Combines the two, with their first bytes changed.
+/// Combines the two shares, with their first bytes changed.
 fn two_needed(change_0: u8, change_2: u8) -> Result<Bytes, DigestMismatch>
     ensures { IfOk result (λ secret. array_vec_len secret ≡ 16) }
 {
@@ -48,10 +48,10 @@ fn another_digest(rt: HostRuntime) {
 /// The share value of member 1 of the same split, as a plain program in Python computes it from the other two.
 const MEMBER_1: [u8; 16] = *b"\x01\x83\x66\xda\xb9\x58\xa5\x55\xf8\x32\x02\xe2\x16\x0e\xfa\x68";
 
-/// What the split is of, the encrypted secret, as that program computes it.
+/// The secret of that split, which is an encrypted master secret, as the same program computes it.
 const SPLIT: [u8; 16] = *b"\xcd\xc0\x17\xfd\xdc\x82\x9e\x79\x1b\x13\x71\x78\x0b\xe0\x60\x5a";
 
-// From two members, from one and the secret, and from members of which one isn't of the split.
+// Shares are computed from two members, from one and the secret, and from members of which one isn't of the split.
 #[test]
 fn completed_shares(rt: HostRuntime) {
     let member_0 = Bytes::try_from(MEMBER_0.as_slice()).unwrap();
@@ -116,7 +116,7 @@ fn any_shares_give_the_secret(rt: HostRuntime) {
     }
 }
 
-// As a plain program in Python splits.
+// A plain program in Python computes the shares.
 #[test]
 fn split_vectors(rt: HostRuntime) {
     let secret = Bytes::try_from(MEMBER_0.as_slice()).unwrap();
@@ -142,7 +142,7 @@ const KEY: [u8; 12] = *b"\x00\x01\x02\x03\x04\x05\x06\x07\x08\x09\x0a\x0b";
 
 const OTHER_SECRET: [u8; 16] = *b"\x10\x11\x12\x13\x14\x15\x16\x17\x18\x19\x1a\x1b\x1c\x1d\x1e\x1f";
 
-// As a plain program in Python finds the random bytes.
+// A plain program in Python computes the random bytes.
 #[test]
 fn fit_vectors(rt: HostRuntime) {
     let secret = Bytes::try_from(MEMBER_0.as_slice()).unwrap();

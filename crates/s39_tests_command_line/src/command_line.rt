@@ -1,6 +1,6 @@
 //! The command line.
 
-use s39_cli::{Job, NoJob, read_words};
+use s39_cli::{Call, Job, NoJob, ValueFiles, read_words};
 use s39_fixtures::devices::Full;
 use s39_fixtures::{ONE_OF_ONE, WRITE_FAILED_LINE, expect_told, run_on};
 use s39_tool::SecretForm;
@@ -8,15 +8,22 @@ use std::alloc::Global;
 use std::process::Abort;
 use std::test::Fail;
 
-/// Each of the command lines gives this job.
+/// Each of the command lines gives this job, and names no file.
 fn expect_jobs(rt: &impl Abort, alloc: Global, cases: &[(&[&str], Job)]) {
+    let files = ValueFiles {
+        secret: None,
+        passphrase: None,
+    };
     for (words, job) in cases {
-        assert_eq!(rt; read_words(alloc, words).ok(), Some(*job));
+        assert_eq!(rt;
+            read_words(alloc, words).ok(),
+            Some(Call { job: *job, files })
+        );
     }
 }
 
 /// Each of the command lines is refused, with a message and no output.
-fn expect_refusals(rt: &impl Abort, alloc: Global, cases: &[&[&str]]) {
+pub(crate) fn expect_refusals(rt: &impl Abort, alloc: Global, cases: &[&[&str]]) {
     for words in cases {
         assert!(rt; matches!(read_words(alloc, words), Err(NoJob::Refused(_))));
         let run = run_on(alloc, words, ONE_OF_ONE.as_bytes());
@@ -29,19 +36,19 @@ fn expect_refusals(rt: &impl Abort, alloc: Global, cases: &[&[&str]]) {
 fn reads_show_and_recover(rt: HostRuntime) {
     let form = SecretForm::Digits;
     let empty = Job::Recover {
-        passphrase: "",
+        passphrase: b"",
         form,
     };
     let trezor = Job::Recover {
-        passphrase: "TREZOR",
+        passphrase: b"TREZOR",
         form,
     };
     let dashed = Job::Recover {
-        passphrase: "-x",
+        passphrase: b"-x",
         form,
     };
     let fingerprint = Job::Recover {
-        passphrase: "TREZOR",
+        passphrase: b"TREZOR",
         form: SecretForm::Fingerprint,
     };
     let cases: [(&[&str], Job); 9] = [
@@ -103,15 +110,15 @@ const FULL: [&str; 10] = [
 fn reads_create(rt: HostRuntime) {
     let plain = Job::Create {
         plan: "1of1",
-        secret: "00",
-        passphrase: "",
+        secret: b"00",
+        passphrase: b"",
         exponent: 0,
         extendable: false,
     };
     let full = Job::Create {
         plan: "2of3",
-        secret: "zz",
-        passphrase: "TREZOR",
+        secret: b"zz",
+        passphrase: b"TREZOR",
         exponent: 15,
         extendable: true,
     };
@@ -137,9 +144,8 @@ fn reads_create(rt: HostRuntime) {
 
 #[test]
 fn refuses_words_of_create(rt: HostRuntime) {
-    let refused: [&[&str]; 7] = [
+    let refused: [&[&str]; 6] = [
         &["shamir", "create"],
-        &["shamir", "create", "1of1"],
         &["shamir", "create", "--master-secret", "00"],
         &["shamir", "create", "1of1", "1of1", "--master-secret", "00"],
         &[
@@ -174,13 +180,13 @@ fn refuses_words_of_create(rt: HostRuntime) {
 #[test]
 fn reads_drill(rt: HostRuntime) {
     let first = Job::Drill {
-        passphrase: "",
+        passphrase: b"",
         after: None,
         limit: 1000,
         form: SecretForm::Digits,
     };
     let rest = Job::Drill {
-        passphrase: "TREZOR",
+        passphrase: b"TREZOR",
         after: Some("0.0+1.0"),
         limit: 4_294_967_295,
         form: SecretForm::Fingerprint,

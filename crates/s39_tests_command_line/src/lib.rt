@@ -1,7 +1,9 @@
-//! Tests of the command line, of what is told of it, and of exit statuses.
+//! Tests of the command line, of what is told of it, of files of values, and of exit statuses.
 #![tactic(auto)]
 
 #[cfg(test)]
 mod command_line;
 #[cfg(test)]
 mod statuses;
+#[cfg(test)]
+mod value_files;

@@ -11,68 +11,73 @@ use std::io;
 use std::io::{ErrorKind, Write};
 use std::test::Fail;
 
-const HELP: &str = "SLIP-0039 backups of a secret
+const HELP: &str = "Create and check SLIP-0039 backups, and recover secrets from them
 
 Usage: shamir <COMMAND>
 
 Commands:
-  show     Shows the fields of the mnemonics on standard input, a line for each
-  create   Creates a backup from a secret and the random bytes on standard input
-  recover  Recovers the secret from the mnemonics on standard input
-  drill    Tries the quorums of the mnemonics on standard input, a line for each
-  status   Tells which members of each group are on standard input, and whether they are enough
-  reissue  Writes lost mnemonics again, from others of their backup on standard input
+  show     Show the fields of each mnemonic on standard input
+  create   Create a backup of a secret, using random bytes from standard input
+  recover  Recover the secret from mnemonics on standard input
+  drill    Try the quorums of the mnemonics on standard input and print what each recovers
+  status   Show which members of each group are on standard input, and whether enough groups are complete
+  reissue  Recompute lost mnemonics from others of the same backup on standard input
 
 Options:
   -h, --help     Print help
   -V, --version  Print version
 ";
 
-const HELP_OF_CREATE: &str = "Creates a backup from a secret and the random bytes on standard input
+const HELP_OF_CREATE: &str = "Create a backup of a secret, using random bytes from standard input
 
-Usage: shamir create [OPTIONS] --master-secret <HEX> <PLAN>
+Usage: shamir create [OPTIONS] <PLAN>
 
 Arguments:
-  <PLAN>  The plan of the groups: TofN, or GT/T1ofN1,T2ofN2,..
+  <PLAN>  The plan of the backup: TofN for one group, GT/T1ofN1,T2ofN2,.. for several
 
 Options:
-      --master-secret <HEX>  The secret in hexadecimal, 16 to 128 bytes and an even number of them
-      --passphrase <TEXT>    The passphrase of the backup, by default empty
-      --exponent <E>         The iteration exponent, 0 to 15: a recovery takes 10,000 * 2^E iterations, twice that for over 64 bytes [default: 0]
-      --extendable           Leaves the identifier out of the encryption
-  -h, --help                 Print help
+      --master-secret <HEX>        Back up this secret, in hexadecimal: 16 to 128 bytes, an even number (other users can see it)
+      --master-secret-file <FILE>  Read the secret, in hexadecimal, from FILE; - means the first line of standard input
+      --passphrase <TEXT>          Use this passphrase instead of the empty one (other users can see it)
+      --passphrase-file <FILE>     Read the passphrase from FILE; - means the next line of standard input
+      --exponent <E>               Set the iteration exponent, 0 to 15; a recovery takes 10,000 * 2^E iterations, or twice that for over 64 bytes [default: 0]
+      --extendable                 Set the extendable flag, which leaves the identifier out of the encryption
+  -h, --help                       Print help
 ";
 
-const HELP_OF_RECOVER: &str = "Recovers the secret from the mnemonics on standard input
+const HELP_OF_RECOVER: &str = "Recover the secret from mnemonics on standard input
 
 Usage: shamir recover [OPTIONS]
 
 Options:
-      --passphrase <TEXT>  The passphrase of the backup, by default empty
-      --fingerprint        Tells the secret by its fingerprint, eight hexadecimal digits, and not by its own
-  -h, --help               Print help
+      --passphrase <TEXT>       Use this passphrase instead of the empty one (other users can see it)
+      --passphrase-file <FILE>  Read the passphrase from FILE; - means the next line of standard input
+      --fingerprint             Print the secret's fingerprint (eight hexadecimal digits) instead of the secret
+  -h, --help                    Print help
 ";
 
-const HELP_OF_DRILL: &str = "Tries the quorums of the mnemonics on standard input, a line for each
+const HELP_OF_DRILL: &str =
+    "Try the quorums of the mnemonics on standard input and print what each recovers
 
 Usage: shamir drill [OPTIONS]
 
 Options:
-      --passphrase <TEXT>  The passphrase of the backup, by default empty
-      --after <Q>          Goes on after this quorum, by default from the first
-      --limit <N>          How many quorums are tried at most [default: 1000]
-      --fingerprint        Tells the secret by its fingerprint, eight hexadecimal digits, and not by its own
-  -h, --help               Print help
+      --passphrase <TEXT>       Use this passphrase instead of the empty one (other users can see it)
+      --passphrase-file <FILE>  Read the passphrase from FILE; - means the next line of standard input
+      --after <Q>               Start after quorum Q instead of at the first quorum
+      --limit <N>               Try at most N quorums [default: 1000]
+      --fingerprint             Print the secret's fingerprint (eight hexadecimal digits) instead of the secret
+  -h, --help                    Print help
 ";
 
 const HELP_OF_REISSUE: &str =
-    "Writes lost mnemonics again, from others of their backup on standard input
+    "Recompute lost mnemonics from others of the same backup on standard input
 
 Usage: shamir reissue <PLAN> <NAMES>
 
 Arguments:
-  <PLAN>   The plan of the groups: TofN, or GT/T1ofN1,T2ofN2,..
-  <NAMES>  The mnemonics to write, each by its group and its member, in order: G.M+G.M+..
+  <PLAN>   The plan of the backup: TofN for one group, GT/T1ofN1,T2ofN2,.. for several
+  <NAMES>  The mnemonics to write, named by group and member in ascending order: G.M+G.M+..
 
 Options:
   -h, --help  Print help
@@ -112,10 +117,28 @@ const WRONG_EXPONENT: [&str; 7] = [
 #[test]
 fn says_why_words_are_refused(rt: HostRuntime) -> Result<(), Fail> {
     let alloc = rt.alloc();
-    let cases: [(&[&str], &str); 6] = [
+    let cases: [(&[&str], &str); 9] = [
         (
             &["shamir", "create", "1of1"],
-            "error: the following required arguments were not provided:\n  --master-secret <HEX>\n\nUsage: shamir create --master-secret <HEX> <PLAN>\n\nFor more information, try '--help'.\n",
+            "error: one of --master-secret <HEX> and --master-secret-file <FILE> is required\n\nFor more information, try '--help'.\n",
+        ),
+        (
+            &[
+                "shamir",
+                "create",
+                "1of1",
+                "--master-secret=00",
+                "--master-secret-file=-",
+            ],
+            "error: --master-secret <HEX> and --master-secret-file <FILE> can't be given together\n\nFor more information, try '--help'.\n",
+        ),
+        (
+            &["shamir", "drill", "--passphrase=", "--passphrase-file=-"],
+            "error: --passphrase <TEXT> and --passphrase-file <FILE> can't be given together\n\nFor more information, try '--help'.\n",
+        ),
+        (
+            &["shamir", "create", "--master-secret=00"],
+            "error: the following required arguments were not provided:\n  <PLAN>\n\nUsage: shamir create --master-secret <HEX> <PLAN>\n\nFor more information, try '--help'.\n",
         ),
         (
             &WRONG_EXPONENT,

@@ -2,6 +2,7 @@
 
 use s39_cli::{Destination, Watched, program, with_rest_dropped};
 use s39_fixtures::devices::Source;
+use s39_fixtures::shelves::NoFiles;
 use s39_fixtures::{ONE_OF_ONE, RECOVER, SECRET, TWO_NEEDED_MEMBER_2, create, lines};
 use std::alloc::Global;
 use std::process::Abort;
@@ -21,6 +22,7 @@ fn expect_reads(
     let mut device = Source::new(input.as_bytes(), piece, good_calls);
     let mut errors = Vec::new(alloc);
     let ended = program(
+        &NoFiles,
         alloc,
         words,
         Watched::new(&mut device),

@@ -1,10 +1,12 @@
-//! The texts of refusals, as the program and the library give them.
+//! The texts of refusals, which the program and the library share.
 #![tactic(auto)]
 
 use s39_refusal::{Cause, code};
 use thiserror::Error;
 
-/// What a refusal is called.
+/// The text of a refusal, without its number. `Display` writes it.
+///
+/// For example, `UnknownWord(3)` is written as `unknown word 3`.
 #[derive(Debug, Drop, Error)]
 pub enum RefusalText {
     #[error("unknown word {0}")]
@@ -76,7 +78,10 @@ pub enum RefusalText {
 }
 
 impl RefusalText {
-    /// What a refusal is called, where there is one of this number with these details.
+    /// Gives the text of a refusal, by its number and details. Gives `None` if no refusal has this number, or if a
+    /// detail is out of range for it.
+    ///
+    /// For example, `Cause::of(code::BAD_CHECKSUM)` gives `BadChecksum`.
     pub fn of(cause: Cause) -> Option<RefusalText> {
         let number = cause.first;
         let group = u8::try_from(cause.first).ok();
@@ -128,14 +133,17 @@ impl RefusalText {
     }
 }
 
-/// What the refusal of a share that isn't determined is called, where its details are a name and four counts.
+/// Gives the text of the refusal of a share that isn't determined. Gives `None` if the details aren't a name and four
+/// counts.
 fn undetermined(cause: Cause) -> Option<RefusalText> {
     let [group, member] = u16::try_from(cause.first).ok()?.to_be_bytes();
     let [members, threshold, others, required] = u32::try_from(cause.second).ok()?.to_be_bytes();
     Some(RefusalText::Undetermined(group, member, members, threshold, others, required))
 }
 
-/// A refusal as a message: the line where it has one, its number and its text.
+/// A refusal as the program prints it: the line if there is one, the number and the text.
+///
+/// For example, an unknown word is printed as `shamir: line 2: 11 unknown word 3`.
 #[derive(Debug, Drop, Error)]
 pub enum FaultText {
     #[error("shamir: line {line}: {code} {text}")]
@@ -156,7 +164,8 @@ pub enum FaultText {
 }
 
 impl FaultText {
-    /// The message of a refusal, at this line. A number or details that no refusal has are told by the number alone.
+    /// Makes the message of a refusal, at this line if there is one. If there is no text for the number and the
+    /// details, the message has the number alone.
     pub fn of(line: Option<u64>, cause: Cause) -> FaultText {
         let code = cause.code;
         match (line, RefusalText::of(cause)) {

@@ -25,7 +25,7 @@ shares_in held = filter_map (λ share. share) held
 abbrev pub AllJoin : List ShareFields → Type 0
 AllJoin shares = (k : ℕ) (share : ShareFields) → slice_get shares k ≡ Some share → refusal_of (take k shares) share ≡ None
 
--- the set has just these shares, each once, in the order of their names
+-- the set has exactly these shares, each once, in the order of their names
 pub record IsSetOf (shares set : List ShareFields) : Type 0 where
   pub ascending : IsAscending (map name_of set)
   pub all : All (Contains set) shares
@@ -38,7 +38,7 @@ pub record HoldTogether (lines : List (List ℕ)) (shares : List ShareFields) : 
   pub shares_are : shares ≡ shares_in held
   pub join : AllJoin shares
 
--- a line is refused by itself, or because its share can't join those of the lines before it
+-- a line is refused for itself, or because its share can't join those of the lines before it
 abbrev pub IsRefusedAmong : List ShareFields → List ℕ → LineRefusal → Type 0
 IsRefusedAmong earlier line refusal =
     IsRefusedBy line refusal
@@ -53,7 +53,7 @@ abbrev pub IsReadAs : Input → Result (List ShareFields) (Stop LineRefusal) →
 IsReadAs input (Ok set) = (shares : List ShareFields) × HoldShares input shares (Ok tt) × IsSetOf shares set
 IsReadAs input (Err stop) = (shares : List ShareFields) × HoldShares input shares (Err stop)
 
--- the passphrase is printable, or refused for its first byte that isn't
+-- the passphrase is printable, or refused for its first byte that isn't printable
 abbrev pub IsJudged : List ℕ → Result (Unit {0}) BadPassphrase → Type 0
 IsJudged passphrase (Ok _) = All IsPrintable passphrase
 IsJudged passphrase (Err bad) = IsFirstUnprintable passphrase bad.position
@@ -66,7 +66,7 @@ IsCheckedSet passphrase input =
 
 -- Within a law; no public contract cites this.
 
--- what is known of checked sets: there is one, or one fault, and it is a share set
+-- what is known of checked sets: there is one, which is a share set, or one fault
 pub record CheckedSetLaws : Type 0 where
   pub once : (passphrase : List ℕ) (input : Input) (result other : Result (List ShareFields) Fault)
       → IsCheckedSet passphrase input result → IsCheckedSet passphrase input other → result ≡ other

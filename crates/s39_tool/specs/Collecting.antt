@@ -6,7 +6,7 @@ use Rattle.s39_tool.specs.declared.fault.LineRefusal.{LineRefusal}
 use Rattle.s39_tool.specs.Lines.{Holds}
 use Rattle.s39_tool.specs.Accepted.{IsRefusedAmong}
 
--- the share isn't refused, and the set had it before or has it more
+-- the share isn't refused, and the set either had it before or has it in addition
 pub record AddsShare (old : List ShareFields) (share : ShareFields) (new : List ShareFields) : Type 0 where
   pub joins : refusal_of old share ≡ None
   pub is_set : IsShareSet new
@@ -17,7 +17,7 @@ abbrev pub AddsHeld : List ShareFields → Option ShareFields → List ShareFiel
 AddsHeld old None new = old ≡ new
 AddsHeld old (Some share) new = AddsShare old share new
 
--- a line is taken by adding the share that it holds, or refused beside the shares of the set
+-- a line is taken by adding the share that it holds, or it is refused, given the shares of the set
 abbrev pub CollectsLine : List ShareFields → List ℕ → Result (Unit {0}) LineRefusal → List ShareFields → Type 0
 CollectsLine old line (Ok _) new = (held : Option ShareFields) × Holds line held × AddsHeld old held new
 CollectsLine old line (Err refusal) new = IsRefusedAmong old line refusal

@@ -16,7 +16,7 @@ use Rattle.s39_tool.specs.Fault.{fault_of}
 use Rattle.s39_tool.specs.Input.{Input, ended_line}
 use Rattle.s39_tool.specs.Output.{WritesWhole, WritesPart}
 
--- the text has the printed form of each of these shares, one a line
+-- the text has the printed form of each of these shares, one on each line
 pub record ArePrintedLines (shares : List ShareFields) (text : List ℕ) : Type 0 where
   pub lines : List (List ℕ)
   pub printed : AllZip IsPrinted lines shares
@@ -28,8 +28,8 @@ fault_of_creation (Passphrase bad) = fault_of (PassphraseRefusal bad)
 fault_of_creation (SecretLength bad) = fault_of (SecretRefusal bad)
 fault_of_creation (BadRandomLength needed) = fault_of (RandomLength needed)
 
--- The refusal applies: that there aren't as many random bytes as needed only where the input ended, or where more than
--- these came.
+-- The refusal applies. The one for the number of random bytes applies only if the input ended, or if more bytes came
+-- than are needed.
 abbrev pub Applies : Input → CreateError → Type 0
 Applies input (Passphrase _) = Unit {0}
 Applies input (SecretLength _) = Unit {0}
@@ -42,7 +42,7 @@ pub record FailsBefore (asked : Asked) (input : Input) : Type 0 where
   pub secret_length : IsSecretLength (length asked.secret)
   pub few : length input.bytes ≤ needed_by asked
 
--- `create` writes this text for the input, whose bytes are the random ones, and answers so
+-- `create` writes this text for the input, whose bytes are the random ones, and gives this answer
 abbrev pub IsCreateOutput : Asked → Input → List ℕ → Result (Unit {0}) Fault → Type 0
 IsCreateOutput asked input text (Ok _) =
     (shares : List ShareFields) × (input.ended ≡ true) × IsCreation asked input.bytes (Ok shares) × ArePrintedLines shares text

@@ -15,7 +15,7 @@ module _ {D : Type 0} where
       code_by (D × (ℕ × ℕ)) (coded× device (coded× coded_ℕ coded_ℕ)) (λ c. (c.device, (c.failures, c.reads)))
       (λ p. record { device = p.0; failures = p.1.0; reads = p.1.1 }) (λ _. refl)
 
--- 1 where the call failed, else 0
+-- 1 if the call failed, else 0
 abbrev pub failure_of : {T E : Type 0} → Result T E → ℕ
 failure_of (Ok _) = 0
 failure_of (Err _) = 1

@@ -33,12 +33,12 @@ use Rattle.s39_tool.specs.Steps.{Then, nothing_for}
 abbrev pub Listed : Type 0
 Listed = Names × Result (List ℕ) Mismatch
 
--- which digest isn't the right one
+-- which digest doesn't match
 abbrev pub mismatch_text : Mismatch → List ℕ
 mismatch_text (InGroup group) = codes "digest mismatch in group " ++ decimal group
 mismatch_text OfGroups = codes "digest mismatch of groups"
 
--- an outcome as it is written: the secret in this form, or which digest isn't the right one
+-- an outcome as it is written: the secret in this form, or which digest doesn't match
 abbrev pub outcome_text : SecretForm → Result (List ℕ) Mismatch → List ℕ
 outcome_text form (Ok secret) = secret_in form secret
 outcome_text form (Err mismatch) = mismatch_text mismatch
@@ -47,7 +47,7 @@ outcome_text form (Err mismatch) = mismatch_text mismatch
 abbrev pub quorum_line : SecretForm → Listed → List ℕ
 quorum_line form listed = ended_line (quorum_text listed.0 ++ 32 ∷ outcome_text form listed.1)
 
--- the last line: that no more quorums remain, or after which one more do
+-- the last line: that no more quorums remain, or after which quorum more of them do
 abbrev pub last_line : Option Names → List ℕ
 last_line None = ended_line (codes "end")
 last_line (Some names) = ended_line (codes "more after " ++ quorum_text names)
@@ -56,7 +56,7 @@ last_line (Some names) = ended_line (codes "more after " ++ quorum_text names)
 abbrev pub mismatches_in : List Listed → ℕ
 mismatches_in lines = length (filter (λ line. is_err line.1) lines)
 
--- the last of these quorums, or what was reached before them where there are none
+-- the last of these quorums, or what was reached before if there are none
 abbrev pub last_reached : Option Names → List Names → Option Names
 last_reached reached [] = reached
 last_reached reached (names ∷ others) = last_reached (Some names) others
@@ -66,8 +66,8 @@ abbrev pub GoesOn : List ShareFields → Option Names → Option Names → Type 
 GoesOn set reached None = HasNoQuorumAfter set reached
 GoesOn set reached (Some names) = (reached ≡ Some names) × ¬ HasNoQuorumAfter set reached
 
--- The drill of a set: the text of the lines of the quorums after a given one, or of all, in order, at most as many as
--- the limit, each with its outcome; whether more remain; and how many of the outcomes are mismatches.
+-- The drill of a set: the lines of the quorums after a given one, or of all quorums, in order, at most as many as the
+-- limit, each with its outcome; whether more quorums remain; and how many of the outcomes are mismatches.
 pub record IsDrill (form : SecretForm) (set : List ShareFields) (passphrase : List ℕ) (after : Option Names) (limit : ℕ)
     (text : List ℕ) (more : Option Names) (mismatches : ℕ) : Type 0 where
   pub lines : List Listed
@@ -77,7 +77,7 @@ pub record IsDrill (form : SecretForm) (set : List ShareFields) (passphrase : Li
   pub goes_on : GoesOn set (last_reached after (map (λ line. line.0) lines)) more
   pub mismatches_are : mismatches ≡ mismatches_in lines
 
--- why a set isn't drilled: it has no quorum, or what is given isn't a quorum of it
+-- why a set isn't drilled: it has no quorum, or the given names aren't a quorum of it
 abbrev pub IsUndrilled : List ShareFields → Option Names → Undrilled → Type 0
 IsUndrilled set after (Lack lack) = IsLack set lack
 IsUndrilled set after NotAQuorum =
@@ -89,12 +89,12 @@ abbrev pub fault_of_undrilled : Undrilled → Fault
 fault_of_undrilled (Lack lack) = fault_of (LackRefusal lack)
 fault_of_undrilled NotAQuorum = fault_of CursorRefusal
 
--- the set has a quorum, and what is given is one of its quorums; or why the set isn't drilled
+-- the set has a quorum, and the given names are one of its quorums; or why the set isn't drilled
 abbrev pub IsDrillable : List ShareFields → Option Names → Result (Unit {0}) Undrilled → Type 0
 IsDrillable set after (Ok _) = ((lack : SetLack) → ¬ IsLack set lack) × IfSome after (IsQuorum set)
 IsDrillable set after (Err cause) = IsUndrilled set after cause
 
--- the lines of the drill of a set are written, and the last line, and its mismatches are answered
+-- the lines of the drill of a set and the last line are written, and the answer is the number of its mismatches
 abbrev pub WritesLines : SecretForm → List ShareFields → List ℕ → Option Names → ℕ → List ℕ × Result Done Fault → Type 0
 WritesLines form set passphrase after limit written =
     (lines : List ℕ) × (more : Option Names) × (mismatches : ℕ) × IsDrill form set passphrase after limit lines more mismatches
@@ -105,14 +105,15 @@ abbrev pub WritesDrillOf : SecretForm → List ℕ → Option Names → ℕ → 
 WritesDrillOf form passphrase after limit set =
     Then (IsDrillable set after) (λ cause. nothing_for (fault_of_undrilled cause)) (λ _. WritesLines form set passphrase after limit)
 
--- `drill` writes this text for the form of secrets, the passphrase, the quorum after which it starts, the limit and the input,
--- and answers so: the passphrase is judged first, then the lines of the input, and then the set of their shares
+-- `drill` writes this text for the form of secrets, the passphrase, the quorum after which it starts, the limit and the
+-- input, and gives this answer. It judges the passphrase first, then the lines of the input, and then the set of their
+-- shares.
 abbrev pub IsDrillOutput : SecretForm → List ℕ → Option Names → ℕ → Input → List ℕ → Result Done Fault → Type 0
 IsDrillOutput form passphrase after limit input text answer =
     Then (IsCheckedSet passphrase input) nothing_for (WritesDrillOf form passphrase after limit) (text, answer)
 
--- The drill of a set whose quorums all give this secret: those after a given one, or all, each once, in order, at most
--- as many as the limit, each with that secret; and then the last line.
+-- The drill of a set whose quorums all give this secret: the quorums after a given one, or all of them, each once, in
+-- order, at most as many as the limit, each with that secret; and then the last line.
 pub record ListsSecret (form : SecretForm) (set : List ShareFields) (secret : List ℕ) (after : Option Names) (limit : ℕ) (text : List ℕ) : Type 0 where
   pub listed : List Names
   pub more : Option Names
@@ -120,8 +121,8 @@ pub record ListsSecret (form : SecretForm) (set : List ShareFields) (secret : Li
   pub goes_on : GoesOn set (last_reached after listed) more
   pub text_is : text ≡ flat_map (λ names. quorum_line form (names, Ok secret)) listed ++ last_line more
 
--- Where the set has a quorum, and what is given is one, just the quorums and that secret are listed, and no mismatch is
--- answered; else nothing is written, and the answer is which of both isn't so.
+-- If the set has a quorum, and the given names are one, exactly the quorums are listed, each with that secret, and the
+-- answer is no mismatch. Otherwise nothing is written, and the answer is which of these conditions fails.
 abbrev pub ListsSecretOrCause : SecretForm → List ShareFields → List ℕ → Option Names → ℕ → List ℕ → Result Done Fault → Type 0
 ListsSecretOrCause form set secret after limit text (Ok done) =
     ((lack : SetLack) → ¬ IsLack set lack) × IfSome after (IsQuorum set)
@@ -129,7 +130,7 @@ ListsSecretOrCause form set secret after limit text (Ok done) =
 ListsSecretOrCause form set secret after limit text (Err fault) =
     (text ≡ []) × ((cause : Undrilled) × IsUndrilled set after cause × (fault ≡ fault_of_undrilled cause))
 
--- That is so of the set of the input's shares, where the input holds mnemonics of a backup that was created with this
+-- This holds for the set of the input's shares, if the input holds mnemonics of a backup that was created with this
 -- passphrase.
 abbrev pub DrillsCreated : SecretForm → List ℕ → Option Names → ℕ → Input → List ℕ → Result Done Fault → Type 0
 DrillsCreated form passphrase after limit input text answer =
@@ -150,7 +151,7 @@ pub record DrillLaws : Type 0 where
   pub outcome : (set : List ShareFields) (names : Names) (passphrase : List ℕ) → IsShareSet set → IsQuorum set names
       → (outcome : Result (List ℕ) Mismatch) × IsOutcome set names passphrase outcome
 
--- the first quorum after what was reached, or none, where none comes after
+-- the first quorum after what was reached, or none if no quorum comes after it
 abbrev pub IsNext : List ShareFields → Option Names → Option Names → Type 0
 IsNext set reached None = HasNoQuorumAfter set reached
 IsNext set reached (Some names) = IsFirstQuorumAfter set reached names
@@ -165,7 +166,7 @@ abbrev pub mismatch_in : Result (List ℕ) Mismatch → ℕ
 mismatch_in (Ok secret) = 0
 mismatch_in (Err mismatch) = 1
 
--- where a drill starts: at the first quorum after the given one, or of all, or nowhere where none remains
+-- where a drill starts: at the first quorum after the given one, or at the first of all; nowhere if none remains
 pub record StartsAt (set : List ShareFields) (after next : Option Names) : Type 0 where
   pub no_lack : (lack : SetLack) → ¬ IsLack set lack
   pub cursor : IfSome after (IsQuorum set)

@@ -47,12 +47,12 @@ cause_of OtherPlan = cause 65 0 0
 cause_of (Undetermined few) = too_few_cause few
 cause_of (Device failure) = device_cause_of failure
 
--- a refusal of what stands in a line, of its length, or of its share beside those before it
+-- a line is refused: for what it says, for its length, or because its share can't join those before it
 abbrev pub has_line : Refusal → Bool
 has_line (Line _) = true
 has_line _ = false
 
--- the number of the line after n others, which stays at 2^64 - 1 once there
+-- the number of the line after n others, which stays at 2^64 - 1 once it is there
 abbrev pub line_number : ℕ → ℕ
 line_number n = min (suc n) (2 ^ 64 - 1)
 
@@ -60,7 +60,7 @@ line_number n = min (suc n) (2 ^ 64 - 1)
 abbrev pub fault_of : Refusal → Fault
 fault_of refusal = record { line = None; refusal = refusal }
 
--- the fault of an input whose lines aren't all taken
+-- the fault of an input of which not all lines are taken
 abbrev pub fault_of_stop : Stop LineRefusal → Fault
 fault_of_stop (AtLine refused) = record { line = Some refused.number; refusal = Line refused.refusal }
 fault_of_stop ReadFailed = fault_of (Device Read)
@@ -90,7 +90,7 @@ abbrev pub write_failures : {T : Type 0} → Result T Fault → ℕ
 write_failures (Ok _) = 0
 write_failures (Err fault) = write_failures_in fault.refusal
 
--- how many reads failed where the lines of an input were taken so
+-- how many reads failed if taking the lines of an input stopped so
 abbrev pub stop_failures : {T C : Type 0} → Result T (Stop C) → ℕ
 stop_failures (Err ReadFailed) = 1
 stop_failures _ = 0

@@ -4,7 +4,7 @@ use Rattle.std.specs.List.{slice_split}
 use Rattle.std.specs.Option.{option_map_or}
 use Rattle.s39_words.specs.Spelling.{is_separator}
 
--- the most bytes of a line, its line feed not counted
+-- the most bytes of a line, not counting its line feed
 abbrev pub longest_line : ℕ
 longest_line = 1024
 
@@ -24,21 +24,21 @@ is_line_feed b = b == 10
 abbrev pub ended_line : List ℕ → List ℕ
 ended_line line = line ++ 10 ∷ []
 
--- the bytes up to each line feed, and those after the last one, which may be none
+-- the bytes up to each line feed, and those after the last one, of which there may be none
 abbrev pub parts_of : List ℕ → List (List ℕ)
 parts_of bytes = slice_split is_line_feed bytes
 
--- the parts but the last, which no line feed ended; it is kept where it is too long already
+-- the parts except the last, which no line feed ended; that one is kept if it is too long already
 abbrev pub finished_parts : List (List ℕ) → List (List ℕ)
 finished_parts [] = []
 finished_parts (last ∷ []) = if nat_lt longest_line (length last) then last ∷ [] else []
 finished_parts (part ∷ next ∷ parts) = part ∷ finished_parts (next ∷ parts)
 
--- The lines. The last one may lack its line feed where the input ended. Where it failed, a line that lacks it
--- is dropped, unless so many bytes of it have come that it is refused whatever follows.
+-- The lines. The last one may lack its line feed if the input ended. If the input failed, a line without a line feed is
+-- dropped, unless more bytes of it have come than a line may have.
 abbrev pub lines_of : Input → List (List ℕ)
 lines_of input = if input.ended then parts_of input.bytes else finished_parts (parts_of input.bytes)
 
--- a blank line, or a comment: no byte but separators, or a number sign as the first other byte
+-- a blank line, or a comment: it has separators only, or its first other byte is a number sign
 abbrev pub is_skipped : List ℕ → Bool
 is_skipped line = option_map_or (λ b. b == 35) (find (λ b. not (is_separator b)) line) true

@@ -1,4 +1,4 @@
--- How long texts are at most.
+-- The greatest lengths of texts.
 use Rattle.std.specs.Prelude.{ℕ, ◌+◌, ◌*◌}
 use Rattle.s39_words.specs.Layout.{longest_text}
 use Rattle.s39_set.specs.Names.{most_names}
@@ -7,14 +7,14 @@ use Rattle.s39_set.specs.Names.{most_names}
 abbrev pub longest_names : ℕ
 longest_names = 1215
 
--- so many bytes are enough for the line of a quorum, with its outcome, and the last line behind it
+-- how many bytes are enough for the line of a quorum, with its outcome, followed by the last line
 abbrev pub longest_listing : ℕ
 longest_listing = 2700
 
--- so many bytes are enough for the mnemonics of a backup, each with its line feed
+-- how many bytes are enough for the mnemonics of a backup, each with its line feed
 abbrev pub longest_backup : ℕ
 longest_backup = most_names * (longest_text + 1)
 
--- so many bytes are enough for the lines of a status
+-- how many bytes are enough for the lines of a status
 abbrev pub longest_status : ℕ
 longest_status = 1638

@@ -10,18 +10,18 @@ use Rattle.s39_tool.specs.declared.fault.Stop.TheVariants.{AtLine, ReadFailed}
 use Rattle.s39_tool.specs.Input.{Input, longest_line, lines_of, is_skipped}
 use Rattle.s39_tool.specs.Fault.{line_number}
 
--- what a line holds: nothing where it is skipped, else the share that it reads as
+-- what a line holds: nothing if it is skipped, else the share that it reads as
 abbrev pub Holds : List ℕ → Option ShareFields → Type 0
 Holds line None = (length line ≤ longest_line) × (is_skipped line ≡ true)
 Holds line (Some share) = (length line ≤ longest_line) × (is_skipped line ≡ false) × Reads line (Ok share)
 
--- a line by itself is refused for its length, or for what its words are read as
+-- a line is refused for itself: for its length, or for what its words are read as
 abbrev pub IsRefusedBy : List ℕ → LineRefusal → Type 0
 IsRefusedBy line (Word error) = (length line ≤ longest_line) × (is_skipped line ≡ false) × Reads line (Err error)
 IsRefusedBy line (Set _) = ⊥
 IsRefusedBy line TooLong = longest_line < length line
 
--- Lines are taken one after the other: `Takes lines reached` where these lead there, and `Refuses reached line cause` where
+-- Lines are taken one after the other: `Takes lines reached` if these lead there, and `Refuses reached line cause` if
 -- the next line is then refused.
 module _ {S C : Type 0} (Takes : List (List ℕ) → S → Type 0) (Refuses : S → List ℕ → C → Type 0) where
   -- the lines before the first that is refused lead there; that line's number and the cause are these

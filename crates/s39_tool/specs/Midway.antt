@@ -7,7 +7,7 @@ use Rattle.s39_tool.specs.Input.{Input, longest_line, parts_of, lines_of}
 use Rattle.s39_tool.specs.Fault.{line_number}
 use Rattle.s39_tool.specs.Lines.{IsRefusedLine}
 
--- A run has a state, and takes lines: `takes old line answer new` where it answers so of a line.
+-- A run has a state, and takes lines: `takes old line answer new` if it gives this answer for a line.
 module _ {S C : Type 0} (takes : S → List ℕ → Result (Unit {0}) C → S → Type 0) where
   -- these lines are taken, one after the other
   abbrev pub TakesLines : List (List ℕ) → S → S → Type 0
@@ -19,13 +19,13 @@ module _ {S C : Type 0} (takes : S → List ℕ → Result (Unit {0}) C → S �
   StopsAtLine lines old new refused =
       (reached : S) × IsRefusedLine (λ taken mid. TakesLines taken old mid) (λ mid line cause. takes mid line (Err cause) new) lines reached refused
 
-  -- the run takes the lines up to the first that is refused, and answers so
+  -- the run takes the lines up to the first that is refused, and gives this answer
   abbrev pub RunsOver : Input → S → S → Result (Unit {0}) (Stop C) → Type 0
   RunsOver input old new (Ok _) = (input.ended ≡ true) × TakesLines (lines_of input) old new
   RunsOver input old new (Err (AtLine refused)) = StopsAtLine (lines_of input) old new refused
   RunsOver input old new (Err ReadFailed) = (input.ended ≡ false) × TakesLines (lines_of input) old new
 
-  -- of the bytes that came, the lines that ended are taken, and these are left of the line with this number
+  -- of the bytes that came, the ended lines are taken, and these bytes are left, of the line with this number
   pub record IsMidway (came unfinished : List ℕ) (number : ℕ) (old new : S) : Type 0 where
     pub lines : List (List ℕ)
     pub taken : TakesLines lines old new

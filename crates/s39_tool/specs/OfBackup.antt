@@ -1,4 +1,4 @@
--- Inputs whose lines hold mnemonics of one created backup, and what `recover` gives of them.
+-- Inputs whose lines hold mnemonics of one created backup, and what `recover` gives for them.
 use Rattle.std.specs.Prelude.{◌≡◌, ℕ, List, [], All, Contains, Option, IfSome, true, Result, Ok, Err}
 use Rattle.s39_words.specs.declared.ShareFields.{ShareFields}
 use Rattle.s39_set.specs.Names.{Names}
@@ -22,9 +22,9 @@ use Rattle.s39_tool.specs.Recover.{secret_line}
 abbrev pub HoldsNothingOrOneOf : List ShareFields → List ℕ → Type 0
 HoldsNothingOrOneOf shares line = (held : Option ShareFields) × Holds line held × IfSome held (Contains shares)
 
--- An input that ended, each of whose lines is blank, a comment, or a mnemonic of one backup that was created from this
--- secret with this passphrase, whatever plan, options and random bytes: which of its mnemonics, in any order, and with
--- repeats.
+-- An input that ended, each of whose lines is blank, a comment, or a mnemonic of one backup. The backup was created
+-- from this secret with this passphrase, whatever the plan, the options and the random bytes. The mnemonics stand in
+-- any order, and they may repeat.
 pub record HoldsMnemonicsOf (passphrase secret : List ℕ) (input : Input) : Type 0 where
   pub group_threshold : ℕ
   pub groups : List Members
@@ -36,12 +36,13 @@ pub record HoldsMnemonicsOf (passphrase secret : List ℕ) (input : Input) : Typ
   pub ended : input.ended ≡ true
   pub lines : All (HoldsNothingOrOneOf shares) (lines_of input)
 
--- the line of the secret is written where the set has a quorum; where it has none, nothing is, and the answer is why
+-- the line of the secret is written if the set has a quorum; otherwise nothing is written, and the answer is why it
+-- has none
 abbrev pub IsSecretOrLack : SecretForm → List ShareFields → List ℕ → List ℕ → Result (Unit {0}) Fault → Type 0
 IsSecretOrLack form set secret text (Ok _) = ((names : Names) × IsQuorum set names) × (text ≡ secret_line form secret)
 IsSecretOrLack form set secret text (Err fault) = (text ≡ []) × ((lack : SetLack) × IsLack set lack × (fault ≡ fault_of (Lack lack)))
 
--- That is so of the set of the input's shares, where the input holds mnemonics of a backup that was created with this
+-- This holds for the set of the input's shares, if the input holds mnemonics of a backup that was created with this
 -- passphrase.
 abbrev pub RecoversCreated : SecretForm → List ℕ → Input → List ℕ → Result (Unit {0}) Fault → Type 0
 RecoversCreated form passphrase input text answer =

@@ -15,7 +15,7 @@ use Rattle.s39_tool.specs.Accepted.{IsCheckedSet}
 use Rattle.s39_tool.specs.SecretForm.{secret_in}
 use Rattle.s39_tool.specs.Steps.{Then, nothing_for}
 
--- the line that tells a secret in this form
+-- the line that shows a secret in this form
 abbrev pub secret_line : SecretForm → List ℕ → List ℕ
 secret_line form secret = ended_line (secret_in form secret)
 
@@ -24,8 +24,8 @@ abbrev pub IsLeastOrLack : List ShareFields → Result (Names) SetLack → Type 
 IsLeastOrLack set (Ok names) = IsLeastQuorum set names
 IsLeastOrLack set (Err lack) = IsLack set lack
 
--- The secret that the least quorum of the set recovers; or the fault: the set has no quorum, or the digests of the least one
--- mismatch.
+-- The secret that the least quorum of the set recovers; or the fault: the set has no quorum, or a digest of the least
+-- one doesn't match.
 abbrev pub IsRecovered : List ℕ → List ShareFields → Result (List ℕ) Fault → Type 0
 IsRecovered passphrase set =
     Then (IsLeastOrLack set) (λ lack. Err (fault_of (Lack lack))) (λ names.
@@ -36,8 +36,8 @@ abbrev pub WritesSecret : SecretForm → List ℕ → List ShareFields → List 
 WritesSecret form passphrase set =
     Then (IsRecovered passphrase set) nothing_for (λ secret written. written ≡ (secret_line form secret, Ok tt))
 
--- `recover` writes this text for the form of the secret, the passphrase and the input, and answers so: the passphrase is judged first, then
--- the lines of the input, and then the set of their shares
+-- `recover` writes this text for the form of the secret, the passphrase and the input, and gives this answer. It judges
+-- the passphrase first, then the lines of the input, and then the set of their shares.
 abbrev pub IsRecoverOutput : SecretForm → List ℕ → Input → List ℕ → Result (Unit {0}) Fault → Type 0
 IsRecoverOutput form passphrase input text answer =
     Then (IsCheckedSet passphrase input) nothing_for (WritesSecret form passphrase) (text, answer)

@@ -46,7 +46,7 @@ abbrev pub HasShares : List ShareFields → Result (Unit {0}) (Unit {0}) → Typ
 HasShares set (Ok _) = set ≢ []
 HasShares set (Err _) = set ≡ []
 
--- a backup of the plan may have all of these shares, or it may not
+-- a backup of the plan can have all of these shares, or it can't
 abbrev pub IsOfThePlan : ℕ → List Members → List ShareFields → Result (Unit {0}) (Unit {0}) → Type 0
 IsOfThePlan group_threshold groups set (Ok _) = AreOfPlan group_threshold groups set
 IsOfThePlan group_threshold groups set (Err _) = ¬ AreOfPlan group_threshold groups set
@@ -54,11 +54,11 @@ IsOfThePlan group_threshold groups set (Err _) = ¬ AreOfPlan group_threshold gr
 -- ---- the shares of the names
 
 module _ (set : List ShareFields) (group_threshold : ℕ) (groups : List Members) where
-  -- the shares at hand give these shares of these names, one for each, in this order
+  -- the shares at hand give these shares with these names, one for each name, in this order
   abbrev pub AreTheirShares : Names → List ShareFields → Type 0
   AreTheirShares names shares = AllZip (λ name share. IsReissue set group_threshold groups name (Ok share)) names shares
 
-  -- this is why the shares at hand don't give the share of a name, and they give those of the names before it
+  -- this is why the shares at hand don't give the share of a name, while they give those of the names before it
   pub record IsFirstMissing (names : Names) (error : ReissueError) : Type 0 where
     pub before : Names
     pub name : Name
@@ -68,7 +68,7 @@ module _ (set : List ShareFields) (group_threshold : ℕ) (groups : List Members
     pub earlier : AreTheirShares before shares
     pub missing : IsReissue set group_threshold groups name (Err error)
 
-  -- the shares of these names, or why the first that is missing is so
+  -- the shares of these names, or why the first missing one is missing
   abbrev pub AreReissued : Names → Result (List ShareFields) ReissueError → Type 0
   AreReissued names (Ok shares) = AreTheirShares names shares
   AreReissued names (Err error) = IsFirstMissing names error
@@ -80,15 +80,15 @@ fault_of_reissue (DigestMismatch mismatch) = fault_of (MismatchRefusal mismatch)
 
 -- ---- the output
 
--- The shares of these names, as a set gives them; or the first fault that applies: the set has no shares, it is of no backup of
--- the plan, or the share of a name isn't given.
+-- The shares of these names, as a set gives them; or the first fault that applies: the set has no shares, no backup of
+-- the plan can have all of them, or the share of a name isn't given.
 abbrev pub IsReissued : ℕ → List Members → Names → List ShareFields → Result (List ShareFields) Fault → Type 0
 IsReissued group_threshold groups names set =
     Then (HasShares set) (λ _. Err (fault_of (Lack NoShares))) (λ _.
     Then (IsOfThePlan group_threshold groups set) (λ _. Err (fault_of OtherPlan)) (λ _.
     Then (AreReissued set group_threshold groups names) (λ error. Err (fault_of_reissue error)) (λ shares result. result ≡ Ok shares)))
 
--- the mnemonics of these shares are written, one a line
+-- the mnemonics of these shares are written, one on each line
 abbrev pub WritesMnemonics : List ShareFields → List ℕ × Result (Unit {0}) Fault → Type 0
 WritesMnemonics shares written = (text : List ℕ) × ArePrintedLines shares text × (written ≡ (text, Ok tt))
 
@@ -96,8 +96,8 @@ WritesMnemonics shares written = (text : List ℕ) × ArePrintedLines shares tex
 abbrev pub WritesReissued : ℕ → List Members → Names → List ShareFields → List ℕ × Result (Unit {0}) Fault → Type 0
 WritesReissued group_threshold groups names set = Then (IsReissued group_threshold groups names set) nothing_for WritesMnemonics
 
--- `reissue` writes this text for the plan, the names and the input, and answers so: the names are judged first, then the
--- lines of the input, and then the set of their shares
+-- `reissue` writes this text for the plan, the names and the input, and gives this answer. It judges the names first,
+-- then the lines of the input, and then the set of their shares.
 abbrev pub IsReissueOutput : ℕ → List Members → Names → Input → List ℕ → Result (Unit {0}) Fault → Type 0
 IsReissueOutput group_threshold groups names input text answer =
     Then (AreNamesOfPlan groups names) (λ name. nothing_for (fault_of_name name)) (λ _.
@@ -106,8 +106,8 @@ IsReissueOutput group_threshold groups names input text answer =
 -- ---- mnemonics of a created backup
 
 module _ (set : List ShareFields) (group_threshold : ℕ) (groups : List Members) where
-  -- the shares at hand determine those of all names, and the text has the mnemonics of the backup's shares with these names,
-  -- one a line, in their order
+  -- the shares at hand determine those of all names, and the text has the mnemonics of the backup's shares with these
+  -- names, one on each line, in the order of the names
   pub record WritesThoseOf (backup : List ShareFields) (names : Names) (text : List ℕ) : Type 0 where
     pub determined : All (IsDetermined set group_threshold groups) names
     pub shares : List ShareFields
@@ -123,8 +123,8 @@ module _ (set : List ShareFields) (group_threshold : ℕ) (groups : List Members
     pub earlier : All (IsDetermined set group_threshold groups) before
     pub undetermined : IsUndetermined set group_threshold groups name few
 
-  -- The mnemonics of these names are written; or nothing is, and the answer is that there are no shares, or both counts for
-  -- the first name whose share isn't determined.
+  -- The mnemonics of these names are written. Or nothing is written, and the answer is that there are no shares, or
+  -- both counts for the first name whose share isn't determined.
   abbrev pub WritesThoseOrCause : List ShareFields → Names → List ℕ → Result (Unit {0}) Fault → Type 0
   WritesThoseOrCause backup names text (Ok _) = (set ≢ []) × WritesThoseOf backup names text
   WritesThoseOrCause backup names text (Err fault) =
@@ -132,8 +132,8 @@ module _ (set : List ShareFields) (group_threshold : ℕ) (groups : List Members
       × (((set ≡ []) × (fault ≡ fault_of (Lack NoShares)))
       ⊎ ((set ≢ []) × ((few : TooFew) × IsFirstUndetermined names few × (fault ≡ fault_of (TooFewRefusal few)))))
 
--- That is so of the set of the input's shares, where the input holds mnemonics of a backup that was created by this plan, and
--- the plan has the names.
+-- This holds for the set of the input's shares, if the input holds mnemonics of a backup that was created by this plan,
+-- and the plan has the names.
 abbrev pub ReissuesCreated : ℕ → List Members → Names → Input → List ℕ → Result (Unit {0}) Fault → Type 0
 ReissuesCreated group_threshold groups names input text answer =
     (passphrase secret : List ℕ) (mnemonics : HoldsMnemonicsOf passphrase secret input)

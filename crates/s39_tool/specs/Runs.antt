@@ -9,7 +9,7 @@ use Rattle.s39_tool.specs.Fault.{fault_of, read_failures, write_failures}
 use Rattle.s39_tool.specs.Input.{Input, whole}
 
 module _ {R : Type 0} (remaining : R → Option (List ℕ)) where
-  -- what came decides: this is so of the input whatever follows, and no more was asked for
+  -- what came decides: this holds for the input whatever follows, and no more was asked for
   pub record Decides (old new : Counted R) (came : List ℕ) (Is : Input → Type 0) : Type 0 where
     pub whatever_follows : (rest : List ℕ) (ended : Bool) → Is (record { bytes = came ++ rest; ended = ended })
     pub no_failure : new.failures ≡ old.failures
@@ -30,17 +30,17 @@ module _ {R : Type 0} (remaining : R → Option (List ℕ)) where
     pub one_failure : new.failures ≡ old.failures + 1
     pub few_reads : new.reads ≤ old.reads + length came + 1
 
-  -- This is so of the input that a reader gives. Whatever the reader, some bytes came of it, by one read for each of them and
-  -- one more at most, and they decide, or the input ended after them, or a read failed. Where the reader tells its bytes,
-  -- they are the first of these.
+  -- This holds for the input that a reader gives. Whatever the reader is, some bytes came from it, by at most one read
+  -- for each of them and one more. Either they decide, or the input ended after them, or a read failed. If the reader
+  -- tells its bytes, they are the first of these.
   pub record OfInput (old new : Counted R) (Is : Input → Type 0) : Type 0 where
     pub came : List ℕ
     pub consumed : Consumes (remaining old.device) (remaining new.device) came
     pub so : Decides old new came Is ⊎ Ends old new came Is ⊎ Fails old new came Is
 
 module _ {W T : Type 0} (contents : W → Option (List ℕ)) where
-  -- The writer's bytes grow by the text that has this answer. Where a write fails, they grow by a beginning of
-  -- what would have been written, and the answer says so, at no line.
+  -- The writer's bytes grow by the text that has this answer. If a write fails, they grow by a beginning of what would
+  -- have been written, and the answer says that a write failed, at no line.
   pub record Writes (IsOutput : List ℕ → Result T Fault → Type 0) (old new : Counted W) (answer : Result T Fault) : Type 0 where
     pub text : List ℕ
     pub full_answer : Result T Fault
@@ -53,8 +53,8 @@ module _ {W T : Type 0} (contents : W → Option (List ℕ)) where
     pub cut_short : new.failures ≢ old.failures → answer ≡ Err (fault_of (Device Write))
 
 module _ {R W T : Type 0} (remaining : R → Option (List ℕ)) (contents : W → Option (List ℕ)) (IsOutput : Input → List ℕ → Result T Fault → Type 0) where
-  -- A run writes and answers the output of its input. A device's failed call ends it, and the answer says which device
-  -- failed, exactly where one did.
+  -- A run writes and answers the output of its input. A failed call of a device ends it, and the answer names the
+  -- device that failed exactly if one did.
   pub record Runs (reader read_to : Counted R) (writer written_to : Counted W) (answer : Result T Fault) : Type 0 where
     pub output : OfInput remaining reader read_to (λ input. Writes contents (IsOutput input) writer written_to answer)
     pub read_failures_are : read_to.failures ≡ reader.failures + read_failures answer

@@ -1,4 +1,4 @@
--- The form in which a line tells a secret.
+-- The forms in which a line shows a secret.
 use Rattle.std.specs.Prelude.{ℕ, List}
 use Rattle.hex.specs.Hex.{encode_lower}
 use Rattle.s39_kdf.specs.Fingerprint.{fingerprint_of}

@@ -19,7 +19,7 @@ use Rattle.s39_tool.specs.Input.{Input, ended_line}
 use Rattle.s39_tool.specs.Fault.{fault_of, fault_of_stop, answer_of}
 use Rattle.s39_tool.specs.Lines.{Holds, IsRefusedBy, LeadTo}
 
--- the fields but the value, numbers in decimal
+-- the fields except the value, with numbers in decimal
 abbrev pub header_text : ShareFields → List ℕ
 header_text f =
     codes "identifier " ++ decimal f.id
@@ -35,20 +35,20 @@ header_text f =
 abbrev pub show_line : ShareFields → List ℕ
 show_line f = ended_line (header_text f ++ codes " value " ++ encode_lower f.value.items)
 
--- what is written for what a line holds
+-- the text that is written for what a line holds
 abbrev pub line_text : Option ShareFields → List ℕ
 line_text None = []
 line_text (Some share) = show_line share
 
--- what is written for what these lines hold
+-- the text that is written for what these lines hold
 abbrev pub show_text : List (Option ShareFields) → List ℕ
 show_text held = flat_map line_text held
 
--- the input's lines hold these, up to where they stop: each line by itself
+-- the input's lines hold these, each line by itself, up to where they stop
 abbrev pub HoldEach : Input → List (Option ShareFields) → Result (Unit {0}) (Stop LineRefusal) → Type 0
 HoldEach = LeadTo (AllZip Holds) (λ held line refusal. IsRefusedBy line refusal)
 
--- `show` writes this text for the input, and answers so
+-- `show` writes this text for the input, and gives this answer
 pub record IsShowOutput (input : Input) (text : List ℕ) (answer : Result (Unit {0}) Fault) : Type 0 where
   pub held : List (Option ShareFields)
   pub stop : Result (Unit {0}) (Stop LineRefusal)
@@ -58,7 +58,7 @@ pub record IsShowOutput (input : Input) (text : List ℕ) (answer : Result (Unit
 
 -- Within a run; no public contract cites this.
 module _ {W : Type 0} (contents : W → Option (List ℕ)) where
-  -- what is written for a line, or why it isn't
+  -- what is written for a line, or why nothing is
   abbrev pub ShowsLine : Counted W → List ℕ → Result (Unit {0}) ShowRefusal → Counted W → Type 0
   ShowsLine old line (Ok _) new = (held : Option ShareFields) × Holds line held × WritesWhole contents old (line_text held) new
   ShowsLine old line (Err (Line refusal)) new = IsRefusedBy line refusal × (old ≡ new)
@@ -69,7 +69,7 @@ abbrev pub fault_of_line : ℕ → ShowRefusal → Fault
 fault_of_line number (Line refusal) = fault_of_stop (AtLine (record { number = number; refusal = refusal }))
 fault_of_line number WriteFailed = fault_of (Device Write)
 
--- the fault of a run that stopped so
+-- the fault of a run that stopped for this cause
 abbrev pub fault_of_show : Stop ShowRefusal → Fault
 fault_of_show (AtLine refused) = fault_of_line refused.number refused.refusal
 fault_of_show ReadFailed = fault_of_stop ReadFailed

@@ -16,13 +16,13 @@ use Rattle.s39_tool.specs.declared.status.WrittenStatus.{WrittenStatus}
 use Rattle.s39_tool.specs.declared.secret_form.SecretForm.TheVariants.{Digits}
 use Rattle.s39_tool.specs.Drill.{last_line, quorum_line, mismatch_in, IsDrill, IsNext}
 
--- a text stands at the front of a slice, and behind it what was there
+-- a text stands at the front of a slice, and what was behind it stays
 pub record IsInFront (text old new : List ℕ) : Type 0 where
   pub fits : length text ≤ length old
   pub bytes : new ≡ text ++ drop (length text) old
 
--- What a drill writes stands at the front of a slice: with the limit, or with the first lower one after which what it
--- writes of one quorum more doesn't fit there. The drill has these outputs with each limit.
+-- What a drill writes stands at the front of a slice: with the limit, or with the first lower one at which the text for
+-- one quorum more doesn't fit. The drill has these outputs with each limit.
 pub record ListsWhatFits (IsOutput : ℕ → List ℕ → Result Done Fault → Type 0) (limit : ℕ) (old new : List ℕ) (listing : Listing) : Type 0 where
   pub listed : ℕ
   pub text : List ℕ
@@ -36,27 +36,27 @@ pub record ListsWhatFits (IsOutput : ℕ → List ℕ → Result Done Fault → 
   pub more_is_too_long : listed < limit → (longer : List ℕ) × (mismatches : ℕ)
       × IsOutput (listed + 1) longer (Ok (record { mismatches = mismatches })) × (length old < length longer)
 
--- What it writes with a limit of 1 doesn't fit into so many bytes; it has as many as are needed.
+-- What it writes with a limit of 1 doesn't fit into this many bytes. Its length is the number of bytes needed.
 abbrev pub IsTooShort : (ℕ → List ℕ → Result Done Fault → Type 0) → ℕ → TooShort → Type 0
 IsTooShort IsOutput room short =
     (text : List ℕ) × (mismatches : ℕ) × IsOutput 1 text (Ok (record { mismatches = mismatches }))
     × (short.needed ≡ length text) × (room < length text)
 
--- the listing in a slice; or that it is too short, or the refusal, and then nothing changes
+-- the listing in a slice; or that the slice is too short, or the refusal, and then nothing changes
 abbrev pub Lists : (ℕ → List ℕ → Result Done Fault → Type 0) → ℕ → List ℕ → List ℕ → Result Listing Unwritten → Type 0
 Lists IsOutput limit old new (Ok listing) = ListsWhatFits IsOutput limit old new listing
 Lists IsOutput limit old new (Err (SliceTooShort short)) = IsTooShort IsOutput (length old) short × (new ≡ old)
 Lists IsOutput limit old new (Err (Refused fault)) = IsOutput limit [] (Err fault) × (new ≡ old)
 
--- Of a command with these outputs: its text stands at the front of a slice, and the answer is its length; or it doesn't
--- fit, or is refused, and then nothing changes.
+-- The text of a command with these outputs stands at the front of a slice, and the answer is its length. Or the text
+-- doesn't fit, or the command is refused, and then nothing changes.
 abbrev pub Puts : (List ℕ → Result (Unit {0}) Fault → Type 0) → List ℕ → List ℕ → Result ℕ Unwritten → Type 0
 Puts IsOutput old new (Ok written) = (text : List ℕ) × IsOutput text (Ok tt) × IsInFront text old new × (written ≡ length text)
 Puts IsOutput old new (Err (SliceTooShort short)) =
     (text : List ℕ) × IsOutput text (Ok tt) × (short.needed ≡ length text) × (length old < length text) × (new ≡ old)
 Puts IsOutput old new (Err (Refused fault)) = IsOutput [] (Err fault) × (new ≡ old)
 
--- the same of `status`, whose answer has the numbers of its first line too
+-- the same for `status`, whose answer also has the numbers of its first line
 abbrev pub PutsStatus : (List ℕ → Result Status Fault → Type 0) → List ℕ → List ℕ → Result WrittenStatus Unwritten → Type 0
 PutsStatus IsOutput old new (Ok told) =
     (text : List ℕ) × IsOutput text (Ok told.status) × IsInFront text old new × (told.written ≡ length text)
@@ -66,7 +66,7 @@ PutsStatus IsOutput old new (Err (Refused fault)) = IsOutput [] (Err fault) × (
 
 -- Within a drill in a slice; no public contract cites this.
 
--- after which quorum more remain
+-- the quorum after which more remain
 abbrev pub more_after : Names → Option Names → Option Names
 more_after names None = None
 more_after names (Some next) = Some names
@@ -81,13 +81,13 @@ pub record IsTried (set : List ShareFields) (passphrase : List ℕ) (names : Nam
   pub is_next : IsNext set (Some names) next
   pub last_is : last ≡ last_line (more_after names next)
 
--- a drill of a set with this limit fits into so many bytes
+-- a drill of a set with this limit fits into this many bytes
 abbrev pub DrillFits : List ShareFields → List ℕ → Option Names → ℕ → ℕ → Type 0
 DrillFits set passphrase after n room =
     (lines : List ℕ) × (more : Option Names) × (mismatches : ℕ) × IsDrill Digits set passphrase after n lines more mismatches
     × (length (lines ++ last_line more) ≤ room)
 
--- A drill of a set in a slice: with the limit, or with the first lower one after which one quorum more doesn't fit.
+-- A drill of a set in a slice: with the limit, or with the first lower one at which one quorum more doesn't fit.
 pub record FillsSlice (set : List ShareFields) (passphrase : List ℕ) (after : Option Names) (limit : ℕ) (old new : List ℕ)
     (listing : Listing) : Type 0 where
   pub listed : ℕ
@@ -110,7 +110,7 @@ Fills set passphrase after limit old new (Err short) =
     × (short.needed ≡ length (lines ++ last_line more)) × (length old < length (lines ++ last_line more)))
     × (new ≡ old)
 
--- of a drill that starts at a quorum, so many lines stand at the front of a slice, up to the line of another quorum
+-- of a drill that starts at a quorum, this many lines stand at the front of a slice, up to the line of another quorum
 pub record IsFilling (set : List ShareFields) (passphrase : List ℕ) (start : Names) (listed : ℕ) (old new last : List ℕ)
     (written : ℕ) (next : Option Names) (mismatches : ℕ) : Type 0 where
   pub lines : List ℕ

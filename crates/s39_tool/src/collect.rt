@@ -43,13 +43,13 @@ impl TakeLine for ShareSet {
     ghost refuses_long = { λ set line long. inl long };
 }
 
-/// The set of the shares of an input, each once, where the passphrase is printable; that is judged before anything is
-/// read.
+/// The set of the shares of an input, each once, if the passphrase is printable. The passphrase is judged before
+/// anything is read.
 ///
-/// A line with no byte but separators, or whose first other byte is `#`, is skipped. The first line that is refused
-/// ends the run, and the answer is its number with the cause: a word error, `TooLong` (more than 1,024 bytes), or
-/// `Set` where its share can't join those of the lines before it. Where a read fails, the answer says so.
-/// The caller keeps `failures()` below `u64::MAX`.
+/// Blank lines are skipped, and so are lines whose first byte that isn't a separator is `#`. The first refused line
+/// ends the run, and the fault has its number and the cause: a word error, `TooLong` (more than 1,024 bytes), or `Set`
+/// if its share can't join those of the lines before it. If a read fails, the fault says so. The caller keeps
+/// `failures()` below `u64::MAX`.
 pub(crate) fn checked_set<R: Read>(
     passphrase: &[u8],
     input: &mut Counting<R>,

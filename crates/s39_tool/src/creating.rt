@@ -50,19 +50,34 @@ impl From<ReadFailed> for Fault {
     }
 }
 
-/// Creates a backup of a secret, and writes its mnemonics, one a line, by group and member. The bytes of the input are
-/// the random ones: as many as `Plan::random_needed` says, which `s39_backup::create` consumes in its order.
+/// Creates a backup of a secret, and writes its mnemonics, one on each line, by group, then member (SLIP-0039, "Format
+/// of the share mnemonic"). The bytes of the input are the random ones: exactly as many as `Plan::random_needed` says,
+/// which `s39_backup::create` consumes in its order.
 ///
-/// The first that applies is answered, and then nothing is written:
+/// The first error that applies is returned, and then nothing is written:
 ///
-/// - `Passphrase` where a byte of it isn't printable, and `SecretLength` where a secret may not have as many bytes, before
-///   anything is read;
-/// - `RandomLength` where more bytes came than needed;
-/// - that the reader failed, where a read did before so many came;
-/// - `RandomLength` where the input ended with fewer.
+/// - `Passphrase` if a byte of the passphrase isn't printable ASCII, before anything is read;
+/// - `SecretLength` if the secret has an odd number of bytes, fewer than 16, or more than 128, before anything is read;
+/// - `RandomLength` if more bytes come than are needed;
+/// - `Device(Read)` if a read fails before that;
+/// - `RandomLength` if the input ends with fewer bytes.
 ///
-/// Where a write fails or takes no byte, the answer is that the writer failed, and a beginning of the mnemonics is
-/// written. The caller keeps both `failures()` below `u64::MAX`.
+/// If a write fails or takes no byte, the fault is `Device(Write)`, and a beginning of the mnemonics is written. The
+/// caller keeps both `failures()` below `u64::MAX`.
+///
+/// ```rust
+/// let plan = Plan::parse("1of1")?;
+/// let secret = *b"\xbb\x54\xaa\xc4\xb8\x9d\xc8\x68\xba\x37\xd9\xcc\x21\xb2\xce\xce";
+/// let options = Options {
+///     exponent: 0,
+///     extendable: false,
+/// };
+/// let mut input = Counting::new(b"\x1f\x09".as_slice());
+/// let mut text = Vec::new(rt.alloc());
+/// let mut output = Counting::new(&mut text);
+/// run_create(&plan, &secret, b"TREZOR", options, &mut input, &mut output)?;
+/// assert!(rt; text.starts_with(b"duckling enlarge academic academic agency "));
+/// ```
 pub fn run_create<R: Read, W: Write>(
     plan: &Plan,
     secret: &[u8],
@@ -95,12 +110,30 @@ pub fn run_create<R: Read, W: Write>(
     Ok(())
 }
 
-/// Creates a backup of a secret, and puts the text that `run_create` writes for these random bytes to the front of `text`:
-/// the mnemonics by group and member, each with a line feed behind it. The answer is how many bytes they have.
+/// Creates a backup of a secret, and puts the text that `run_create` writes for these random bytes at the front of
+/// `text`: the mnemonics by group, then member, each followed by a line feed. It returns the length of that text in
+/// bytes. The bytes of `text` behind it are unchanged.
 ///
-/// The first that applies is answered, and then the slice is unchanged: `Passphrase` where a byte of it isn't printable,
-/// `SecretLength` where a secret may not have as many bytes, `RandomLength` where there aren't just as many random bytes as
-/// `Plan::random_needed` says, and that the slice is too short.
+/// The first error that applies is returned, and then `text` is unchanged:
+///
+/// - `Passphrase` if a byte of the passphrase isn't printable ASCII;
+/// - `SecretLength` if the secret has an odd number of bytes, fewer than 16, or more than 128;
+/// - `RandomLength` if there are more or fewer random bytes than `Plan::random_needed` says;
+/// - `TooShort` if the text doesn't fit, with the number of bytes that it has.
+///
+/// ```rust
+/// let plan = Plan::parse("1of1")?;
+/// let secret = *b"\xbb\x54\xaa\xc4\xb8\x9d\xc8\x68\xba\x37\xd9\xcc\x21\xb2\xce\xce";
+/// let options = Options {
+///     exponent: 0,
+///     extendable: false,
+/// };
+/// let random = b"\x1f\x09";
+/// let mut text = [0; 200];
+/// let written = create_lines(&plan, &secret, b"TREZOR", options, random, &mut text)?;
+/// assert_eq!(rt; written, 146);
+/// assert!(rt; text.starts_with(b"duckling enlarge academic academic agency "));
+/// ```
 pub fn create_lines(
     plan: &Plan,
     secret: &[u8],
@@ -119,7 +152,7 @@ pub fn create_lines(
     }
 }
 
-/// The first bytes of an input, at most so many, by as few reads as the device gives them in.
+/// The first bytes of an input, at most `limit`, by as few reads as the device gives them in.
 fn read_up_to<R: Read>(input: &mut Counting<R>, limit: usize) -> Result<Random, ReadFailed>
     requires readable { input.old.failures < u64.MAX }
     requires room { limit ≤ ROOM }
@@ -170,7 +203,7 @@ fn mnemonic_line(share: &Share) -> Line
     line
 }
 
-/// Puts the mnemonics of shares to the front of a slice, each with a line feed behind it, where they fit.
+/// Puts the mnemonics of shares at the front of a slice, each followed by a line feed, if they fit.
 pub(crate) fn put_mnemonics(shares: &[Share], text: &mut [u8]) -> Result<usize, TooShort>
     requires are_shares { All IsShare shares.now }
     requires few { length shares.now ≤ most_names }
@@ -189,7 +222,7 @@ pub(crate) fn put_mnemonics(shares: &[Share], text: &mut [u8]) -> Result<usize, 
     Ok(needed)
 }
 
-/// How many bytes the mnemonics of shares are, each with a line feed behind it.
+/// How many bytes the mnemonics of shares have, each followed by a line feed.
 fn length_of(shares: &[Share]) -> usize
     requires few { length shares.now ≤ most_names }
     ensures { (text : List ℕ) × ArePrintedLines shares.now text × (result ≡ length text) }
@@ -201,7 +234,7 @@ fn length_of(shares: &[Share]) -> usize
     needed
 }
 
-/// Puts the mnemonics of shares to the front of a slice, in which they fit.
+/// Puts the mnemonics of shares at the front of a slice, in which they fit.
 fn copy_mnemonics(shares: &[Share], out: &mut [u8])
     requires are_shares { All IsShare shares.now }
     requires room { (text : List ℕ) × ArePrintedLines shares.now text

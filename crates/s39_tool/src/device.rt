@@ -8,9 +8,16 @@ use std::io;
 use std::io::{ErrorKind, Read, Write};
 use std::marker::Model;
 
-/// A reader or a writer, with the number of its calls that failed. No failed call is tried again.
+/// A reader or a writer, with the number of its failed calls. No failed call is tried again.
 ///
-/// A contract sees it as the record of the device, the failures and the reads so far.
+/// A contract sees it as the device, the failures and the reads so far.
+///
+/// ```rust
+/// let mut input = Counting::new(b"shamir".as_slice());
+/// let mut piece = [0; 4];
+/// assert_eq!(rt; input.read(&mut piece)?, 4);
+/// assert_eq!(rt; (piece, input.failures()), (*b"sham", 0));
+/// ```
 #[derive(Drop)]
 pub struct Counting<D> {
     device: D,
@@ -29,7 +36,7 @@ impl<D> Model for Counting<D> {
 }
 
 impl<D> Counting<D> {
-    /// A device of which no call has failed.
+    /// Wraps a device. No call has failed yet.
     pub fn new(device: D) -> Counting<D>
         ensures device { result.device ≡ device }
         ensures failures { result.failures ≡ 0 }
@@ -42,7 +49,7 @@ impl<D> Counting<D> {
         }
     }
 
-    /// The device.
+    /// Returns the device.
     pub fn into_inner(self) -> D
         ensures { result ≡ self.device }
     {
@@ -54,7 +61,7 @@ impl<D> Counting<D> {
         device
     }
 
-    /// How many calls have failed.
+    /// Returns how many calls have failed.
     pub fn failures(&self) -> u64
         ensures { result ≡ self.now.failures }
     {
@@ -63,10 +70,10 @@ impl<D> Counting<D> {
 }
 
 impl<R: Read> Counting<R> {
-    /// Reads into `buf` by one call of the device, and gives how many bytes came: none only at the end of the
-    /// input, or where `buf` is empty.
+    /// Reads into `buf` by one call of the device, and returns how many bytes came. It returns 0 only at the end of the
+    /// input, or if `buf` is empty.
     ///
-    /// It fails where the device does, and after 2^64 - 1 reads, when the device isn't asked.
+    /// It fails if the device does. After 2^64 - 1 reads it fails and doesn't ask the device.
     /// The caller keeps `failures()` below `u64::MAX`.
     pub fn read(&mut self, buf: &mut [u8]) -> io::Result<usize>
         requires { self.old.failures < u64.MAX }
@@ -92,10 +99,10 @@ impl<R: Read> Counting<R> {
 }
 
 impl<W: Write> Counting<W> {
-    /// Writes a beginning of `piece` by one call of the device, and gives how many bytes were taken: at least
+    /// Writes a beginning of `piece` by one call of the device, and returns how many bytes the device took: at least
     /// one, unless `piece` is empty.
     ///
-    /// It fails where the device does, and where the device takes no byte of a piece that isn't empty.
+    /// It fails if the device does, or if the device takes no byte of a piece that isn't empty.
     /// The caller keeps `failures()` below `u64::MAX`.
     pub fn write(&mut self, piece: &[u8]) -> io::Result<usize>
         requires { self.old.failures < u64.MAX }

@@ -29,7 +29,7 @@ use std::io::{Read, Write};
 /// What a drill found.
 #[derive(Clone, Copy, Debug, PartialEq, Eq)]
 pub struct Done {
-    /// How many of the listed quorums were refused for a digest.
+    /// How many of the listed quorums have a digest that doesn't match.
     pub mismatches: u32,
 }
 
@@ -38,7 +38,7 @@ pub struct Done {
 pub enum Undrilled {
     /// The set has no quorum.
     Lack(SetLack),
-    /// What is given is no quorum of the set.
+    /// The names after which the drill is to start aren't a quorum of the set.
     NotAQuorum,
 }
 
@@ -65,24 +65,43 @@ impl From<Undrilled> for Fault {
     }
 }
 
-/// Tries the quorums of the input's shares that come after a given one (all, where there is none), in ascending order
-/// and at most `limit`, and writes a line for each: the quorum, a space, and the secret that it recovers with the
-/// passphrase, or its fingerprint, in lower-case hexadecimal, or `digest mismatch in group G` with the lowest group that is refused, or
-/// `digest mismatch of groups`. The last line is `end` where no greater quorum remains, else `more after ` and the
-/// last listed one. The answer counts the mismatches. Each line is written as soon as it is known.
+/// Tries the quorums of the input's shares in ascending order, and writes a line for each as soon as it is known: the
+/// quorum, a space, and its outcome. It starts after the given quorum, or at the first one if none is given, and tries
+/// at most `limit` quorums.
 ///
-/// The first that applies is answered, and then nothing is written:
+/// The outcome is the secret that the quorum recovers with the passphrase, or its fingerprint, in lower-case
+/// hexadecimal. If a digest doesn't match, it is `digest mismatch in group G` with the lowest such group, or
+/// `digest mismatch of groups`. The last line is `end` if no greater quorum remains, and otherwise `more after ` and
+/// the last listed quorum. The function returns the number of mismatches.
 ///
-/// - `Passphrase` where a byte of it isn't printable, before anything is read;
-/// - the first refused line with its number: a word error, `TooLong` for more than 1,024 bytes, or `Set` where its
-///   share can't join those before it;
-/// - that the reader failed, where a read does; an unfinished line is then dropped, unless it is too long already;
-/// - `Lack` where the shares have no quorum;
-/// - `NotAQuorum` where the given names aren't one.
+/// Blank lines are skipped, and so are lines whose first byte that isn't a separator is `#`.
 ///
-/// Where a write fails or takes no byte, the answer is that the writer failed, and a beginning of the lines is written.
-/// A wrong passphrase isn't noticed: as a rule it gives other secrets. The caller keeps `limit` at least 1, and both
-/// `failures()` below `u64::MAX`.
+/// The first error that applies is returned, and then nothing is written:
+///
+/// - `Passphrase` if a byte of the passphrase isn't printable ASCII, before anything is read;
+/// - the first refused line, with its number: a word error, `TooLong` if it has more than 1,024 bytes, or `Set` if its
+///   share can't join those of the lines before it;
+/// - `Device(Read)` if a read fails; an unfinished line is then dropped, unless it is too long already;
+/// - `Lack` if the shares have no quorum;
+/// - `NotAQuorum` if the given names aren't a quorum of the shares.
+///
+/// If a write fails or takes no byte, the fault is `Device(Write)`, and a beginning of the lines is written. A wrong
+/// passphrase isn't detected: as a rule it gives other secrets. The caller passes a `limit` of at least 1, and keeps
+/// both `failures()` below `u64::MAX`.
+///
+/// ```rust
+/// let mut input = Counting::new(
+///     b"duckling enlarge academic academic agency result length solution fridge kidney coal \
+///     piece deal husband erode duke ajar critical decision keyboard\n"
+///         .as_slice(),
+/// );
+/// let mut text = Vec::new(rt.alloc());
+/// let mut output = Counting::new(&mut text);
+/// let form = SecretForm::Fingerprint;
+/// let done = run_drill(form, b"TREZOR", None, 1000, &mut input, &mut output)?;
+/// assert_eq!(rt; done.mismatches, 0);
+/// assert_eq!(rt; text.as_slice(), b"0.0 df41d8fe\nend\n".as_slice());
+/// ```
 pub fn run_drill<R: Read, W: Write>(
     form: SecretForm,
     passphrase: &[u8],
@@ -231,7 +250,7 @@ pub(crate) fn quorum_line(
     line
 }
 
-/// A secret in this form, or which digest isn't the right one.
+/// Appends a secret in this form, or says which digest doesn't match.
 fn push_outcome(line: &mut Line, form: SecretForm, outcome: &Result<Bytes, Mismatch>)
     requires room { length line.old.items + 2 * longest_secret ≤ LINE_BYTES }
     ensures text { line.new.items ≡ line.old.items ++ outcome_text form (in_bytes outcome.now) }
@@ -243,7 +262,7 @@ fn push_outcome(line: &mut Line, form: SecretForm, outcome: &Result<Bytes, Misma
     }
 }
 
-/// Which digest isn't the right one.
+/// Appends which digest doesn't match.
 fn push_mismatch(line: &mut Line, mismatch: Mismatch)
     requires room { length line.old.items + 2 * longest_secret ≤ LINE_BYTES }
     ensures text { line.new.items ≡ line.old.items ++ mismatch_text mismatch }

@@ -13,8 +13,18 @@ use s39_backup::params_of;
 use s39_set::first;
 use s39_set::laws::one_lack;
 
-/// The iteration exponent in which the lines' shares agree, where they have a quorum: `recover_secret` takes
-/// 10,000 * 2^exponent iterations for them, and this none. `None` where a line is refused, or the shares have no quorum.
+/// Returns the iteration exponent in which the lines' shares agree, if they have a quorum (SLIP-0039, "Format of the
+/// share mnemonic"). It is `None` if a line is refused, or if the shares have no quorum.
+///
+/// `recover_secret` takes 10,000 * 2^exponent iterations of PBKDF2 for these lines. This function takes none.
+///
+/// ```rust
+/// let line =
+///     b"duckling enlarge academic academic agency result length solution fridge kidney coal \
+///     piece deal husband erode duke ajar critical decision keyboard\n";
+/// assert_eq!(rt; exponent_in(line), Some(0));
+/// assert_eq!(rt; exponent_in(b""), None);
+/// ```
 pub fn exponent_in(lines: &[u8]) -> Option<u8>
     ensures some { IfSome result (HasExponent (whole lines.now)) }
     ensures none { result ≡ None → (exponent : ℕ) → ¬ HasExponent (whole lines.now) exponent }
@@ -30,7 +40,7 @@ pub fn exponent_in(lines: &[u8]) -> Option<u8>
     Some(params_of(&set, &quorum).exponent)
 }
 
-/// Shares that are accepted and have a quorum have an iteration exponent.
+/// If shares are accepted and have a quorum, they have an iteration exponent.
 pub fn some_exponent()
     ensures { (input : Input) (set : List ShareFields) (names : Names) → IsReadAs input (Ok set)
         → IsQuorum set names → (exponent : ℕ) × HasExponent input exponent }
@@ -38,7 +48,7 @@ pub fn some_exponent()
     accepted_inputs_are_share_sets();
 }
 
-/// Shares have one iteration exponent.
+/// Shares have at most one iteration exponent.
 pub fn one_exponent()
     ensures { (input : Input) (exponent other : ℕ) → HasExponent input exponent
         → HasExponent input other → exponent ≡ other }
@@ -46,7 +56,7 @@ pub fn one_exponent()
     one_set();
 }
 
-/// Shares have no iteration exponent above 15.
+/// The iteration exponent of shares is at most 15.
 pub fn every_exponent_is_at_most_15()
     ensures { (input : Input) (exponent : ℕ) → HasExponent input exponent → exponent ≤ 15 }
 {

@@ -10,7 +10,7 @@ use s39_words::WordError;
 /// Why a line is refused.
 #[derive(Clone, Copy, Debug, PartialEq, Eq)]
 pub enum LineRefusal {
-    /// The line is no share.
+    /// The line isn't a mnemonic.
     Word(WordError),
     /// The line's share can't join those of the lines before it.
     Set(SetError),
@@ -21,7 +21,7 @@ pub enum LineRefusal {
 impl LineRefusal {
     ghost use Rattle.s39_tool.specs.Fault.{line_cause_of};
 
-    /// What the refusal says: 11 to 15, 21 to 28, or 71, and the details of the cause.
+    /// Returns the number of the refusal, 11 to 15, 21 to 28, or 71, and the details of the cause.
     pub fn cause(&self) -> Cause
         ensures { result ≡ line_cause_of self.now }
     {
@@ -36,13 +36,13 @@ impl LineRefusal {
 /// A line that is refused.
 #[derive(Clone, Copy, Debug, PartialEq, Eq, Drop)]
 pub struct RefusedLine<E> {
-    /// The line, counted from 1. It stays at 2^64 - 1 once there.
+    /// The number of the line, counted from 1. The count stays at 2^64 - 1 once it is there.
     pub number: u64,
     /// The cause.
     pub refusal: E,
 }
 
-/// Why not all lines of an input are taken.
+/// Why not all lines of an input were taken.
 #[derive(Clone, Copy, Debug, PartialEq, Eq, Drop)]
 pub enum Stop<E> {
     /// A line is refused.
@@ -73,7 +73,7 @@ pub enum DeviceFailure {
 impl DeviceFailure {
     ghost use Rattle.s39_tool.specs.Fault.{device_cause_of};
 
-    /// What the failure says: 72 or 73.
+    /// Returns the number of the failure: 72 for a read, and 73 for a write.
     pub fn cause(&self) -> Cause
         ensures { result ≡ device_cause_of self.now }
     {
@@ -91,21 +91,21 @@ pub enum Refusal {
     Line(LineRefusal),
     /// The shares have no quorum.
     Lack(SetLack),
-    /// A byte of the passphrase isn't printable.
+    /// A byte of the passphrase isn't printable ASCII, which is 32 to 126.
     Passphrase(BadPassphrase),
     /// The secret has an odd number of bytes, or fewer than 16, or more than 128.
     SecretLength(BadSecretLength),
-    /// A backup takes `needed` random bytes, and more or fewer came.
+    /// The backup takes `needed` random bytes, and more or fewer came.
     RandomLength { needed: usize },
-    /// Shares combine to a secret of another digest than they have.
+    /// A digest doesn't match what the shares combine to.
     DigestMismatch(Mismatch),
-    /// The names after which a drill is to start are no quorum of the shares.
+    /// The names after which a drill is to start aren't a quorum of the shares.
     NotAQuorum,
-    /// A name is none of a share of the plan.
+    /// The plan has no share with this name. Group and member index count from 0.
     NotInPlan { group: u8, member: u8 },
-    /// The shares are none of a backup of the plan.
+    /// No backup of the plan can have all of these shares.
     OtherPlan,
-    /// The shares don't determine the share of a name.
+    /// The shares don't determine the share with a name.
     Undetermined(TooFew),
     /// A device failed.
     Device(DeviceFailure),
@@ -114,7 +114,8 @@ pub enum Refusal {
 impl Refusal {
     ghost use Rattle.s39_tool.specs.Fault.{cause_of, has_line};
 
-    /// What the refusal says: 11 to 15, 21 to 30, 41 to 43, 51, 62, 64 to 66, or 71 to 73, and the details of the cause.
+    /// Returns the number of the refusal, 11 to 15, 21 to 30, 41 to 43, 51, 62, 64 to 66, or 71 to 73, and the details
+    /// of the cause.
     pub fn cause(&self) -> Cause
         ensures { result ≡ cause_of self.now }
     {
@@ -137,7 +138,8 @@ impl Refusal {
         }
     }
 
-    /// Whether the refusal is of a line: of what stands in it, of its length, or of its share beside those before it.
+    /// Returns whether a line is refused: for what it says, for its length, or because its share can't join those
+    /// before it.
     pub fn has_line(&self) -> bool
         ensures { result ≡ has_line self.now }
     {
@@ -145,10 +147,11 @@ impl Refusal {
     }
 }
 
-/// Why a run stopped, and at which line.
+/// Why a run stopped, and at which line if it was a line.
 #[derive(Clone, Copy, Debug, PartialEq, Eq)]
 pub struct Fault {
-    /// The line, counted from 1, where the refusal is of a line. It stays at 2^64 - 1 once there.
+    /// The number of the refused line, counted from 1; `None` if the refusal isn't of a line. The count stays at 2^64
+    /// - 1 once it is there.
     pub line: Option<u64>,
     /// The cause.
     pub refusal: Refusal,

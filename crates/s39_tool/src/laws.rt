@@ -1,4 +1,4 @@
-//! Facts about the definitions, each the contract of a function that does nothing.
+//! Facts about the definitions. Each is the contract of a function that does nothing.
 ghost use Rattle.std.specs.Prelude.{◌≡◌, ℕ, List, All, Contains, Result, Ok, Err, IfOk, ◌+◌, ◌++◌, length, suc, Option, Some};
 ghost use Rattle.s39_words.specs.declared.ShareFields.{ShareFields};
 ghost use Rattle.s39_set.specs.ShareSet.{IsShareSet};
@@ -59,15 +59,15 @@ use s39_words::laws::{
 };
 use std::io::{Read, Write};
 
-/// The code's limits are those of the definitions.
+/// The limits of the code are those of the definitions.
 pub fn numbers()
     ensures line { MAX_LINE_BYTES ≡ longest_line }
     ensures random { MAX_BACKUP_RANDOM_BYTES ≡ most_random }
 {}
 
-/// Whatever the devices, also ones that don't tell their bytes, a run refuses a passphrase only where a byte of it isn't
-/// printable, and names the first one; `create` refuses only a secret that may not have as many bytes; and `reissue`
-/// says only of the first name that the plan doesn't have that it hasn't it.
+/// Whatever the devices are, even if they don't tell their bytes: a run refuses a passphrase only if a byte of it
+/// isn't printable, and names the first such byte. `create` refuses the length of a secret only if no secret can have
+/// it. `reissue` answers `NotInPlan` only for the first name that the plan doesn't have.
 pub fn refusals_have_causes<R: Read, W: Write>()
     ensures recover { (form : SecretForm) (passphrase : List ℕ) (reader read_to : Counted R)
         (writer written_to : Counted W) (bad : BadPassphrase)
@@ -96,7 +96,7 @@ pub fn refusals_have_causes<R: Read, W: Write>()
         → ¬ IsSecretLength (length asked.secret) }
 {}
 
-/// Whatever the devices, what a run answers without a read is right whatever the input.
+/// Whatever the devices are, what a run answers without a read is right whatever the input is.
 pub fn unread_inputs_decide_nothing<R: Read, W: Write>()
     ensures show { (reader read_to : Counted R) (writer written_to : Counted W)
         (answer : Result (Unit {0}) Fault)
@@ -130,7 +130,7 @@ pub fn unread_inputs_decide_nothing<R: Read, W: Write>()
         → Writes W.contents (IsCreateOutput asked input) writer written_to answer }
 {}
 
-/// An input has a show output.
+/// Every input has an output of `show`.
 pub fn some_show_output()
     ensures { (input : Input)
         → (text : List ℕ) × (answer : Result (Unit {0}) Fault) × IsShowOutput input text answer }
@@ -138,7 +138,7 @@ pub fn some_show_output()
     every_text_has_a_reading();
 }
 
-/// An input has one show output: one text, and one answer.
+/// An input has at most one output of `show`: one text, and one answer.
 pub fn one_show_output()
     ensures { (input : Input) (text other : List ℕ) (answer another : Result (Unit {0}) Fault)
         → IsShowOutput input text answer → IsShowOutput input other another
@@ -147,7 +147,7 @@ pub fn one_show_output()
     one_reading();
 }
 
-/// An input is read as one thing: one set of shares, or one refusal.
+/// An input is read as at most one thing: one set of shares, or one refusal.
 pub fn one_set()
     ensures { (input : Input) (answer another : Result (List ShareFields) (Stop LineRefusal))
         → IsReadAs input answer → IsReadAs input another → answer ≡ another }
@@ -156,7 +156,7 @@ pub fn one_set()
     one_reading();
 }
 
-/// An input has one output of `recover` with a passphrase: one text, and one answer.
+/// An input has at most one output of `recover` with a passphrase: one text, and one answer.
 pub fn one_recover_output()
     ensures { (form : SecretForm) (passphrase : List ℕ) (input : Input) (text other : List ℕ)
         (answer another : Result (Unit {0}) Fault)
@@ -170,7 +170,7 @@ pub fn one_recover_output()
     one_outcome();
 }
 
-/// An input has an output of `recover` with a passphrase.
+/// Every input has an output of `recover` with a passphrase.
 pub fn some_recover_output()
     ensures { (form : SecretForm) (passphrase : List ℕ) (input : Input)
         → (text : List ℕ) × (answer : Result (Unit {0}) Fault)
@@ -181,7 +181,7 @@ pub fn some_recover_output()
     every_quorum_has_an_outcome();
 }
 
-/// An input is read as something: a share set, or a refusal.
+/// Every input is read as something: a share set, or a refusal.
 pub fn every_input_is_read()
     ensures { (input : Input)
         → (answer : Result (List ShareFields) (Stop LineRefusal))
@@ -232,8 +232,8 @@ pub fn mnemonics_of_a_backup_are_a_set()
     mnemonics_are_read_as_their_shares();
 }
 
-/// Of mnemonics of a created backup, an output of `recover` with the passphrase of the creation is the secret where they
-/// have a quorum, and else why they have none.
+/// For mnemonics of a created backup, an output of `recover` with the passphrase of the creation is the secret if they
+/// have a quorum, and otherwise the reason why they have none.
 pub fn created_backups_recover()
     ensures { (form : SecretForm) (passphrase : List ℕ) (input : Input)
         (text : List ℕ) (answer : Result (Unit {0}) Fault)
@@ -247,7 +247,7 @@ pub fn created_backups_recover()
     mnemonics_of_a_backup_are_a_set();
 }
 
-/// What is known of listings and of outcomes, as drills rest on it.
+/// What drills need to know about listings and outcomes.
 pub(crate) fn drill_laws()
     ensures { DrillLaws }
 {
@@ -257,8 +257,9 @@ pub(crate) fn drill_laws()
     walks_list_all();
 }
 
-/// A set has one drill with a passphrase, after a list of names or from its first quorum on, and up to a limit: one
-/// text, one answer whether more remain, and one number of mismatches.
+/// A set has at most one drill with a passphrase, after a list of names or from its first quorum on, and up to a
+/// limit: one text, one answer whether more quorums remain, and one number of mismatches. It has one if the limit is
+/// at least 1.
 pub fn one_drill()
     ensures once { (form : SecretForm) (set : List ShareFields) (passphrase : List ℕ) (after : Option Names)
         (limit : ℕ) (text other : List ℕ) (more another : Option Names)
@@ -289,8 +290,8 @@ pub fn drills_join()
     listings_join();
 }
 
-/// An input has one output of `drill` with a passphrase, a list of names after which it starts, or none, and a limit:
-/// one text, and one answer.
+/// An input has at most one output of `drill` with a passphrase, a list of names after which it starts, or none, and a
+/// limit: one text, and one answer.
 pub fn one_drill_output()
     ensures { (form : SecretForm) (passphrase : List ℕ) (after : Option Names) (limit : ℕ) (input : Input)
         (text other : List ℕ) (answer another : Result Done Fault)
@@ -304,7 +305,7 @@ pub fn one_drill_output()
     one_outcome();
 }
 
-/// What is listed of an input in a slice is one thing: one slice, and one answer.
+/// The listing of an input in a slice has at most one result: one slice, and one answer.
 pub fn one_listing_in_a_slice()
     ensures { (form : SecretForm) (passphrase : List ℕ) (after : Option Names) (limit : ℕ) (input : Input)
         (old new other : List ℕ) (answer another : Result Listing Unwritten)
@@ -315,7 +316,7 @@ pub fn one_listing_in_a_slice()
     one_drill_output();
 }
 
-/// An input has an output of `drill`, where the limit is at least 1.
+/// Every input has an output of `drill`, if the limit is at least 1.
 pub fn some_drill_output()
     ensures { (form : SecretForm) (passphrase : List ℕ) (after : Option Names) (limit : ℕ) (input : Input)
         → (text : List ℕ) × (answer : Result Done Fault)
@@ -327,8 +328,8 @@ pub fn some_drill_output()
     drill_laws();
 }
 
-/// Of mnemonics of a created backup, an output of `drill` with the passphrase of the creation is just the quorums in
-/// order, each with the backup's secret, and no mismatch, or else why none is listed.
+/// For mnemonics of a created backup, an output of `drill` with the passphrase of the creation is exactly the quorums
+/// in order, each with the backup's secret, and no mismatch; or else the reason why none is listed.
 pub fn created_backups_drill()
     ensures { (form : SecretForm) (passphrase : List ℕ) (after : Option Names) (limit : ℕ) (input : Input)
         (text : List ℕ) (answer : Result Done Fault)
@@ -342,7 +343,7 @@ pub fn created_backups_drill()
     mnemonics_of_a_backup_are_a_set();
 }
 
-/// An input has one output of `status`: one text, and one answer.
+/// An input has exactly one output of `status`: one text, and one answer.
 pub fn one_status_output()
     ensures once { (input : Input) (text other : List ℕ) (answer another : Result Status Fault)
         → IsStatusOutput input text answer → IsStatusOutput input other another
@@ -354,8 +355,8 @@ pub fn one_status_output()
     every_input_is_read();
 }
 
-/// An input has one output of `create` for what is asked: one text, and one answer. It has one for every plan, all bytes
-/// of a secret, and all bytes of the input.
+/// An input has at most one output of `create` for a request: one text, and one answer. It has one for every plan, all
+/// bytes of a secret, and all bytes of the input.
 pub fn one_create_output()
     ensures once { (asked : Asked) (input : Input) (text other : List ℕ)
         (answer another : Result (Unit {0}) Fault)
@@ -374,7 +375,7 @@ pub fn one_create_output()
     every_share_has_a_printed_form();
 }
 
-/// What is put into a slice of what `create` writes is one thing: one slice, and one answer.
+/// Putting what `create` writes into a slice has at most one result: one slice, and one answer.
 pub fn one_text_in_a_slice()
     ensures { (asked : Asked) (input : Input) (old new other : List ℕ)
         (answer another : Result ℕ Unwritten)

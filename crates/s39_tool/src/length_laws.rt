@@ -1,4 +1,4 @@
-//! How long texts are at most: facts about the definitions, each the contract of a function that does nothing.
+//! The greatest lengths of texts: facts about the definitions. Each is the contract of a function that does nothing.
 ghost use Rattle.std.specs.Prelude.{◌≡◌, ◌≤◌, ◌++◌, ℕ, List, Option, Some, Result, Ok, length};
 ghost use Rattle.s39_kdf.specs.Limits.{longest_secret};
 ghost use Rattle.s39_set.specs.Names.{Names, AreNames};
@@ -21,15 +21,16 @@ use s39_backup::laws::outcomes_in_range;
 use s39_set::laws::written_forms;
 use s39_words::laws::printed_forms;
 
-/// The written form of names that shares may have takes at most 1,215 bytes; that of all of them takes as many.
+/// The written form of names that shares can have takes at most 1,215 bytes. The one of all names takes exactly that
+/// many.
 pub fn names_are_short()
     ensures most { (names : Names) → AreNames names → length (quorum_text names) ≤ longest_names }
     ensures reached { (names : Names) × AreNames names
         × (length (quorum_text names) ≡ longest_names) }
 {}
 
-/// A drill with the limit 1, which tells secrets as digits, writes at most 2,700 bytes: its line, and the last line. The line of all names that there are
-/// with the longest secret, and a last line that names them, take as many.
+/// A drill with the limit 1 that writes secrets as digits writes at most 2,700 bytes: its line, and the last line. The
+/// line of all possible names with the longest secret, and a last line with these names, take exactly that many.
 pub fn first_lines_are_short()
     ensures most { (passphrase : List ℕ) (after : Option Names) (input : Input) (text : List ℕ)
         (answer : Result Done Fault) → IsDrillOutput Digits passphrase after 1 input text answer
@@ -43,7 +44,7 @@ pub fn first_lines_are_short()
     outcomes_in_range();
 }
 
-/// The mnemonics of a created backup take at most 253,440 bytes, with the line feeds.
+/// The mnemonics of a created backup take at most 253,440 bytes, including the line feeds.
 pub fn backups_are_short()
     ensures { (asked : Asked) (input : Input) (text : List ℕ)
         → IsCreateOutput asked input text (Ok tt) → length text ≤ longest_backup }
@@ -51,7 +52,8 @@ pub fn backups_are_short()
     printed_forms();
 }
 
-/// The mnemonics that `reissue` writes of names that shares may have take at most 253,440 bytes, with the line feeds.
+/// The mnemonics that `reissue` writes for names that shares can have take at most 253,440 bytes, including the line
+/// feeds.
 pub fn reissues_are_short()
     ensures { (group_threshold : ℕ) (groups : List Members) (names : Names) (input : Input)
         (text : List ℕ) → AreNames names

@@ -1,5 +1,14 @@
-//! What the commands of the program `shamir` do, over readers and writers: counted devices, faults, the lines of
-//! an input, and the runs `show`, `create`, `recover`, `drill`, `status` and `reissue`.
+//! The commands of the program `shamir`, over readers and writers: `run_show`, `run_create`, `run_recover`,
+//! `run_drill`, `run_status` and `run_reissue`. Functions such as `recover_secret` and `create_lines` do the same for
+//! lines in memory.
+//!
+//! `Counting` wraps a reader or a writer, and counts its failed calls. A run that stops early returns a `Fault`: the
+//! refusal, with the line number if a line is refused. `Refusal::cause` gives the number of the refusal and its
+//! details.
+//!
+//! A quorum is a set of shares that meets the thresholds, while none of its proper subsets does.
+//!
+//! The examples use `parse_names` of `s39_set` too. In them `rt` is the runtime, or a reference to it.
 #![tactic(auto)]
 
 mod collect;
@@ -38,3 +47,6 @@ pub use secret_form::SecretForm;
 pub use show::run_show;
 pub use slices::{TooShort, Unwritten, put};
 pub use status::{WrittenStatus, run_status, status_lines};
+
+#[cfg(test)]
+mod examples;

@@ -14,7 +14,7 @@ use memchr::memchr;
 use s39_words::{Share, is_separator, parse};
 use std::io::Read;
 
-/// The most bytes of a line, its line feed not counted.
+/// The most bytes of a line, not counting its line feed.
 pub(crate) const MAX_LINE_BYTES: usize = 1024;
 
 /// How many bytes a read asks for at most.
@@ -37,7 +37,7 @@ pub(crate) trait TakeLine {
     // The refusal of a line that is too long.
     ghost length_refusal: { Self.Refusal };
 
-    /// Takes a line, or refuses it. After a refusal it isn't called again.
+    /// Takes a line, or refuses it. It isn't called again after a refusal.
     fn take_line(&mut self, line: &[u8]) -> Result<(), Self::Refusal>
         requires ready { can_take self.old }
         requires short { length line.now ≤ longest_line }
@@ -52,7 +52,7 @@ pub(crate) trait TakeLine {
         → takes taker line (Err length_refusal) taker };
 }
 
-/// The first byte of the line that is no separator.
+/// The first byte of the line that isn't a separator.
 fn first_other_byte(line: &[u8]) -> Option<u8>
     ensures { result ≡ find (λ b. not (is_separator b)) line.now }
 {
@@ -69,7 +69,7 @@ fn is_skipped(line: &[u8]) -> bool
     }
 }
 
-/// The share that a line holds, or `None` where the line is skipped.
+/// The share that a line holds, or `None` if the line is skipped.
 pub(crate) fn share_in(line: &[u8]) -> Result<Option<Share>, LineRefusal>
     requires { length line.now ≤ longest_line }
     ensures held { IfOk result (λ held. Holds line.now held) }
@@ -117,7 +117,7 @@ fn take_numbered<T: TakeLine>(
 }
 
 impl Unfinished {
-    /// Keeps a part of the line, which no line feed is in.
+    /// Keeps a part of the line that has no line feed in it.
     fn keep<T: TakeLine>(&mut self, part: &[u8]) -> Result<(), RefusedLine<T::Refusal>>
         requires { All (λ b. b ≢ 10) part.now }
         ensures taken { (came : List ℕ) (first : T) (now : T)
@@ -186,7 +186,7 @@ impl Unfinished {
 /// Takes the lines of an input in their order, until the input ends, a read fails, or a line is refused. A line is
 /// taken before any byte past the piece that holds its end is asked for.
 ///
-/// A line of more than 1,024 bytes is refused as soon as 1,025 bytes of it have come. Where a read fails, the lines that
+/// A line of more than 1,024 bytes is refused as soon as 1,025 bytes of it have come. If a read fails, the lines that
 /// ended before are taken, and what came of the next is dropped. The caller keeps `failures()` below `u64::MAX`.
 pub(crate) fn take_lines<R: Read, T: TakeLine>(
     input: &mut Counting<R>,
@@ -212,8 +212,8 @@ pub(crate) fn take_lines<R: Read, T: TakeLine>(
     }
 }
 
-/// Takes the lines of an input that is in memory, in their order, until it ends or a line is refused: as `take_lines`
-/// does, but no read can fail.
+/// Takes the lines of an input that is in memory, in their order, until it ends or a line is refused, as `take_lines`
+/// does. No read can fail.
 pub(crate) fn take_lines_of<T: TakeLine>(
     bytes: &[u8],
     taker: &mut T,

@@ -23,31 +23,43 @@ use s39_backup::{Memo, params_of};
 use s39_set::laws::listings_join;
 use s39_set::{Looks, Quorum, ShareSet};
 
-/// What a drill wrote into a slice.
+/// What `drill_lines` put into a slice.
 #[derive(Clone, Copy, Debug, PartialEq, Eq)]
 pub struct Listing {
-    /// How many bytes its text has.
+    /// The length of its text in bytes.
     pub written: usize,
-    /// How many of the listed quorums were refused for a digest.
+    /// How many of the listed quorums have a digest that doesn't match.
     pub mismatches: u32,
 }
 
-/// Tries the quorums of the lines' shares that come after a given one (all, where there is none), and puts to the front of
-/// `text` what `run_drill` writes of them with the limit, or with a lower one: it stops before the first quorum whose line
-/// doesn't fit with the last line behind it. The last line is `end`, or `more after ` and the quorum after which another call
-/// goes on. Where not even the first line fits, or `end` where no quorum is left, the answer is how many bytes are needed.
-/// A line with no byte but separators, or whose first other byte is `#`, is skipped.
+/// Tries the quorums of the lines' shares that come after a given one, or all of them if none is given. It puts what
+/// `run_drill` writes for them at the front of `text`, and leaves the bytes of `text` behind it unchanged.
 ///
-/// The first that applies is refused:
+/// It lists at most `limit` quorums, and stops before the first one whose line doesn't fit together with the last
+/// line. The last line is `end`, or `more after ` and the quorum after which another call goes on. Blank lines are
+/// skipped, and so are lines whose first byte that isn't a separator is `#`.
 ///
-/// - `Passphrase` where a byte of it isn't printable;
-/// - the first refused line with its number: a word error, `TooLong` for more than 1,024 bytes, or `Set` where its
-///   share can't join those before it;
-/// - `Lack` where the shares have no quorum;
-/// - `NotAQuorum` where the given names aren't one.
+/// The first error that applies is returned, and then `text` is unchanged:
 ///
-/// Then, and where the slice is too short, it is unchanged. A wrong passphrase isn't noticed: as a rule it gives other
-/// secrets. The caller keeps `limit` at least 1.
+/// - `Passphrase` if a byte of the passphrase isn't printable ASCII;
+/// - the first refused line, with its number: a word error, `TooLong` if it has more than 1,024 bytes, or `Set` if its
+///   share can't join those of the lines before it;
+/// - `Lack` if the shares have no quorum;
+/// - `NotAQuorum` if the given names aren't a quorum of the shares;
+/// - `TooShort` if not even the first line and the last line fit, or `end` if no quorum is left, with the number of
+///   bytes that are needed.
+///
+/// A wrong passphrase isn't detected: as a rule it gives other secrets. The caller passes a `limit` of at least 1.
+///
+/// ```rust
+/// let line =
+///     b"duckling enlarge academic academic agency result length solution fridge kidney coal \
+///     piece deal husband erode duke ajar critical decision keyboard\n";
+/// let mut text = [0; 100];
+/// let listing = drill_lines(b"TREZOR", None, 1000, line, &mut text)?;
+/// assert_eq!(rt; (listing.written, listing.mismatches), (41, 0));
+/// assert!(rt; text.starts_with(b"0.0 bb54aac4b89dc868ba37d9cc21b2cece\nend\n"));
+/// ```
 pub fn drill_lines(
     passphrase: &[u8],
     after: Option<&Quorum>,
@@ -92,7 +104,7 @@ fn start_in(
     Ok((set, start))
 }
 
-/// Puts the text of a drill without a quorum to the front of a slice.
+/// Puts the text of a drill without a quorum at the front of a slice.
 fn put_end(text: &mut [u8]) -> Result<Listing, TooShort>
     ensures listed { IfOk result (λ listing. IsInFront (last_line None) text.old text.new
         × (listing.written ≡ length (last_line None)) × (listing.mismatches ≡ 0)) }
@@ -106,7 +118,7 @@ fn put_end(text: &mut [u8]) -> Result<Listing, TooShort>
     Ok(ended(text, 0, &end, 0))
 }
 
-/// Puts the drill of a set that starts at this quorum to the front of a slice.
+/// Puts the drill of a set that starts at this quorum at the front of a slice.
 fn fill(
     set: &ShareSet,
     start: Quorum,
@@ -157,7 +169,7 @@ struct Tried {
     last: Line,
     /// The quorum that comes after it.
     next: Option<Quorum>,
-    /// 1 where its outcome is a mismatch, else 0.
+    /// 1 if its outcome is a mismatch, else 0.
     mismatches: u32,
 }
 
@@ -183,7 +195,7 @@ fn try_quorum(set: &ShareSet, quorum: &Quorum, memo: &mut Memo<'_>, looks: &mut 
     }
 }
 
-/// Puts the line of a quorum behind what is written, where the last line fits behind it, and gives the end of it.
+/// Puts the line of a quorum behind what is written, if the last line fits behind it, and gives the end of the line.
 fn put_line(text: &mut [u8], written: usize, tried: &Tried) -> Result<usize, TooShort>
     requires { written ≤ length text.old }
     ensures fits { IfOk result (λ end. (end ≡ written + length tried.now.line.items)

@@ -21,10 +21,10 @@ const NAME_BYTES: usize = 6;
 /// The most bytes of a line: all names that there are, a space, a secret in hexadecimal, and a line feed.
 pub(crate) const LINE_BYTES: usize = NAME_BYTES * MAX_NAMES + 2 * MAX_SECRET_BYTES + 2;
 
-/// A line of an output, as it is made.
+/// A line of an output while it is built.
 pub(crate) type Line = ArrayVec<u8, LINE_BYTES>;
 
-/// A text, for which there is room.
+/// Appends a text, for which there is room.
 pub(crate) fn push_text(line: &mut Line, text: &[u8])
     requires { length line.old.items + length text.now ≤ LINE_BYTES }
     ensures { line.new.items ≡ line.old.items ++ text.now }
@@ -32,7 +32,7 @@ pub(crate) fn push_text(line: &mut Line, text: &[u8])
     line.try_extend_from_slice(text).unwrap();
 }
 
-/// A number in decimal.
+/// Appends a number in decimal.
 fn push_number(line: &mut Line, number: u16)
     requires { length line.old.items + length (decimal number) ≤ LINE_BYTES }
     ensures { line.new.items ≡ line.old.items ++ decimal number }
@@ -43,7 +43,7 @@ fn push_number(line: &mut Line, number: u16)
     line.push(b'0' + (number % 10) as u8);
 }
 
-/// A text that names a number, and the number in decimal.
+/// Appends a text that names a number, and the number in decimal.
 pub(crate) fn push_field(line: &mut Line, name: &[u8], number: u16)
     requires { length line.old.items + length name.now + 5 ≤ LINE_BYTES }
     ensures text { line.new.items ≡ line.old.items ++ name.now ++ decimal number }
@@ -53,7 +53,7 @@ pub(crate) fn push_field(line: &mut Line, name: &[u8], number: u16)
     push_number(line, number);
 }
 
-/// A name of a share: its group and its member index.
+/// Appends the name of a share: its group and its member index, with a point between them.
 fn push_name(line: &mut Line, name: (u8, u8))
     requires group { name.0 < most_groups }
     requires member { name.1 < most_members }
@@ -66,7 +66,7 @@ fn push_name(line: &mut Line, name: (u8, u8))
     push_number(line, u16::from(name.1));
 }
 
-/// Names of shares, with a plus sign between each two.
+/// Appends names of shares, joined by plus signs.
 pub(crate) fn push_names(line: &mut Line, names: &[(u8, u8)])
     requires groups { All (λ name. name.0 < most_groups) names.now }
     requires members { All (λ name. name.1 < most_members) names.now }
@@ -85,7 +85,7 @@ pub(crate) fn push_names(line: &mut Line, names: &[(u8, u8)])
     }
 }
 
-/// Bytes in lower-case hexadecimal.
+/// Appends bytes in lower-case hexadecimal.
 pub(crate) fn push_hex(line: &mut Line, bytes: &[u8])
     requires short { length bytes.now ≤ longest_secret }
     requires room { length line.old.items + 2 * length bytes.now ≤ LINE_BYTES }
@@ -113,7 +113,7 @@ impl From<WriteFailed> for Fault {
     }
 }
 
-/// Writes a text whole, by as many writes as the device takes for it, or up to the first that fails.
+/// Writes the whole text, by as many writes as the device takes for it, or until the first one fails.
 pub(crate) fn write_text<W: Write>(output: &mut Counting<W>, text: &[u8]) -> Result<(), WriteFailed>
     requires { output.old.failures < u64.MAX }
     ensures { WritesText W.contents output.old text.now result output.new }

@@ -18,22 +18,36 @@ use s39_kdf::Bytes;
 use s39_set::{ShareSet, first};
 use std::io::{Read, Write};
 
-/// Writes the secret that the least quorum of the input's shares recovers with the passphrase, or its fingerprint, in
-/// lower-case hexadecimal, one line. Shares beyond that quorum are accepted, and repeats change nothing. A line with no byte but
-/// separators, or whose first other byte is `#`, is skipped.
+/// Recovers the secret from the least quorum of the input's shares with the passphrase (SLIP-0039, "Shamir's secret
+/// sharing" and "Encryption of the master secret"). It writes the secret, or its fingerprint, in lower-case
+/// hexadecimal, on one line.
 ///
-/// The first that applies is answered, and then nothing is written:
+/// Shares beyond that quorum are accepted, and repeats change nothing. Blank lines are skipped, and so are lines whose
+/// first byte that isn't a separator is `#`.
 ///
-/// - `Passphrase` where a byte of it isn't printable, before anything is read;
-/// - the first refused line with its number: a word error, `TooLong` for more than 1,024 bytes, or `Set` where its
-///   share can't join those before it;
-/// - that the reader failed, where a read does; an unfinished line is then dropped, unless it is too long already;
-/// - `Lack` where the shares have no quorum;
-/// - `DigestMismatch` where the least quorum's digests don't match.
+/// The first error that applies is returned, and then nothing is written:
 ///
-/// Where a write fails or takes no byte, the answer is that the writer failed, and a beginning of the line is written. A
-/// wrong passphrase isn't noticed: as a rule it gives another secret. The caller keeps both `failures()` below
-/// `u64::MAX`.
+/// - `Passphrase` if a byte of the passphrase isn't printable ASCII, before anything is read;
+/// - the first refused line, with its number: a word error, `TooLong` if it has more than 1,024 bytes, or `Set` if its
+///   share can't join those of the lines before it;
+/// - `Device(Read)` if a read fails; an unfinished line is then dropped, unless it is too long already;
+/// - `Lack` if the shares have no quorum;
+/// - `DigestMismatch` if a digest of the least quorum doesn't match.
+///
+/// If a write fails or takes no byte, the fault is `Device(Write)`, and a beginning of the line is written. A wrong
+/// passphrase isn't detected: as a rule it gives another secret. The caller keeps both `failures()` below `u64::MAX`.
+///
+/// ```rust
+/// let mut input = Counting::new(
+///     b"duckling enlarge academic academic agency result length solution fridge kidney coal \
+///     piece deal husband erode duke ajar critical decision keyboard\n"
+///         .as_slice(),
+/// );
+/// let mut text = Vec::new(rt.alloc());
+/// let mut output = Counting::new(&mut text);
+/// run_recover(SecretForm::Digits, b"TREZOR", &mut input, &mut output)?;
+/// assert!(rt; text.starts_with(b"bb54aac4b89dc868ba37d9cc21b2cece\n"));
+/// ```
 pub fn run_recover<R: Read, W: Write>(
     form: SecretForm,
     passphrase: &[u8],
@@ -60,18 +74,29 @@ pub fn run_recover<R: Read, W: Write>(
     Ok(())
 }
 
-/// The secret that the least quorum of the lines' shares recovers with the passphrase: the one whose digits `run_recover`
-/// writes of them. A line with no byte but separators, or whose first other byte is `#`, is skipped.
+/// Returns the secret that the least quorum of the lines' shares recovers with the passphrase. It is the secret whose
+/// digits `run_recover` writes for these lines. Blank lines are skipped, and so are lines whose first byte that isn't
+/// a separator is `#`.
 ///
-/// The first that applies is answered:
+/// The first error that applies is returned:
 ///
-/// - `Passphrase` where a byte of it isn't printable;
-/// - the first refused line with its number: a word error, `TooLong` for more than 1,024 bytes, or `Set` where its
-///   share can't join those before it;
-/// - `Lack` where the shares have no quorum;
-/// - `DigestMismatch` where the least quorum's digests don't match.
+/// - `Passphrase` if a byte of the passphrase isn't printable ASCII;
+/// - the first refused line, with its number: a word error, `TooLong` if it has more than 1,024 bytes, or `Set` if its
+///   share can't join those of the lines before it;
+/// - `Lack` if the shares have no quorum;
+/// - `DigestMismatch` if a digest of the least quorum doesn't match.
 ///
-/// A wrong passphrase isn't noticed: as a rule it gives another secret.
+/// A wrong passphrase isn't detected: as a rule it gives another secret.
+///
+/// ```rust
+/// let line =
+///     b"duckling enlarge academic academic agency result length solution fridge kidney coal \
+///     piece deal husband erode duke ajar critical decision keyboard\n";
+/// let secret = recover_secret(b"TREZOR", line)?;
+/// assert!(rt; secret.starts_with(b"\xbb\x54\xaa\xc4\xb8\x9d\xc8\x68"));
+/// let fault = recover_secret(b"TREZOR", b"").err();
+/// assert_eq!(rt; fault.map(|fault| fault.refusal.cause().code), Some(29));
+/// ```
 pub fn recover_secret(passphrase: &[u8], lines: &[u8]) -> Result<Bytes, Fault>
     ensures secret { IfOk result (λ secret.
         IsRecoverOutput SecretForm.Digits passphrase.now (whole lines.now)

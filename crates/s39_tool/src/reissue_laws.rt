@@ -1,4 +1,4 @@
-//! What `reissue` writes: facts about the definitions, each the contract of a function that does nothing.
+//! What `reissue` writes: facts about the definitions. Each is the contract of a function that does nothing.
 ghost use Rattle.std.specs.Prelude.{◌≡◌, ℕ, List, Result};
 ghost use Rattle.s39_set.specs.Names.{Names};
 ghost use Rattle.s39_backup.specs.declared.plan.Members.{Members};
@@ -17,7 +17,7 @@ use s39_backup::laws::{
 };
 use s39_words::laws::{every_share_has_a_printed_form, one_printed_form};
 
-/// An input has one output of `reissue` for a plan and names: one text, and one answer. It has one for every plan.
+/// An input has exactly one output of `reissue` for a plan and names: one text, and one answer.
 pub fn one_reissue_output()
     ensures once { (group_threshold : ℕ) (groups : List Members) (names : Names)
         (input : Input) (text other : List ℕ) (answer another : Result (Unit {0}) Fault)
@@ -40,8 +40,8 @@ pub fn one_reissue_output()
     every_share_has_a_printed_form();
 }
 
-/// Of mnemonics of a created backup, an output of `reissue` for its plan and names of it is the backup's mnemonics with
-/// these names, or both counts for the first that isn't determined, or that there are no shares.
+/// For mnemonics of a created backup, an output of `reissue` with its plan and names of it is the backup's mnemonics
+/// with these names; or both counts for the first name that isn't determined, or that there are no shares.
 pub fn created_backups_reissue()
     ensures { (group_threshold : ℕ) (groups : List Members) (names : Names)
         (input : Input) (text : List ℕ) (answer : Result (Unit {0}) Fault)

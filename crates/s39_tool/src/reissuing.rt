@@ -40,25 +40,42 @@ impl From<OtherName> for Fault {
     }
 }
 
-/// Writes the mnemonics of these names of a plan, one a line, in the order of the names, as the input's shares give them:
-/// the share at hand, or the one that follows from enough members of its group, or from one fewer and the other groups
-/// (`s39_backup::reissue`). All of them are known before the first is written. No passphrase has a part in it. A line
-/// with no byte but separators, or whose first other byte is `#`, is skipped.
+/// Writes the mnemonics with these names of a plan, one on each line, in the order of the names, as the input's shares
+/// determine them. A share that is at hand is written as it is. Another one follows from enough members of its group,
+/// or from one member fewer and enough other groups (`s39_backup::reissue`).
 ///
-/// The first that applies is answered, and then nothing is written:
+/// All of them are computed before the first is written, without the passphrase. Blank lines are skipped, and so are
+/// lines whose first byte that isn't a separator is `#`.
+///
+/// The first error that applies is returned, and then nothing is written:
 ///
 /// - `NotInPlan` with the first name that the plan doesn't have, before anything is read;
-/// - the first refused line with its number: a word error, `TooLong` for more than 1,024 bytes, or `Set` where its
-///   share can't join those before it;
-/// - that the reader failed, where a read does; an unfinished line is then dropped, unless it is too long already;
-/// - `Lack` where there are no shares;
-/// - `OtherPlan` where a backup of the plan can't have all shares: their group threshold or their number of groups is
-///   another, or the plan hasn't a share's name, or not with its member threshold;
-/// - name by name, `Undetermined` where the shares don't determine the share of the name, with both counts, or
-///   `DigestMismatch` where a digest refuses what it is computed from.
+/// - the first refused line, with its number: a word error, `TooLong` if it has more than 1,024 bytes, or `Set` if its
+///   share can't join those of the lines before it;
+/// - `Device(Read)` if a read fails; an unfinished line is then dropped, unless it is too long already;
+/// - `Lack` if there are no shares;
+/// - `OtherPlan` if no backup of the plan can have all shares: their group threshold or number of groups differs, or
+///   the plan doesn't have a share's name, or has it with another member threshold;
+/// - name by name, `Undetermined`, with both counts, if the shares don't determine the share with the name, or
+///   `DigestMismatch` if a digest doesn't match in what it is computed from.
 ///
-/// Where a write fails or takes no byte, the answer is that the writer failed, and a beginning of the mnemonics is
-/// written. The caller keeps both `failures()` below `u64::MAX`.
+/// If a write fails or takes no byte, the fault is `Device(Write)`, and a beginning of the mnemonics is written. The
+/// caller keeps both `failures()` below `u64::MAX`.
+///
+/// ```rust
+/// let plan = Plan::parse("2of3")?;
+/// let names = parse_names(b"0.1")?;
+/// let mut input = Counting::new(
+///     b"shadow pistol academic always adequate wildlife fancy gross oasis cylinder mustang \
+///     wrist rescue view short owner flip making coding armed\n\
+///     shadow pistol academic acid actress prayer class unknown daughter sweater depict flip \
+///     twice unkind craft early superior advocate guest smoking\n"
+///         .as_slice(),
+/// );
+/// let mut text = Vec::new(rt.alloc());
+/// run_reissue(&plan, &names, &mut input, &mut Counting::new(&mut text))?;
+/// assert!(rt; text.starts_with(b"shadow pistol academic agency acid license obtain "));
+/// ```
 pub fn run_reissue<R: Read, W: Write>(
     plan: &Plan,
     names: &Quorum,
@@ -91,12 +108,32 @@ pub fn run_reissue<R: Read, W: Write>(
     Ok(())
 }
 
-/// Puts the text that `run_reissue` writes for these lines to the front of `text`: the mnemonics of these names of a plan,
-/// each with a line feed behind it. The answer is how many bytes they have.
+/// Puts the text that `run_reissue` writes for these lines at the front of `text`: the mnemonics with these names of a
+/// plan, each followed by a line feed. It returns the length of that text in bytes. The bytes of `text` behind it are
+/// unchanged.
 ///
-/// The first that applies is answered, and then the slice is unchanged: `NotInPlan` with the first name that the plan
-/// doesn't have, the first refused line with its number, `Lack` where there are no shares, `OtherPlan`, name by name
-/// `Undetermined` or `DigestMismatch`, and that the slice is too short.
+/// The first error that applies is returned, and then `text` is unchanged:
+///
+/// - `NotInPlan` with the first name that the plan doesn't have;
+/// - the first refused line, with its number;
+/// - `Lack` if there are no shares;
+/// - `OtherPlan` if no backup of the plan can have all shares;
+/// - name by name, `Undetermined` or `DigestMismatch`;
+/// - `TooShort` if the text doesn't fit, with the number of bytes that it has.
+///
+/// ```rust
+/// let plan = Plan::parse("2of3")?;
+/// let names = parse_names(b"0.1")?;
+/// let lines =
+///     b"shadow pistol academic always adequate wildlife fancy gross oasis cylinder mustang \
+///     wrist rescue view short owner flip making coding armed\n\
+///     shadow pistol academic acid actress prayer class unknown daughter sweater depict flip \
+///     twice unkind craft early superior advocate guest smoking\n";
+/// let mut text = [0; 200];
+/// let written = reissue_lines(&plan, &names, lines, &mut text)?;
+/// assert_eq!(rt; written, 145);
+/// assert!(rt; text.starts_with(b"shadow pistol academic agency acid license obtain "));
+/// ```
 pub fn reissue_lines(
     plan: &Plan,
     names: &Quorum,
@@ -166,7 +203,8 @@ fn shares_of(plan: &Plan, names: &[(u8, u8)], set: &ShareSet) -> Result<Created,
     Ok(reissue_each(plan, names, set)?)
 }
 
-/// The shares of these names of a plan, as a set of shares of the plan gives them, or why the first that is missing is so.
+/// The shares of these names of a plan, as a set of shares of the plan gives them, or why the first missing one is
+/// missing.
 fn reissue_each(plan: &Plan, names: &[(u8, u8)], set: &ShareSet) -> Result<Created, ReissueError>
     requires of_plan { AreOfPlan plan.now.group_threshold plan.now.groups.items set.now }
     requires names { All (IsNameOfPlan plan.now.groups.items) names.now }

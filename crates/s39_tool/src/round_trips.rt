@@ -1,4 +1,5 @@
-//! `create`, and then `recover`, `drill` or `reissue`: facts about the definitions, each the contract of a function that does nothing.
+//! `create`, followed by `recover`, `drill` or `reissue`: facts about the definitions. Each is the contract of a
+//! function that does nothing.
 ghost use Rattle.std.specs.Prelude.{◌≡◌, ◌⊎◌, ℕ, List, All, Contains, Result, Ok, length, Option, None};
 ghost use Rattle.s39_kdf.specs.Bytes.{AreBytes};
 ghost use Rattle.s39_kdf.specs.Limits.{IsPrintable, IsSecretLength};
@@ -32,8 +33,8 @@ use s39_backup::laws::{
 use s39_set::laws::{one_lack, one_listing};
 use s39_words::laws::{every_share_has_a_printed_form, one_reading, printed_forms};
 
-/// `create` writes a text for each plan, printable passphrase, secret of an accepted length and options, and as many
-/// random bytes as they take.
+/// `create` writes a text for each plan, printable passphrase, secret of an accepted length and options, with exactly
+/// as many random bytes as they take.
 pub fn every_backup_is_written()
     ensures { (asked : Asked) (random : List ℕ)
         → IsPlan asked.group_threshold asked.groups → All IsPrintable asked.passphrase
@@ -46,8 +47,8 @@ pub fn every_backup_is_written()
     every_share_has_a_printed_form();
 }
 
-/// What `create` writes for random bytes holds the mnemonics of its backup. So does an input that has some of its lines,
-/// in any order and with repeats, and blank lines and comments.
+/// What `create` writes for random bytes holds the mnemonics of its backup. So does an input that has some of its
+/// lines, in any order and with repeats, and blank lines and comments.
 pub fn written_mnemonics_are_of_the_backup()
     ensures all_lines { (asked : Asked) (random text : List ℕ)
         → IsPlan asked.group_threshold asked.groups → IsCreateOutput asked (whole random) text (Ok tt)
@@ -60,9 +61,9 @@ pub fn written_mnemonics_are_of_the_backup()
     printed_forms();
 }
 
-/// `create`, then `recover` with the same passphrase: of all lines that `create` writes for random bytes, `recover` gives
-/// the secret. Of some of them, in any order and with repeats, blank lines and comments, it gives the secret where they
-/// have a quorum, and else why they have none.
+/// `create`, then `recover` with the same passphrase. For all lines that `create` writes for random bytes, `recover`
+/// gives the secret. For some of them, in any order and with repeats, blank lines and comments, it gives the secret if
+/// they have a quorum, and otherwise the reason why they have none.
 pub fn written_mnemonics_recover()
     ensures all_lines { (form : SecretForm) (asked : Asked) (random text : List ℕ)
         → IsPlan asked.group_threshold asked.groups → IsCreateOutput asked (whole random) text (Ok tt)
@@ -84,9 +85,9 @@ pub fn written_mnemonics_recover()
     created_backups_recover();
 }
 
-/// `create`, then `drill` with the same passphrase: of all lines that `create` writes for random bytes, `drill` lists just
-/// the quorums, each with the secret, and answers no mismatch. Of some of them, in any order and with repeats, blank lines
-/// and comments, it does so after each quorum where they have any, and else answers why none is listed.
+/// `create`, then `drill` with the same passphrase. For all lines that `create` writes for random bytes, `drill` lists
+/// exactly the quorums, each with the secret, and answers no mismatch. For some of them, in any order and with repeats,
+/// blank lines and comments, it does so after each quorum if they have any, and otherwise answers why none is listed.
 pub fn written_mnemonics_drill()
     ensures all_lines { (form : SecretForm) (asked : Asked) (random text : List ℕ) (limit : ℕ)
         (output : List ℕ) (answer : Result Done Fault)
@@ -111,12 +112,15 @@ pub fn written_mnemonics_drill()
     created_backups_drill();
 }
 
-/// `create`, then `reissue`: of some lines that `create` writes for random bytes, in any order and with repeats, blank lines
-/// and comments, `reissue` gives with the same plan the mnemonics of that backup with the names that are asked for, word for
-/// word; or both counts for the first that isn't determined, or that there are no shares. With a plan that has more members
-/// in some groups it gives those of the backup that `create` makes by that plan and the same random bytes. An input of lines
-/// that `create` wrote and of lines that `reissue` gave, in any order and with repeats, blank lines and comments, holds
-/// mnemonics of one backup of this secret and passphrase, so that every quorum of them recovers it.
+/// `create`, then `reissue`. For some lines that `create` writes for random bytes, in any order and with repeats,
+/// blank lines and comments, `reissue` with the same plan gives the mnemonics of that backup with the requested names,
+/// word for word. Otherwise it gives both counts for the first name that isn't determined, or answers that there are
+/// no shares.
+///
+/// With a plan that has more members in some groups, it gives mnemonics of the backup that `create` makes by that plan
+/// and the same random bytes. An input of lines that `create` wrote and of lines that `reissue` gave, in any order and
+/// with repeats, blank lines and comments, holds mnemonics of one backup of this secret and passphrase. So every
+/// quorum of them recovers the secret.
 pub fn written_mnemonics_reissue()
     ensures same_plan { (asked : Asked) (random text bytes : List ℕ) (names : Names)
         (output : List ℕ) (answer : Result (Unit {0}) Fault)
@@ -155,7 +159,7 @@ pub fn written_mnemonics_reissue()
     created_backups_reissue();
 }
 
-/// What is given of mnemonics of a created backup is one thing: one text, and one answer.
+/// What `recover` and `drill` give for mnemonics of a created backup is at most one text and one answer.
 pub fn one_output_of_a_backup()
     ensures recover { (form : SecretForm) (passphrase secret : List ℕ) (input : Input) (text other : List ℕ)
         (answer another : Result (Unit {0}) Fault) → HoldsMnemonicsOf passphrase secret input

@@ -1,4 +1,4 @@
-//! The form in which a line tells a secret.
+//! The forms in which a line shows a secret.
 ghost use Rattle.std.specs.Prelude.{◌≡◌, ◌+◌, ◌*◌, ◌≤◌, ◌++◌, length};
 ghost use Rattle.s39_kdf.specs.Limits.{longest_secret};
 ghost use Rattle.s39_tool.specs.SecretForm.{secret_in};
@@ -7,16 +7,17 @@ ghost use Rattle.s39_tool.specs.declared.output.TheConstants.{LINE_BYTES};
 use crate::output::{Line, push_hex};
 use s39_kdf::{Bytes, fingerprint};
 
-/// The form in which a line tells a secret, in lower-case hexadecimal.
+/// The form in which a line shows a secret, in lower-case hexadecimal.
 #[derive(Clone, Copy, Debug, PartialEq, Eq)]
 pub enum SecretForm {
     /// The bytes of the secret.
     Digits,
-    /// The fingerprint of the secret, by which its owner knows it again without seeing it.
+    /// The fingerprint of the secret (`s39_kdf::fingerprint`), by which its owner recognises the secret without seeing
+    /// it.
     Fingerprint,
 }
 
-/// A secret in this form.
+/// Appends a secret in this form.
 pub(crate) fn push_secret(line: &mut Line, form: SecretForm, secret: &Bytes)
     requires room { length line.old.items + 2 * longest_secret ≤ LINE_BYTES }
     ensures text { line.new.items ≡ line.old.items ++ secret_in form secret.now.items }

@@ -92,7 +92,7 @@ impl<W: Write> TakeLine for Counting<W> {
     ghost refuses_long = { λ output line long. (long, refl) };
 }
 
-/// The fault of a run that stopped so.
+/// The fault of a run that stopped for this cause.
 fn fault_of_show(stop: Stop<ShowRefusal>) -> Fault
     ensures { result ≡ fault_of_show stop }
 {
@@ -108,13 +108,28 @@ fn fault_of_show(stop: Stop<ShowRefusal>) -> Fault
     }
 }
 
-/// Writes a line with the fields of each mnemonic of the input, in the order of its lines.
+/// Writes a line with the fields of each mnemonic of the input, in the order of its lines (SLIP-0039, "Format of the
+/// share mnemonic"). It skips blank lines, and lines whose first byte that isn't a separator is `#`.
 ///
-/// A line with no byte but separators, or whose first other byte is `#`, is skipped. The first line that is refused
-/// ends the run: the lines for those before it are written, and the answer is its number with the cause, a word error
-/// or `TooLong` (more than 1,024 bytes). Where a read fails, the lines that ended before are shown and the answer is
-/// that the reader failed. Where a write fails or takes no byte, a beginning of the output is written and the answer is
-/// that the writer failed. The caller keeps both `failures()` below `u64::MAX`.
+/// The run stops at the first error:
+///
+/// - a line is refused, by a word error or as `TooLong` (more than 1,024 bytes): the fault has its number, and the
+///   lines for the mnemonics before it are written;
+/// - a read fails: the fault is `Device(Read)`, and the lines for the mnemonics that ended before are written;
+/// - a write fails or takes no byte: the fault is `Device(Write)`, and a beginning of the output is written.
+///
+/// The caller keeps both `failures()` below `u64::MAX`.
+///
+/// ```rust
+/// let mut input = Counting::new(
+///     b"duckling enlarge academic academic agency result length solution fridge kidney coal \
+///     piece deal husband erode duke ajar critical decision keyboard\n"
+///         .as_slice(),
+/// );
+/// let mut text = Vec::new(rt.alloc());
+/// run_show(&mut input, &mut Counting::new(&mut text))?;
+/// assert!(rt; text.starts_with(b"identifier 7945 extendable 0 exponent 0 group 0 "));
+/// ```
 pub fn run_show<R: Read, W: Write>(
     input: &mut Counting<R>,
     output: &mut Counting<W>,

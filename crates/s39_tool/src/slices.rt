@@ -1,19 +1,19 @@
-//! Slices of the caller, and why nothing is put into one.
+//! Slices of the caller, and why nothing was put into one.
 ghost use Rattle.std.specs.Prelude.{◌≡◌, ◌+◌, ◌≤◌, ◌++◌, length, take, drop};
 
 use crate::fault::Fault;
 
-/// A slice is too short for what would be put there.
+/// A slice is too short for what would be put into it.
 #[derive(Clone, Copy, Debug, PartialEq, Eq)]
 pub struct TooShort {
     /// How many bytes are needed.
     pub needed: usize,
 }
 
-/// Why nothing is put into a slice.
+/// Why nothing was put into a slice.
 #[derive(Clone, Copy, Debug, PartialEq, Eq)]
 pub enum Unwritten {
-    /// What is asked for is refused.
+    /// The request was refused.
     Refused(Fault),
     /// The slice is too short for it.
     TooShort(TooShort),
@@ -39,7 +39,14 @@ impl From<TooShort> for Unwritten {
     }
 }
 
-/// Puts bytes to a place of a slice, where the caller has room for them, and leaves what is before and behind them.
+/// Puts bytes into a slice from the place `at` on, and leaves the bytes before and behind them unchanged. The caller
+/// makes sure that they fit.
+///
+/// ```rust
+/// let mut slice = *b"recover";
+/// put(&mut slice, 2, b"..");
+/// assert_eq!(rt; slice, *b"re..ver");
+/// ```
 pub fn put(slice: &mut [u8], at: usize, bytes: &[u8])
     requires { at + length bytes.now ≤ length slice.old }
     ensures { slice.new ≡ take at slice.old ++ bytes.now ++ drop (at + length bytes.now) slice.old }

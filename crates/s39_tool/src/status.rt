@@ -17,22 +17,37 @@ use crate::slices::{TooShort, Unwritten, put};
 use s39_set::{GroupStatus, MAX_GROUPS, SetLack, ShareSet, Status, group_status_of, status_of};
 use std::io::{Read, Write};
 
-/// Writes what the input's shares are: a line `groups C of R`, where `C` groups have at least their member threshold of
-/// shares and `R` is the group threshold, and then for each group of which a share is at hand, in ascending order, a line
-/// `group G members N of T NAMES`, where `N` members are at hand, `T` is the member threshold, and `NAMES` are their names
-/// in ascending order with a plus sign between each two. Repeats count once. No passphrase has a part in it. A line with
-/// no byte but separators, or whose first other byte is `#`, is skipped.
+/// Writes what is at hand of each group, and how many groups are complete, without the passphrase. The first line is
+/// `groups C of R`: `C` groups have at least their member threshold of shares, and `R` is the group threshold.
 ///
-/// The answer has the numbers of the first line: there are enough shares exactly where `C` is at least `R`. The first that
-/// applies is answered otherwise, and then nothing is written:
+/// A line `group G members N of T NAMES` follows for each group of which a share is at hand, in ascending order. `N`
+/// members are at hand, `T` is the member threshold, and `NAMES` are their names in ascending order, joined by plus
+/// signs. Repeats count once. Blank lines are skipped, and so are lines whose first byte that isn't a separator is
+/// `#`.
 ///
-/// - the first refused line with its number: a word error, `TooLong` for more than 1,024 bytes, or `Set` where its
-///   share can't join those before it;
-/// - that the reader failed, where a read does; an unfinished line is then dropped, unless it is too long already;
-/// - `Lack` where there are no shares.
+/// The function returns the numbers of the first line. There are enough shares exactly if `C` is at least `R`. The
+/// first error that applies is returned instead, and then nothing is written:
 ///
-/// Where a write fails or takes no byte, the answer is that the writer failed, and a beginning of the lines is written.
-/// The caller keeps both `failures()` below `u64::MAX`.
+/// - the first refused line, with its number: a word error, `TooLong` if it has more than 1,024 bytes, or `Set` if its
+///   share can't join those of the lines before it;
+/// - `Device(Read)` if a read fails; an unfinished line is then dropped, unless it is too long already;
+/// - `Lack` if there are no shares.
+///
+/// If a write fails or takes no byte, the fault is `Device(Write)`, and a beginning of the lines is written. The caller
+/// keeps both `failures()` below `u64::MAX`.
+///
+/// ```rust
+/// let mut input = Counting::new(
+///     b"academic aluminum beard leader chest elite grant group club deploy increase divorce \
+///     puny cylinder romp frequent crush ruler erode bucket\n"
+///         .as_slice(),
+/// );
+/// let mut text = Vec::new(rt.alloc());
+/// let status = run_status(&mut input, &mut Counting::new(&mut text))?;
+/// assert!(rt; !status.is_enough());
+/// let lines = b"groups 1 of 2\ngroup 1 members 1 of 1 1.0\n";
+/// assert_eq!(rt; text.as_slice(), lines.as_slice());
+/// ```
 pub fn run_status<R: Read, W: Write>(
     input: &mut Counting<R>,
     output: &mut Counting<W>,
@@ -56,17 +71,27 @@ pub fn run_status<R: Read, W: Write>(
 /// What `status_lines` put into a slice.
 #[derive(Clone, Copy, Debug, PartialEq, Eq)]
 pub struct WrittenStatus {
-    /// How many bytes its text has.
+    /// The length of its text in bytes.
     pub written: usize,
     /// The numbers of its first line.
     pub status: Status,
 }
 
-/// Puts the text that `run_status` writes for these lines to the front of `text`. The answer has its length, and the numbers
-/// of its first line.
+/// Puts the text that `run_status` writes for these lines at the front of `text`. It returns the length of that text in
+/// bytes, and the numbers of its first line. The bytes of `text` behind it are unchanged.
 ///
-/// The first that applies is answered otherwise, and then the slice is unchanged: the first refused line with its number,
-/// `Lack` where there are no shares, and that the slice is too short.
+/// The first error that applies is returned, and then `text` is unchanged: the first refused line with its number,
+/// `Lack` if there are no shares, or `TooShort` if the text doesn't fit, with the number of bytes that it has.
+///
+/// ```rust
+/// let line =
+///     b"academic aluminum beard leader chest elite grant group club deploy increase divorce \
+///     puny cylinder romp frequent crush ruler erode bucket\n";
+/// let mut text = [0; 100];
+/// let answer = status_lines(line, &mut text)?;
+/// assert_eq!(rt; (answer.written, answer.status.is_enough()), (41, false));
+/// assert!(rt; text.starts_with(b"groups 1 of 2\ngroup 1 members 1 of 1 1.0\n"));
+/// ```
 pub fn status_lines(lines: &[u8], text: &mut [u8]) -> Result<WrittenStatus, Unwritten>
     ensures { PutsStatus (IsStatusOutput (whole lines.now)) text.old text.new result }
 {
@@ -88,7 +113,7 @@ fn status_in(lines: &[u8]) -> Result<(ShareSet, Status), Fault>
     Ok((set, status))
 }
 
-/// Puts the first line and the lines of the groups to the front of a slice, where they fit.
+/// Puts the first line and the lines of the groups at the front of a slice, if they fit.
 fn put_status(set: &ShareSet, status: Status, text: &mut [u8]) -> Result<usize, TooShort>
     ensures put { IfOk result (λ written. IsInFront (status_text set.now status) text.old text.new
         × (written ≡ length (status_text set.now status))) }
@@ -114,7 +139,7 @@ fn length_of(set: &ShareSet, status: Status) -> usize
     needed
 }
 
-/// Puts the first line and the lines of the groups to the front of a slice, in which they fit.
+/// Puts the first line and the lines of the groups at the front of a slice, in which they fit.
 fn copy_status(set: &ShareSet, status: Status, out: &mut [u8])
     requires { length (status_text set.now status) ≤ length out.old }
     ensures { out.new ≡ status_text set.now status
@@ -157,7 +182,7 @@ fn first_line(status: Status) -> Line
     line
 }
 
-/// The line of a group, or nothing where none of its shares is at hand.
+/// The line of a group, or nothing if none of its shares is at hand.
 fn group_text(set: &ShareSet, group: u8) -> Line
     requires { group < most_groups }
     ensures { result.items ≡ group_text (group_status_of set.now group) }

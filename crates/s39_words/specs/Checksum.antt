@@ -3,18 +3,19 @@ use Rattle.std.specs.Prelude.{ℕ, List, [], ◌∷◌, ◌++◌, Bool, codes, i
 use Rattle.s39_field.specs.FieldProduct.{word_field}
 use Rattle.s39_field.specs.Polynomial.{IsMultiple}
 
--- the bytes of the customization string
+-- the bytes of the customization string, by the extendable flag
 abbrev pub customization_string : Bool → List ℕ
 customization_string extendable = if extendable then codes "shamir_extendable" else codes "shamir"
 
--- the coefficients of x^2 and of x, and the constant one, of
--- g(x) = (x - a)(x - a^2)(x - a^3) = x^3 + 14 x^2 + 56 x + 64 with a = 2
+-- the coefficient of x^2 in g(x) = (x - a)(x - a^2)(x - a^3) = x^3 + 14 x^2 + 56 x + 64 with a = 2
 abbrev pub generator_square : ℕ
 generator_square = 14
 
+-- the coefficient of x in g(x)
 abbrev pub generator_linear : ℕ
 generator_linear = 56
 
+-- the constant coefficient of g(x)
 abbrev pub generator_constant : ℕ
 generator_constant = 64
 
@@ -28,11 +29,11 @@ one_added_to_last [] = []
 one_added_to_last (x ∷ []) = bit_xor x 1 ∷ []
 one_added_to_last (x ∷ y ∷ ys) = x ∷ one_added_to_last (y ∷ ys)
 
--- the polynomial that a checksum makes a multiple of the generator: 1, the bytes of the customization
--- string and the words, the highest power first, with 1 added to the last
+-- the polynomial that a valid checksum makes a multiple of the generator: 1, the bytes of the customization
+-- string and the words, the highest power first, with 1 added to the last coefficient
 abbrev pub checked_polynomial : Bool → List ℕ → List ℕ
 checked_polynomial extendable words = one_added_to_last (1 ∷ customization_string extendable ++ words)
 
--- the words, whose last three are the checksum, have a valid checksum
+-- the last three of these words are a valid checksum of those before them
 abbrev pub IsValidChecksum : Bool → List ℕ → Type 0
 IsValidChecksum extendable words = IsMultiple word_field (checked_polynomial extendable words) generator

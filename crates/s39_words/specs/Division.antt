@@ -1,11 +1,11 @@
--- Long division of a list of coefficients by the generator of the checksum, and what it leaves as one number. Of
--- these a law cites `generator_times` and `packed`; no other public contract cites one.
+-- Long division of a list of coefficients by the generator of the checksum, and its remainder as one number. A law
+-- cites `generator_times` and `packed`; no other public contract cites any of these.
 use Rattle.std.specs.Prelude.{ℕ, ◌+◌, ◌*◌, ◌/◌, ◌%◌, ◌^◌}
 use Rattle.s39_field.specs.FieldProduct.{word_field}
 use Rattle.s39_words.specs.Checksum.{generator_square, generator_linear, generator_constant}
 use Rattle.s39_words.specs.Layout.{word_list_length, word_bits}
 
--- what division leaves: the coefficients of x^2 and of x, and the constant one
+-- the remainder of the division: its coefficients of x^2 and of x, and the constant one
 pub record Remainder : Type 0 where
   pub square : ℕ
   pub linear : ℕ
@@ -23,7 +23,7 @@ generator_times element = record {
   constant = word_field.mul element generator_constant;
 }
 
--- the remainder of r x + c, as x^3 leaves the generator's lower coefficients
+-- the remainder of r x + c: the remainder of x^3 is the generator's lower coefficients
 abbrev pub next_remainder : Remainder → ℕ → Remainder
 next_remainder r c = record {
   square = word_field.add r.linear (word_field.mul r.square generator_square);
@@ -35,7 +35,7 @@ next_remainder r c = record {
 abbrev pub packed : Remainder → ℕ
 packed r = (r.square * word_list_length + r.linear) * word_list_length + r.constant
 
--- the remainder in such a number
+-- the remainder that such a number holds
 abbrev pub unpacked : ℕ → Remainder
 unpacked n = record {
   square = n / 2 ^ (2 * word_bits);

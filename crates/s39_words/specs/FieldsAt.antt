@@ -1,5 +1,4 @@
--- The fields that the words of a mnemonic hold, of a number of words that a mnemonic may have. No public contract
--- cites this.
+-- The fields in the words of a mnemonic. Their number is one that a mnemonic may have. No public contract cites this.
 use Rattle.std.specs.Prelude.{ℕ, zero, suc, ◌+◌, ◌-◌, ◌/◌, List, [], ◌∷◌, length, take, drop}
 use Rattle.std.specs.Int.Digits.{number_from_digits}
 use Rattle.s39_words.specs.declared.share.ShareFields.{ShareFields}
@@ -16,7 +15,7 @@ pieces w (suc k) digits = number_from_digits 2 (take w digits) ∷ pieces w k (d
 abbrev pub byte_count : ℕ → ℕ
 byte_count n = (value_field_length n - padding_length n) / 8
 
--- the bytes of the value, which stand behind the padding
+-- the bytes of the value, which follow the padding
 abbrev pub share_value_at : List ℕ → List ℕ
 share_value_at indices = pieces 8 (byte_count (length indices)) (drop (header_length + padding_length (length indices)) (bits_of_words indices))
 

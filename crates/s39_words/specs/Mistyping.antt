@@ -1,11 +1,11 @@
--- A mnemonic of which some words were written wrong.
+-- A mnemonic with some wrong words.
 use Rattle.std.specs.Prelude.{◌≡◌, ℕ, suc, ◌≤◌, List, [], ◌∷◌, All, length, ◌==◌, if◌then◌else◌}
 use Rattle.s39_words.specs.Layout.{IsIndex}
 use Rattle.s39_words.specs.Checksum.{IsValidChecksum}
 use Rattle.s39_words.specs.Reading.{IsWordCount, flag_of}
 use Rattle.s39_words.specs.Spelling.{words_of, HaveIndices}
 
--- the most wrong words that are always found
+-- the most wrong words that are always detected
 abbrev pub most_wrong_words : ℕ
 most_wrong_words = 3
 
@@ -15,13 +15,13 @@ count_of_differences [] ws = 0
 count_of_differences (v ∷ vs) [] = 0
 count_of_differences (v ∷ vs) (w ∷ ws) = if v == w then count_of_differences vs ws else suc (count_of_differences vs ws)
 
--- the words of a mnemonic, by their indices: as many as it may have, with a valid checksum
+-- these are the indices of a mnemonic's words: as many as it may have, with a valid checksum
 pub record IsMnemonic (indices : List ℕ) : Type 0 where
   pub count : IsWordCount (length indices)
   pub in_list : All IsIndex indices
   pub checksum : IsValidChecksum (flag_of indices) indices
 
--- The words of the text are those of the mnemonic but for one, two or three, all in the word list, and as many; the
+-- The text has as many words as the mnemonic, all in the word list, and one, two or three of them are wrong. The
 -- extendable flag, which selects the customization string, is the same.
 pub record IsMistyped (text mnemonic : List ℕ) : Type 0 where
   pub words : List ℕ

@@ -9,7 +9,7 @@ use Rattle.s39_words.specs.WordList.{word_list}
 abbrev pub listed_word : ℕ → List ℕ
 listed_word index = slice_index_or word_list index []
 
--- The text is the spelling of the share with small letters and single spaces: its own words, joined by one space each.
+-- The text is the spelling of the share with lower-case letters and single spaces: its words, joined by one space each.
 pub record IsPrinted (text : List ℕ) (share : ShareFields) : Type 0 where
   pub spells : Spells text share
   pub single_spaces : text ≡ join_with_byte 32 (words_of text)

@@ -4,7 +4,7 @@ use Rattle.std.specs.Int.{w64, from_be_bytes}
 use Rattle.s39_words.specs.Layout.{longest_word}
 use Rattle.s39_words.specs.WordList.{IsLetter}
 
--- a word that eight bytes can hold
+-- eight bytes can hold this word
 pub record FitsRow (word : List ℕ) : Type 0 where
   pub letters : All IsLetter word
   pub short : length word ≤ longest_word

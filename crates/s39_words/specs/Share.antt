@@ -7,12 +7,12 @@ use Rattle.s39_words.specs.declared.share.ShareFields.{ShareFields}
 use Rattle.s39_words.specs.Layout.{count_bits, most_groups, most_members, word_bits}
 use Rattle.s39_words.specs.Bits.{bits, cut_in_tens}
 
--- bytes, as many as a master secret may have
+-- these are bytes, as many as a master secret may have
 pub record IsValue (value : List ℕ) : Type 0 where
   pub bytes : AreBytes value
   pub count : IsSecretLength (length value)
 
--- the fields of a share that can be printed and read
+-- these are the fields of a share, all in their ranges, so that it can be printed and read
 pub record IsShare (f : ShareFields) : Type 0 where
   pub id : f.id < 2 ^ id_bits
   pub exponent : f.exponent < 2 ^ exponent_bits
@@ -40,10 +40,10 @@ header_bits f =
 abbrev pub value_bits : List ℕ → List ℕ
 value_bits value = flat_map (bits 8) value
 
--- the fewest zeros that make n digits whole words
+-- the fewest zeros that complete n digits to whole words
 abbrev pub padding_bits : ℕ → List ℕ
 padding_bits n = replicate ((word_bits - n % word_bits) % word_bits) 0
 
--- all fields but the checksum, joined and cut in tens
+-- all fields except the checksum, joined and cut in tens
 abbrev pub data_words : ShareFields → List ℕ
 data_words f = cut_in_tens (header_bits f ++ padding_bits (length (value_bits f.value.items)) ++ value_bits f.value.items)

@@ -8,11 +8,11 @@ use Rattle.s39_words.specs.Share.{IsShare, data_words}
 use Rattle.s39_words.specs.Checksum.{IsValidChecksum}
 use Rattle.s39_words.specs.WordList.{index_of}
 
--- a space, a tab or a carriage return
+-- whether a byte is a space, a tab or a carriage return
 abbrev pub is_separator : ℕ → Bool
 is_separator b = b == 32 || b == 9 || b == 13
 
--- the words of a text: its maximal runs of bytes that are no separators, with ASCII capitals as small letters
+-- the words of a text: its maximal runs of bytes that aren't separators, with ASCII capitals in lower case
 abbrev pub words_of : List ℕ → List (List ℕ)
 words_of text = filter (λ word. nat_lt 0 (length word)) (slice_split is_separator (str_to_ascii_lowercase text))
 

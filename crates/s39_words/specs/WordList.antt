@@ -10,11 +10,11 @@ use Prim.Native.String.{String}
 abbrev pub words_in : String → List (List ℕ)
 words_in line = slice_split (λ b. b == 32) (codes line)
 
--- a small letter
+-- this is a lower-case letter of ASCII
 abbrev pub IsLetter : ℕ → Type 0
 IsLetter c = (97 ≤ c) × (c ≤ 122)
 
--- a word stands before another in a dictionary
+-- a word comes before another in alphabetical order
 abbrev pub ComesBefore : List ℕ → List ℕ → Type 0
 ComesBefore v w = slice_cmp nat_cmp v w ≡ Less
 

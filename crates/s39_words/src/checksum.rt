@@ -6,8 +6,8 @@ ghost use Rattle.s39_words.specs.Division.{packed, unpacked, generator_times, ne
 
 use crate::size::{CHECKSUM_WORDS, WORD_BITS};
 
-/// The lower coefficients of the generator, each times 2^i in the field of 1,024 elements, for i from 0 to 9:
-/// ten bits for each coefficient, that of x^2 highest.
+/// The lower coefficients of the generator, each times 2^i in the field of 1,024 elements, for i from 0 to 9. Each
+/// coefficient has ten bits, and that of x^2 stands highest.
 pub(crate) const GENERATOR_TIMES: [u32; WORD_BITS] = [
     0x00E0_E040,
     0x01C1_C080,
@@ -27,7 +27,7 @@ const COEFFICIENT: u32 = (1 << WORD_BITS) - 1;
 /// The bits of the two lower coefficients.
 const LOWER_COEFFICIENTS: u32 = (1 << (2 * WORD_BITS)) - 1;
 
-/// What long division by the generator leaves: ten bits for each coefficient, that of x^2 highest.
+/// The remainder of long division by the generator. Each coefficient has ten bits, and that of x^2 stands highest.
 #[derive(Clone, Copy)]
 struct Register {
     bits: u32,
@@ -42,7 +42,7 @@ impl Register {
         Register { bits: 1 }
     }
 
-    /// The register with one coefficient more.
+    /// The register after one more coefficient.
     fn next(self, coefficient: u16) -> Register
         requires { IsIndex coefficient }
         ensures { unpacked result.bits ≡ next_remainder (unpacked self.bits) coefficient }
@@ -54,7 +54,7 @@ impl Register {
         }
     }
 
-    /// The register with a coefficient more for each word.
+    /// The register after one more coefficient for each word.
     fn after_words(self, words: &[u16]) -> Register
         requires { All IsIndex words.now }
         ensures { unpacked result.bits ≡ fold next_remainder (unpacked self.bits) words.now }
@@ -66,7 +66,7 @@ impl Register {
         register
     }
 
-    /// The register of the customization string.
+    /// The register after the customization string.
     fn after_customization_string(extendable: bool) -> Register
         ensures { unpacked result.bits
             ≡ fold next_remainder one_remainder (customization_string extendable) }
@@ -98,7 +98,7 @@ fn generator_times(element: u32) -> u32
     sum
 }
 
-/// Whether these words, indices in the word list, end with their checksum.
+/// Whether these words, given as indices in the word list, end with their checksum.
 pub(crate) fn is_valid_checksum(extendable: bool, words: &[u16]) -> bool
     requires { All IsIndex words.now }
     ensures { IsTrue result ↔ IsValidChecksum extendable words.now }
@@ -107,7 +107,7 @@ pub(crate) fn is_valid_checksum(extendable: bool, words: &[u16]) -> bool
     register.bits == 1
 }
 
-/// The checksum of these data words: three indices in the word list.
+/// The checksum of these data words, as three indices in the word list.
 pub(crate) fn checksum_of(extendable: bool, data_words: &[u16]) -> [u16; CHECKSUM_WORDS]
     requires { All IsIndex data_words.now }
     ensures in_range { All IsIndex result }

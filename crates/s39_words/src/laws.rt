@@ -1,4 +1,4 @@
-//! Facts about the definitions, each the contract of a function that does nothing, but for `read_back`.
+//! Facts about the definitions. Each is the contract of a function that does nothing, except that of `read_back`.
 ghost use Rattle.std.specs.Prelude.{◌≡◌, ◌≢◌, ℕ, ◌^◌, ◌<◌, ◌≤◌, Bool, List, [], ◌∷◌, ◌++◌, All, AllPairs, Contains, Result, length};
 ghost use Rattle.std.specs.Prelude.{◌⊎◌, slice_index, take};
 ghost use Rattle.s39_field.specs.FieldProduct.{word_field};
@@ -31,7 +31,7 @@ use crate::size::{
 use crate::spelling::parse;
 use crate::word_error::WordError;
 
-/// The numbers by which the code goes are those of the definitions; up to three wrong words are always found.
+/// The constants of the code equal the numbers of the definitions, and the definition `most_wrong_words` is 3.
 pub fn numbers()
     ensures letters { MAX_LETTERS ≡ longest_word }
     ensures bits { WORD_BITS ≡ word_bits }
@@ -57,14 +57,14 @@ pub fn numbers()
     ensures wrong { most_wrong_words ≡ 3 }
 {}
 
-/// A mnemonic has 20 to 110 words: it may have 20, it may have 110, and it may have no fewer and no more.
+/// A mnemonic has 20 to 110 words: 20 and 110 are allowed, and fewer or more are not.
 pub fn word_counts()
     ensures least { IsWordCount fewest_words }
     ensures greatest { IsWordCount most_words }
     ensures between { (n : ℕ) → IsWordCount n → (fewest_words ≤ n) × (n ≤ most_words) }
 {}
 
-/// The word list has 1,024 words of four to eight small letters, and each word comes before all later ones.
+/// The word list has 1,024 words of four to eight lower-case letters, in alphabetical order.
 pub fn word_list_ascends()
     ensures count { length word_list ≡ word_list_length }
     ensures lengths { All (λ word. (shortest_word ≤ length word) × (length word ≤ longest_word))
@@ -73,18 +73,18 @@ pub fn word_list_ascends()
     ensures ascending { AllPairs ComesBefore word_list }
 {}
 
-/// The first four letters of a word of the list tell it from all others.
+/// The first four letters of a word of the list distinguish it from all others.
 pub fn first_letters_tell_words_apart()
     ensures { AllPairs (λ v w. take telling_letters v ≢ take telling_letters w) word_list }
 {}
 
-/// No proper beginning of a word of the list is a word of the list.
+/// No word of the list is the beginning of another.
 pub fn no_word_begins_another()
     ensures { (word rest : List ℕ)
         → Contains word_list word → Contains word_list (word ++ rest) → rest ≡ [] }
 {}
 
-/// The generator is (x - a)(x - a^2)(x - a^3) with a = 2: in this field minus is plus.
+/// The generator is (x - a)(x - a^2)(x - a^3) with a = 2. In this field subtraction is addition.
 pub fn generator_is_a_product()
     ensures { product_of word_field (product_of word_field (1 ∷ power word_field 2 1 ∷ [])
         (1 ∷ power word_field 2 2 ∷ [])) (1 ∷ power word_field 2 3 ∷ [])
@@ -102,18 +102,18 @@ pub fn one_share()
     ensures { (text : List ℕ) (f g : ShareFields) → Spells text f → Spells text g → f ≡ g }
 {}
 
-/// Every text is read as something.
+/// Every text has a reading: a share or a refusal.
 pub fn every_text_has_a_reading()
     ensures { (text : List ℕ) → (reading : Result ShareFields Cause) × Reads text reading }
 {}
 
-/// No text is read as two things.
+/// No text has two readings.
 pub fn one_reading()
     ensures { (text : List ℕ) (r s : Result ShareFields Cause)
         → Reads text r → Reads text s → r ≡ s }
 {}
 
-/// Any words of the word list, by their indices, have a checksum.
+/// Any words of the word list, given as indices, have a checksum.
 pub fn every_checksum_exists()
     ensures { (extendable : Bool) (words : List ℕ) → All IsIndex words
         → (checksum : List ℕ) × (length checksum ≡ checksum_length) × All IsIndex checksum
@@ -130,19 +130,19 @@ pub fn one_checksum()
         → checksum ≡ other }
 {}
 
-/// Every share has a spelling with small letters and single spaces.
+/// Every share has a spelling with lower-case letters and single spaces.
 pub fn every_share_has_a_printed_form()
     ensures { (share : ShareFields) → IsShare share → (text : List ℕ) × IsPrinted text share }
 {}
 
-/// No share has two spellings with small letters and single spaces.
+/// No share has two spellings with lower-case letters and single spaces.
 pub fn one_printed_form()
     ensures { (share : ShareFields) (text other : List ℕ)
         → IsPrinted text share → IsPrinted other share → text ≡ other }
 {}
 
-/// A printed form begins with a letter, has small letters and spaces alone, and at most 989 bytes. So it is one line,
-/// and no comment.
+/// A printed form begins with a letter, consists of lower-case letters and spaces, and has at most 989 bytes. So it is
+/// one line and can't be taken for a comment.
 pub fn printed_forms()
     ensures first { (share : ShareFields) (text : List ℕ) → IsPrinted text share
         → (letter : ℕ) × (rest : List ℕ) × (text ≡ letter ∷ rest) × IsLetter letter }
@@ -152,7 +152,7 @@ pub fn printed_forms()
         → length text ≤ longest_text }
 {}
 
-/// What `print` gives is read as the same share.
+/// Prints a share and reads the text again: returns the same share, and never an error.
 pub fn read_back(share: &Share) -> Result<Share, WordError>
     ensures { result ≡ Ok share.now }
 {
@@ -165,8 +165,8 @@ pub fn spelled_words_are_a_mnemonic()
         → (indices : List ℕ) × HaveIndices (words_of text) indices × IsMnemonic indices }
 {}
 
-/// Some text has the words of a mnemonic but for one, some but for two, and some but for three; and each text is mistyped
-/// that has other words of the list in one, two or three places, and the same flag.
+/// Every mnemonic has mistyped texts with one, two and three wrong words. A text counts as mistyped if it has the same
+/// flag, and other words of the list in one, two or three places.
 pub fn every_mnemonic_can_be_mistyped()
     ensures some { (mnemonic : List ℕ) (wrong : ℕ) → IsMnemonic mnemonic → 1 ≤ wrong → wrong ≤ 3
         → (text : List ℕ) × (mistyped : IsMistyped text mnemonic)
@@ -177,7 +177,7 @@ pub fn every_mnemonic_can_be_mistyped()
         → IsMistyped text mnemonic }
 {}
 
-/// A text whose words are those of a mnemonic but for one, two or three is read as one with a bad checksum.
+/// A mistyped text, with one, two or three wrong words of the list and the same flag, is read as having a bad checksum.
 pub fn three_wrong_words()
     ensures { (text mnemonic : List ℕ) → IsMnemonic mnemonic → IsMistyped text mnemonic
         → Reads text (Err WordError.BadChecksum) }

@@ -1,5 +1,15 @@
 //! Shares of SLIP-0039 as mnemonics: the word list, the packing of fields into words, the checksum, and the
 //! reading and printing of a text.
+//!
+//! ```rust
+//! use s39_words::{parse, print};
+//!
+//! let line = b"eraser senior decision roster beard treat identify grumpy salt index fake \
+//!              aviation theater cubic bike cause research dragon emphasis counter";
+//! let share = parse(line)?;
+//! assert_eq!(rt; (share.group_index(), share.member_index()), (3, 0));
+//! assert_eq!(rt; print(&share).as_slice(), line.as_slice());
+//! ```
 #![tactic(auto)]
 
 mod checksum;
@@ -21,5 +31,7 @@ pub use spelling::parse;
 pub use word_error::WordError;
 pub use word_reader::is_separator;
 
+#[cfg(test)]
+mod examples;
 #[cfg(test)]
 mod tests;

@@ -15,7 +15,7 @@ use crate::word_writer::WordWriter;
 use arrayvec::ArrayVec;
 use s39_kdf::Bytes;
 
-/// The number in the binary digits of the words, ten each, from this place on.
+/// The number in `width` binary digits of the words, from this place on. Each word has ten digits.
 fn number_at(words: &[u16], place: usize, width: usize) -> u16
     requires indices { All IsIndex words.now }
     requires width { width ≤ ID_BITS }
@@ -39,7 +39,7 @@ pub(crate) fn has_flag(words: &[u16]) -> bool
     number_at(words, FLAG_PLACE, 1) == 1
 }
 
-/// The fields in the words of a mnemonic, or `None` where a padding bit isn't 0.
+/// The fields in the words of a mnemonic, or `None` if a padding bit isn't 0.
 pub(crate) fn fields_of(words: &[u16]) -> Option<ShareFields>
     requires indices { All IsIndex words.now }
     requires count { IsWordCount (length words.now) }
@@ -59,7 +59,7 @@ pub(crate) fn fields_of(words: &[u16]) -> Option<ShareFields>
     })
 }
 
-/// The value in the words of a mnemonic, or `None` where a padding bit before it isn't 0.
+/// The value in the words of a mnemonic, or `None` if a padding bit before it isn't 0.
 fn value_of(words: &[u16]) -> Option<Bytes>
     requires indices { All IsIndex words.now }
     requires count { IsWordCount (length words.now) }
@@ -78,7 +78,7 @@ fn value_of(words: &[u16]) -> Option<Bytes>
     Some(value)
 }
 
-/// All fields of a share but the checksum, as words.
+/// All fields of a share, without the checksum, as words.
 pub(crate) fn data_words_of(share: &Share) -> ArrayVec<u16, MAX_DATA_WORDS>
     ensures same { result.items ≡ data_words share.now }
     ensures in_list { All IsIndex result.items }

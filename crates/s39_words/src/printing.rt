@@ -24,7 +24,7 @@ pub(crate) fn word_at(index: u16) -> &'static [u8]
     &row[..len]
 }
 
-/// The words at these indices of the list, with single spaces between.
+/// The words at these indices of the list, with single spaces between them.
 fn text_of(indices: &[u16]) -> ArrayVec<u8, MAX_TEXT_BYTES>
     requires in_list { All IsIndex indices.now }
     requires short { length indices.now ≤ MAX_WORDS }
@@ -40,8 +40,16 @@ fn text_of(indices: &[u16]) -> ArrayVec<u8, MAX_TEXT_BYTES>
     text
 }
 
-/// The spelling of a share with small letters and single spaces: 20 to 110 words of the word list
-/// (SLIP-0039, "Format of the share mnemonic").
+/// Prints a share as a mnemonic: 20 to 110 words of the word list in lower-case letters, with single spaces between
+/// them (SLIP-0039, "Format of the share mnemonic"). The text has no line feed, and [`parse`](crate::parse) reads it
+/// as the same share.
+///
+/// ```rust
+/// let line = b"duckling enlarge academic academic agency result length solution fridge kidney \
+///              coal piece deal husband erode duke ajar critical decision keyboard";
+/// let share = parse(line)?;
+/// assert_eq!(rt; print(&share).as_slice(), line.as_slice());
+/// ```
 pub fn print(share: &Share) -> ArrayVec<u8, MAX_TEXT_BYTES>
     ensures { IsPrinted result.items share.now }
 {

@@ -1,4 +1,4 @@
-//! A share, and the ranges that its fields keep.
+//! A share, and the ranges of its fields.
 ghost use Rattle.std.specs.Prelude.{◌≡◌, ◌↔◌, IsTrue, IsSome, IfSome};
 ghost use Rattle.s39_words.specs.Share.{IsValue};
 
@@ -6,30 +6,44 @@ use crate::size::{EXPONENT_BITS, ID_BITS, MAX_GROUPS, MAX_MEMBERS};
 use s39_kdf::{Bytes, check_secret_length};
 use std::marker::Model;
 
-/// The fields of a share. The ranges below are those of a share: `Share::new` asks whether they hold.
+/// The fields of a mnemonic, without its checksum (SLIP-0039, "Format of the share mnemonic").
+///
+/// The ranges named below are those of a share. A `ShareFields` may hold other values; [`Share::new`] checks the
+/// ranges.
 #[derive(Debug, Drop)]
 pub struct ShareFields {
-    /// The identifier of the backup, below 2^15.
+    /// The identifier of the backup, 0 to 32,767.
     pub id: u16,
-    /// The extendable flag: whether the identifier is left out of the encryption.
+    /// The extendable flag: if it is set, the encryption doesn't depend on the identifier.
     pub extendable: bool,
     /// The iteration exponent, 0 to 15.
     pub exponent: u8,
     /// The group index, 0 to 15.
     pub group_index: u8,
-    /// The group threshold, 1 to the group count.
+    /// The group threshold, from 1 to the group count.
     pub group_threshold: u8,
-    /// The number of groups, 1 to 16.
+    /// The group count, 1 to 16.
     pub group_count: u8,
     /// The member index, 0 to 15.
     pub member_index: u8,
     /// The member threshold, 1 to 16.
     pub member_threshold: u8,
-    /// The share value, an even number of bytes from 16 to 128.
+    /// The share value: an even number of bytes, from 16 to 128.
     pub value: Bytes,
 }
 
-/// A share of a backup: all fields of a mnemonic but the checksum (SLIP-0039, "Format of the share mnemonic").
+/// A share of a backup: the fields of a mnemonic, without its checksum, all in their ranges (SLIP-0039, "Format of the
+/// share mnemonic"). [`parse`](crate::parse) reads one from a text, and [`print`](crate::print) prints it. Contracts see
+/// a share as its [`ShareFields`].
+///
+/// ```rust
+/// let line = b"testify swimming academic academic column loyalty smear include exotic bedroom \
+///              exotic wrist lobe cover grief golden smart junior estimate learn";
+/// let share = parse(line)?;
+/// assert_eq!(rt; (share.id(), share.extendable()), (29019, true));
+/// assert_eq!(rt; share.exponent(), 3);
+/// assert_eq!(rt; (share.group_threshold(), share.group_count()), (1, 1));
+/// ```
 #[derive(Debug, Drop)]
 pub struct Share {
     fields: ShareFields,
@@ -50,9 +64,25 @@ impl Model for Share {
 impl Share {
     ghost use Rattle.s39_words.specs.Share.{IsShare};
 
-    /// The share with these fields, or `None` where a field is out of its range: an identifier from 2^15 on, an
-    /// exponent or an index over 15, a threshold or a group count of 0 or over 16, a group threshold above the
-    /// group count, or a value of an odd number of bytes or of less than 16 or more than 128.
+    /// Makes a share of these fields, or returns `None` if a field is out of its range.
+    ///
+    /// The ranges are: an identifier up to 32,767; an exponent and indices up to 15; thresholds and a group count from
+    /// 1 to 16; a group threshold of at most the group count; a value of an even number of bytes, from 16 to 128.
+    ///
+    /// ```rust
+    /// let fields = ShareFields {
+    ///     id: 7945,
+    ///     extendable: false,
+    ///     exponent: 0,
+    ///     group_index: 0,
+    ///     group_threshold: 1,
+    ///     group_count: 1,
+    ///     member_index: 0,
+    ///     member_threshold: 1,
+    ///     value: Bytes::try_from([7; 16].as_slice())?,
+    /// };
+    /// assert!(rt; Share::new(fields).is_some());
+    /// ```
     pub fn new(fields: ShareFields) -> Option<Share>
         ensures in_range { IsSome result ↔ IsShare fields }
         ensures same { IfSome result (λ share. share ≡ fields) }
@@ -74,70 +104,71 @@ impl Share {
         }
     }
 
-    /// The identifier of the backup, below 2^15.
+    /// Returns the identifier of the backup, 0 to 32,767.
     pub fn id(&self) -> u16
         ensures { result ≡ self.now.id }
     {
         self.fields.id
     }
 
-    /// The extendable flag: whether the identifier is left out of the encryption and the checksum is of that kind.
+    /// Returns the extendable flag. If it is set, the encryption doesn't depend on the identifier, and the checksum
+    /// uses the customization string `shamir_extendable`.
     pub fn extendable(&self) -> bool
         ensures { result ≡ self.now.extendable }
     {
         self.fields.extendable
     }
 
-    /// The iteration exponent, 0 to 15.
+    /// Returns the iteration exponent, 0 to 15.
     pub fn exponent(&self) -> u8
         ensures { result ≡ self.now.exponent }
     {
         self.fields.exponent
     }
 
-    /// The group index, 0 to 15.
+    /// Returns the group index, 0 to 15.
     pub fn group_index(&self) -> u8
         ensures { result ≡ self.now.group_index }
     {
         self.fields.group_index
     }
 
-    /// The group threshold, 1 to the group count.
+    /// Returns the group threshold, from 1 to the group count.
     pub fn group_threshold(&self) -> u8
         ensures { result ≡ self.now.group_threshold }
     {
         self.fields.group_threshold
     }
 
-    /// The number of groups, 1 to 16.
+    /// Returns the group count, 1 to 16.
     pub fn group_count(&self) -> u8
         ensures { result ≡ self.now.group_count }
     {
         self.fields.group_count
     }
 
-    /// The member index, 0 to 15.
+    /// Returns the member index, 0 to 15.
     pub fn member_index(&self) -> u8
         ensures { result ≡ self.now.member_index }
     {
         self.fields.member_index
     }
 
-    /// The member threshold, 1 to 16.
+    /// Returns the member threshold, 1 to 16.
     pub fn member_threshold(&self) -> u8
         ensures { result ≡ self.now.member_threshold }
     {
         self.fields.member_threshold
     }
 
-    /// The share value, an even number of bytes from 16 to 128.
+    /// Returns the share value: an even number of bytes, from 16 to 128.
     pub fn value(&self) -> &Bytes
         ensures { result.now ≡ self.now.value }
     {
         &self.fields.value
     }
 
-    /// All fields, which are in their ranges.
+    /// Returns all fields. They are in their ranges.
     pub fn fields(&self) -> &ShareFields
         ensures fields { result.now ≡ self.now }
         ensures in_range { IsShare self.now }
@@ -146,7 +177,7 @@ impl Share {
     }
 }
 
-/// Whether a share may have this value: as many bytes as a master secret may have.
+/// Whether a share may have this value. Its length must be one that a master secret may have.
 fn is_value(value: &[u8]) -> bool
     ensures { IsTrue result ↔ IsValue value.now }
 {

@@ -14,14 +14,23 @@ use crate::word_error::WordError;
 use crate::word_reader::{after_separators, first_word};
 use arrayvec::ArrayVec;
 
-/// Reads a text of any length as the share that it spells (SLIP-0039, "Format of the share mnemonic"). Its words stand
-/// between spaces, tabs and carriage returns, as many as there are, and capitals count as small letters.
+/// Reads a text of any length as the share that it spells (SLIP-0039, "Format of the share mnemonic"). Any number of
+/// spaces, tabs and carriage returns may stand before, between and after the words. Capital letters count as lower-case
+/// ones.
 ///
-/// The error is the first cause for which the text spells no share: an unknown word, a number of words that no mnemonic
-/// has, a checksum that isn't valid, a padding bit that isn't 0, or a group threshold above the group count.
+/// The error is the first of these causes that applies: an unknown word, a number of words that no mnemonic has, a
+/// checksum that isn't valid, a padding bit that isn't 0, or a group threshold above the group count.
 ///
-/// One, two or three wrong words in a mnemonic, all of the word list and none of them changing the flag, always come
-/// out as a checksum that isn't valid.
+/// Up to three wrong words in a mnemonic are always detected, unless they change the extendable flag. If all of them are
+/// words of the list, the error is [`WordError::BadChecksum`].
+///
+/// ```rust
+/// let line = b"duckling enlarge academic academic agency result length solution fridge kidney \
+///              coal piece deal husband erode duke ajar critical decision kidney";
+/// assert_eq!(rt; parse(line).err(), Some(WordError::BadChecksum));
+/// let refusal = parse(b"Academic\tacadmic").err();
+/// assert_eq!(rt; refusal, Some(WordError::UnknownWord { position: 2 }));
+/// ```
 pub fn parse(line: &[u8]) -> Result<Share, WordError>
     ensures reading { Reads line.now result }
     // Nothing else is what the text reads as.
@@ -46,7 +55,7 @@ pub fn parse(line: &[u8]) -> Result<Share, WordError>
 /// The indices of a mnemonic's words in the word list.
 pub(crate) type Indices = ArrayVec<u16, MAX_WORDS>;
 
-/// The indices of a text's words, where all are in the word list and a mnemonic may have as many.
+/// The indices of a text's words, if all are in the word list and a mnemonic may have that many.
 pub(crate) fn indices_of(line: &[u8]) -> Result<Indices, WordError>
     ensures found { IfOk result (λ indices. PassesCount line.now indices.items) }
     ensures in_list { IfOk result (λ indices. All IsIndex indices.items) }
@@ -60,7 +69,7 @@ pub(crate) fn indices_of(line: &[u8]) -> Result<Indices, WordError>
         let Some(word) = first_word(rest) else {
             return Err(WordError::UnknownWord { position: words });
         };
-        // Words past those that a mnemonic may have are only counted.
+        // Words beyond the most that a mnemonic may have are only counted.
         let _ = indices.try_push(word.index);
         rest = after_separators(word.rest);
     }

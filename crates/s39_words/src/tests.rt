@@ -1,5 +1,5 @@
-//! The longest mnemonic, texts that are no mnemonic, and what the word list holds. Most vectors of SLIP-0039 are tests
-//! of the whole program.
+//! Tests of the longest mnemonic, of texts that aren't mnemonics, and of the word list. Most vectors of SLIP-0039 are
+//! tests of the whole program.
 use crate::laws::read_back;
 use crate::printing::word_at;
 use crate::word_list::rows;
@@ -11,7 +11,8 @@ use sha2::{Digest, Sha256};
 use std::process::Abort;
 use std::test::Fail;
 
-// Each field at its highest and the value 00 01 02 .. 7f, as a plain Python reading of the standard spells it.
+// Each field has its greatest value, and the share value is 00 01 02 .. 7f. A plain reading of the standard in Python
+// spells it.
 const LONGEST_VALUE: &str =
     "zero zero zero zero academic academic eclipse adult away extra legs aluminum clay pancake satisfy argue disaster usual agency behavior evoke \
      editor employer born garlic military losing busy industry tendency senior ceramic luxury demand amuse clothes oral level escape crisis prune \
@@ -23,7 +24,7 @@ const LONGEST_VALUE: &str =
 const GROUP_THRESHOLD_ABOVE_COUNT: &str =
     "music husband acrobat acid artist finance center either graduate swimming object bike medical clothes station aspect spider maiden bulb welcome";
 
-/// The index of the word that a text is, or `None` where it isn't one word of the list.
+/// The index of the only word of a text, or `None` if the text isn't one word of the list.
 fn index_of_word(text: &[u8]) -> Option<u16> {
     let word = after_separators(text);
     if word.is_empty() {
@@ -81,8 +82,8 @@ fn refused_texts(rt: HostRuntime) {
     );
 }
 
-// `academic` stands for zero bits, which are no valid mnemonic: what is refused first tells whether as many
-// words may be one.
+// `academic` encodes zero bits, and lines of it aren't valid mnemonics. The first refusal tells whether a mnemonic may
+// have that many words.
 #[test]
 fn word_counts(rt: HostRuntime) {
     let accepted = [
@@ -102,7 +103,7 @@ fn word_counts(rt: HostRuntime) {
     }
 }
 
-/// The mnemonic with another word at this place.
+/// Returns the mnemonic with another word at this place.
 fn with_word(mnemonic: &[u8], place: usize, word: &[u8]) -> ArrayVec<u8, MAX_TEXT_BYTES> {
     let mut changed = ArrayVec::new();
     for (i, kept) in mnemonic.split(|byte| *byte == b' ').enumerate() {
@@ -119,7 +120,7 @@ fn leaves_the_flag(place: usize, kept: u16, index: u16) -> bool {
     place != 1 || kept >> 4 & 1 == index >> 4 & 1
 }
 
-/// How many mnemonics differ from this one in one word, and not in the flag: each has a bad checksum.
+/// Returns how many texts differ from this mnemonic in one word, and not in the flag. Each has a bad checksum.
 fn tried_wrong_words(rt: &impl Abort, mnemonic: &[u8]) -> u32 {
     let mut tried = 0_u32;
     for (place, word) in mnemonic.split(|byte| *byte == b' ').enumerate() {
@@ -135,7 +136,7 @@ fn tried_wrong_words(rt: &impl Abort, mnemonic: &[u8]) -> u32 {
     tried
 }
 
-// Every word of the list in place of every word of the first vector, which its fields give.
+// Every word of the list replaces every word of the first vector, which is printed from its fields.
 #[test]
 fn one_wrong_word(rt: HostRuntime) -> Result<(), Fail> {
     let value = b"\x11\xbc\x60\x9d\x21\x74\x7c\x49\xba\x78\xc0\x70\x12\x93\xe4\x17";
@@ -179,7 +180,7 @@ fn finds_words(rt: HostRuntime) {
     assert_eq!(rt; index_of_word(b""), None);
 }
 
-// Each word of the standard's list, followed by a line feed.
+// The digest is that of the standard's list, in which a line feed follows each word.
 #[test]
 fn word_list_is_the_standards(rt: HostRuntime) {
     let mut hasher = Sha256::new();
@@ -194,7 +195,7 @@ fn word_list_is_the_standards(rt: HostRuntime) {
 
 #[test]
 fn first_four_letters_tell_words_apart(rt: HostRuntime) {
-    // The words ascend, so those that begin alike would stand next to each other.
+    // The words ascend, so words that begin alike would be adjacent.
     let mut before = *b"    ";
     for row in rows() {
         let front = [row[0], row[1], row[2], row[3]];

@@ -1,16 +1,21 @@
-//! Why a text is no share.
+//! Why a text spells no share.
 ghost use Rattle.std.specs.Prelude.{◌≡◌};
 
 use s39_refusal::{Cause, code};
 
-/// The first cause for which a text spells no share.
+/// The first cause for which a text spells no share. The causes are tried in the order in which they stand here.
+///
+/// ```rust
+/// let cause = WordError::UnknownWord { position: 2 }.cause();
+/// assert_eq!(rt; (cause.code, cause.first), (11, 2));
+/// ```
 #[derive(Clone, Copy, Debug, PartialEq, Eq)]
 pub enum WordError {
-    /// The word at this position, counted from 1, is the first that isn't in the word list.
+    /// A word isn't in the word list. The first such word has this position, counted from 1.
     UnknownWord { position: usize },
-    /// All words are in the word list, but no mnemonic has this many.
+    /// All words are in the word list, but no mnemonic has that many.
     WordCount { words: usize },
-    /// The checksum isn't valid.
+    /// The checksum isn't valid (SLIP-0039, "Checksum").
     BadChecksum,
     /// A padding bit before the value isn't zero.
     BadPadding,
@@ -21,7 +26,8 @@ pub enum WordError {
 impl WordError {
     ghost use Rattle.s39_words.specs.Reading.{cause_of};
 
-    /// What the refusal says: 11 to 15, and the position or the number of words.
+    /// Returns what the refusal says: its number, from 11 for `UnknownWord` to 15 for `GroupThreshold`. The first
+    /// detail is the position or the number of words, and 0 for the other causes.
     pub fn cause(&self) -> Cause
         ensures { result ≡ cause_of self.now }
     {

@@ -6,7 +6,7 @@ ghost use Rattle.s39_words.specs.Rows.{FitsRow, row_of, number_of_row};
 
 use crate::size::MAX_LETTERS;
 
-/// A word's letters, filled up with spaces. A space is never part of a word.
+/// A word's letters, padded with spaces. A space is never part of a word.
 type Row = [u8; MAX_LETTERS];
 
 #[rattlefmt::skip]
@@ -141,14 +141,14 @@ static ROWS: [Row; 1024] = [
     *b"wrist   ", *b"writing ", *b"wrote   ", *b"year    ", *b"yelp    ", *b"yield   ", *b"yoga    ", *b"zero    ",
 ];
 
-/// The words in their order, which is that of their letters.
+/// The words of the list, in alphabetical order.
 pub(crate) fn rows() -> &'static [Row]
     ensures { result.now ≡ map row_of word_list }
 {
     &ROWS
 }
 
-/// A row as one number, so that two are compared in one step: the rows are in the order of these numbers.
+/// A row as one number, so that two are compared in one step. The rows stand in the order of these numbers.
 #[tactic(auto, unfolding(crate::specs::Rows::number_of_row))]
 fn number_of(row: &Row) -> u64
     ensures { result ≡ number_of_row row.now }
@@ -156,7 +156,7 @@ fn number_of(row: &Row) -> u64
     u64::from_be_bytes(*row)
 }
 
-/// The index of a word in the list, 0 to 1023, by the number of its row.
+/// The index of a word in the list, 0 to 1023, by the number of its row, or `None` if the list doesn't have it.
 pub(crate) fn index_of_number(number: u64) -> Option<u16>
     ensures same { (word : List ℕ) → FitsRow word → number ≡ number_of_row (row_of word)
         → result ≡ index_of word }

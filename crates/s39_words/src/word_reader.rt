@@ -34,7 +34,12 @@ struct FirstRow<'a> {
     rest: &'a [u8],
 }
 
-/// Whether this byte stands between words: a space, a tab or a carriage return.
+/// Returns whether this byte separates words. Separators are the space, the tab and the carriage return.
+///
+/// ```rust
+/// assert!(rt; is_separator(b' ') && is_separator(b'\t'));
+/// assert!(rt; !is_separator(b'\n'));
+/// ```
 pub fn is_separator(byte: u8) -> bool
     ensures { result ≡ is_separator byte }
 {
@@ -54,7 +59,7 @@ pub(crate) fn after_separators(text: &[u8]) -> &[u8]
     rest
 }
 
-/// The small letter of an ASCII letter, or `None` of another byte.
+/// The lower-case form of an ASCII letter, or `None` for any other byte.
 fn small_letter(byte: u8) -> Option<u8>
     ensures letter { IsSome result ↔ IsTrue (is_ascii_alphabetic byte) }
     ensures small { IfSome result (λ letter. letter ≡ to_ascii_lowercase byte) }
@@ -66,7 +71,7 @@ fn small_letter(byte: u8) -> Option<u8>
     }
 }
 
-/// The number of a row whose first space, behind so many letters, becomes a letter.
+/// The number of a row whose first space, which stands behind `letters` letters, becomes a letter.
 fn with_letter(number: u64, letters: usize, letter: u8) -> u64
     requires small { IsLetter letter }
     requires row { (word : List ℕ) × (length word ≡ letters) × (letters < longest_word)
@@ -77,8 +82,8 @@ fn with_letter(number: u64, letters: usize, letter: u8) -> u64
     number + (u64::from(letter - b' ') << (8 * (MAX_LETTERS - 1 - letters)))
 }
 
-/// The row of the word that a text begins with, its capitals as small letters, or `None` where no word in the list
-/// has such bytes or as many.
+/// The row of the word that a text begins with, in lower-case letters, or `None` if that word has more than eight bytes
+/// or one that isn't a letter.
 fn first_row(text: &[u8]) -> Option<FirstRow<'_>>
     ensures row { IfSome result (λ first. (word : List ℕ) × BeginsWith text.now word first.rest.now
         × FitsRow (str_to_ascii_lowercase word)
@@ -102,7 +107,7 @@ fn first_row(text: &[u8]) -> Option<FirstRow<'_>>
     Some(FirstRow { number, rest: &[] })
 }
 
-/// The word that a text begins with, or `None` where it isn't in the list.
+/// The word that a text begins with, or `None` if it isn't in the list.
 pub(crate) fn first_word(text: &[u8]) -> Option<FirstWord<'_>>
     requires some { 0 < length text.now }
     requires begins { BeginsInWord text.now }

@@ -1,4 +1,4 @@
-//! Binary digits made into words of ten.
+//! Packing binary digits into words of ten digits.
 ghost use Rattle.std.specs.Prelude.{◌≡◌, ◌+◌, ◌*◌, ◌%◌, ◌^◌, ◌<◌, ◌≤◌, [], ◌++◌, length};
 ghost use Rattle.s39_words.specs.Bits.{bits, cut_in_tens};
 
@@ -6,7 +6,7 @@ use crate::size::{ID_BITS, MAX_DATA_WORDS, WORD_BITS};
 use arrayvec::ArrayVec;
 use std::marker::Model;
 
-/// The binary digits written so far, as words of ten and the digits behind them that make no word yet.
+/// The binary digits written so far: whole words of ten digits, and the digits behind them that make no word yet.
 pub(crate) struct WordWriter {
     words: ArrayVec<u16, MAX_DATA_WORDS>,
     /// The last digits, as a number.
@@ -30,7 +30,7 @@ impl Model for WordWriter {
 }
 
 impl WordWriter {
-    /// No digits.
+    /// A writer without digits.
     pub(crate) fn new() -> WordWriter
         ensures { result ≡ [] }
     {
@@ -57,7 +57,7 @@ impl WordWriter {
         }
     }
 
-    /// The words, where the digits make whole words.
+    /// The words, provided that the digits make whole words.
     pub(crate) fn into_words(self) -> ArrayVec<u16, MAX_DATA_WORDS>
         requires { length self % WORD_BITS ≡ 0 }
         ensures { result.items ≡ cut_in_tens self }

@@ -1,7 +1,7 @@
 //! The program `shamir`: SLIP-0039 backups on the command line.
 #![tactic(auto)]
 
-use s39_cli::{Destination, Source, Watched, no_words, program, with_rest_dropped};
+use s39_cli::{Destination, Source, SystemFiles, Watched, no_words, program, with_rest_dropped};
 use std::alloc::{AllocError, Global};
 use std::io::IsTerminal;
 use std::process::ExitCode;
@@ -18,6 +18,7 @@ fn status(rt: &HostRuntime) -> io::Result<u8> {
     let alloc = rt.alloc();
     let arguments: Vec<String> = env::args(rt)?.collect(alloc)?;
     let words = texts(alloc, &arguments)?;
+    let files = SystemFiles::new(rt);
     let (input, output) = (rt.stdin(), rt.stdout());
     let destination = if output.is_terminal() {
         Destination::Terminal
@@ -27,10 +28,21 @@ fn status(rt: &HostRuntime) -> io::Result<u8> {
     let errors = &mut rt.stderr();
     if !input.is_terminal() {
         let source = Source::Elsewhere;
-        return Ok(program(alloc, &words, input, output, errors, source, destination).status());
+        let ended = program(
+            &files,
+            alloc,
+            &words,
+            input,
+            output,
+            errors,
+            source,
+            destination,
+        );
+        return Ok(ended.status());
     }
     let input = Watched::new(input);
     let ended = program(
+        &files,
         alloc,
         &words,
         input,

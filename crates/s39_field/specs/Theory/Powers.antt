@@ -99,7 +99,7 @@ abbrev power_after : Modulus → ℕ → ℕ → ℕ → ℕ
 power_after m g zero a = a
 power_after m g (suc n) a = power_after m g n (next m g a)
 
--- the numbers of the set, and of the n powers of g from a on, as the binary digits of one number
+-- the numbers of the set and the n powers of g from a on, as the binary digits of one number
 abbrev powers_seen : Modulus → ℕ → ℕ → ℕ → ℕ → ℕ
 powers_seen m g zero a seen = seen
 powers_seen m g (suc n) a seen = powers_seen m g n (next m g a) (bit_or seen (2 ^ a))

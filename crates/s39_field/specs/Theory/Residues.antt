@@ -13,7 +13,7 @@ use Rattle.s39_field.specs.Theory.BinaryPolynomials.{product_associates, product
 use Rattle.s39_field.specs.Theory.BinaryPolynomials.{product-one_right, product-lt, below-small, leading_bit}
 use Rattle.s39_field.specs.Theory.BinaryPolynomials.{leading_bit-shifted, scaled-lt, lt-pow}
 
--- a is b, but for a multiple of the modulus
+-- a and b differ by a multiple of the modulus
 abbrev pub IsCongruent : Modulus → ℕ → ℕ → Type 0
 IsCongruent m a b = (q : ℕ) × (a ≡ binary_sum (binary_product q m.polynomial) b)
 
@@ -56,7 +56,7 @@ congruent_product_left m a b c h =
     let turned = congruent_product_right m c a b h in
     (turned.0, product_commutes a c ∙ turned.1 ∙ ap (binary_sum (binary_product turned.0 m.polynomial)) (product_commutes c b))
 
--- two polynomials of lower degree than the modulus that are congruent are one
+-- congruent polynomials of lower degree than the modulus are equal
 pub same_from_congruent : (m : Modulus) → HasDegree m → (a b : ℕ) → a < 2 ^ m.degree → b < 2 ^ m.degree → IsCongruent m a b → a ≡ b
 same_from_congruent m is a b p q h =
     let multiple : ℕ = binary_product h.0 m.polynomial in
@@ -207,7 +207,7 @@ product_modulo-zero m a = ap (reduction m (a + 0)) (product_commutes a 0) ∙ re
 pub product-two : (c : ℕ) → binary_product 2 c ≡ 2 * c
 product-two c = product-term 0 1 c (inr refl) 1 ∙ omega arith
 
--- x times a, where the double has the modulus's degree, and where it has a lower one
+-- x times a, if the double has the modulus's degree, and if it has a lower one
 pub doubled : (m : Modulus) → HasDegree m → (a : ℕ) → a < 2 ^ m.degree → reduction m 1 (2 * a) ≡ product_modulo m a 2
 doubled m is a low =
     let wide : 2 * a < 2 ^ (m.degree + 1) = omega (arith, pow-add 2 m.degree 1) in

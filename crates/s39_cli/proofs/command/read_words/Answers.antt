@@ -1,12 +1,12 @@
-use Rattle.std.proofs.Common.{◌∙◌, ap, map, List, sym, ℕ, Bor}
+use Rattle.std.proofs.Common.{◌∙◌, ap, inl, map, List, sym, ℕ, Bor}
 use Rattle.clap.specs.Words.{App, app_of, fault_of, found_of, kind_of, rows_of, takes}
-use Rattle.s39_cli.proofs.Jobs.{answer_by_kind, known_faults, met_enters, met_is, never_none, no_fault_taken}
+use Rattle.s39_cli.proofs.Jobs.{answer_by_kind, asks_none, known_faults, met_enters, met_is, never_none, no_fault_taken}
 use Rattle.s39_cli.proofs.command.read_words.Goals as goal
 
 pub returns-in-Err-clause-memory : goal.returns-in-Err-clause-memory
 returns-in-Err-clause-memory c taken =
     let words = map (λ (word : Bor (List ℕ)). word.now) c.args.words.now in
-    c.no_job.ensures.memory (c.in-Err.ensures.passes (ap (λ (a : App). takes a words) c.in_ok-command.ensures ∙ taken))
+    inl (c.no_job.ensures.memory (c.in-Err.ensures.passes (ap (λ (a : App). takes a words) c.in_ok-command.ensures ∙ taken)))
 
 pub returns-in-Err-clause-answer : goal.returns-in-Err-clause-answer
 returns-in-Err-clause-answer c =
@@ -24,14 +24,33 @@ job_of-requires c =
     c.in-Some.ensures.rows in
     met_enters a words c.in-Some.name.now rows c.in_ok-command.ensures (c.in-Ok.ensures.kinds (known_faults a c.in_ok-command.ensures)) met
 
-pub returns-clause-job : goal.returns-clause-job
-returns-clause-job c =
+pub returns-clause-call : goal.returns-clause-call
+returns-clause-call c =
+    let words = map (λ (word : Bor (List ℕ)). word.now) c.args.words.now in
+    let a = app_of c.in_ok-command.command in
+    let rows = rows_of (found_of c.in-Some.options.now) in
+    let met = met_is a words c.in-Ok.matches c.in-Some.name.now rows c.in_ok-command.ensures c.in-Ok.ensures.matches c.in-Some.ensures.name
+    c.in-Some.ensures.rows in (
+      c.in-Some.name.now,
+      rows,
+      met,
+      c.job_of.ensures.gives,
+      c.files_of.ensures,
+      c.in_default.ensures.sound,
+    )
+
+pub returns-in-Some-bad_values-clause-answer : goal.returns-in-Some-bad_values-clause-answer
+returns-in-Some-bad_values-clause-answer c =
     let words = map (λ (word : Bor (List ℕ)). word.now) c.args.words.now in
     let a = app_of c.in_ok-command.command in
     let rows = rows_of (found_of c.in-Some.options.now) in
     let met = met_is a words c.in-Ok.matches c.in-Some.name.now rows c.in_ok-command.ensures c.in-Ok.ensures.matches c.in-Some.ensures.name
     c.in-Some.ensures.rows in
-    (c.in-Some.name.now, rows, met, c.job_of.ensures.gives)
+    let none = c.in-Ok.ensures.kinds (known_faults a c.in_ok-command.ensures) in (
+      no_fault_taken a words c.in_ok-command.ensures none,
+      asks_none words (ap (λ (x : App). fault_of x words) (sym c.in_ok-command.ensures) ∙ none),
+      (c.in-Some.name.now, rows, met, c.in-Some-bad_values.ensures.bad),
+    )
 
 pub returns-clause-taken : goal.returns-clause-taken
 returns-clause-taken c =

@@ -6,6 +6,6 @@ use Rattle.s39_cli.proofs.command.recover_job.Goals as goal
 pub returns-clause-gives : goal.returns-clause-gives
 returns-clause-gives c = (
   refl,
-  c.passphrase_of.ensures,
+  c.text_of.ensures,
   recover_form_there (found_of c.args.options.now) c.form_of.result c.requires c.form_of.ensures.said c.form_of.ensures.unsaid,
 )

@@ -1,29 +1,28 @@
-use Rattle.std.proofs.Common.{ℕ, Bor, List, map}
-use Rattle.s39_cli.specs.Outcome.{status_of}
-use Rattle.s39_cli.proofs.Ends.{ends_by_work, ends_unbegun}
+use Rattle.std.proofs.Common.{ℕ, Bor, List, map, option_map}
+use Rattle.s39_cli.proofs.Ends.{ends_by_call, ends_by_job, ends_unread, ends_without_job}
 use Rattle.s39_cli.proofs.runner.program.Goals as goal
 
-pub returns-in-Err-of-clause-ends : goal.returns-in-Err-of-clause-ends
-returns-in-Err-of-clause-ends g c =
+pub returns-in-Err-clause-ends : goal.returns-in-Err-clause-ends
+returns-in-Err-clause-ends g c =
     let words = map (λ (word : Bor (List ℕ)). word.now) c.args.words.now in
-    ends_unbegun g.R.Read.remaining g.W.Write.contents c.args.source words c.args.input c.args.output c.in-Ok.job c.in-Ok.ensures.job c.in-Ok.ensures.taken
-    c.in-Ok.ensures.faultless c.in-Err-of.unready c.unbegun.result
-    (c.is_typed.ensures.untyped c.if-is_typed.false) c.in-Err-of.ensures.refused c.unbegun.ensures.ends
+    ends_without_job g.R.Read.remaining g.W.Write.contents c.args.source words c.args.input c.args.output c.in-Err.no_job c.without_job.result
+    c.in-Err.ensures.answer c.in-Err.ensures.memory c.without_job.ensures.ends
 
-pub returns-then-goes_by_lines-clause-ends : goal.returns-then-goes_by_lines-clause-ends
-returns-then-goes_by_lines-clause-ends g c =
+pub returns-in-Err-read-clause-ends : goal.returns-in-Err-read-clause-ends
+returns-in-Err-read-clause-ends g c =
     let words = map (λ (word : Bor (List ℕ)). word.now) c.args.words.now in
-    let run = c.by_lines.result in
-    ends_by_work g.R.Read.remaining g.W.Write.contents c.args.source words c.args.input c.args.output c.in-Ok.job c.in-Ok.ensures.job c.in-Ok.ensures.taken
-    c.in-Ok.ensures.faultless c.in-Ok-of.work (status_of run.answer) run.input run.output c.answered.result
-    (c.is_typed.ensures.untyped c.if-is_typed.false) c.in-Ok-of.ensures.work c.by_lines.ensures
-    c.answered.ensures.ends
+    ends_unread g.R.Read.remaining g.W.Write.contents c.args.source words c.args.input c.args.output c.in-Ok.call c.in-Ok.ensures.call
+    c.in-Ok.ensures.taken c.in-Ok.ensures.faultless c.read.new.input c.without_value.result (c.is_typed.ensures.untyped c.if-is_typed.false)
+    c.in-Err-read.ensures.failed c.without_value.ensures.ends
 
-pub returns-in-Some-clause-ends : goal.returns-in-Some-clause-ends
-returns-in-Some-clause-ends g c =
+pub returns-clause-ends : goal.returns-clause-ends
+returns-clause-ends g c =
     let words = map (λ (word : Bor (List ℕ)). word.now) c.args.words.now in
-    let run = c.in-Some.finished in
-    ends_by_work g.R.Read.remaining g.W.Write.contents c.args.source words c.args.input c.args.output c.in-Ok.job c.in-Ok.ensures.job c.in-Ok.ensures.taken
-    c.in-Ok.ensures.faultless c.in-Ok-of.work (status_of run.answer) run.input run.output c.answered-in-Some.result
-    (c.is_typed.ensures.untyped c.if-is_typed.false) c.in-Ok-of.ensures.work
-    c.in-Some.ensures c.answered-in-Some.ensures.ends
+    ends_by_job g.R.Read.remaining g.W.Write.contents c.args.source words c.args.input c.args.output c.in-Ok.call c.in-Ok.ensures.call
+    c.in-Ok.ensures.taken c.in-Ok.ensures.faultless c.fill.result c.read.new.input c.by_job.result
+    (c.is_typed.ensures.untyped c.if-is_typed.false) (
+      option_map (λ held. held.items) c.in-Ok-read.values.secret,
+      option_map (λ held. held.items) c.in-Ok-read.values.passphrase,
+      c.in-Ok-read.ensures.values,
+      c.fill.ensures.filled,
+    ) c.by_job.ensures.ends

@@ -5,4 +5,4 @@ use Rattle.s39_cli.proofs.work.secret_of.Goals as goal
 pub returns-in_err-decode-clause-refused : goal.returns-in_err-decode-clause-refused
 returns-in_err-decode-clause-refused c =
     let p = err_from_is_err_and c.from_residual.result c.from_residual.ensures.1 in
-    rw (p.1, p.2) (no_secret c.args.text.now c.as_bytes.result.now c.in_err-decode.field-0.0 c.as_bytes.ensures.value c.in_err-decode.ensures.err)
+    rw (p.1, p.2) (no_secret c.args.text.now c.in_err-decode.field-0.0 c.in_err-decode.ensures.err)

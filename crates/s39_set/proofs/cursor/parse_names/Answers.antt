@@ -1,4 +1,4 @@
-use Rattle.std.proofs.Common.{◌≡◌, ℕ, [], ◌∷◌, ◌++◌, length, map, get_or, Ok, Some, None, All, Less, refl, sym, ap, ap₂, subst, ◌∙◌, rules}
+use Rattle.std.proofs.Common.{◌≡◌, [], ◌∷◌, ◌++◌, length, map, get_or, Ok, Some, None, All, Less, refl, sym, ap, ap₂, subst, ◌∙◌, rules}
 use Rattle.std.specs.List.{slice_split}
 use borrow.Author.Tests.{tests}
 use Rattle.std.proofs.lemmas.Bool.{false≢true}
@@ -8,7 +8,7 @@ use Rattle.std.proofs.lemmas.Iterator.Splits.{YieldsList-from_slice_split}
 use Rattle.s39_lists.proofs.Loops.{turn, ended}
 use Rattle.s39_set.specs.Names.{Name, name_cmp, AreNames}
 use Rattle.s39_set.specs.Written.{name_text}
-use Rattle.s39_set.proofs.NamesBefore.{AreNames-push}
+use Rattle.s39_set.proofs.NamesBefore.{are_names_push}
 use Rattle.s39_set.proofs.NameText.{same_name}
 use Rattle.s39_set.proofs.WrittenNames.{is_plus, written_from_parts, same_written, next_name}
 use Rattle.s39_set.proofs.cursor.parse_names.Goals as goal
@@ -51,7 +51,7 @@ loop-name-preserved c =
           ∙ ap₂ (λ xs x. xs ++ x ∷ []) c.loop-name.invariant.texts (sym is.text_is)
           ∙ sym (map_push (λ part. part.now) c.loop-name.yielded c.in-Some.name);
       are_names = subst AreNames (sym c.push.ensures)
-          (AreNames-push c.loop-name.quorum read c.loop-name.invariant.are_names is.group is.member (c.if-not-is_before.ensures.0 refl));
+          (are_names_push c.loop-name.quorum read c.loop-name.invariant.are_names is.group is.member (c.if-not-is_before.ensures.0 refl));
     }
 
 pub returns-clause-names : goal.returns-clause-names

@@ -9,7 +9,7 @@ use Rattle.s39_set.specs.Steps.{groups_taken}
 use Rattle.s39_set.specs.declared.set_lack.SetLack.TheVariants.{Incomplete}
 use Rattle.s39_set.proofs.OneLack.{lack_once}
 use Rattle.s39_lists.proofs.Pairs.{AllPairs-nil}
-use Rattle.s39_set.proofs.StepOf.{groups_from-complete, least_first}
+use Rattle.s39_set.proofs.StepOf.{groups_from_complete, least_first}
 use Rattle.s39_set.proofs.SetQuorums.{incomplete_from_fewer, no_lack-from_meets}
 use Rattle.s39_set.proofs.first_quorum.first.Goals as goal
 
@@ -28,7 +28,7 @@ module _ (c : goal.Then-complete-required) where
       let threshold : group_threshold_of set ≡ Some required = sym c.group_threshold.ensures ∙ c.in_ok-required.ensures.ok_part in
       let complete : c.count_groups-complete.result ≡ length (complete_groups (member_threshold_of set) (map name_of set)) =
       c.count_groups-complete.ensures
-      ∙ ap length (groups_from-complete set c.are_a_share_set.ensures c.of-context.result c.of-context.ensures.knows.complete) in
+      ∙ ap length (groups_from_complete set c.are_a_share_set.ensures c.of-context.result c.of-context.ensures.knows.complete) in
       subst (λ (n : ℕ). IsIncomplete set n required) (sym complete) (incomplete_from_fewer set c.are_a_share_set.ensures required threshold (omega arith))
 
 pub returns-then-complete-required-clause-lack : goal.returns-then-complete-required-clause-lack

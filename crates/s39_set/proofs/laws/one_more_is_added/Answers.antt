@@ -1,4 +1,4 @@
-use Rattle.s39_set.proofs.SameShares.{one_more_cases, one_more_has}
+use Rattle.s39_set.proofs.OneMore.{one_more_cases, one_more_has}
 use Rattle.s39_set.proofs.laws.one_more_is_added.Goals as goal
 
 pub returns : goal.returns

@@ -1,25 +1,13 @@
 use Rattle.std.proofs.Common.{◌≡◌, ◌-◌, ◌<◌, suc, length, get_or, drop, sum_by, Some, Ok, inl, inr, refl, sym, ap, subst, ◌∙◌, arith}
 use Rattle.std.proofs.Common.{drop-cons}
 use Rattle.std.proofs.lemmas.Bool.{cases_eq}
-use Rattle.std.proofs.lemmas.List.{drop_all}
 use Rattle.std.proofs.lemmas.List.Sums.{sum_by-cons}
 use Rattle.s39_set.specs.Looks.{place_looks, step_looks}
 use Rattle.s39_set.specs.Steps.{replacement_names}
 use Rattle.s39_set.specs.Quorums.{IsQuorum, IsFirstQuorumAfter, HasNoQuorumAfter}
-use Rattle.s39_set.proofs.StepLooks.{step_looks-next}
+use Rattle.s39_set.proofs.StepLooks.{step_looks_next}
 use Rattle.s39_set.proofs.StepOf.{IsFullAt, full_at, none_next, first_next, later_next}
 use Rattle.s39_set.proofs.next.next_after.Goals as goal
-
-pub loop-position-init : goal.loop-position-init
-loop-position-init c =
-    let Q = c.pairs-names.result.now in
-    let lengths : length Q ≡ length c.args.quorum.now = ap length c.pairs-names.ensures.same in
-    record {
-      full = λ is quorum j from below. absurd (omega arith);
-      upto = omega arith;
-      looks_are = (let none = ap (sum_by place_looks) (drop_all (length Q) Q (omega arith)) in omega arith);
-      at_most = omega arith;
-    }
 
 pub returns-in-Some-clause-next : goal.returns-in-Some-clause-next
 returns-in-Some-clause-next c =
@@ -65,17 +53,9 @@ returns-in-Some-clause-looks c =
     let later =
     later_next c.args.set.now (c.if-not-is_quorum.ensures.is_set refl) Q quorum c.of-context.result c.of-context.ensures.knows i below c.in-Some.replacement
     c.in-Some.ensures.replacement in
-    let sum = step_looks-next Q c.completed.result replacement i below c.completed.ensures.names later in
+    let sum = step_looks_next Q c.completed.result replacement i below c.completed.ensures.names later in
     let given = ap (λ q. step_looks q (Ok (Some c.completed.result))) c.pairs-names.ensures.same in
     let here = ap (λ k. sum_by place_looks (drop k Q)) (let next : suc i ≡ c.loop-position.position = omega arith in next) in
-    omega arith
-
-pub returns-clause-looks : goal.returns-clause-looks
-returns-clause-looks c =
-    let Q = c.pairs-names.result.now in
-    let all : c.loop-position.position ≡ 0 = omega arith in
-    let same = ap length c.pairs-names.ensures.same in
-    let sums = ap (λ k. sum_by place_looks (drop k Q)) all ∙ ap (sum_by place_looks) c.pairs-names.ensures.same in
     omega arith
 
 pub returns-clause-last : goal.returns-clause-last

@@ -2,7 +2,7 @@ use Rattle.std.proofs.Common.{ℕ, map, get_or, Contains, sym, ◌∙◌, arith}
 use Rattle.std.proofs.lemmas.Bool.{false≢true}
 use Rattle.std.proofs.lemmas.List.Elements.{All-from_get_or}
 use Rattle.s39_set.specs.ShareSet.{name_of}
-use Rattle.s39_set.proofs.Flags.{flag-fallen, flag-stayed}
+use Rattle.s39_set.proofs.Flags.{flag_fallen, flag_stayed}
 use Rattle.s39_set.proofs.quorum.are_at_hand.Goals as goal
 use Rattle.s39_set.proofs.quorum.are_at_hand.Goals.{then-not-has, else-not-has}
 
@@ -12,11 +12,11 @@ loop-group-preserved c =
     let i = c.loop-group.group-index in
     elim c.if-not-has.branch [
       | then-not-has w ↦ record {
-        at_hand = flag-fallen P i c.if-not-has.all w.all-is (λ here. false≢true (sym w.if-not-has.true ∙ c.has.ensures.has.1 here));
+        at_hand = flag_fallen P i c.if-not-has.all w.all-is (λ here. false≢true (sym w.if-not-has.true ∙ c.has.ensures.has.1 here));
         looks_are = omega arith;
       }
       | else-not-has w ↦ record {
-        at_hand = flag-stayed P i c.loop-group.all c.if-not-has.all w.all-is (c.has.ensures.has.0 w.if-not-has.false) c.loop-group.invariant.at_hand;
+        at_hand = flag_stayed P i c.loop-group.all c.if-not-has.all w.all-is (c.has.ensures.has.0 w.if-not-has.false) c.loop-group.invariant.at_hand;
         looks_are = omega arith;
       }
     ]

@@ -3,7 +3,7 @@ use Rattle.std.specs.List.{range_with_len}
 use Rattle.std.proofs.lemmas.Bool.{false≢true, lt-ltb, le-ltb}
 use Rattle.s39_set.specs.Names.{names_in_group, most_groups}
 use Rattle.s39_set.specs.Quorums.{group_threshold_of, member_threshold_of}
-use Rattle.s39_set.proofs.Flags.{flag-fallen, flag-stayed}
+use Rattle.s39_set.proofs.Flags.{flag_fallen, flag_stayed}
 use Rattle.s39_set.proofs.JustMembers.{has_members, AreExactBelow, exact_from_just, just_from_exact, groups_from_just}
 use Rattle.s39_lists.proofs.Ranges.{length-filter-range_more_yes, length-filter-range_more_no, length-filter-range-le}
 use Rattle.s39_set.proofs.OptionTests.{same_from_option_eq, option_eq-same}
@@ -26,7 +26,7 @@ loop-group-preserved c =
           let some : 0 < length (names_in_group group names) = omega arith in
           record {
             looks_are = omega arith;
-            exact = flag-fallen P group c.if-members-gt0.just w.just-is
+            exact = flag_fallen P group c.if-members-gt0.just w.just-is
                 (λ exact. false≢true (sym w.if-not-asks_for.true ∙ w.asks_for.ensures.1 (exact some ∙ ap Some (sym count))));
             groups_are = omega (arith, length-filter-range_more_yes (has_members names) group (lt-ltb 0 (length (names_in_group group names)) some));
           })
@@ -34,7 +34,7 @@ loop-group-preserved c =
           let some : 0 < length (names_in_group group names) = omega arith in
           record {
             looks_are = omega arith;
-            exact = flag-stayed P group c.loop-group.just c.if-members-gt0.just w.just-is
+            exact = flag_stayed P group c.loop-group.just c.if-members-gt0.just w.just-is
                 (λ _. w.asks_for.ensures.0 w.if-not-asks_for.false ∙ ap Some count) c.loop-group.invariant.exact;
             groups_are = omega (arith, length-filter-range_more_yes (has_members names) group (lt-ltb 0 (length (names_in_group group names)) some));
           })
@@ -42,7 +42,7 @@ loop-group-preserved c =
           let none : length (names_in_group group names) ≤ 0 = omega arith in
           record {
             looks_are = omega arith;
-            exact = flag-stayed P group c.loop-group.just c.if-members-gt0.just w.just-is (λ some. absurd (omega arith)) c.loop-group.invariant.exact;
+            exact = flag_stayed P group c.loop-group.just c.if-members-gt0.just w.just-is (λ some. absurd (omega arith)) c.loop-group.invariant.exact;
             groups_are = omega (arith, length-filter-range_more_no (has_members names) group (le-ltb 0 (length (names_in_group group names)) none));
           })
     ]

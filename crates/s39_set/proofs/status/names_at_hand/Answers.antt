@@ -1,4 +1,4 @@
-use Rattle.std.proofs.Common.{◌≤◌, ℕ, List, ◌++◌, length, map, filter, take, sym, ap, ◌∙◌, arith}
+use Rattle.std.proofs.Common.{◌≤◌, ℕ, ◌++◌, length, map, filter, take, sym, ap, ◌∙◌, arith}
 use Rattle.std.specs.List.{range_with_len}
 use Rattle.std.proofs.lemmas.List.{take_all, length-map}
 use Rattle.std.proofs.lemmas.List.FromFn.{length-range_with_len}
@@ -8,7 +8,7 @@ use Rattle.s39_set.specs.Masks.{is_in}
 use Rattle.s39_set.specs.Steps.{members_from}
 use Rattle.s39_lists.proofs.Sublists.{length-sublist, filter_kept}
 use Rattle.s39_set.proofs.SetQuorums.{members-below}
-use Rattle.s39_set.proofs.FromMasks.{names_in_group-masks}
+use Rattle.s39_set.proofs.FromMasks.{names_in_group_masks}
 use Rattle.s39_set.proofs.status.names_at_hand.Goals as goal
 
 pub returns : goal.returns
@@ -30,4 +30,4 @@ returns c =
     c.push_members.ensures.names
     ∙ ap (λ (names : Names). names ++ take most_members members) c.new-names.ensures
     ∙ take_all most_members members few
-    ∙ sym (names_in_group-masks masks (map name_of set) c.shares_at_hand-at_hand.ensures.names (members-below set is) group c.requires is.ascending)
+    ∙ sym (names_in_group_masks masks (map name_of set) c.shares_at_hand-at_hand.ensures.names (members-below set is) group c.requires is.ascending)

@@ -15,7 +15,7 @@ returns-in_ok-plan-in-Create-clause-work c = rw c.in-Create.is (
   refl,
   record {
     read = record { secret_is = c.in_ok-secret-in-Create.ensures.secret; plan_is = c.in_ok-plan-in-Create.ensures.reading };
-    passphrase_is = c.as_bytes.ensures.value;
+    passphrase_is = refl;
     given = record { exponent_is = refl; extendable_is = refl };
   },
 )
@@ -25,7 +25,7 @@ returns-in_ok-after-in-Drill-clause-work c = rw c.in-Drill.is (
   _,
   refl,
   record {
-    passphrase_is = c.as_bytes-in-Drill.ensures.value;
+    passphrase_is = refl;
     cursor = c.in_ok-after-in-Drill.ensures.cursor;
     limit_is = refl;
     form_is = refl;

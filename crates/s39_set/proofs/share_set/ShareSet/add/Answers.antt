@@ -1,56 +1,57 @@
-use Rattle.std.proofs.Common.{◌≡◌, ◌<◌, ℕ, Bool, false, List, length, get_or, set, Contains, Option, Some, None, Ok}
-use Rattle.std.proofs.Common.{Err, refl, sym, ap, ap₂, ◌∙◌, subst, subst₂, arith}
+use Rattle.std.proofs.Common.{◌≡◌, ◌<◌, ℕ, length, get_or, set, map, Contains, Some, None, Ok, Err, refl, sym, ap, ap₂, subst, ◌∙◌, arith}
+use Rattle.std.proofs.lemmas.Bool.{false≢true}
 use Rattle.s39_words.specs.declared.share.ShareFields.{ShareFields}
-use Rattle.s39_set.specs.declared.common.Common.{Common}
-use Rattle.s39_set.specs.declared.masks.Masks.{Masks}
-use Rattle.s39_set.specs.Masks.{is_in, AddsName}
 use Rattle.s39_set.specs.declared.set_error.Added.TheVariants.{New, Repeat}
-use Rattle.s39_set.specs.ShareSet.{HasOneMore, name_of, refusal_of}
-use Rattle.s39_set.specs.Slots.{shares_at, slot_of, common_of, IsKept}
-use Rattle.s39_set.proofs.Joins.{not_refused}
-use Rattle.s39_set.proofs.Kept.{kept_more, has_one_more, repeat_from_masks, new_from_masks, empty_slot}
-use Rattle.s39_set.specs.Names.{most_groups}
+use Rattle.s39_set.specs.ShareSet.{IsShareSet, CanJoin, HasOneMore, name_of}
+use Rattle.s39_set.specs.Slots.{shares_at, slot_of, IsKept}
+use Rattle.s39_lists.proofs.Images.{Contains-map, one_of_map}
+use Rattle.s39_set.proofs.Joins.{joins_from_none, same_from_joins, not_refused}
+use Rattle.s39_set.proofs.Slots.{empty_slot, has_one_more, kept_more}
 use Rattle.s39_set.proofs.share_set.ShareSet.add.Goals as goal
-
--- the name that is looked up is the share's
-held : (masks : Masks) (share fields : ShareFields) (member : ℕ) (b : Bool) → fields ≡ share → member ≡ share.member_index
-    → b ≡ is_in masks fields.group_index member → is_in masks share.group_index share.member_index ≡ b
-held masks share fields member b e f is = sym (is ∙ ap₂ (λ (x : ShareFields) (m : ℕ). is_in masks x.group_index m) e f)
+use Rattle.s39_set.proofs.share_set.ShareSet.add.Goals.{After-is_at_hand}
 
 pub returns-in-Some-clause-repeat : goal.returns-in-Some-clause-repeat
 returns-in-Some-clause-repeat c = (
   (λ e. absurd (let bad : Err c.in-Some.error ≡ Ok Repeat = e in cc)),
   (λ has_share. absurd
       (let bad : Some c.in-Some.error ≡ None =
-      sym c.in-Some.is ∙ c.refusal.ensures.refusal ∙ not_refused c.args.self.now c.refusal.ensures.is_set c.args.share has_share in cc)),
+      sym c.in-Some.is ∙ c.refusal.ensures
+      ∙ not_refused c.args.self.now (subst IsShareSet c.self.view_is c.self.invariant.is_set) c.args.share has_share in cc)),
 )
 
-pub returns-then-has-clause-repeat : goal.returns-then-has-clause-repeat
-returns-then-has-clause-repeat c =
-    let inside = c.self.inside in
-    let share = c.args.share in
-    let allowed : refusal_of (shares_at inside.slots) share ≡ None =
-    ap (λ l. refusal_of l share) c.self.view_is ∙ sym c.refusal.ensures.refusal ∙ c.in_default.is in
-    let there = held inside.at_hand share c.fields.result.now c.member_index-member.result c.has.result
-    c.fields.ensures.fields c.member_index-member.ensures c.has.ensures ∙ c.if-has.true in (
-      (λ e. subst (λ l. Contains l share) c.self.view_is
-          (repeat_from_masks inside.common inside.at_hand inside.member_thresholds inside.slots c.self.invariant share c.fields.ensures.in_range allowed
-          there)),
-      (λ has_share. refl),
-    )
-
--- what is known where the share is put in its slot
-module _ (c : goal.After-index-self-slot_of) where
+-- what is known where the set was asked for the share's name
+module _ (c : After-is_at_hand) where
   name : (c.fields.result.now.group_index, c.member_index-member.result) ≡ name_of c.args.share
   name = ap₂ (λ (x : ShareFields) (m : ℕ). (x.group_index, m)) c.fields.ensures.fields c.member_index-member.ensures
 
-  not_held : is_in c.self.inside.at_hand c.args.share.group_index c.args.share.member_index ≡ false
-  not_held =
-      held c.self.inside.at_hand c.args.share c.fields.result.now c.member_index-member.result c.has.result
-      c.fields.ensures.fields c.member_index-member.ensures c.has.ensures ∙ c.if-has.false
+  joins : CanJoin c.args.self.now c.args.share
+  joins = joins_from_none c.args.self.now c.args.share (sym c.refusal.ensures ∙ c.in_default.is)
+
+pub returns-then-is_at_hand-clause-repeat : goal.returns-then-is_at_hand-clause-repeat
+returns-then-is_at_hand-clause-repeat c =
+    let d = (goal.at.returns-then-is_at_hand-clause-repeat c).After-is_at_hand in
+    let set = c.args.self.now in (
+      (λ e.
+          let among = subst (Contains (map name_of set)) (name d) (c.is_at_hand.ensures.0 c.if-is_at_hand.true) in
+          let (s, has_s, same) = one_of_map name_of set (name_of c.args.share) among in
+          subst (Contains set) (same_from_joins set s c.args.share (joins d) has_s same) has_s),
+      (λ has_share. refl),
+    )
+
+-- and where it had none
+module _ (c : goal.After-index-self-slot_of) where
+  abbrev asked : After-is_at_hand
+  asked = (goal.at.invariant_of-self c).After-is_at_hand
+
+  no_name : ¬ Contains (map name_of (shares_at c.self.inside.slots)) (name_of c.args.share)
+  no_name among =
+      let here = subst (λ set. Contains (map name_of set) (name_of c.args.share)) c.self.view_is among in
+      false≢true
+      (sym c.if-is_at_hand.false
+      ∙ c.is_at_hand.ensures.1 (subst (Contains (map name_of c.args.self.now)) (sym (name asked)) here))
 
   at : c.slot_of.result ≡ slot_of (name_of c.args.share)
-  at = c.slot_of.ensures ∙ ap slot_of name
+  at = c.slot_of.ensures ∙ ap slot_of (name asked)
 
   below : c.slot_of.result < length c.self.inside.slots
   below =
@@ -62,42 +63,34 @@ module _ (c : goal.After-index-self-slot_of) where
   empty : get_or c.self.inside.slots c.slot_of.result None ≡ None
   empty =
       ap (λ k. get_or c.self.inside.slots k None) at
-      ∙ empty_slot c.self.inside.common c.self.inside.at_hand c.self.inside.member_thresholds c.self.inside.slots c.self.invariant c.args.share
-      c.fields.ensures.in_range not_held
+      ∙ empty_slot c.self.inside.slots c.self.invariant (name_of c.args.share) c.fields.ensures.in_range.member_index no_name
 
-  allowed : refusal_of (shares_at c.self.inside.slots) c.args.share ≡ None
-  allowed = ap (λ l. refusal_of l c.args.share) c.self.view_is ∙ sym c.refusal.ensures.refusal ∙ c.in_default.is
+  room : c.args.share.group_index < length c.self.inside.member_thresholds
+  room = let group = c.fields.ensures.in_range.group_index in omega arith
 
-  groups : length c.self.inside.member_thresholds ≡ most_groups
-  groups = omega arith
-
-  kept : IsKept (Some (common_of c.args.share)) c.insert.new.self
+  kept : IsKept (Some c.args.share.group_threshold)
       (set c.self.inside.member_thresholds c.args.share.group_index (Some c.args.share.member_threshold))
       (set c.self.inside.slots c.slot_of.result (Some c.args.share))
   kept =
-      kept_more c.self.inside.common c.self.inside.at_hand c.self.inside.member_thresholds c.self.inside.slots c.self.invariant c.args.share
-      c.fields.ensures.in_range
-      allowed c.slot_of.result at below empty groups c.insert.new.self (subst (AddsName c.self.inside.at_hand c.insert.new.self) name c.insert.ensures)
+      kept_more c.self.inside.slots c.self.invariant c.args.share c.fields.ensures.in_range
+      (subst (λ set. CanJoin set c.args.share) (sym c.self.view_is) (joins asked)) c.slot_of.result at below empty room
 
 pub invariant_of-self : goal.invariant_of-self
 invariant_of-self c =
-    let group : c.args.share.group_index ≡ c.from.result = ap (λ (x : ShareFields). x.group_index) (sym c.fields.ensures.fields) ∙ sym c.from.ensures in
-    subst₂ (λ (common : Option Common) (thresholds : List (Option ℕ)). IsKept common c.insert.new.self thresholds
-    (set c.self.inside.slots c.slot_of.result (Some c.args.share)))
-    (ap Some (sym c.of.ensures))
-    (ap₂ (λ (g t : ℕ). set c.self.inside.member_thresholds g (Some t)) group (sym c.member_threshold.ensures))
-    (kept c)
+    let index : c.from.result ≡ c.args.share.group_index =
+    c.from.ensures ∙ ap (λ (x : ShareFields). x.group_index) c.fields.ensures.fields in
+    rw (c.group_threshold.ensures, index, c.member_threshold.ensures) (kept c)
 
 pub returns-clause-repeat : goal.returns-clause-repeat
 returns-clause-repeat c = (
   (λ e. absurd (let bad : Ok New ≡ Ok Repeat = e in cc)),
-  (λ has_share. absurd (new_from_masks c.self.inside.common c.self.inside.at_hand c.self.inside.member_thresholds c.self.inside.slots c.self.invariant
-      c.args.share c.fields.ensures.in_range (not_held c) (subst (λ l. Contains l c.args.share) (sym c.self.view_is) has_share))),
+  (λ has_share. absurd (no_name c
+      (Contains-map name_of (shares_at c.self.inside.slots) c.args.share (subst (λ set. Contains set c.args.share) (sym c.self.view_is) has_share)))),
 )
 
 pub returns-clause-new : goal.returns-clause-new
 returns-clause-new c = λ e.
-    subst (λ l. HasOneMore l c.args.share (shares_at (set c.self.inside.slots c.slot_of.result (Some c.args.share)))) c.self.view_is
+    subst (λ old. HasOneMore old c.args.share (shares_at (set c.self.inside.slots c.slot_of.result (Some c.args.share)))) c.self.view_is
     (has_one_more c.self.inside.slots c.slot_of.result c.args.share (below c) (empty c))
 
 pub returns-clause-is_set : goal.returns-clause-is_set

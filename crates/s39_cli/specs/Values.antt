@@ -1,0 +1,116 @@
+-- Values of a command that stand in files, or in the first lines of the input.
+use Rattle.std.specs.Prelude.{◌≡◌, ◌≢◌, ◌⊎◌, ◌<◌, ◌≤◌, ℕ, List, [], ◌∷◌, All, Option, Some, None, IfSome, codes, if◌then◌else◌, length, option_map, take}
+use Rattle.std.specs.Borrow.{Bor}
+use Rattle.std.specs.Io.BufRead.{ends_with_byte, strip_last, take_through}
+use Rattle.std.specs.Io.KnownBytes.{Consumes, IsAtEnd, Keeps}
+use Rattle.clap.specs.Words.{Text}
+use Rattle.s39_cli.specs.declared.command.Call.{Call}
+use Rattle.s39_cli.specs.declared.command.ValueFiles.{ValueFiles}
+use Rattle.s39_cli.specs.declared.command.Job.{Job}
+use Rattle.s39_cli.specs.declared.command.Job.TheVariants.{Create, Recover, Drill}
+use Rattle.s39_cli.specs.declared.values.Until.{Until}
+use Rattle.s39_cli.specs.declared.values.Until.TheVariants.{End, LineEnd}
+
+-- the most bytes of a value
+abbrev pub longest_value : ℕ
+longest_value = 1024
+
+-- the bytes without a line feed at their end, and without a carriage return before it
+abbrev pub without_line_end : List ℕ → List ℕ
+without_line_end bytes = if ends_with_byte 10 bytes then strip_last 13 (strip_last 10 bytes) else bytes
+
+-- the part of the bytes in which a value stands: all of them, or the first line with its end
+abbrev pub part : Until → List ℕ → List ℕ
+part End bytes = bytes
+part LineEnd bytes = take_through 10 bytes
+
+-- The value stands in the bytes that are read, without the end of their line. They are that part of the reader's bytes, if it tells
+-- them, and none behind it is read.
+pub record IsValueIn (until : Until) (told left : Option (List ℕ)) (value : List ℕ) : Type 0 where
+  pub bytes : List ℕ
+  pub read : Consumes told left bytes
+  pub all : IfSome told (λ known. bytes ≡ part until known)
+  pub value_is : value ≡ without_line_end bytes
+  pub fits : length value ≤ longest_value
+
+-- what stands in that part of the reader's bytes is longer than a value may be, if the reader tells them
+abbrev pub HasLongValue : Until → Option (List ℕ) → Type 0
+HasLongValue until told = IfSome told (λ known. longest_value < length (without_line_end (part until known)))
+
+-- the name of the input
+abbrev pub input_name : Text
+input_name = codes "-"
+
+module _ {R : Type 0} (remaining : R → Option (List ℕ)) where
+  -- What is read for the file of a value, by two states of the input's reader. With no file it is nothing. The name of the input
+  -- stands for its first line; of another file the input isn't read.
+  abbrev pub TakesValue : Option (Bor Text) → Option (List ℕ) → R → R → Type 0
+  TakesValue None value old new = (value ≡ None) × (new ≡ old)
+  TakesValue (Some file) value old new = (read : List ℕ) × (value ≡ Some read) × (length read ≤ longest_value)
+      × (((file.now ≡ input_name) × IsValueIn LineEnd (remaining old) (remaining new) read)
+      ⊎ ((file.now ≢ input_name) × (new ≡ old)))
+
+  -- what is read for both files: first for the secret's, and then for that of the passphrase
+  abbrev pub TakesValues : ValueFiles → Option (List ℕ) → Option (List ℕ) → R → R → Type 0
+  TakesValues files secret passphrase old new =
+      (between : R) × TakesValue files.secret secret old between × TakesValue files.passphrase passphrase between new
+
+-- the text is what was read, or the given one, if nothing was
+abbrev pub IsText : Option (List ℕ) → Bor (List ℕ) → Bor (List ℕ) → Type 0
+IsText None given text = text ≡ given
+IsText (Some read) given text = text.now ≡ read
+
+-- the job has these values in the place of its own
+abbrev pub IsFilledBy : Option (List ℕ) → Option (List ℕ) → Job → Job → Type 0
+IsFilledBy secret passphrase (Create plan own_secret own exponent extendable) filled = (s p : Bor (List ℕ))
+    × (filled ≡ Create plan s p exponent extendable) × IsText secret own_secret s × IsText passphrase own p
+IsFilledBy secret passphrase (Recover own form) filled = (p : Bor (List ℕ)) × (filled ≡ Recover p form) × IsText passphrase own p
+IsFilledBy secret passphrase (Drill own after limit form) filled = (p : Bor (List ℕ))
+    × (filled ≡ Drill p after limit form) × IsText passphrase own p
+IsFilledBy secret passphrase job filled = filled ≡ job
+
+module _ {R : Type 0} (remaining : R → Option (List ℕ)) where
+  -- the job is that of the call, with the values that are read between these two states of the input's reader
+  abbrev pub FillsJob : Call → Job → R → R → Type 0
+  FillsJob call job old new = (secret passphrase : Option (List ℕ)) × TakesValues remaining call.files secret passphrase old new
+      × IsFilledBy secret passphrase call.job job
+
+-- the name is that of the input
+abbrev pub IsInput : Option (Bor Text) → Type 0
+IsInput None = ⊥
+IsInput (Some file) = file.now ≡ input_name
+
+-- some file is named, and not all of them are read; the input is read only if it is one of them
+abbrev pub LacksValue : {R : Type 0} → ValueFiles → R → R → Type 0
+LacksValue files old new = (((files.secret ≡ None) × (files.passphrase ≡ None)) → ⊥)
+    × ((new ≡ old) ⊎ (IsInput files.secret ⊎ IsInput files.passphrase))
+
+-- ---- within the program; no public contract cites this
+
+-- the value is in the file of this name, and there is none without a name, and with that of the input
+abbrev pub IsInFile : Option (Bor Text) → Option (List ℕ) → Type 0
+IsInFile None value = value ≡ None
+IsInFile (Some file) value = ((file.now ≡ input_name) × (value ≡ None))
+    ⊎ ((file.now ≢ input_name) × ((read : List ℕ) × (value ≡ Some read) × (length read ≤ longest_value)))
+
+-- a byte is read, or none at the end
+abbrev pub TakesByte : Option (List ℕ) → Option (List ℕ) → Option ℕ → Type 0
+TakesByte told left None = Keeps told left × IsAtEnd left
+TakesByte told left (Some byte) = Consumes told left (byte ∷ [])
+
+-- these bytes are the part of the reader's, or as much of it as this room takes
+pub record IsPart (until : Until) (room : ℕ) (told left : Option (List ℕ)) (bytes : List ℕ) : Type 0 where
+  pub read : Consumes told left bytes
+  pub all : IfSome told (λ known. bytes ≡ take room (part until known))
+  pub fits : length bytes ≤ room
+
+-- the part hasn't ended with these bytes: no line ends in them, where it is a line
+abbrev pub IsOpen : Until → List ℕ → Type 0
+IsOpen End bytes = Unit {0}
+IsOpen LineEnd bytes = All (λ byte. byte ≢ 10) bytes
+
+-- so many bytes of the part are read, and it hasn't ended
+pub record IsBegunPart (until : Until) (count : ℕ) (told left : Option (List ℕ)) (bytes : List ℕ) : Type 0 where
+  pub read : Consumes told left bytes
+  pub unended : IsOpen until bytes
+  pub counted : length bytes ≡ count

@@ -1,0 +1,271 @@
+//! Values of a command that stand in files or in the first lines of the input.
+ghost use Rattle.std.specs.Prelude.{◌≡◌, ◌≢◌, ◌≤◌, Err, None, IfOk, OnErr, length, option_map};
+ghost use Rattle.s39_cli.specs.Values.{HasLongValue, IsFilledBy, IsInFile, IsInput, IsPart, IsText, IsValueIn, LacksValue, TakesByte};
+ghost use Rattle.s39_cli.specs.Values.{TakesValue, TakesValues, longest_value, without_line_end};
+
+use crate::command::{Job, ValueFiles};
+use arrayvec::ArrayVec;
+use std::io::{ErrorKind, Read};
+use std::rt::Files;
+use std::{fs, io};
+
+/// The most bytes of a value.
+const MOST: usize = 1024;
+
+/// Room for a value, for the end of its line, and for one more byte, which shows that the value is too long.
+const ROOM: usize = 1027;
+
+/// The name that stands for the first line of the input.
+const INPUT: &str = "-";
+
+/// Where a value ends.
+#[derive(Clone, Copy, Debug)]
+enum Until {
+    /// At the end of the bytes.
+    End,
+    /// At the end of the first line.
+    LineEnd,
+}
+
+/// A value that was read.
+type Value = ArrayVec<u8, ROOM>;
+
+/// Why a value isn't read.
+#[derive(Drop)]
+pub(crate) enum NoValue {
+    /// It has more than 1,024 bytes.
+    TooLong,
+    /// An open or a read failed.
+    Failed(io::Error),
+}
+
+impl From<io::Error> for NoValue {
+    ghost use Rattle.s39_cli.specs.declared.values.NoValue.TheVariants.{Failed};
+
+    ghost from_gives = { λ error no_value. no_value ≡ Failed error };
+
+    fn from(error: io::Error) -> NoValue {
+        NoValue::Failed(error)
+    }
+}
+
+/// The next byte, or `None` at the end. A read that the system interrupted is tried again.
+fn next_byte<R: Read>(input: &mut R) -> io::Result<Option<u8>>
+    ensures byte { IfOk result (TakesByte (R.remaining input.old) (R.remaining input.new)) }
+{
+    for _ in 0..u64::MAX {
+        let mut byte = [0];
+        match input.read(&mut byte) {
+            Ok(0) => return Ok(None),
+            Ok(_) => return Ok(Some(byte[0])),
+            Err(error) if error.kind() == ErrorKind::Interrupted => {}
+            Err(error) => return Err(error),
+        }
+    }
+    Err(io::Error::from(ErrorKind::Interrupted))
+}
+
+/// The bytes of the part, as many as there is room for.
+fn part<R: Read>(input: &mut R, until: Until) -> io::Result<Value>
+    ensures part { IfOk result (λ bytes. IsPart until 1027 (R.remaining input.old)
+        (R.remaining input.new) bytes.items) }
+{
+    let mut bytes = ArrayVec::new();
+    for _ in 0..ROOM {
+        let Some(byte) = next_byte(input)? else {
+            break;
+        };
+        bytes.push(byte);
+        if let (Until::LineEnd, b'\n') = (until, byte) {
+            break;
+        }
+    }
+    Ok(bytes)
+}
+
+/// The bytes without a line feed at their end, and without a carriage return before it.
+fn without_line_end(bytes: Value) -> Value
+    ensures { result.items ≡ without_line_end bytes.items }
+{
+    let mut bytes = bytes;
+    if bytes.last() == Some(&b'\n') {
+        bytes.pop();
+        if bytes.last() == Some(&b'\r') {
+            bytes.pop();
+        }
+    }
+    bytes
+}
+
+/// The value that stands in the part.
+fn value_in<R: Read>(input: &mut R, until: Until) -> Result<Value, NoValue>
+    ensures value { IfOk result (λ value. IsValueIn until (R.remaining input.old)
+        (R.remaining input.new) value.items) }
+    ensures long { result ≡ Err NoValue.TooLong → HasLongValue until (R.remaining input.old) }
+{
+    let value = without_line_end(part(input, until)?);
+    if value.len() > MOST {
+        return Err(NoValue::TooLong);
+    }
+    Ok(value)
+}
+
+/// Something that opens files by their names, as the system does.
+pub trait Shelf {
+    /// An opened file.
+    type File: Read + Drop;
+
+    /// Opens a file for reading.
+    ///
+    /// # Errors
+    /// It fails if there is no such file, or if the file can't be opened.
+    fn open(&self, name: &str) -> io::Result<Self::File>;
+}
+
+/// The files of the system.
+#[derive(Drop)]
+pub struct SystemFiles<'a, F> {
+    files: &'a F,
+}
+
+impl<'a, F: Files> SystemFiles<'a, F> {
+    /// The files that this runtime reaches.
+    pub fn new(files: &'a F) -> SystemFiles<'a, F> {
+        SystemFiles { files }
+    }
+}
+
+impl<'a, F: Files> Shelf for SystemFiles<'a, F> {
+    type File = F::File;
+
+    fn open(&self, name: &str) -> io::Result<F::File> {
+        fs::open(self.files, name)
+    }
+}
+
+/// Why the value in the file of this name isn't read.
+#[derive(Drop)]
+pub(crate) struct Unread<'a> {
+    pub(crate) name: &'a str,
+    pub(crate) cause: NoValue,
+}
+
+/// The value in the file of this name.
+fn value_of_file<S: Shelf>(shelf: &S, name: &str) -> Result<Value, NoValue>
+    ensures { IfOk result (λ value. length value.items ≤ longest_value) }
+{
+    let mut file = shelf.open(name)?;
+    value_in(&mut file, Until::End)
+}
+
+/// The value in the file of this name, if there is a name, and it isn't that of the input.
+fn in_file<'a, S: Shelf>(shelf: &S, name: Option<&'a str>) -> Result<Option<Value>, Unread<'a>>
+    ensures value { IfOk result (λ value. IsInFile name.entry (option_map (λ held. held.items) value)) }
+    ensures failed { OnErr result (name.entry ≢ None) }
+{
+    let name = match name {
+        Some(name) if name != INPUT => name,
+        _ => return Ok(None),
+    };
+    match value_of_file(shelf, name) {
+        Ok(value) => Ok(Some(value)),
+        Err(cause) => Err(Unread { name, cause }),
+    }
+}
+
+/// The value in the first line of the input, if this is the input's name, and else the one in the file.
+fn in_line<'a, R: Read>(
+    input: &mut R,
+    name: Option<&'a str>,
+    in_file: Option<Value>,
+) -> Result<Option<Value>, Unread<'a>>
+    requires { IsInFile name (option_map (λ held. held.items) in_file) }
+    ensures value { IfOk result (λ value. TakesValue R.remaining name.entry
+        (option_map (λ held. held.items) value) input.old input.new) }
+    ensures failed { OnErr result (IsInput name.entry) }
+{
+    let name = match name {
+        Some(name) if name == INPUT => name,
+        _ => return Ok(in_file),
+    };
+    match value_in(input, Until::LineEnd) {
+        Ok(value) => Ok(Some(value)),
+        Err(cause) => Err(Unread { name, cause }),
+    }
+}
+
+/// The text that was read, or the given one, if nothing was.
+fn text_of<'a>(read: &'a Option<Value>, given: &'a [u8]) -> &'a [u8]
+    ensures { IsText (option_map (λ held. held.items) read.now) given.entry result }
+{
+    match read {
+        Some(value) => value.as_slice(),
+        None => given,
+    }
+}
+
+/// The values of a command that aren't in its words.
+#[derive(Drop)]
+pub(crate) struct Values {
+    secret: Option<Value>,
+    passphrase: Option<Value>,
+}
+
+impl Values {
+    /// Reads them: those in files first, and then those in the first lines of the input, the secret before the passphrase.
+    pub(crate) fn read<'a, S: Shelf, R: Read>(
+        shelf: &S,
+        files: ValueFiles<'a>,
+        input: &mut R,
+    ) -> Result<Values, Unread<'a>>
+        ensures values { IfOk result (λ values. TakesValues R.remaining files.entry
+            (option_map (λ held. held.items) values.secret)
+            (option_map (λ held. held.items) values.passphrase) input.old input.new) }
+        ensures failed { OnErr result (LacksValue files.entry input.old input.new) }
+    {
+        let secret = in_file(shelf, files.secret)?;
+        let passphrase = in_file(shelf, files.passphrase)?;
+        Ok(Values {
+            secret: in_line(input, files.secret, secret)?,
+            passphrase: in_line(input, files.passphrase, passphrase)?,
+        })
+    }
+
+    /// The job with these values instead of its own.
+    pub(crate) fn fill<'a>(&'a self, job: Job<'a>) -> Job<'a>
+        ensures filled { IsFilledBy (option_map (λ held. held.items) self.now.secret)
+            (option_map (λ held. held.items) self.now.passphrase) job.entry result }
+    {
+        match job {
+            Job::Create {
+                plan,
+                secret,
+                passphrase,
+                exponent,
+                extendable,
+            } => Job::Create {
+                plan,
+                secret: text_of(&self.secret, secret),
+                passphrase: text_of(&self.passphrase, passphrase),
+                exponent,
+                extendable,
+            },
+            Job::Recover { passphrase, form } => Job::Recover {
+                passphrase: text_of(&self.passphrase, passphrase),
+                form,
+            },
+            Job::Drill {
+                passphrase,
+                after,
+                limit,
+                form,
+            } => Job::Drill {
+                passphrase: text_of(&self.passphrase, passphrase),
+                after,
+                limit,
+                form,
+            },
+            job => job,
+        }
+    }
+}
