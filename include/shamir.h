@@ -1,20 +1,31 @@
 /*
- * shamir.h: SLIP-0039 backups for programs in C.
+ * shamir.h: SLIP-0039 backups of a master secret, for C and C++.
  *
- * Each function works on memory of its caller. It takes no memory, makes no system call, keeps nothing between calls, and
- * returns whatever bytes it is given. Calls share nothing, so they may run on any threads at once. A call takes at most
- * SHAMIR_STACK_BYTES bytes of stack. The main thread has them. In one that was made with less, shamir_create and the calls
- * that take lines may end the program; the others take little.
+ * The library creates backups, reads mnemonics, recovers secrets, lists what each quorum recovers, reports what is missing,
+ * and computes lost mnemonics. docs/LIBRARY.md introduces it with examples, and the manual page shamir(3) is a reference.
  *
- * A slice is a pointer and the number of bytes there. What a call writes, a slice or a struct, overlaps nothing else that
- * the call is given. Where the number of bytes is 0, the pointer isn't used, and may be NULL; a pointer to a struct may not.
- * The number counts no zero at a text's end: a zero byte that is counted is a byte of the text. None is written. Texts are
- * of char, and secrets, values and random bytes of uint8_t, so that a compiler notices where they change places.
+ * A backup consists of mnemonics, which are lines of words. Each mnemonic is a member of a group. Groups and members are
+ * numbered from 0, and the name of a mnemonic has both numbers: 0.2 is member 2 of group 0. A group is complete once its
+ * member threshold is met. Mnemonics are enough once the number of complete groups meets the group threshold. A quorum is a
+ * minimal set of mnemonics that is enough: no mnemonic of it can be left out.
  *
- * Whatever is refused: nothing is written then.
+ * Each call works in buffers of its caller. It allocates no memory, makes no system call and keeps nothing between calls. It
+ * returns for every input. Calls share no data, so any number of threads can make calls at once.
  *
- * Not wiped: copies of secrets and passphrases may be left on the stack; examples/c/cleared.c calls on a stack of its own,
- * and clears that. Nor is the time of a call the same for all secrets. docs/LIBRARY.md says what is promised and what isn't.
+ * A call uses at most SHAMIR_STACK_BYTES bytes of stack, which the main thread has by default. In a thread with a smaller
+ * stack, shamir_create and the calls that take lines can crash the program. The other calls use little stack.
+ *
+ * A buffer is a pointer and a length in bytes. If the length is 0, the pointer isn't used and may be NULL. A pointer to a
+ * struct must not be NULL. An output buffer or an output struct must not overlap any other argument. Lengths exclude any
+ * terminating NUL; an embedded NUL is part of the text. No call writes a terminating NUL. Texts have the type char, and
+ * secrets, values and random bytes have the type uint8_t. So a compiler can warn if a text and bytes are exchanged.
+ *
+ * Each call returns a shamir_answer. If its code is SHAMIR_DONE, the call succeeded: the output is at the start of the output
+ * buffer, and the bytes after it are unchanged. Any other code is a refusal. On refusal nothing is written.
+ *
+ * The library doesn't clear its stack, where copies of secrets and passphrases may remain. examples/c/cleared.c makes calls
+ * on a stack of its own, and clears that. The time of a call can depend on secrets. docs/LIBRARY.md says what is promised and
+ * what isn't.
  */
 #ifndef SHAMIR_H
 #define SHAMIR_H
@@ -22,55 +33,55 @@
 #include <stddef.h>
 #include <stdint.h>
 
-/* The version of this header; shamir_version tells that of the library. */
+/* The version of this header. shamir_version gives the version of the library. */
 #define SHAMIR_VERSION "1.0.0"
 
 #ifdef __cplusplus
 extern "C" {
 #endif
 
-/* The fewest and the most bytes of a master secret, and so of a share's value; the number is even. */
+/* The minimum and maximum length of a master secret, and of the value of a mnemonic. The length is even. */
 #define SHAMIR_SECRET_BYTES_MIN 16
 #define SHAMIR_SECRET_BYTES_MAX 128
 
-/* The most random bytes that a backup takes. */
+/* The maximum number of random bytes that a backup takes. */
 #define SHAMIR_RANDOM_BYTES_MAX 32574
 
-/* The most bytes of a mnemonic, and of all mnemonics of a backup, each with a line feed behind it. */
+/* The maximum length of a mnemonic, and of all mnemonics of a backup with a line feed after each. */
 #define SHAMIR_MNEMONIC_BYTES_MAX 989
 #define SHAMIR_MNEMONICS_BYTES_MAX 253440
 
-/* The most mnemonics of a backup. */
+/* The maximum number of mnemonics in a backup. */
 #define SHAMIR_MNEMONICS_MAX 256
 
-/* The most bytes of a line of calls that take lines, be it a comment, its line feed not counted. */
+/* The maximum length of a line, without its line feed, for the calls that take lines. It applies to comments too. */
 #define SHAMIR_LINE_BYTES_MAX 1024
 
-/* The most bytes of a list of names, as of a quorum: enough to keep the text to go on after. */
+/* The maximum length of a list of names, such as the cursor of shamir_drill. */
 #define SHAMIR_NAMES_BYTES_MAX 1215
 
-/* The most bytes that shamir_status writes. shamir_reissue writes SHAMIR_MNEMONICS_BYTES_MAX at most. */
+/* The maximum length of the output of shamir_status. */
 #define SHAMIR_STATUS_BYTES_MAX 1638
 
-/* The bytes of a fingerprint. */
+/* The length of a fingerprint. */
 #define SHAMIR_FINGERPRINT_BYTES_MAX 8
 
-/* So many bytes are enough for the longest line of a quorum and the last line, and so for each call of a drill. */
+/* An output buffer of this length is enough for every call of shamir_drill. */
 #define SHAMIR_LISTING_BYTES_ENOUGH 2700
 
-/* The most bytes that shamir_text writes. */
+/* The maximum length of the output of shamir_text. */
 #define SHAMIR_TEXT_BYTES_MAX 64
 
-/* The greatest iteration exponent: as max_exponent it lets every mnemonic pass. */
+/* The maximum iteration exponent. As max_exponent, it allows every mnemonic. */
 #define SHAMIR_EXPONENT_MAX 15
 
-/* The most bytes of stack that a call takes. */
+/* The maximum number of bytes of stack that a call uses. It is measured, not proved. */
 #define SHAMIR_STACK_BYTES 524288
 
-/* In the place of a group in a digest's mismatch: the digest of the group shares. */
+/* This number stands for the digest of the group shares in the first detail of SHAMIR_DIGEST_MISMATCH. */
 #define SHAMIR_OF_GROUPS 16
 
-/* Attributes, where the compiler has them: an answer is looked at, and a pointer to a struct isn't NULL. */
+/* These attributes let a compiler warn if an answer is ignored, or if a pointer to a struct is NULL. */
 #if defined(__GNUC__)
 #define SHAMIR_CALL __attribute__((visibility("default"), warn_unused_result))
 #define SHAMIR_STRUCT(position) __attribute__((nonnull(position)))
@@ -80,91 +91,131 @@ extern "C" {
 #endif
 
 /*
- * The number of the first cause that applies, or 0. All but the first four are those of the command shamir. Behind each
- * stands what first and second of the answer are; where they have no meaning they are 0. Groups and members count from 0.
+ * The codes of an answer. A call that refuses gives the code of the first cause that applies. The command shamir uses the
+ * same numbers, except 1 to 3, which only the library gives. The comments say what the details first and second of a refusal
+ * are. A detail that a comment doesn't mention is 0. Groups and members are numbered from 0.
  */
 typedef enum shamir_code {
-    SHAMIR_DONE = 0,                    /* nothing is refused */
-    SHAMIR_TOO_SHORT = 1,               /* a slice is too short; first: the bytes that are needed */
-    SHAMIR_OUT_OF_RANGE = 2,            /* a number is out of its range */
-    SHAMIR_HIGH_EXPONENT = 3,           /* the exponent is above the most; first: the exponent of the mnemonics */
-    SHAMIR_UNKNOWN_WORD = 11,           /* a word isn't in the word list; first: its position, from 1 */
-    SHAMIR_WORD_COUNT = 12,             /* no mnemonic has so many words; first: their number */
-    SHAMIR_BAD_CHECKSUM = 13,           /* the checksum is bad */
-    SHAMIR_BAD_PADDING = 14,            /* the padding is bad */
+    SHAMIR_DONE = 0,                    /* the call succeeded */
+    SHAMIR_TOO_SHORT = 1,               /* the output buffer is too short; first: the number of bytes needed */
+    SHAMIR_OUT_OF_RANGE = 2,            /* a number is out of range */
+    SHAMIR_HIGH_EXPONENT = 3,           /* the exponent of the mnemonics is above max_exponent; first: this exponent */
+    SHAMIR_UNKNOWN_WORD = 11,           /* a word isn't in the word list; first: its position in the line, from 1 */
+    SHAMIR_WORD_COUNT = 12,             /* a mnemonic can't have this number of words; first: the number of words */
+    SHAMIR_BAD_CHECKSUM = 13,           /* the checksum is wrong */
+    SHAMIR_BAD_PADDING = 14,            /* a padding bit isn't 0 */
     SHAMIR_GROUP_THRESHOLD = 15,        /* the group threshold is above the group count */
-    SHAMIR_OTHER_IDENTIFIER = 21,       /* the identifier is another than that of the lines before */
-    SHAMIR_OTHER_EXTENDABLE = 22,       /* and so on: the extendable flag */
-    SHAMIR_OTHER_EXPONENT = 23,         /* the iteration exponent */
-    SHAMIR_OTHER_GROUP_THRESHOLD = 24,  /* the group threshold */
-    SHAMIR_OTHER_GROUP_COUNT = 25,      /* the group count */
-    SHAMIR_OTHER_LENGTH = 26,           /* the length */
-    SHAMIR_OTHER_MEMBER_THRESHOLD = 27, /* the member threshold of its group; first: the group */
-    SHAMIR_CONFLICTING_SHARE = 28,      /* a share of this name with another value; first: the group, second: the member */
+    SHAMIR_OTHER_IDENTIFIER = 21,       /* the identifier differs from that of earlier lines */
+    SHAMIR_OTHER_EXTENDABLE = 22,       /* the extendable flag differs from that of earlier lines */
+    SHAMIR_OTHER_EXPONENT = 23,         /* the iteration exponent differs from that of earlier lines */
+    SHAMIR_OTHER_GROUP_THRESHOLD = 24,  /* the group threshold differs from that of earlier lines */
+    SHAMIR_OTHER_GROUP_COUNT = 25,      /* the group count differs from that of earlier lines */
+    SHAMIR_OTHER_LENGTH = 26,           /* the length of the value differs from that of earlier lines */
+    SHAMIR_OTHER_MEMBER_THRESHOLD = 27, /* the group has another member threshold in earlier lines; first: the group */
+    SHAMIR_CONFLICTING_SHARE = 28,      /* this name has another value in an earlier line; first: the group, second: the member */
     SHAMIR_NO_SHARES = 29,              /* no line holds a mnemonic */
-    SHAMIR_INCOMPLETE = 30,             /* too few; first: the complete groups, second: the groups that are needed */
-    SHAMIR_BAD_PLAN = 31,               /* the text is no plan */
-    SHAMIR_PLAN_GROUPS = 32,            /* a bad number of groups in the plan */
-    SHAMIR_PLAN_MEMBERS = 33,           /* a bad number of members in a group of the plan; first: the group */
-    SHAMIR_ONE_OF_MANY = 34,            /* one of many is enough in a group of the plan; first: the group */
-    SHAMIR_PASSPHRASE = 41,             /* a byte of the passphrase isn't printable; first: its position, from 1 */
-    SHAMIR_SECRET_LENGTH = 42,          /* a secret may not have so many bytes; first: their number */
-    SHAMIR_RANDOM_LENGTH = 43,          /* another number of random bytes is needed; first: the number that is needed */
+    SHAMIR_INCOMPLETE = 30,             /* too few groups are complete; first: their number, second: the group threshold */
+    SHAMIR_BAD_PLAN = 31,               /* the text isn't a plan */
+    SHAMIR_PLAN_GROUPS = 32,            /* the plan has more than 16 groups, or fewer than its group threshold */
+    SHAMIR_PLAN_MEMBERS = 33,           /* a group has more than 16 members, or fewer than its threshold; first: the group */
+    SHAMIR_ONE_OF_MANY = 34,            /* a group has several members and the member threshold 1; first: the group */
+    SHAMIR_PASSPHRASE = 41,             /* a byte of the passphrase isn't printable ASCII; first: its position, from 1 */
+    SHAMIR_SECRET_LENGTH = 42,          /* a secret can't have this number of bytes; first: the number of bytes */
+    SHAMIR_RANDOM_LENGTH = 43,          /* the number of random bytes is wrong; first: the number of bytes needed */
     SHAMIR_DIGEST_MISMATCH = 51,        /* a digest doesn't match; first: the group, or SHAMIR_OF_GROUPS */
-    SHAMIR_BAD_CURSOR = 61,             /* the cursor is no list of names */
-    SHAMIR_NOT_A_QUORUM = 62,           /* the names are no quorum */
-    SHAMIR_BAD_NAMES = 63,              /* the text is no list of names */
-    SHAMIR_NOT_IN_PLAN = 64,            /* the plan doesn't have a name; first: the group, second: the member */
-    SHAMIR_OTHER_PLAN = 65,             /* the mnemonics are of another plan */
+    SHAMIR_BAD_CURSOR = 61,             /* the cursor isn't a list of names */
+    SHAMIR_NOT_A_QUORUM = 62,           /* the cursor doesn't name a quorum of these mnemonics */
+    SHAMIR_BAD_NAMES = 63,              /* the text isn't a list of names */
+    SHAMIR_NOT_IN_PLAN = 64,            /* a name isn't in the plan; first: the group, second: the member */
+    SHAMIR_OTHER_PLAN = 65,             /* a mnemonic can't belong to a backup of this plan */
     SHAMIR_UNDETERMINED = 66,           /* a mnemonic isn't determined; first: 256 * group + member, second: see shamir_reissue */
     SHAMIR_LINE_TOO_LONG = 71           /* a line has more than SHAMIR_LINE_BYTES_MAX bytes */
 } shamir_code;
 
-/* What a call answers. */
+/*
+ * The answer of a call.
+ *
+ * line is the number of the refused line, counted from 1, for the codes 11 to 28 and 71 of calls that take lines. Otherwise
+ * it is 0. Only shamir_drill sets mismatches; in answers of other calls it is 0. first and second are the details of a
+ * refusal, or results of shamir_random_needed and shamir_status. Otherwise they are 0.
+ */
 typedef struct shamir_answer {
-    uint32_t code;       /* a number of shamir_code */
-    uint32_t mismatches; /* how many listed quorums are refused for a digest */
-    uint64_t line;       /* the line that is refused, from 1, for the codes 11 to 28 and 71 of lines */
-    uint64_t first;
-    uint64_t second;
-    uint64_t written;    /* how many bytes the call wrote */
+    uint32_t code;       /* a shamir_code: SHAMIR_DONE, or the cause of the refusal */
+    uint32_t mismatches; /* how many listed quorums have a digest mismatch */
+    uint64_t line;       /* the refused line, or 0 */
+    uint64_t first;      /* the first detail, or 0 */
+    uint64_t second;     /* the second detail, or 0 */
+    uint64_t written;    /* how many bytes the call wrote to its output buffer */
 } shamir_answer;
 
-/* The fields of a mnemonic but its value. */
+/* The fields of a mnemonic, except its value. */
 typedef struct shamir_share {
-    uint16_t id;              /* the identifier of the backup, below 2^15 */
+    uint16_t id;              /* the identifier of the backup, 0 to 32767 */
     uint8_t extendable;       /* the extendable flag, 0 or 1 */
     uint8_t exponent;         /* the iteration exponent, 0 to 15 */
-    uint8_t group_index;      /* 0 to 15 */
+    uint8_t group_index;      /* the group, 0 to 15 */
     uint8_t group_threshold;  /* 1 to group_count */
     uint8_t group_count;      /* 1 to 16 */
-    uint8_t member_index;     /* 0 to 15 */
+    uint8_t member_index;     /* the member of the group, 0 to 15 */
     uint8_t member_threshold; /* 1 to 16 */
 } shamir_share;
 
 /*
- * Reads a mnemonic: its fields go to share, and its value to the front of value, SHAMIR_SECRET_BYTES_MIN to
- * SHAMIR_SECRET_BYTES_MAX bytes. The line comes without its line feed, which would be a byte of its last word (11). Words
- * stand apart by spaces, tabs and carriage returns, as many as there are, and capitals count as small letters. share may
- * not be NULL. Refused: 11 to 15, and then 1.
+ * Reads one mnemonic.
+ *
+ * line is the mnemonic, without its line feed. Words are separated by any number of spaces, tabs and carriage returns, and
+ * upper-case letters count as lower-case ones. A line feed in line counts as part of a word, and the call refuses that word
+ * with 11.
+ *
+ * The fields go to *share, and the value goes to the start of value. written is its length, an even number from
+ * SHAMIR_SECRET_BYTES_MIN to SHAMIR_SECRET_BYTES_MAX. The value is as secret as the mnemonic.
+ *
+ * The call refuses with the first of these that applies: 11 to 15, 1.
+ *
+ *     shamir_share share;
+ *     uint8_t value[SHAMIR_SECRET_BYTES_MAX];
+ *     shamir_answer answer = shamir_parse(line, strlen(line), &share, value, sizeof value);
  */
 SHAMIR_CALL SHAMIR_STRUCT(3)
 shamir_answer shamir_parse(const char *line, size_t line_bytes, shamir_share *share, uint8_t *value, size_t value_bytes);
 
 /*
- * How many random bytes a backup of a secret of so many bytes takes, by the text of a plan: first of the answer. A plan
- * is TofN, or GT/T1ofN1,T2ofN2,.. for several groups of which GT are needed. Refused: 31 to 34, and then 42.
+ * Computes how many random bytes shamir_create takes. After success, first of the answer is this number.
+ *
+ * plan is the text of the plan: TofN for one group, or GT/T1ofN1,T2ofN2,.. for up to 16 groups. GT is the group threshold,
+ * and at most the number of groups. Each T is the member threshold of a group, and each N is its number of members. T is at
+ * most N, and may be 1 only if N is 1. Each number is from 1 to 16, without leading zeros. A plan has no spaces.
+ *
+ * secret_bytes is the length of the master secret.
+ *
+ * The call refuses with the first of these that applies: 31 to 34, 42.
+ *
+ *     shamir_answer answer = shamir_random_needed("2of3", 4, 16);
+ *     size_t random_bytes = (size_t)answer.first;
  */
 SHAMIR_CALL
 shamir_answer shamir_random_needed(const char *plan, size_t plan_bytes, size_t secret_bytes);
 
 /*
- * Creates a backup of a secret: its mnemonics go to the front of mnemonics, by group and member, each with a line feed
- * behind it. The passphrase may be empty. The iteration exponent is 0 to 15: the call takes 10,000 * 2^exponent
- * iterations, twice as many for a secret of more than 64 bytes, and 1 comes after that work. The extendable flag is set
- * where extendable isn't 0. random has just as many bytes as shamir_random_needed says; they come from a source that
- * nobody can guess, and are used once. Refused: 2 for an exponent above 15, then 31 to 34, 41, 42, 43, and then 1, with the
- * bytes of all mnemonics.
+ * Creates a backup of a master secret.
+ *
+ * plan          the text of the plan, as for shamir_random_needed
+ * secret        the master secret: an even number of bytes, SHAMIR_SECRET_BYTES_MIN to SHAMIR_SECRET_BYTES_MAX
+ * passphrase    an additional secret, which a recovery needs too: printable ASCII, from the space to ~; it may be empty
+ * exponent      the iteration exponent, 0 to SHAMIR_EXPONENT_MAX
+ * extendable    0, or any other number to set the extendable flag
+ * random        exactly as many bytes as shamir_random_needed gives; they must be unpredictable, and no other backup may use
+ *               them
+ * mnemonics     the output: the mnemonics in the order of groups and members, with a line feed after each; an output buffer
+ *               of SHAMIR_MNEMONICS_BYTES_MAX bytes is always enough
+ *
+ * The call takes 10,000 * 2^exponent iterations of PBKDF2, and twice as many for a secret of more than 64 bytes. If mnemonics
+ * is too short, the call refuses with 1 only after these iterations, and first is the length of all mnemonics.
+ *
+ * The call refuses with the first of these that applies: 2 (an exponent above 15), 31 to 34, 41, 42, 43, 1.
+ *
+ *     static char mnemonics[SHAMIR_MNEMONICS_BYTES_MAX];
+ *     shamir_answer answer = shamir_create("2of3", 4, secret, 16, "", 0, 0, 1, random, 14, mnemonics, sizeof mnemonics);
  */
 SHAMIR_CALL
 shamir_answer shamir_create(
@@ -172,15 +223,26 @@ shamir_answer shamir_create(
     uint32_t exponent, uint32_t extendable, const uint8_t *random, size_t random_bytes, char *mnemonics, size_t mnemonics_bytes);
 
 /*
- * Recovers the secret of lines, each a mnemonic, blank, or a comment that begins with a number sign: that of the least
- * quorum among them. A line ends with a line feed, which the last may lack. The secret goes to the front of secret. A wrong
- * passphrase isn't noticed: it gives another secret. Refused: 3, then 41, then the first refused line (11 to 28, 71), then
- * 29, 30, 51, and then 1.
+ * Recovers the master secret from mnemonics.
  *
- * The call takes 10,000 * 2^exponent iterations, with the exponent that the mnemonics say, and twice as many for a secret
- * of more than 64 bytes: at 15 these are some minutes. Where no line is refused, the mnemonics have a quorum, and their
- * exponent is above max_exponent, the answer is 3, whatever else could be refused, and no iteration was made.
- * SHAMIR_EXPONENT_MAX allows every exponent. Where the slice is too short, 1 comes after that work.
+ * lines has any number of lines. Each is a mnemonic as for shamir_parse, or a comment, or blank. A comment starts with #,
+ * after any spaces, tabs and carriage returns. A blank line has only these. A line feed ends a line; the last line may lack
+ * it. A mnemonic that comes again changes nothing.
+ *
+ * The call recovers the secret from the first quorum, in the order of shamir_drill. The secret goes to the start of secret.
+ * written is its length, an even number from SHAMIR_SECRET_BYTES_MIN to SHAMIR_SECRET_BYTES_MAX. A wrong passphrase isn't
+ * detected: it gives another secret.
+ *
+ * The exponent of the mnemonics determines how long the call takes: 10,000 * 2^exponent iterations of PBKDF2, and twice as
+ * many for a secret of more than 64 bytes. With the exponent 15 these take minutes. The call refuses with 3 if no line is
+ * refused, the mnemonics have a quorum, and their exponent is above max_exponent. It makes no iteration before this refusal.
+ * SHAMIR_EXPONENT_MAX allows every exponent. If secret is too short, the call refuses with 1 only after the iterations.
+ *
+ * The call refuses with the first of these that applies: 3, 41, the code of the first refused line (11 to 28, 71), 29, 30,
+ * 51, 1.
+ *
+ *     uint8_t secret[SHAMIR_SECRET_BYTES_MAX];
+ *     shamir_answer answer = shamir_recover(lines, lines_bytes, "TREZOR", 6, SHAMIR_EXPONENT_MAX, secret, sizeof secret);
  */
 SHAMIR_CALL
 shamir_answer shamir_recover(
@@ -188,25 +250,44 @@ shamir_answer shamir_recover(
     size_t secret_bytes);
 
 /*
- * Tries the quorums of lines, as of shamir_recover, that come after the one that after names, as 0.0+0.2+1.0, or all where
- * it is empty. What the command drill writes of them goes to the front of text: a line for each quorum, and a last line. The
- * call stops at the limit, or before the first quorum whose line doesn't fit with the last line behind it. So a loop of such
- * calls lists all quorums, each once. mismatches is how many of the listed quorums are refused for a digest.
+ * Runs a drill: the call tries the quorums of mnemonics, and lists what each of them recovers.
  *
- * A line of a quorum is its names, one space, and what it recovers; a line feed ends it. The names are in order, each a group
- * and a member in decimal with a dot between, and a plus sign stands between names. What it recovers is two hexadecimal
- * digits, in small letters, for each byte of the secret, or "digest mismatch in group G", of the lowest such group, or
- * "digest mismatch of groups". The last line is "end" where no quorum is left, else "more after " and the names to go on
- * after; a line feed ends it too. after and text may not overlap: copy these names, at most SHAMIR_NAMES_BYTES_MAX bytes,
- * before the next call writes to text.
+ * lines, passphrase and max_exponent are those of shamir_recover. The parameter after is the cursor. If it is empty,
+ * the call starts with the first quorum. If it names a quorum, such as 0.0+0.2+1.0, the call starts with the next one. The
+ * call lists at most limit quorums, and limit is 1 or more.
  *
- * Refused: 3 as by shamir_recover, then 2 for a limit of 0, then 61, 41, then the first refused line (11 to 28, 71), then 29,
- * 30, 62, and then 1 where not even one quorum fits: first is what its line and the last line need. That is 4 where no quorum
- * comes after the named one, for "end" and a line feed. SHAMIR_LISTING_BYTES_ENOUGH is always enough.
+ * The listing goes to the start of text, in the format of the command drill. It has a line for each quorum, and a last line:
  *
- * The call takes as many iterations as shamir_recover for each value that quorums combine to: mostly all combine to one, but
- * each call begins anew, and 1 comes after that work too. So give it a room of 65536 bytes: in parts of one quorum the drill
- * of a large backup takes tens of times as long.
+ *     NAMES SECRET                        the quorum recovers this secret, in lower-case hexadecimal digits
+ *     NAMES digest mismatch in group G    G is the lowest group whose digest doesn't match
+ *     NAMES digest mismatch of groups     the digest of the group shares doesn't match
+ *     end                                 this last line says that no quorum is left
+ *     more after NAMES                    this last line says that there are more quorums, and gives the next cursor
+ *
+ * A line feed ends every line. NAMES are the names of the quorum in ascending order, joined by plus signs. Quorums come in
+ * ascending order of their names. mismatches is the number of listed quorums with a digest mismatch. A digest mismatch is no
+ * refusal here.
+ *
+ * The call stops at the limit. It also stops before the first quorum whose line, with the last line after it, doesn't fit
+ * into text. A loop that passes the names of each last line to the next call lists every quorum exactly once. Copy these
+ * names before the next call, as after and text must not overlap. They have at most SHAMIR_NAMES_BYTES_MAX bytes.
+ *
+ * The call refuses with 1 if the line of one quorum and the last line don't fit into text; first is their length. If no
+ * quorum comes after the cursor, the length is 4, for "end" and a line feed. SHAMIR_LISTING_BYTES_ENOUGH bytes are always
+ * enough.
+ *
+ * The mnemonics of a quorum combine to an encrypted secret. Decrypting it takes the iterations of shamir_recover. The quorums
+ * of a sound backup all combine to the same encrypted secret. A call keeps the last four results, so it decrypts this one
+ * once. The next call decrypts it anew. If text is too short for one quorum, the call refuses it only after this work.
+ *
+ * So use an output buffer of about 65536 bytes. A drill of a large backup takes tens of times as long if each call lists only
+ * one quorum.
+ *
+ * The call refuses with the first of these that applies: 3 as shamir_recover does, 2 (a limit of 0), 61, 41, the code of the
+ * first refused line (11 to 28, 71), 29, 30, 62, 1.
+ *
+ *     shamir_answer answer = shamir_drill(
+ *         lines, lines_bytes, "TREZOR", 6, SHAMIR_EXPONENT_MAX, after, after_bytes, 1000, text, sizeof text);
  */
 SHAMIR_CALL
 shamir_answer shamir_drill(
@@ -214,32 +295,55 @@ shamir_answer shamir_drill(
     size_t after_bytes, uint32_t limit, char *text, size_t text_bytes);
 
 /*
- * Tells what lines, as of shamir_recover, have of each group. What the command status writes of them goes to the front of
- * text: a line "groups C of R", where C groups are complete and R are needed, and then for each group of which a mnemonic is
- * there, in order, a line "group G members N of T NAMES", where N members are there, T are needed, and NAMES are their names,
- * as 0.0+0.2; a line feed ends each. A mnemonic that stands there twice counts once. No passphrase has a part in it.
+ * Reports how many members of each group are among mnemonics, and whether the mnemonics are enough for a recovery.
  *
- * first of the answer is C and second is R: the mnemonics are enough for shamir_recover exactly where first is at least
- * second. Where they are fewer the code is 0 too, as that is no refusal. SHAMIR_STATUS_BYTES_MAX bytes are always enough.
- * Refused: the first refused line (11 to 28, 71), then 29, and then 1.
+ * lines is that of shamir_recover. The call needs no passphrase, and decrypts nothing. A mnemonic that comes again counts
+ * once. The output goes to the start of text, in the format of the command status. SHAMIR_STATUS_BYTES_MAX bytes are always
+ * enough. It has a first line, and a line for each group that has a member among the mnemonics, in ascending order:
+ *
+ *     groups C of R                   C groups are complete, and the group threshold is R
+ *     group G members N of T NAMES    group G has N members in lines, its member threshold is T, and NAMES are their names
+ *
+ * A line feed ends every line. NAMES are in ascending order, joined by plus signs. After success, first of the answer is C
+ * and second is R. The mnemonics have a quorum if and only if first is at least second. If they have none, the code is still
+ * SHAMIR_DONE.
+ *
+ * The call refuses with the first of these that applies: the code of the first refused line (11 to 28, 71), 29, 1.
+ *
+ *     char text[SHAMIR_STATUS_BYTES_MAX];
+ *     shamir_answer answer = shamir_status(lines, lines_bytes, text, sizeof text);
+ *     int enough = answer.code == SHAMIR_DONE && answer.first >= answer.second;
  */
 SHAMIR_CALL
 shamir_answer shamir_status(const char *lines, size_t lines_bytes, char *text, size_t text_bytes);
 
 /*
- * Computes mnemonics of a backup from others of it, in lines as of shamir_recover. plan is the text of the plan that the
- * backup was created by, or of one with more members in some groups, which then are new members of this backup. names lists
- * the names of the mnemonics, in order, as 0.1+2.0. They go to the front of mnemonics, in this order, each with a line feed
- * behind it. No passphrase has a part in it, and nothing is deciphered.
+ * Computes lost mnemonics of a backup from others of it.
  *
- * Of each name it is the mnemonic that is there; else what follows from as many members of its group as are needed; else from
- * one member fewer, where as many other groups are complete as groups are needed. Where neither is there, the answer is 66:
- * first is 256 * group + member of the name, and second has four bytes, the highest first: how many members of the group are
- * there, how many are needed, how many other groups are complete, and how many groups are needed. A mnemonic that may be in
- * other hands isn't made safe so: that takes a new backup, and a new secret where a quorum could be there.
+ * plan          the text of the plan of the backup; the plan may have more members in some groups, and these are then new
+ *               members of this backup
+ * names         the names of the wanted mnemonics, each once and in ascending order, joined by plus signs, such as 0.1+2.0
+ * lines         the mnemonics, as for shamir_recover
+ * mnemonics     the output: the wanted mnemonics in the order of names, with a line feed after each; an output buffer of
+ *               SHAMIR_MNEMONICS_BYTES_MAX bytes is always enough
  *
- * Refused: 31 to 34, then 63, 64, then the first refused line (11 to 28, 71), then 29, 65, then name by name 66 or 51, and
- * then 1, with the bytes of all these mnemonics. SHAMIR_MNEMONICS_BYTES_MAX bytes are always enough.
+ * The call needs no passphrase, and decrypts nothing. If a wanted mnemonic is among lines, it is the result. Otherwise other
+ * members of its group determine it, if there are as many of them in lines as the member threshold. One member fewer is
+ * enough if the number of other complete groups is at least the group threshold.
+ *
+ * In any other case the mnemonic isn't determined, and the call refuses with 66. Then first is 256 * group + member, and
+ * second is a number of four bytes. From the highest to the lowest, these are the number of members of the group in lines, the
+ * member threshold, the number of other complete groups, and the group threshold.
+ *
+ * This call is for mnemonics that were destroyed. If somebody else may have the lost one, create a new backup. If they may
+ * have a quorum, use a new secret too.
+ *
+ * If mnemonics is too short, the call refuses with 1, and first is the length of all wanted mnemonics.
+ *
+ * The call refuses with the first of these that applies: 31 to 34, 63, 64, the code of the first refused line (11 to 28, 71),
+ * 29, 65, 66 or 51 for the names in turn, 1.
+ *
+ *     shamir_answer answer = shamir_reissue("2of3", 4, "0.1", 3, lines, lines_bytes, mnemonics, sizeof mnemonics);
  */
 SHAMIR_CALL
 shamir_answer shamir_reissue(
@@ -247,26 +351,44 @@ shamir_answer shamir_reissue(
     size_t mnemonics_bytes);
 
 /*
- * The fingerprint of a secret, by which its owner knows it again without seeing it: eight hexadecimal digits, in small
- * letters, of the first four bytes of the secret's HMAC-SHA256 under the key "shamir fingerprint", 18 bytes. They go to the
- * front of text, with no zero at their end. The command shamir tells the same ones. Another secret has the same fingerprint
- * in one case of 4,294,967,296; and who has it can try with it what the secret may be. SHAMIR_FINGERPRINT_BYTES_MAX bytes
- * are always enough. Refused: 42, and then 1.
+ * Computes the fingerprint of a master secret, by which its owner can recognise the secret without seeing it.
+ *
+ * The fingerprint is the first four bytes of the HMAC-SHA256 of the secret with the key "shamir fingerprint" (18 bytes). The
+ * call writes it as eight lower-case hexadecimal digits to the start of text. The command shamir gives the same digits.
+ *
+ * The chance that another secret has the same fingerprint is 1 in 4,294,967,296. Whoever has the fingerprint can test guesses
+ * of the secret with it.
+ *
+ * The call refuses with the first of these that applies: 42, 1.
+ *
+ *     char text[SHAMIR_FINGERPRINT_BYTES_MAX];
+ *     shamir_answer answer = shamir_fingerprint(secret, 16, text, sizeof text);
  */
 SHAMIR_CALL
 shamir_answer shamir_fingerprint(const uint8_t *secret, size_t secret_bytes, char *text, size_t text_bytes);
 
 /*
- * The text of an answer's code and details, as the command shamir prints it behind the number: it goes to the front of
- * text, with no zero at its end. For 0 it is "done", for 1 "slice too short: N bytes needed", for 2 "number out of range",
- * for 3 "exponent E above the most", and for what no call answers "unknown answer". answer may not be NULL. Refused: 1.
+ * Gives the text of an answer. If the command shamir has the same refusal, it prints this text after the number.
+ *
+ * The text goes to the start of text. SHAMIR_TEXT_BYTES_MAX bytes are always enough. For 0 it is "done", for 1 it is "slice
+ * too short: N bytes needed", for 2 it is "number out of range", and for 3 it is "exponent E above the most". For a code that
+ * no call gives it is "unknown answer". Details that no call gives with a code may give this text too.
+ *
+ * The only refusal is 1.
+ *
+ *     char text[SHAMIR_TEXT_BYTES_MAX];
+ *     shamir_answer told = shamir_text(&answer, text, sizeof text);
+ *     printf("%.*s\n", (int)told.written, text);
  */
 SHAMIR_CALL SHAMIR_STRUCT(1)
 shamir_answer shamir_text(const shamir_answer *answer, char *text, size_t text_bytes);
 
 /*
- * The version of the library, as SHAMIR_VERSION is that of the header: it goes to the front of text, with no zero at its end.
- * SHAMIR_TEXT_BYTES_MAX bytes are enough for it. Refused: 1.
+ * Gives the version of the library, as SHAMIR_VERSION gives that of the header.
+ *
+ * The version goes to the start of text. SHAMIR_TEXT_BYTES_MAX bytes are enough for it.
+ *
+ * The only refusal is 1.
  */
 SHAMIR_CALL
 shamir_answer shamir_version(char *text, size_t text_bytes);

@@ -1,9 +1,23 @@
-"""SLIP-0039 backups, by the library libshamir.
+"""SLIP-0039 backups of a master secret, by the library libshamir.
 
-Each function hands its arguments to the library and what it answers back; no rule of the format stands here. The library
-is the file that the environment variable SHAMIR_LIBRARY names, or libshamir.so in this package's folder (`make lib`
-puts it there), or the system's libshamir.so.1. Calls share nothing, so they may run on any threads; one takes at most
-512 kB of stack, which is more than a thread of a small `threading.stack_size` has.
+    >>> import os, shamir
+    >>> secret = os.urandom(16)
+    >>> mnemonics = shamir.create("2of3", secret, passphrase="TREZOR")
+    >>> shamir.recover(mnemonics[1:], passphrase="TREZOR") == secret
+    True
+
+A backup consists of mnemonics, which are lines of words. Each mnemonic is a member of a group. Groups and members are
+numbered from 0, and the name of a mnemonic has both numbers: 0.2 is member 2 of group 0. A group is complete once its
+member threshold is met. Mnemonics are enough once the number of complete groups meets the group threshold. A quorum is
+a minimal set of mnemonics that is enough.
+
+Each function passes its arguments to the library, and raises `Refusal` if the library refuses them. No rule of the
+format is in this module. It loads the library that the environment variable SHAMIR_LIBRARY names. Without the variable
+it loads libshamir.so in the folder of this package, where `make lib` puts it, or else the system's libshamir.so.1.
+
+Calls share no data, so any number of threads can make calls at once. A call uses at most 512 KiB of stack. A call in a
+thread with a smaller `threading.stack_size` can crash the program. Neither the package nor the library clears the
+memory where copies of secrets and passphrases remain.
 """
 from __future__ import annotations
 
@@ -22,23 +36,23 @@ __all__ += ["create", "drill", "fingerprint", "library_version", "parse", "rando
 
 __version__ = "1.0.0"
 
-# What lends bytes, as bytes does. Anything that memoryview takes works; these are the types that a checker knows.
+# Objects that lend bytes. Everything that memoryview takes works; these are the types that a type checker knows.
 Data = Union[bytes, bytearray, memoryview, "array.array[Any]", mmap.mmap]
 Text = Union[str, Data]
-# A text of lines, or its lines, each of which may end with a line feed.
+# One text of lines, or an iterable of lines. A line of an iterable may end with a line feed.
 Lines = Union[Text, Iterable[Text]]
 
-# Rooms that are long enough, as shamir.h names them.
+# These buffer lengths are always enough. Their names are those of shamir.h.
 SECRET_BYTES_MAX = 128
 MNEMONICS_BYTES_MAX = 253440
 STATUS_BYTES_MAX = 1638
 FINGERPRINT_BYTES_MAX = 8
 TEXT_BYTES_MAX = 64
 
-# The greatest iteration exponent.
+# The maximum iteration exponent.
 EXPONENT_MAX = 15
 
-# In the place of a group: the digest of the group shares doesn't match.
+# As the `mismatch` of an outcome, this number stands for the digest of the group shares.
 OF_GROUPS = 16
 
 DRILL_ROOM = 1 << 16
@@ -47,7 +61,7 @@ MORE = b"more after "
 
 
 class Code(enum.IntEnum):
-    """The numbers of an answer, by the names that shamir.h gives them."""
+    """The codes of an answer. Their names are those of shamir.h, without SHAMIR_."""
 
     DONE = 0
     TOO_SHORT = 1
@@ -130,7 +144,7 @@ def _loaded() -> ctypes.CDLL:
 
 
 def _declared(library: ctypes.CDLL) -> ctypes.CDLL:
-    """The library with the types of its calls."""
+    """Declare the types of the library's calls."""
     for name, arguments in [
         ("shamir_parse", _SLICE + [ctypes.POINTER(_Share)] + _ROOM),
         ("shamir_random_needed", _SLICE + [ctypes.c_size_t]),
@@ -152,8 +166,12 @@ _library = _loaded()
 
 
 class Refusal(Exception):
-    """What the library refuses: `code` is the number of the cause, `line` the line that is refused, counted from 1, or None,
-    `details` two numbers whose meaning by code is a table in shamir.h, and `text` says it in words."""
+    """The library refuses the arguments of a call.
+
+    `code` is the cause, and `text` says it in words. `line` is the number of the refused line, counted from 1, or None.
+    `details` are two numbers, and shamir.h says for each code what they mean. For Code.INCOMPLETE they are the number
+    of complete groups and the group threshold.
+    """
 
     def __init__(self, code: Code, line: Optional[int], details: Tuple[int, int], text: str):
         super().__init__(code, line, details, text)
@@ -166,7 +184,10 @@ class Refusal(Exception):
 
 @dataclass(frozen=True)
 class Share:
-    """The fields of a mnemonic. Indices are counted from 0."""
+    """The fields of a mnemonic.
+
+    Groups and members are numbered from 0. `value` is as secret as the mnemonic, and the repr leaves it out.
+    """
 
     id: int
     extendable: bool
@@ -181,8 +202,12 @@ class Share:
 
 @dataclass(frozen=True)
 class Outcome:
-    """What a drill finds of a quorum: its names, as `0.0+0.2+1.0`, and the secret that it recovers. Where a digest doesn't
-    match there is no secret, and `mismatch` is the lowest group of which it doesn't, or OF_GROUPS."""
+    """What one quorum of a drill recovers.
+
+    `names` are the names of its mnemonics, such as `0.0+0.2+1.0`, and `secret` is what it recovers. If a digest doesn't
+    match, `secret` is None, and `mismatch` is the lowest group whose digest doesn't match, or OF_GROUPS. The repr
+    leaves the secret out.
+    """
 
     names: str
     secret: Optional[bytes] = field(repr=False)
@@ -191,7 +216,7 @@ class Outcome:
 
 @dataclass(frozen=True)
 class GroupStatus:
-    """What there is of a group: how many members are needed, and the names of those that are there, as `0.2`, in order."""
+    """A group that has members among the mnemonics: its number, its member threshold, and the names of these members."""
 
     group: int
     threshold: int
@@ -200,7 +225,7 @@ class GroupStatus:
 
 @dataclass(frozen=True)
 class Status:
-    """What mnemonics have: how many groups are complete, how many are needed, and each group of which a mnemonic is there."""
+    """The number of complete groups, the group threshold, and each group that has members among the mnemonics."""
 
     complete: int
     required: int
@@ -208,12 +233,12 @@ class Status:
 
     @property
     def enough(self) -> bool:
-        """Whether they have a quorum, so that `recover` doesn't lack one."""
+        """Whether the mnemonics have a quorum. If they do, `recover` doesn't refuse them as incomplete."""
         return self.complete >= self.required
 
 
 def _data(data: Data) -> bytes:
-    """The bytes that are there, whatever a class of the caller's says of its length; TypeError of what lends none."""
+    """Return the bytes that the object really holds, even if a subclass reports another length, or raise TypeError."""
     return memoryview(data).tobytes()
 
 
@@ -226,7 +251,7 @@ def _slice(data: bytes) -> Tuple[bytes, int]:
 
 
 def _number(number: int, kind: Any) -> int:
-    """A whole number that fits this type of C, which ctypes would cut without a word."""
+    """Return the number, or raise OverflowError if it doesn't fit this C type. ctypes would truncate it silently."""
     whole, bits = operator.index(number), 8 * ctypes.sizeof(kind)
     if not 0 <= whole < 1 << bits:
         raise OverflowError(f"{whole} isn't a number of {bits} bits")
@@ -248,14 +273,14 @@ def _checked(answer: _Answer) -> _Answer:
 
 
 def _filled(call: _Call, room: int) -> bytes:
-    """What a call writes into a buffer of so many bytes."""
+    """Return what a call writes into a buffer of this length."""
     buffer = ctypes.create_string_buffer(room)
     written = _checked(call(buffer, room)).written
     return ctypes.string_at(buffer, written)
 
 
 def _line(number: int, text: Text) -> bytes:
-    """A line of a list, which may have its line feed, as those of a file have, and no other."""
+    """Return a line of a list without its line feed, or raise ValueError if another line feed is in it."""
     line = _bytes(text)
     line = line[:-1] if line.endswith(b"\n") else line
     if b"\n" in line:
@@ -278,12 +303,18 @@ def _joined(lines: Lines) -> bytes:
 
 
 def library_version() -> str:
-    """The version of the library, as `__version__` is that of the package."""
+    """Return the version of the library. `__version__` is the version of the package."""
     return _filled(_library.shamir_version, TEXT_BYTES_MAX).decode()
 
 
 def parse(mnemonic: Text) -> Share:
-    """The share that a mnemonic spells: one line, without its line feed. Raises `Refusal` 11 to 15."""
+    """Read one mnemonic, which is a line without its line feed, and return its fields.
+
+    >>> shamir.parse(mnemonics[2]).member_index
+    2
+
+    Raises `Refusal` with one of the codes 11 to 15.
+    """
     fields, line = _Share(), _bytes(mnemonic)
     value = _filled(lambda out, room: _library.shamir_parse(*_slice(line), ctypes.byref(fields), out, room), SECRET_BYTES_MAX)
     header = {name: getattr(fields, name) for name, *_ in _Share._fields_}
@@ -291,18 +322,33 @@ def parse(mnemonic: Text) -> Share:
 
 
 def random_needed(plan: Text, secret_bytes: int) -> int:
-    """How many random bytes a backup of a secret of so many bytes takes. Raises `Refusal` 31 to 34, or 42."""
+    """Return how many random bytes `create` takes for a plan and a secret of `secret_bytes` bytes.
+
+    >>> shamir.random_needed("2of3", 16)
+    14
+
+    Raises `Refusal` with one of the codes 31 to 34, or 42.
+    """
     return _checked(_library.shamir_random_needed(*_slice(_bytes(plan)), _number(secret_bytes, ctypes.c_size_t))).first
 
 
 def create(
     plan: Text, secret: Data, *, passphrase: Text = b"", exponent: int = 0, extendable: bool = False, random: Optional[Data] = None
 ) -> List[str]:
-    """The mnemonics of a new backup of a secret, by group and member.
+    """Create a backup of a secret, and return its mnemonics in the order of groups and members.
 
-    `plan` is TofN, or GT/T1ofN1,T2ofN2,..; the iteration exponent is 0 to 15. `random` are as many bytes as
-    `random_needed` says, which nobody can guess and which are used once; where it is None they come from `os.urandom`.
-    Raises `Refusal` 2, 31 to 34, or 41 to 43.
+    `plan` is TofN for one group, or GT/T1ofN1,T2ofN2,.. for up to 16 groups. GT is the group threshold, each T is the
+    member threshold of a group, and each N is its number of members. Each number is from 1 to 16. T may be 1 only if N
+    is 1. `secret` has an even number of bytes, 16 to 128. `passphrase` is an additional secret, which `recover` needs
+    too, of printable ASCII. `extendable` is the extendable flag.
+
+    `exponent` is the iteration exponent, 0 to 15. The call takes 10,000 * 2^exponent iterations of PBKDF2, and twice as
+    many for a secret of more than 64 bytes.
+
+    `random` has exactly as many bytes as `random_needed` gives. They must be unpredictable, and no other backup may use
+    them. If it is None, they come from `os.urandom`.
+
+    Raises `Refusal` with one of the codes 2, 31 to 34, or 41 to 43.
     """
     text, key, whole = _bytes(plan), _bytes(passphrase), _data(secret)
     options = _number(exponent, ctypes.c_uint32), _flag(extendable)
@@ -312,31 +358,49 @@ def create(
 
 
 def _random_for(plan: bytes, secret_bytes: int) -> bytes:
-    """As many random bytes as a backup needs. Where the library says no number there are none: it refuses the backup too."""
+    """Return as many random bytes as a backup takes, or none if the library refuses the plan or the length."""
     needed = _library.shamir_random_needed(*_slice(plan), secret_bytes)
     return b"" if needed.code else os.urandom(needed.first)
 
 
 def recover(lines: Lines, *, passphrase: Text = b"", max_exponent: int = EXPONENT_MAX) -> bytes:
-    """The secret of mnemonics, given as a text of lines or as a list of them: that of the least quorum among them.
+    """Recover the secret from mnemonics, by the first quorum among them in the order of `drill`.
 
-    A line of a list may end with a line feed, and one that holds another is a ValueError. A wrong passphrase isn't noticed:
-    it gives another secret. Mnemonics with a quorum and an exponent above `max_exponent`, which take 10,000 * 2^exponent
-    iterations, are refused before any of these (3). Raises `Refusal` 3, 11 to 30, 41, 51 or 71.
+    `lines` is one text of lines, or an iterable of lines. Each line is a mnemonic, or a comment, or blank. A comment
+    starts with #, after any spaces or tabs. A line of an iterable may end with a line feed; another line feed in it
+    raises ValueError. A wrong passphrase isn't detected: it gives another secret.
+
+    The exponent of the mnemonics determines how long the call takes: 10,000 * 2^exponent iterations of PBKDF2, and
+    twice as many for a secret of more than 64 bytes. With the exponent 15 these take minutes. If no line is refused and
+    the mnemonics have a quorum, an exponent above `max_exponent` is refused before any iteration (3).
+
+    Raises `Refusal` with one of the codes 3, 11 to 30, 41, 51 or 71.
     """
     given = _slice(_joined(lines)) + _slice(_bytes(passphrase)) + (_number(max_exponent, ctypes.c_uint32),)
     return _filled(lambda out, room: _library.shamir_recover(*given, out, room), SECRET_BYTES_MAX)
 
 
 def drill(lines: Lines, *, passphrase: Text = b"", after: Optional[Text] = None, max_exponent: int = EXPONENT_MAX) -> Iterator[Outcome]:
-    """Each quorum of mnemonics, in order, or those that come after the one that `after` names, with what it recovers.
+    """Yield what each quorum of mnemonics recovers, in ascending order of their names.
 
-    They are computed in parts of so many as 64 kB of the library's lines hold. Nothing is looked at before the first `next`,
-    which raises `Refusal` 3 (as by `recover`), 11 to 30, 41, 61, 62 or 71; a digest that doesn't match is no refusal here.
+    >>> for outcome in shamir.drill(mnemonics, passphrase="TREZOR"):
+    ...     print(outcome.names, outcome.secret == secret)
+    0.0+0.1 True
+    0.0+0.2 True
+    0.1+0.2 True
+
+    `lines`, `passphrase` and `max_exponent` are as for `recover`. If `after` names a quorum, the drill starts with the
+    next one. The library computes the outcomes in parts, each of as many as fit into 64 KiB of its output.
+
+    A digest mismatch is no refusal here. The generator looks at its arguments only at the first `next`, which then
+    raises any refusal.
+
+    Raises `Refusal` with one of the codes 3, 11 to 30, 41, 61, 62 or 71.
     """
     data = _joined(lines)
     options = _slice(_bytes(passphrase)) + (_number(max_exponent, ctypes.c_uint32),)
-    # The library takes an empty text for the begin; it names no quorum, and neither does a sign alone.
+    # For the library an empty cursor is the start. An empty `after` isn't a cursor here: a plus sign, which the library
+    # refuses as a cursor, takes its place.
     cursor = b"" if after is None else _bytes(after) or b"+"
     while True:
         given = _slice(data) + options + _slice(cursor) + (LIMIT_MAX,)
@@ -349,7 +413,10 @@ def drill(lines: Lines, *, passphrase: Text = b"", after: Optional[Text] = None,
 
 
 def _outcome(line: bytes) -> Outcome:
-    """What a line of a drill says: names, and a secret's digits, or words of which the last is a group's number or `groups`."""
+    """Read a line of a drill.
+
+    After the names it has the digits of the secret, or words of which the last is a group or `groups`.
+    """
     names, *found = line.decode().split(" ")
     if len(found) == 1:
         return Outcome(names, bytes.fromhex(found[0]))
@@ -357,9 +424,15 @@ def _outcome(line: bytes) -> Outcome:
 
 
 def status(lines: Lines) -> Status:
-    """What mnemonics, given as by `recover`, have of each group, and whether that is enough. A repeat counts once.
+    """Return how many members of each group are among mnemonics, and whether the mnemonics are enough for `recover`.
 
-    Raises `Refusal` 11 to 29 or 71. That there are too few is no refusal.
+    >>> shamir.status(mnemonics[:1]).enough
+    False
+
+    `lines` is as for `recover`. A mnemonic that comes again counts once. The call needs no passphrase, and decrypts
+    nothing. Too few mnemonics are no refusal.
+
+    Raises `Refusal` with one of the codes 11 to 29 or 71.
     """
     given = _slice(_joined(lines))
     first, *groups = _filled(lambda out, room: _library.shamir_status(*given, out, room), STATUS_BYTES_MAX).decode().splitlines()
@@ -368,24 +441,40 @@ def status(lines: Lines) -> Status:
 
 
 def _group_status(line: str) -> GroupStatus:
-    """What a line `group G members N of T NAMES` says."""
+    """Read a line `group G members N of T NAMES`."""
     _, group, _, _, _, threshold, names = line.split(" ")
     return GroupStatus(int(group), int(threshold), tuple(names.split("+")))
 
 
 def reissue(plan: Text, names: Text, lines: Lines) -> List[str]:
-    """The mnemonics of these names of a backup, in order, computed from others of it, which are given as by `recover`.
+    """Compute lost mnemonics of a backup from others of it, and return them in the order of `names`.
 
-    `plan` is the text of the backup's plan, or of one with more members in some groups, which then are new members of this
-    backup; `names` are joined by plus signs, as `0.1+2.0`. No passphrase has a part in it.
-    Raises `Refusal` 11 to 29, 31 to 34, 51, 63 to 66 or 71.
+    >>> shamir.reissue("2of3", "0.0", mnemonics[1:]) == mnemonics[:1]
+    True
+
+    `plan` is the text of the plan of the backup. The plan may have more members in some groups, and these are then new
+    members of this backup. `names` are the names of the wanted mnemonics, each once and in ascending order, joined by
+    plus signs, such as `0.1+2.0`. `lines` is as for `recover`. The call needs no passphrase, and decrypts nothing.
+
+    This call is for mnemonics that were destroyed. If somebody else may have the lost one, create a new backup. If they
+    may have a quorum, use a new secret too.
+
+    Raises `Refusal` with one of the codes 11 to 29, 31 to 34, 51, 63 to 66 or 71.
     """
     given = _slice(_bytes(plan)) + _slice(_bytes(names)) + _slice(_joined(lines))
     return _filled(lambda out, room: _library.shamir_reissue(*given, out, room), MNEMONICS_BYTES_MAX).decode().splitlines()
 
 
 def fingerprint(secret: Data) -> str:
-    """The fingerprint of a secret, by which its owner knows it again without seeing it: eight hexadecimal digits, of the first
-    four bytes of the secret's HMAC-SHA256 under the key `shamir fingerprint`. Raises `Refusal` 42."""
+    """Return the fingerprint of a secret, by which its owner can recognise the secret without seeing it.
+
+    >>> shamir.fingerprint(bytes(range(16)))
+    '2282bae5'
+
+    It is the first four bytes of the HMAC-SHA256 of the secret with the key `shamir fingerprint`, in eight lower-case
+    hexadecimal digits. Whoever has it can test guesses of the secret with it.
+
+    Raises `Refusal` with the code 42.
+    """
     given = _slice(_data(secret))
     return _filled(lambda out, room: _library.shamir_fingerprint(*given, out, room), FINGERPRINT_BYTES_MAX).decode()

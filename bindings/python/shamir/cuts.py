@@ -1,8 +1,11 @@
-"""Where to cut a drill: `python3 -m shamir.cuts N < mnemonics` prints the options of N drills that together list what one
-would, a line for each in order, as `--limit 3217` and `--after 0.0+0.2 --limit 3217`. Their numbers of quorums differ by
-at most one.
+"""Cut a drill into parts that can run at once.
 
-Nothing is deciphered: which members each group has and needs is counted, by what the mnemonics say of themselves.
+`python3 -m shamir.cuts N < mnemonics` prints the options of N drills, one line for each. If there are fewer quorums than
+N, it prints one line for each quorum. Together these drills list what one drill would list, in the same order. Their
+numbers of quorums differ by at most one. The lines look like `--limit 3217` and `--after 0.0+0.2 --limit 3217`.
+
+The module decrypts nothing. It counts the quorums from the fields of the mnemonics: their groups, members and
+thresholds.
 """
 import argparse
 import math
@@ -18,7 +21,7 @@ Name = Tuple[int, int]
 
 @dataclass(frozen=True)
 class Group:
-    """A group: its number, how many of its members are needed, and which there are, in order."""
+    """A group: its number, its member threshold, and the members that are there, in order."""
 
     number: int
     threshold: int
@@ -28,7 +31,7 @@ class Group:
         return math.comb(len(self.members), self.threshold)
 
     def choice(self, rank: int) -> List[Name]:
-        """Its members that are chosen at this place, of all choices in the order of their names."""
+        """Return the choice of its members at this position. Choices are in ascending order of their names, from 0."""
         chosen: List[Name] = []
         for at, member in enumerate(self.members):
             more = self.threshold - len(chosen)
@@ -41,11 +44,11 @@ class Group:
 
 
 class Quorums:
-    """The quorums of mnemonics in the order of a drill, by their places from 0 on."""
+    """The quorums of mnemonics in the order of a drill, by their position from 0."""
 
     def __init__(self, groups: List[Group], needed: int):
         self.groups, self.needed = groups, needed
-        # By how many of the groups are behind, and how many of these are needed: how many ways there are.
+        # ways[k][n] is the number of ways to choose n of the last k groups, each with a choice of its members.
         self.ways = [[1] + [0] * needed]
         for group in reversed(groups):
             behind = self.ways[-1]
@@ -55,7 +58,10 @@ class Quorums:
         return self.ways[-1][self.needed]
 
     def names(self, rank: int) -> str:
-        """The quorum at a place, as a drill writes it. Those with the first group come first, by the choice of its members."""
+        """Return the names of the quorum at this position, as a drill writes them.
+
+        Quorums with the first group come first, in the order of its choices.
+        """
         found: List[Name] = []
         needed = self.needed
         for at, group in enumerate(self.groups):
@@ -80,7 +86,7 @@ def mnemonics_of(text: bytes) -> Iterator[bytes]:
 
 
 def shares_of(text: bytes) -> Iterator[shamir.Share]:
-    """The shares of lines, up to the first that is refused."""
+    """Yield the shares of the lines, up to the first line that is refused."""
     for line in mnemonics_of(text):
         try:
             yield shamir.parse(line)
@@ -89,7 +95,7 @@ def shares_of(text: bytes) -> Iterator[shamir.Share]:
 
 
 def check(text: bytes, shares: List[shamir.Share]) -> None:
-    """Raises what a drill refuses of lines. It is to go on after names that are no quorum, so it never gets to decipher."""
+    """Raise the `Refusal` of a drill of these lines, if there is one. The cursor is never a quorum, so nothing is decrypted."""
     alone = any((share.group_index, share.member_threshold) == (0, 1) for share in shares)
     try:
         next(shamir.drill(text, after="0.0+0.1" if alone else "0.0"))
@@ -99,7 +105,7 @@ def check(text: bytes, shares: List[shamir.Share]) -> None:
 
 
 def quorums(text: bytes) -> Quorums:
-    """The quorums of lines of mnemonics. Raises `Refusal` as a drill of them does, but 41 and 61."""
+    """Return the quorums of these lines. Raises `Refusal` as a drill of them does, except with the codes 41 and 61."""
     shares = list(shares_of(text))
     check(text, shares)
     thresholds = {share.group_index: share.member_threshold for share in shares}
@@ -109,7 +115,10 @@ def quorums(text: bytes) -> Quorums:
 
 
 def cuts(whole: Quorums, parts: int) -> Iterator[str]:
-    """The options of so many drills, or of one for each quorum where there are fewer; ValueError where a part is too large."""
+    """Yield the options of this many drills, or of one for each quorum if there are fewer.
+
+    Raises ValueError if a part is too large.
+    """
     count = whole.count()
     enough = -(-count // shamir.LIMIT_MAX)
     if parts < enough:
