@@ -1,19 +1,21 @@
-# shamir: `make` proves and builds, `make test` is the merge gate.
+# `make` proves and builds the program shamir, and `make test` runs the merge gate. The other targets are:
 #
 #   make lib         proves and builds the library: libshamir.a, and libshamir.so for the Python binding
-#   make check       the fast checks: commands and tables of the documents, the manual page, completions, terminals, values of
-#                    files, refused memory, the library (make test runs them too)
-#   make check-library   the library alone: its header, examples from C, the Python binding, the cuts of a drill, made cases
-#   make faults      lets each allocation, open, read and write of the program fail in turn
-#   make compare     compares made cases with a plain reading of the standard in Python
-#   make bench       measures
-#   make install     the program and the library, into the folders below, behind DESTDIR; it proves nothing, and says what
-#                    isn't built yet. make install-bin and make install-lib install one of them, as it stands here, and
-#                    make uninstall takes all out again
-#   make wheel       the Python package as a wheel, with libshamir.so in it
-#   make deb         packages for Debian: shamir, libshamir1 and libshamir-dev
-#   make check-packages  installs, runs and takes out again what these make
-#   make dist        an archive of the committed sources, the same bytes each time
+#   make check       runs the fast checks, as `make test` does too. They cover the documents, examples of doc comments, manual
+#                    pages, completions, terminals, values from files, refused allocations, the library and the packages
+#   make check-library   checks the library alone: its header, examples in C, the Python binding, the cuts of a drill, and
+#                    generated cases
+#   make faults      makes each allocation, open, read and write of the program fail in turn
+#   make compare     compares the program with a plain reading of the standard in Python, on generated cases
+#   make bench       measures speed
+#   make install     installs the program and the library into the folders below, under DESTDIR. It proves nothing: if one
+#                    of them isn't up to date, it says so and installs nothing
+#   make install-bin, make install-lib   install the program or the library, as it is here
+#   make uninstall   uninstalls both
+#   make wheel       builds a wheel of the Python package, with libshamir.so in it
+#   make deb         builds the Debian packages shamir, libshamir1 and libshamir-dev
+#   make check-packages  installs, runs and uninstalls what these targets install and build
+#   make dist        packs the committed sources. The same commit gives the same bytes each time
 RT ?= rt
 PYTHON ?= python3
 INSTALL ?= install
@@ -27,18 +29,19 @@ BASHDIR ?= $(PREFIX)/share/bash-completion/completions
 ZSHDIR ?= $(PREFIX)/share/zsh/site-functions
 FISHDIR ?= $(PREFIX)/share/fish/vendor_completions.d
 VERSION = 1.0.0
-# The first number of a shared library's name goes up where a program that was linked before would go wrong.
+# The number in this name increases whenever a program linked against an earlier version would break. It is also the first
+# number of VERSION.
 SONAME = libshamir.so.1
-# As shamir.pc names them: paths that don't hang on the folder where make ran.
+# shamir.pc names these paths, so they must not depend on the folder in which make runs.
 override PREFIX := $(abspath $(PREFIX))
 override LIBDIR := $(abspath $(LIBDIR))
 override INCLUDEDIR := $(abspath $(INCLUDEDIR))
-# Plain x86-64, so that program and library run on every such processor: old machines off the network are good for secrets.
+# Plain x86-64 lets the program and the library run on every such processor. Old machines without a network suit secrets well.
 CPU = x86-64
-# The crate of the program: the one that has a main, but for the bench and the examples over arrays.
+# The crate of the program is the only one with a main, except the bench and the examples over arrays.
 PROGRAM = $(filter-out s39_bench s39_allocations,$(patsubst crates/%/src/main.rt,%,$(wildcard crates/*/src/main.rt)))
 DOCUMENTS = README.md CHANGELOG.md CONTRIBUTING.md SECURITY.md NOTICE
-# Prints the calls of the library; the manual page shamir(3) is found by the name of each.
+# This command prints the name of each call of the library. Under each name, a link leads to the manual page shamir(3).
 CALLS = sed -n 's/^shamir_answer \([a-z_]*\).*/\1/p' include/shamir.h
 SOURCES = $(shell find crates -path '*/out' -prune -o -type f -print) crates.txt
 
@@ -46,14 +49,14 @@ SOURCES = $(shell find crates -path '*/out' -prune -o -type f -print) crates.txt
 
 all: shamir
 
-# Proves every crate that the program stands on, builds it, and runs it once on its stored input.
+# Proves every crate that the program uses, builds the program, and runs `show` once on the input stored in its crate.
 shamir: $(SOURCES)
 	cd crates/$(PROGRAM) && $(RT) run --cpu=$(CPU) -- show < stdin > /dev/null
 	cp crates/$(PROGRAM)/out/$(PROGRAM) $@
 
 lib: libshamir.so
 
-# Proves every crate that the library stands on, and builds it.
+# Proves every crate that the library uses, and builds the archive.
 libshamir.a: $(SOURCES)
 	cd crates/s39_c && $(RT) lib --cpu=$(CPU) > /dev/null
 	cp crates/s39_c/out/libs39_c.a $@
@@ -94,11 +97,11 @@ compare: shamir
 
 bench: shamir
 	cd crates/s39_bench && $(RT) run > /dev/null
-	@python3 tools/bench
+	@$(PYTHON) tools/bench
 
 install:
-	@behind=; for file in shamir libshamir.a libshamir.so; do $(MAKE) -s -q $$file 2> /dev/null || behind="$$behind $$file"; done; \
-	test -z "$$behind" || { echo "make install: first 'make$$behind', which proves them; or 'make install-bin install-lib', for what stands here" >&2; exit 1; }
+	@stale=; for file in shamir libshamir.a libshamir.so; do $(MAKE) -s -q $$file 2> /dev/null || stale="$$stale $$file"; done; \
+	test -z "$$stale" || { echo "make install: first 'make$$stale', which proves them; or 'make install-bin install-lib', which installs what is built here" >&2; exit 1; }
 	@$(MAKE) install-bin install-lib
 
 install-bin:

@@ -1,13 +1,19 @@
 /*
  * shamir.h: SLIP-0039 backups of a master secret, for C and C++.
  *
- * The library creates backups, reads mnemonics, recovers secrets, lists what each quorum recovers, reports what is missing,
- * and computes lost mnemonics. docs/LIBRARY.md introduces it with examples, and the manual page shamir(3) is a reference.
+ * The library creates backups, reads mnemonics, recovers secrets and runs drills. It also reports what is missing, and computes
+ * lost mnemonics and fingerprints of secrets. docs/LIBRARY.md introduces it with examples, and the manual page shamir(3) is a
+ * reference.
  *
- * A backup consists of mnemonics, which are lines of words. Each mnemonic is a member of a group. Groups and members are
- * numbered from 0, and the name of a mnemonic has both numbers: 0.2 is member 2 of group 0. A group is complete once its
- * member threshold is met. Mnemonics are enough once the number of complete groups meets the group threshold. A quorum is a
- * minimal set of mnemonics that is enough: no mnemonic of it can be left out.
+ * A backup consists of mnemonics, which are lines of words. A mnemonic spells the fields of a share, which shamir_parse gives,
+ * and a value, the bytes that a recovery combines. Each mnemonic is a member of a group. Groups and members are numbered from
+ * 0, and the name of a mnemonic has both numbers: 0.2 is member 2 of group 0.
+ *
+ * A group is complete if at least as many of its members are at hand as its member threshold says. Mnemonics are enough if at
+ * least as many groups are complete as the group threshold says. A quorum is a minimal set of mnemonics that is enough: no
+ * mnemonic of it can be left out. The values of the members of a group combine to a group share, and the group shares combine
+ * to the encrypted secret. A digest is four bytes by which the library usually detects values that don't belong together. A
+ * threshold of 1 has none.
  *
  * Each call works in buffers of its caller. It allocates no memory, makes no system call and keeps nothing between calls. It
  * returns for every input. Calls share no data, so any number of threads can make calls at once.
@@ -21,7 +27,8 @@
  * secrets, values and random bytes have the type uint8_t. So a compiler can warn if a text and bytes are exchanged.
  *
  * Each call returns a shamir_answer. If its code is SHAMIR_DONE, the call succeeded: the output is at the start of the output
- * buffer, and the bytes after it are unchanged. Any other code is a refusal. On refusal nothing is written.
+ * buffer, and the bytes after it are unchanged. Any other code is a refusal. On refusal the output buffer and the output struct
+ * are unchanged, and written is 0.
  *
  * The library doesn't clear its stack, where copies of secrets and passphrases may remain. examples/c/cleared.c makes calls
  * on a stack of its own, and clears that. The time of a call can depend on secrets. docs/LIBRARY.md says what is promised and
@@ -72,13 +79,13 @@ extern "C" {
 /* The maximum length of the output of shamir_text. */
 #define SHAMIR_TEXT_BYTES_MAX 64
 
-/* The maximum iteration exponent. As max_exponent, it allows every mnemonic. */
+/* The maximum iteration exponent, which shamir_create explains. As max_exponent, it allows every mnemonic. */
 #define SHAMIR_EXPONENT_MAX 15
 
 /* The maximum number of bytes of stack that a call uses. It is measured, not proved. */
 #define SHAMIR_STACK_BYTES 524288
 
-/* This number stands for the digest of the group shares in the first detail of SHAMIR_DIGEST_MISMATCH. */
+/* In SHAMIR_DIGEST_MISMATCH, first is the group whose digest doesn't match, or this number for the digest of the group shares. */
 #define SHAMIR_OF_GROUPS 16
 
 /* These attributes let a compiler warn if an answer is ignored, or if a pointer to a struct is NULL. */
@@ -100,7 +107,7 @@ typedef enum shamir_code {
     SHAMIR_TOO_SHORT = 1,               /* the output buffer is too short; first: the number of bytes needed */
     SHAMIR_OUT_OF_RANGE = 2,            /* a number is out of range */
     SHAMIR_HIGH_EXPONENT = 3,           /* the exponent of the mnemonics is above max_exponent; first: this exponent */
-    SHAMIR_UNKNOWN_WORD = 11,           /* a word isn't in the word list; first: its position in the line, from 1 */
+    SHAMIR_UNKNOWN_WORD = 11,           /* a word isn't in the word list; first: which word of the line it is, from 1 */
     SHAMIR_WORD_COUNT = 12,             /* a mnemonic can't have this number of words; first: the number of words */
     SHAMIR_BAD_CHECKSUM = 13,           /* the checksum is wrong */
     SHAMIR_BAD_PADDING = 14,            /* a padding bit isn't 0 */
@@ -114,15 +121,15 @@ typedef enum shamir_code {
     SHAMIR_OTHER_MEMBER_THRESHOLD = 27, /* the group has another member threshold in earlier lines; first: the group */
     SHAMIR_CONFLICTING_SHARE = 28,      /* this name has another value in an earlier line; first: the group, second: the member */
     SHAMIR_NO_SHARES = 29,              /* no line holds a mnemonic */
-    SHAMIR_INCOMPLETE = 30,             /* too few groups are complete; first: their number, second: the group threshold */
+    SHAMIR_INCOMPLETE = 30,             /* too few groups are complete; first: how many are, second: the group threshold */
     SHAMIR_BAD_PLAN = 31,               /* the text isn't a plan */
     SHAMIR_PLAN_GROUPS = 32,            /* the plan has more than 16 groups, or fewer than its group threshold */
     SHAMIR_PLAN_MEMBERS = 33,           /* a group has more than 16 members, or fewer than its threshold; first: the group */
     SHAMIR_ONE_OF_MANY = 34,            /* a group has several members and the member threshold 1; first: the group */
-    SHAMIR_PASSPHRASE = 41,             /* a byte of the passphrase isn't printable ASCII; first: its position, from 1 */
+    SHAMIR_PASSPHRASE = 41,             /* a byte of the passphrase isn't printable ASCII; first: which byte it is, from 1 */
     SHAMIR_SECRET_LENGTH = 42,          /* a secret can't have this number of bytes; first: the number of bytes */
     SHAMIR_RANDOM_LENGTH = 43,          /* the number of random bytes is wrong; first: the number of bytes needed */
-    SHAMIR_DIGEST_MISMATCH = 51,        /* a digest doesn't match; first: the group, or SHAMIR_OF_GROUPS */
+    SHAMIR_DIGEST_MISMATCH = 51,        /* a digest doesn't match; first: the group, or SHAMIR_OF_GROUPS for the group shares */
     SHAMIR_BAD_CURSOR = 61,             /* the cursor isn't a list of names */
     SHAMIR_NOT_A_QUORUM = 62,           /* the cursor doesn't name a quorum of these mnemonics */
     SHAMIR_BAD_NAMES = 63,              /* the text isn't a list of names */
@@ -163,9 +170,9 @@ typedef struct shamir_share {
 /*
  * Reads one mnemonic.
  *
- * line is the mnemonic, without its line feed. Words are separated by any number of spaces, tabs and carriage returns, and
- * upper-case letters count as lower-case ones. A line feed in line counts as part of a word, and the call refuses that word
- * with 11.
+ * line is the mnemonic, without its line feed. Any number of spaces, tabs and carriage returns may stand before, between and
+ * after the words. Upper-case letters count as lower-case ones. A line feed in line counts as part of a word, and the call
+ * refuses that word with 11.
  *
  * The fields go to *share, and the value goes to the start of value. written is its length, an even number from
  * SHAMIR_SECRET_BYTES_MIN to SHAMIR_SECRET_BYTES_MAX. The value is as secret as the mnemonic.
@@ -180,7 +187,7 @@ SHAMIR_CALL SHAMIR_STRUCT(3)
 shamir_answer shamir_parse(const char *line, size_t line_bytes, shamir_share *share, uint8_t *value, size_t value_bytes);
 
 /*
- * Computes how many random bytes shamir_create takes. After success, first of the answer is this number.
+ * Computes how many random bytes shamir_create takes. After success, the field first of the answer is this number.
  *
  * plan is the text of the plan: TofN for one group, or GT/T1ofN1,T2ofN2,.. for up to 16 groups. GT is the group threshold,
  * and at most the number of groups. Each T is the member threshold of a group, and each N is its number of members. T is at
@@ -203,7 +210,7 @@ shamir_answer shamir_random_needed(const char *plan, size_t plan_bytes, size_t s
  * secret        the master secret: an even number of bytes, SHAMIR_SECRET_BYTES_MIN to SHAMIR_SECRET_BYTES_MAX
  * passphrase    an additional secret, which a recovery needs too: printable ASCII, from the space to ~; it may be empty
  * exponent      the iteration exponent, 0 to SHAMIR_EXPONENT_MAX
- * extendable    0, or any other number to set the extendable flag
+ * extendable    0, or any other number to set the extendable flag, which leaves the identifier out of the encryption
  * random        exactly as many bytes as shamir_random_needed gives; they must be unpredictable, and no other backup may use
  *               them
  * mnemonics     the output: the mnemonics in the order of groups and members, with a line feed after each; an output buffer
@@ -236,7 +243,8 @@ shamir_answer shamir_create(
  * The exponent of the mnemonics determines how long the call takes: 10,000 * 2^exponent iterations of PBKDF2, and twice as
  * many for a secret of more than 64 bytes. With the exponent 15 these take minutes. The call refuses with 3 if no line is
  * refused, the mnemonics have a quorum, and their exponent is above max_exponent. It makes no iteration before this refusal.
- * SHAMIR_EXPONENT_MAX allows every exponent. If secret is too short, the call refuses with 1 only after the iterations.
+ * SHAMIR_EXPONENT_MAX or a greater number allows every exponent. If secret is too short, the call refuses with 1 only after
+ * the iterations.
  *
  * The call refuses with the first of these that applies: 3, 41, the code of the first refused line (11 to 28, 71), 29, 30,
  * 51, 1.
@@ -264,9 +272,10 @@ shamir_answer shamir_recover(
  *     end                                 this last line says that no quorum is left
  *     more after NAMES                    this last line says that there are more quorums, and gives the next cursor
  *
- * A line feed ends every line. NAMES are the names of the quorum in ascending order, joined by plus signs. Quorums come in
- * ascending order of their names. mismatches is the number of listed quorums with a digest mismatch. A digest mismatch is no
- * refusal here.
+ * A line feed ends every line. NAMES are the names of the quorum in ascending order, joined by plus signs. Names are ordered by
+ * their group, and then by their member, as numbers: 0.2 comes before 0.10. Quorums come in ascending order: they are compared
+ * by their first names, then by their second names, and so on. mismatches is the number of listed quorums with a digest
+ * mismatch. A digest mismatch is no refusal here.
  *
  * The call stops at the limit. It also stops before the first quorum whose line, with the last line after it, doesn't fit
  * into text. A loop that passes the names of each last line to the next call lists every quorum exactly once. Copy these
@@ -278,12 +287,12 @@ shamir_answer shamir_recover(
  *
  * The mnemonics of a quorum combine to an encrypted secret. Decrypting it takes the iterations of shamir_recover. The quorums
  * of a sound backup all combine to the same encrypted secret. A call keeps the last four results, so it decrypts this one
- * once. The next call decrypts it anew. If text is too short for one quorum, the call refuses it only after this work.
+ * once. The next call decrypts it anew. If text is too short for one quorum, the call refuses with 1 only after the iterations.
  *
  * So use an output buffer of about 65536 bytes. A drill of a large backup takes tens of times as long if each call lists only
  * one quorum.
  *
- * The call refuses with the first of these that applies: 3 as shamir_recover does, 2 (a limit of 0), 61, 41, the code of the
+ * The call refuses with the first of these that applies: 3 (as for shamir_recover), 2 (a limit of 0), 61, 41, the code of the
  * first refused line (11 to 28, 71), 29, 30, 62, 1.
  *
  *     shamir_answer answer = shamir_drill(
@@ -304,9 +313,9 @@ shamir_answer shamir_drill(
  *     groups C of R                   C groups are complete, and the group threshold is R
  *     group G members N of T NAMES    group G has N members in lines, its member threshold is T, and NAMES are their names
  *
- * A line feed ends every line. NAMES are in ascending order, joined by plus signs. After success, first of the answer is C
- * and second is R. The mnemonics have a quorum if and only if first is at least second. If they have none, the code is still
- * SHAMIR_DONE.
+ * A line feed ends every line. NAMES are in ascending order, joined by plus signs. After success, the field first of the answer
+ * is C, and second is R. The mnemonics have a quorum if and only if first is at least second. If they have none, the code is
+ * still SHAMIR_DONE.
  *
  * The call refuses with the first of these that applies: the code of the first refused line (11 to 28, 71), 29, 1.
  *
@@ -320,9 +329,10 @@ shamir_answer shamir_status(const char *lines, size_t lines_bytes, char *text, s
 /*
  * Computes lost mnemonics of a backup from others of it.
  *
- * plan          the text of the plan of the backup; the plan may have more members in some groups, and these are then new
+ * plan          the text of the plan of the backup, or of that plan with more members in some groups; the added members are new
  *               members of this backup
- * names         the names of the wanted mnemonics, each once and in ascending order, joined by plus signs, such as 0.1+2.0
+ * names         the names of the wanted mnemonics, each once and in ascending order (see shamir_drill), joined by plus signs,
+ *               such as 0.1+2.0
  * lines         the mnemonics, as for shamir_recover
  * mnemonics     the output: the wanted mnemonics in the order of names, with a line feed after each; an output buffer of
  *               SHAMIR_MNEMONICS_BYTES_MAX bytes is always enough
@@ -331,9 +341,9 @@ shamir_answer shamir_status(const char *lines, size_t lines_bytes, char *text, s
  * members of its group determine it, if there are as many of them in lines as the member threshold. One member fewer is
  * enough if the number of other complete groups is at least the group threshold.
  *
- * In any other case the mnemonic isn't determined, and the call refuses with 66. Then first is 256 * group + member, and
- * second is a number of four bytes. From the highest to the lowest, these are the number of members of the group in lines, the
- * member threshold, the number of other complete groups, and the group threshold.
+ * In any other case the mnemonic isn't determined, and the call refuses with 66. Then first is 256 * group + member. The bits
+ * 24 to 31 of second are the number of members of the group in lines, and the bits 16 to 23 are the member threshold. The bits
+ * 8 to 15 are the number of other complete groups, and the bits 0 to 7 are the group threshold.
  *
  * This call is for mnemonics that were destroyed. If somebody else may have the lost one, create a new backup. If they may
  * have a quorum, use a new secret too.
@@ -368,11 +378,12 @@ SHAMIR_CALL
 shamir_answer shamir_fingerprint(const uint8_t *secret, size_t secret_bytes, char *text, size_t text_bytes);
 
 /*
- * Gives the text of an answer. If the command shamir has the same refusal, it prints this text after the number.
+ * Gives the text of an answer, without its code and its line. If the command shamir has the same refusal, it prints this text
+ * after them.
  *
  * The text goes to the start of text. SHAMIR_TEXT_BYTES_MAX bytes are always enough. For 0 it is "done", for 1 it is "slice
  * too short: N bytes needed", for 2 it is "number out of range", and for 3 it is "exponent E above the most". For a code that
- * no call gives it is "unknown answer". Details that no call gives with a code may give this text too.
+ * no call gives it is "unknown answer". It may be this text too if no call gives these details with the code.
  *
  * The only refusal is 1.
  *

@@ -1,21 +1,22 @@
-/* Preloaded into the program by tools/faults. It counts the allocations, the opens and the reads of files, the reads of
-   standard input and the writes that the program itself makes, lets those fail that the environment names, and logs each.
+/* tools/faults preloads this library into the program. It counts the allocations, the opens and reads of files, the reads of
+   standard input, and the writes. It makes the calls fail that the environment names, and logs each call. Allocations count
+   only if the program makes them itself. Calls are numbered from 1.
 
-   FAULT_LOG               the descriptor of the log: a line 'KIND SIZE RESULT' for each call, of which kinds are
-                           allocation, open, file (a read of what was opened), read (of standard input), write (of
-                           standard output) and error (a write of standard error)
-   FAULT_ALLOCATION        the number, from 1, of the allocation that is refused
-   FAULT_ALLOCATIONS_FROM  all from this one on are refused
+   FAULT_LOG               the descriptor of the log. Each call adds a line 'KIND SIZE RESULT'. The kinds are allocation,
+                           open, file (a read of a file), read (of standard input), write (to standard output) and error
+                           (a write to standard error)
+   FAULT_ALLOCATION        the number of the allocation that is refused
+   FAULT_ALLOCATIONS_FROM  the number of the first allocation that is refused, with all later ones
    FAULT_OPEN              the number of the open that fails
    FAULT_FILE              the number of the read of a file that fails
-   FAULT_READ              the number of the read of standard input that fails, and
-   FAULT_READ_BYTES        the number of bytes that come before a read fails
-   FAULT_WRITE             the number of the write of standard output that fails, and
-   FAULT_WRITE_BYTES       the number of bytes that are taken before a write fails
-   FAULT_WRITE_NONE        the number of the write of standard output that takes no byte
-   FAULT_ERRORS            each write of standard error fails
-   FAULT_SINGLE            a read gives, and a write takes, one byte at most
-   FAULT_ERRNO             the error of a failing open, read or write, by default EIO */
+   FAULT_READ              the number of the read of standard input that fails
+   FAULT_READ_BYTES        how many bytes of standard input are read before a read fails
+   FAULT_WRITE             the number of the write to standard output that fails
+   FAULT_WRITE_BYTES       how many bytes standard output takes before a write fails
+   FAULT_WRITE_NONE        the number of the write to standard output that takes no byte
+   FAULT_ERRORS            if it isn't 0, each write to standard error fails
+   FAULT_SINGLE            if it isn't 0, a read gives, and a write takes, at most one byte
+   FAULT_ERRNO             the error of a failing open, read or write; the default is EIO */
 #define _GNU_SOURCE
 #include <dlfcn.h>
 #include <errno.h>

@@ -398,7 +398,7 @@ static void compare_room(slice bytes)
     }
     for (i = bytes.length; i < sizeof room; i++) {
         if (room[i] != UNTOUCHED) {
-            differ("a byte is written behind them");
+            differ("a byte is written after them");
             return;
         }
     }

@@ -1,11 +1,12 @@
 /*
  * This program does what recover.c does, on a stack of its own. The library may leave copies of secrets and passphrases on
- * its stack. So this program clears the stack before it frees it.
+ * its stack. So this program clears its stack before it frees that memory.
  *
  *   cc -std=c99 -Iinclude examples/c/cleared.c libshamir.a -pthread -o cleared
  *   ./cleared FILE [PASSPHRASE]
  *
- * Its output and its exit status are those of recover.c. Other programs can reuse call_cleared.
+ * Its output and its exit status are those of recover.c. If it gets no memory for a stack, it says so and exits with
+ * status 2. Other programs can reuse call_cleared.
  */
 #define _GNU_SOURCE
 #include <pthread.h>

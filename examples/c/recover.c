@@ -5,7 +5,8 @@
  *   ./recover FILE [PASSPHRASE]
  *
  * The exit status is 0 if the secret was printed, and 1 if the library refuses the file or the passphrase. It is 2 if the
- * program has other arguments or can't read the file, and 3 if it can't write the secret.
+ * program has other arguments, if it can't read the file, or if the file is too long. It is 3 if the program can't write
+ * the secret.
  */
 #include <stdio.h>
 #include <string.h>

@@ -7,12 +7,17 @@
     True
 
 A backup consists of mnemonics, which are lines of words. Each mnemonic is a member of a group. Groups and members are
-numbered from 0, and the name of a mnemonic has both numbers: 0.2 is member 2 of group 0. A group is complete once its
-member threshold is met. Mnemonics are enough once the number of complete groups meets the group threshold. A quorum is
-a minimal set of mnemonics that is enough.
+numbered from 0, and the name of a mnemonic has both numbers: 0.2 is member 2 of group 0. Names are ordered by group,
+and then by member, as numbers: 0.2 comes before 0.10. A group is complete if at least as many of its members are at
+hand as its member threshold says. Mnemonics are enough if at least as many groups are complete as the group threshold
+says. A quorum is a minimal set of mnemonics that is enough.
 
 Each function passes its arguments to the library, and raises `Refusal` if the library refuses them. No rule of the
-format is in this module. It loads the library that the environment variable SHAMIR_LIBRARY names. Without the variable
+format is in this module. A text is a str, which is encoded as UTF-8, or an object with the buffer protocol. Secrets and
+random bytes are objects with the buffer protocol. Anything else raises TypeError, and a number that doesn't fit the C
+type raises OverflowError.
+
+The module loads the library that the environment variable SHAMIR_LIBRARY names. Without the variable
 it loads libshamir.so in the folder of this package, where `make lib` puts it, or else the system's libshamir.so.1.
 
 Calls share no data, so any number of threads can make calls at once. A call uses at most 512 KiB of stack. A call in a
@@ -36,7 +41,7 @@ __all__ += ["create", "drill", "fingerprint", "library_version", "parse", "rando
 
 __version__ = "1.0.0"
 
-# Objects that lend bytes. Everything that memoryview takes works; these are the types that a type checker knows.
+# Objects with the buffer protocol. Everything that memoryview takes works; these are the types that a type checker knows.
 Data = Union[bytes, bytearray, memoryview, "array.array[Any]", mmap.mmap]
 Text = Union[str, Data]
 # One text of lines, or an iterable of lines. A line of an iterable may end with a line feed.
@@ -52,7 +57,8 @@ TEXT_BYTES_MAX = 64
 # The maximum iteration exponent.
 EXPONENT_MAX = 15
 
-# As the `mismatch` of an outcome, this number stands for the digest of the group shares.
+# In the `mismatch` of an outcome and the details of Code.DIGEST_MISMATCH, this number stands for the digest of the group
+# shares, to which the members of the groups combine.
 OF_GROUPS = 16
 
 DRILL_ROOM = 1 << 16
@@ -61,7 +67,10 @@ MORE = b"more after "
 
 
 class Code(enum.IntEnum):
-    """The codes of an answer. Their names are those of shamir.h, without SHAMIR_."""
+    """The codes of an answer. Their names are those of shamir.h, without SHAMIR_.
+
+    shamir.h says what each code means, and `Refusal.text` says it in words.
+    """
 
     DONE = 0
     TOO_SHORT = 1
@@ -205,8 +214,8 @@ class Outcome:
     """What one quorum of a drill recovers.
 
     `names` are the names of its mnemonics, such as `0.0+0.2+1.0`, and `secret` is what it recovers. If a digest doesn't
-    match, `secret` is None, and `mismatch` is the lowest group whose digest doesn't match, or OF_GROUPS. The repr
-    leaves the secret out.
+    match, `secret` is None, and `mismatch` is the lowest group whose digest doesn't match, or OF_GROUPS. Otherwise
+    `mismatch` is None. The repr leaves the secret out.
     """
 
     names: str
@@ -340,7 +349,7 @@ def create(
     `plan` is TofN for one group, or GT/T1ofN1,T2ofN2,.. for up to 16 groups. GT is the group threshold, each T is the
     member threshold of a group, and each N is its number of members. Each number is from 1 to 16. T may be 1 only if N
     is 1. `secret` has an even number of bytes, 16 to 128. `passphrase` is an additional secret, which `recover` needs
-    too, of printable ASCII. `extendable` is the extendable flag.
+    too, of printable ASCII. `extendable` sets the extendable flag, which leaves the identifier out of the encryption.
 
     `exponent` is the iteration exponent, 0 to 15. The call takes 10,000 * 2^exponent iterations of PBKDF2, and twice as
     many for a secret of more than 64 bytes.
@@ -367,8 +376,9 @@ def recover(lines: Lines, *, passphrase: Text = b"", max_exponent: int = EXPONEN
     """Recover the secret from mnemonics, by the first quorum among them in the order of `drill`.
 
     `lines` is one text of lines, or an iterable of lines. Each line is a mnemonic, or a comment, or blank. A comment
-    starts with #, after any spaces or tabs. A line of an iterable may end with a line feed; another line feed in it
-    raises ValueError. A wrong passphrase isn't detected: it gives another secret.
+    starts with #, after any spaces, tabs and carriage returns. A line has at most 1,024 bytes without its line feed,
+    even if it is a comment. A line of an iterable may end with a line feed; another line feed in it raises ValueError.
+    A wrong passphrase isn't detected: it gives another secret.
 
     The exponent of the mnemonics determines how long the call takes: 10,000 * 2^exponent iterations of PBKDF2, and
     twice as many for a secret of more than 64 bytes. With the exponent 15 these take minutes. If no line is refused and
@@ -389,8 +399,9 @@ def drill(lines: Lines, *, passphrase: Text = b"", after: Optional[Text] = None,
     0.0+0.2 True
     0.1+0.2 True
 
-    `lines`, `passphrase` and `max_exponent` are as for `recover`. If `after` names a quorum, the drill starts with the
-    next one. The library computes the outcomes in parts, each of as many as fit into 64 KiB of its output.
+    `lines`, `passphrase` and `max_exponent` are as for `recover`. If `after` is None, the drill starts with the first
+    quorum. If it names a quorum, the drill starts with the next one. An empty `after` is refused (61). The library
+    computes the outcomes in parts, each of as many as fit into 64 KiB of its output.
 
     A digest mismatch is no refusal here. The generator looks at its arguments only at the first `next`, which then
     raises any refusal.
@@ -452,9 +463,10 @@ def reissue(plan: Text, names: Text, lines: Lines) -> List[str]:
     >>> shamir.reissue("2of3", "0.0", mnemonics[1:]) == mnemonics[:1]
     True
 
-    `plan` is the text of the plan of the backup. The plan may have more members in some groups, and these are then new
-    members of this backup. `names` are the names of the wanted mnemonics, each once and in ascending order, joined by
-    plus signs, such as `0.1+2.0`. `lines` is as for `recover`. The call needs no passphrase, and decrypts nothing.
+    `plan` is the text of the plan of the backup, or of that plan with more members in some groups. The added members
+    are new members of this backup. `names` are the names of the wanted mnemonics, each once and in ascending order,
+    joined by plus signs, such as `0.1+2.0`. `lines` is as for `recover`. The call needs no passphrase, and decrypts
+    nothing.
 
     This call is for mnemonics that were destroyed. If somebody else may have the lost one, create a new backup. If they
     may have a quorum, use a new secret too.

@@ -31,7 +31,7 @@ class Group:
         return math.comb(len(self.members), self.threshold)
 
     def choice(self, rank: int) -> List[Name]:
-        """Return the choice of its members at this position. Choices are in ascending order of their names, from 0."""
+        """Return the choice of its members at this position, from 0, in ascending order of their names."""
         chosen: List[Name] = []
         for at, member in enumerate(self.members):
             more = self.threshold - len(chosen)
@@ -115,7 +115,7 @@ def quorums(text: bytes) -> Quorums:
 
 
 def cuts(whole: Quorums, parts: int) -> Iterator[str]:
-    """Yield the options of this many drills, or of one for each quorum if there are fewer.
+    """Yield the options of `parts` drills, or of one drill for each quorum if there are fewer quorums.
 
     Raises ValueError if a part is too large.
     """

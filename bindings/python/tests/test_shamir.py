@@ -1,4 +1,4 @@
-"""The worked examples, by the binding. Run with `python3 -m unittest discover -s bindings/python/tests`."""
+"""Tests the binding with worked examples. Run it with `python3 -m unittest discover -s bindings/python/tests`."""
 import array
 import ctypes
 import hmac
@@ -30,7 +30,7 @@ FIVE = [
     "academic aluminum ceramic leader cylinder decorate mobile devote echo finger program firm starting dwarf grumpy harvest enforce raisin sprinkle phantom",
 ]
 PLAN = "2/2of3,1of1,1of1"
-# Of two members and of two groups that are no parts of one secret; another program made them.
+# These are two members of a group, and members of two groups. Their digests don't match. Another program made them.
 MISMATCHED = [
     "academic academic academic acid disease prepare husky home result arcade lunar cover shame email oven tension nylon carpet prospect hand",
     "academic academic academic agency dragon mineral broken simple lips custody flame cylinder ending prune party scout beaver enlarge glasses bundle",
@@ -39,9 +39,9 @@ MISMATCHED_GROUPS = [
     "academic academic acrobat easy disease prepare husky home result arcade lunar cover shame email oven tension nylon lawsuit smear antenna",
     "academic academic beard easy dragon mineral broken simple lips custody flame cylinder ending prune party scout beaver presence thank adapt",
 ]
-# Member 3 of group 0, where the plan gives this group four members; another program made it.
+# This is member 3 of group 0 if the plan gives this group four members. Another program made it.
 FOURTH = "academic aluminum acrobat marathon crisis luxury step activity teammate unfair fumes endorse always ranked alto problem mailman ounce teacher bumpy"
-# With these random bytes 2of3 gives the two mnemonics TWO, and one between them.
+# With these random bytes, 2of3 gives the two mnemonics of TWO in reverse order, and one between them.
 TWO_RANDOM = bytes.fromhex("64359164e7a006aadd75179d6d5c")
 ROOT = pathlib.Path(__file__).resolve().parents[3]
 HEADER = ROOT / "include" / "shamir.h"
@@ -49,7 +49,7 @@ PACKAGE = pathlib.Path(shamir.__file__).resolve().parent
 
 
 class LongBytes(bytes):
-    """It says that it has 128 bytes, whatever it has."""
+    """Bytes that claim to be 128 bytes long, whatever they hold."""
 
     def __len__(self):
         return 128
@@ -79,7 +79,7 @@ class LongMap(mmap.mmap):
 
 
 class OddText(str):
-    """It says that it is long, and that its encoding is something else."""
+    """A text that claims to be long, and to have another encoding."""
 
     def __len__(self):
         return 128
@@ -95,7 +95,7 @@ def mapped(kind, data):
 
 
 def odd(data):
-    """The same bytes, lent by types whose length isn't theirs, and by some whose is."""
+    """Returns the same bytes in buffers of many types. Some of them report a wrong length or other contents."""
     types = [LongBytes, NoBytes, LongArray, lambda it: LongNumbers("B", it), lambda it: mapped(LongMap, it)]
     types += [bytes, bytearray, memoryview, lambda it: array.array("H", it), lambda it: mapped(mmap.mmap, it)]
     return [kind(data) for kind in types + [lambda it: memoryview(it[::-1])[::-1]]]
@@ -148,9 +148,8 @@ class WorkedExamples(unittest.TestCase):
         self.assertEqual(list(shamir.drill(FIVE[::-1], passphrase="TREZOR", after=names[4])), listed[5:])
         self.assertEqual(list(shamir.drill(FIVE, passphrase="TREZOR", after=names[6])), [])
         for room in [68, 113, 200]:
-            shamir.DRILL_ROOM, whole = room, shamir.DRILL_ROOM
-            self.assertEqual(list(shamir.drill(FIVE, passphrase="TREZOR")), listed)
-            shamir.DRILL_ROOM = whole
+            with mock.patch.object(shamir, "DRILL_ROOM", room):
+                self.assertEqual(list(shamir.drill(FIVE, passphrase="TREZOR")), listed)
         self.refused(62, None, (0, 0), list, shamir.drill(FIVE, after="0.1"))
         self.refused(61, None, (0, 0), list, shamir.drill(FIVE, after="0.1+"))
 
@@ -206,7 +205,7 @@ class WorkedExamples(unittest.TestCase):
             self.assertRaises(TypeError, shamir.fingerprint, other)
 
     def test_max_exponent(self):
-        """Mnemonics of exponent 2 are refused below it, before all else and before any work, and taken from it on."""
+        """Mnemonics with exponent 2 are refused, whatever the passphrase and the cursor are, unless max_exponent allows it."""
         for most, key in [(0, "TREZOR"), (1, "TREZOR"), (1, "a\x07")]:
             self.refused(3, None, (2, 0), shamir.recover, TWO, passphrase=key, max_exponent=most)
             self.refused(3, None, (2, 0), next, shamir.drill(TWO, passphrase=key, after="0.1+", max_exponent=most))
@@ -222,7 +221,7 @@ class WorkedExamples(unittest.TestCase):
         self.assertEqual(shamir.library_version(), shamir.__version__)
 
     def test_parts(self):
-        """The drill in two parts, of which the first has room for four quorums and a half."""
+        """A drill in two parts lists what the whole drill does. The first part has room for four and a half quorums."""
         whole = list(shamir.drill(FIVE, passphrase="TREZOR"))
         with mock.patch.object(shamir, "DRILL_ROOM", 4 * 45 + 30):
             parts = shamir.drill(FIVE, passphrase="TREZOR")
@@ -230,7 +229,7 @@ class WorkedExamples(unittest.TestCase):
         self.assertEqual(first + list(shamir.drill(FIVE, passphrase="TREZOR", after=first[-1].names)), whole)
 
     def test_short_slices(self):
-        """A slice one byte too short is refused with what is needed, and nothing is written."""
+        """A buffer that is one byte too short is refused with the length needed, and nothing is written."""
         library, key = shamir._library, (b"TREZOR", 6)
         text, one = "\n".join(FIVE).encode(), ONE.encode()
         calls = [
@@ -252,7 +251,7 @@ class WorkedExamples(unittest.TestCase):
             self.assertEqual((answer.code, answer.written), (0, needed))
 
     def test_first_cause(self):
-        """With random bytes of its own, create refuses what it refuses with given ones."""
+        """With random bytes of its own, create refuses the same inputs as with given ones, and with the same codes."""
         for random in (None, b""):
             self.refused(41, None, (2, 0), shamir.create, "2of3", bytes(15), passphrase="a\x07", random=random)
             self.refused(2, None, (0, 0), shamir.create, "1", SECRET, exponent=16, random=random)
@@ -260,7 +259,7 @@ class WorkedExamples(unittest.TestCase):
             self.refused(42, None, (0, 0), shamir.create, "1of1", b"", random=random)
 
     def test_numbers(self):
-        """A number that ctypes would cut is refused before."""
+        """A number that ctypes would truncate is refused before the call."""
         for call in [
             lambda: shamir.create("1of1", SECRET, exponent=2**32 + 2),
             lambda: shamir.create("1of1", SECRET, exponent=-1),
@@ -278,7 +277,7 @@ class WorkedExamples(unittest.TestCase):
         self.assertEqual(flags, [False, True])
 
     def test_types(self):
-        """Texts are str or lend bytes, and secrets lend bytes; anything else is no input."""
+        """A text is a str or a buffer, and a secret is a buffer. Anything else raises TypeError."""
         text = "\n".join(FIVE)
         ended = [line + "\n" for line in FIVE]
         for lines in [text, bytearray(text.encode()), memoryview(text.encode()), map(str.encode, FIVE), map(bytearray, map(str.encode, FIVE)), ended]:
@@ -305,7 +304,7 @@ class WorkedExamples(unittest.TestCase):
             self.assertRaises(TypeError, call)
 
     def test_held(self):
-        """What a buffer or a text really holds is taken, whatever its class says of it."""
+        """The real contents of a buffer or a text are used, whatever its class says about them."""
         given, key, plan = bytes(range(26)), b"TREZOR", PLAN.encode()
         text = "\n".join(FIVE).encode()
         text += b"\n" * (len(text) % 2)
@@ -323,7 +322,7 @@ class WorkedExamples(unittest.TestCase):
             shamir.create("1of1", LongBytes(bytes(2)), random=b"ab")
 
     def test_options(self):
-        """Options have names, and a flag is a bool."""
+        """Options must be given by name, and a flag must be a bool."""
         for call in [
             lambda: shamir.create("1of1", SECRET, "TREZOR"),
             lambda: shamir.recover(FIVE, "TREZOR"),
@@ -335,7 +334,7 @@ class WorkedExamples(unittest.TestCase):
             self.assertRaises(TypeError, call)
 
     def test_lines(self):
-        """A line of a list is one line, so that those behind it are counted right."""
+        """An item of a list is one line, so that the lines after it are counted right."""
         self.assertEqual(shamir.recover(line for line in ["", "# a note\n", *FIVE, "\n"]), shamir.recover(FIVE))
         self.refused(13, 3, (0, 0), shamir.recover, ["\n", "", ONE.replace("keyboard", "kidney") + "\n"])
         for lines in [["\n".join(FIVE)], [ONE, b"a\nb\n"], ["\n\n"]]:
@@ -343,20 +342,20 @@ class WorkedExamples(unittest.TestCase):
                 shamir.recover(lines)
 
     def test_outcome(self):
-        """An outcome has a secret or a mismatch, and isn't printed with the secret."""
+        """An outcome has a secret or a mismatch, and its repr doesn't show the secret."""
         [sound], [unsound] = shamir.drill(TWO, passphrase="TREZOR"), shamir.drill(MISMATCHED)
         self.assertEqual((sound.names, len(sound.secret), sound.mismatch), ("0.0+0.2", 16, None))
         self.assertEqual((unsound.names, unsound.secret, unsound.mismatch), ("0.0+0.1", None, 0))
         self.assertEqual(repr(sound), "Outcome(names='0.0+0.2', mismatch=None)")
 
     def test_after(self):
-        """An empty text names no quorum; None is the begin."""
+        """An empty text is a bad cursor. None starts at the first quorum."""
         self.assertEqual(len(list(shamir.drill(FIVE, after=None))), 7)
         for empty in ["", b"", OddText()]:
             self.refused(61, None, (0, 0), list, shamir.drill(FIVE, after=empty))
 
     def test_threads(self):
-        """Calls run on threads at once, of a stack as docs/LIBRARY.md says."""
+        """Calls can run in several threads at once, with the size of stack that docs/LIBRARY.md names."""
         found = []
         before = threading.stack_size(1048576)
         self.addCleanup(threading.stack_size, before)
@@ -378,7 +377,7 @@ class WorkedExamples(unittest.TestCase):
         self.assertEqual({code.name: str(code.value) for code in shamir.Code}, found)
 
     def test_no_library(self):
-        """Without its library, and with another one, the package says so as an ImportError."""
+        """Without its library, or with another one, the package raises an ImportError that says so."""
         libc = pathlib.Path("/proc/self/maps").read_text()
         libc = re.search(r"/\S*/libc\S*so\S*$", libc, re.MULTILINE)[0]
         for name, told in [("/nowhere/libshamir.so", "/nowhere/libshamir.so: "), (libc, "shamir_parse")]:
@@ -389,7 +388,7 @@ class WorkedExamples(unittest.TestCase):
             self.assertRegex(done.stderr.splitlines()[-1], "^ImportError: .*" + re.escape(told))
 
     def test_one_call(self):
-        """Each backup is created by one call, however long it is, so that its key is derived once."""
+        """One call creates each backup, however long it is, so that its key is derived only once."""
         with mock.patch.object(shamir._library, "shamir_create", wraps=shamir._library.shamir_create) as calls:
             lines = shamir.create("16/" + ",".join(["16of16"] * 16), bytes(128))
         self.assertEqual((len(lines), calls.call_count), (256, 1))

@@ -18,7 +18,7 @@ use s39_words::Share;
 pub(crate) type Groups = ArrayVec<(u8, Members), GROUPS>;
 
 /// Returns whether a backup of this plan can have all shares of a set: their group threshold and their number of groups
-/// are the plan's, and the plan has their names with their member thresholds. An empty set is of every plan.
+/// are the plan's, and the plan has their names with their member thresholds. The answer for an empty set is `true`.
 ///
 /// ```rust
 /// let mut set = ShareSet::new();

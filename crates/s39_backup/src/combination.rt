@@ -26,7 +26,7 @@ use s39_words::Share;
 pub enum Mismatch {
     /// The member shares of this group, counted from 0: the first group whose digest doesn't match.
     InGroup { group: u8 },
-    /// The group shares. The member shares of each group combine.
+    /// The group shares. In each group, the digest of the member shares matches.
     OfGroups,
 }
 

@@ -11,8 +11,8 @@ use std::marker::Model;
 
 /// The shares of a created backup, at most 256, in the order in which they were appended.
 ///
-/// `create` puts all shares of a new backup in the place of those that were there, by group, then member. Its example
-/// shows how to read them. The shares stand in fixed slots, so no memory is allocated.
+/// `create` replaces the shares that were there with those of a new backup, ordered by group and then by member. Its
+/// example shows how to read them. The shares stand in fixed slots, so no memory is allocated.
 #[derive(Drop)]
 pub struct Created {
     slots: [Share; MAX_NAMES],
@@ -60,7 +60,7 @@ impl Created {
         self.len = 0;
     }
 
-    /// Appends a share. The caller makes sure that there are fewer than 256 shares before.
+    /// Appends a share. The caller makes sure that there are fewer than 256 shares before the call.
     pub fn push(&mut self, share: Share)
         requires { length self.old < most_names }
         ensures { self.new ≡ self.old ++ share ∷ [] }

@@ -22,7 +22,7 @@ use s39_words::{ID_BITS, Share, ShareFields};
 pub(crate) const ID_BYTES: usize = 2;
 
 /// Creates a backup of a secret with a passphrase (SLIP-0039, "Encryption of the master secret" and "Generating the
-/// shares"). It puts the shares into `out`, by group, then member, in the place of those that `out` had.
+/// shares"). It replaces the shares that `out` had with those of the backup, ordered by group and then by member.
 ///
 /// The random bytes are consumed in this order: two for the identifier, big-endian and without the highest bit; those
 /// of the group level; then those of each group in order. Each level takes as many as `s39_split::random_needed` says,

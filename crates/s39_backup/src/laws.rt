@@ -229,7 +229,7 @@ pub fn whole_backups_meet_the_thresholds()
         → All (Contains set) backup.shares → MeetsThresholds set (map name_of set) }
 {}
 
-/// The share of a name of a plan is at most one share, or it is missing for one cause.
+/// A name of a plan has at most one share, or at most one cause for which its share is missing.
 pub fn one_reissue()
     ensures { (set : List ShareFields) (group_threshold : ℕ) (groups : List Members)
         (name : Name) (result other : Result ShareFields ReissueError)
@@ -269,7 +269,7 @@ pub fn reissued_shares_are_shares()
 }
 
 /// A name of a plan has a share only if the shares at hand determine it. `Undetermined` is the answer only if they
-/// don't, and it has both counts.
+/// don't, and it says what is at hand and what is needed.
 pub fn names_are_determined_or_not()
     ensures determined { (set : List ShareFields) (group_threshold : ℕ) (groups : List Members)
         (name : Name) (share : ShareFields)

@@ -90,8 +90,8 @@ impl<'a> Memo<'a> {
     /// Returns the only secret whose encryption this value is (SLIP-0039, "Encryption of the master secret"). It is as
     /// long as the value.
     ///
-    /// If the memo keeps the value, it deciphers nothing and stays as it is. Otherwise it deciphers the value and
-    /// keeps it, and of five values it drops the oldest.
+    /// If the memo keeps the value, it deciphers nothing and stays as it is. Otherwise it deciphers the value and keeps
+    /// it. If it then has five values, it drops the oldest.
     ///
     /// The caller passes an even number of bytes, at least 16.
     pub fn secret(&mut self, encrypted: &Bytes) -> Bytes

@@ -28,16 +28,16 @@ use s39_set::{ShareSet, are_a_share_set, share_at};
 use s39_split::{DigestMismatch, Points, SECRET_PLACE, complete};
 use s39_words::{Share, ShareFields};
 
-/// Computes the share with a name of a plan from the shares of a set, without the passphrase (SLIP-0039, "Shamir's
-/// secret sharing"). The first of these that applies gives it:
+/// Computes the named share of a plan from the shares of a set, without the passphrase (SLIP-0039, "Shamir's secret
+/// sharing"). The first of these that applies gives it:
 ///
 /// - the set has the share;
-/// - the set has at least as many members of its group as the member threshold: the least of them determine the share;
-/// - the set has one member fewer, and at least as many other groups as the group threshold have enough members: the
-///   least of these groups give the group's share, and this and the members determine the share.
+/// - the set has at least as many members of its group as the member threshold: the lowest of them determine the share;
+/// - the set has one member fewer, and the number of other complete groups is at least the group threshold: the lowest
+///   of these groups give the group's share, which determines the share together with the members.
 ///
-/// The error is `Undetermined` if none of them applies, with what is at hand and what is needed. It is
-/// `DigestMismatch` if a digest doesn't match on the way, with the group in which it doesn't, or for the group shares.
+/// The error is `Undetermined` if none of them applies, with what is at hand and what is needed. It is `DigestMismatch`
+/// if a digest doesn't match during the computation, and it names the group, or the group shares.
 ///
 /// The caller makes sure that the set is of the plan (`is_of_plan`), and that the plan has the name (`Plan::has_name`).
 ///

@@ -29,13 +29,13 @@ use s39_split::{DIGEST_BYTES, MAX_SHARES, Points, fit, random_needed, split};
 /// the names are two short of the plan's thresholds, and the function returns whether they are (SLIP-0039, "Sharing a
 /// secret").
 ///
-/// The names are two short if the plan has all of them, and the groups that they hold are at most the group threshold
-/// less two. They must hold no group if the group threshold is 1. They hold a group if they have at least one name of
-/// it, and more than its member threshold less two.
+/// Names hold a group if they have at least one name of it, and more names of it than its member threshold minus two.
+/// They are two short if the plan has all of them, and they hold at most as many groups as the group threshold minus
+/// two, or none if it is 1.
 ///
-/// On `true`, `random` holds new bytes. With them `create` gives from `other` the same shares with these names as from
-/// `secret` with the old bytes, while the plan, the passphrase and the options are the same. So these shares fit either
-/// secret. On `false`, `random` is unchanged.
+/// On `true`, `random` holds new bytes. From `other` and the new bytes, `create` makes the same shares with these names
+/// as from `secret` and the old bytes. The plan, the passphrase and the options stay the same. So these shares fit
+/// either secret. On `false`, `random` is unchanged.
 ///
 /// At each level the key of the digest stays. As many shares as the threshold less two stay too: those that are kept,
 /// and the lowest others. So `refit` from `other` back to `secret`, with the same names, restores the old bytes.

@@ -1,4 +1,4 @@
-//! Why the shares at hand don't give the share with a name.
+//! Why the shares at hand don't give the named share.
 ghost use Rattle.std.specs.Prelude.{◌≡◌};
 ghost use Rattle.s39_backup.specs.Reissue.{reissue_cause_of};
 
@@ -40,7 +40,7 @@ impl TooFew {
     }
 }
 
-/// Why the shares at hand don't give the share with a name.
+/// Why the shares at hand don't give the named share.
 #[derive(Clone, Copy, Debug, PartialEq, Eq)]
 pub enum ReissueError {
     /// The shares at hand don't determine it.

@@ -15,15 +15,15 @@ use Rattle.s39_tool.specs.declared.slices.Unwritten.TheVariants.{Refused, TooSho
 use Rattle.s39_tool.specs.Fault.{cause_of}
 use Rattle.s39_c.specs.declared.answer.ShamirAnswer.{ShamirAnswer}
 
--- nothing is refused, and so many bytes are written
+-- nothing is refused, and n bytes are written
 abbrev pub done : ℕ → ShamirAnswer
 done n = record { code = 0; mismatches = 0; line = 0; first = 0; second = 0; written = n }
 
--- a refusal by what it says, and its line, which is 0 where it has none
+-- a refusal with what it says, and its line, which is 0 if it has none
 abbrev pub refusal : Cause → ℕ → ShamirAnswer
 refusal says line = record { code = says.code; mismatches = 0; line = line; first = says.first; second = says.second; written = 0 }
 
--- a slice is too short for so many bytes
+-- a slice is too short for this number of bytes
 abbrev pub too_short : ℕ → ShamirAnswer
 too_short needed = refusal (cause 1 needed 0) 0
 
@@ -51,7 +51,7 @@ word_refused error = refusal (word_cause_of error) 0
 abbrev pub plan_refused : PlanError → ShamirAnswer
 plan_refused error = refusal (plan_cause_of error) 0
 
--- a secret may not have so many bytes
+-- a secret can't have this number of bytes
 abbrev pub length_refused : ℕ → ShamirAnswer
 length_refused n = refusal (length_cause n) 0
 
@@ -63,11 +63,11 @@ cursor_refused = refusal cursor_cause 0
 abbrev pub names_refused : ShamirAnswer
 names_refused = refusal names_cause 0
 
--- nothing is refused, so many bytes are written, and so many groups are complete of so many that are needed
+-- nothing is refused; the numbers are those of the bytes written, of the complete groups, and of the groups that are needed
 abbrev pub counted : ℕ → Status → ShamirAnswer
 counted n status = record { code = 0; mismatches = 0; line = 0; first = status.complete; second = status.required; written = n }
 
--- nothing is refused, so many bytes are written, and so many of the quorums in them are refused for a digest
+-- nothing is refused; the numbers are those of the bytes written, and of the quorums in them that are refused for a digest
 abbrev pub listed : ℕ → ℕ → ShamirAnswer
 listed n mismatches = record { code = 0; mismatches = mismatches; line = 0; first = 0; second = 0; written = n }
 
@@ -80,7 +80,7 @@ abbrev pub unwritten : Unwritten → ShamirAnswer
 unwritten (Refused fault) = refused fault
 unwritten (TooShort short) = too_short short.needed
 
--- These bytes stand at the front of a slice, and behind them what was there; or they don't fit, and it is as it was.
+-- These bytes are at the front of a slice, and the rest of it is unchanged. Or they don't fit, and all of it is unchanged.
 abbrev pub Gives : List ℕ → List ℕ → List ℕ → ShamirAnswer → Type 0
 Gives bytes old new answer =
     ((length bytes ≤ length old) × (new ≡ bytes ++ drop (length bytes) old) × (answer ≡ done (length bytes)))

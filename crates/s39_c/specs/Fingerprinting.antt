@@ -6,7 +6,7 @@ use Rattle.s39_kdf.specs.Limits.{IsSecretLength}
 use Rattle.s39_c.specs.declared.answer.ShamirAnswer.{ShamirAnswer}
 use Rattle.s39_c.specs.Answers.{Gives, length_refused}
 
--- A secret may not have so many bytes, and the slice is as it was; or the fingerprint of the secret, in lower-case hexadecimal.
+-- A secret can't have this number of bytes, and the slice is unchanged; or the fingerprint of the secret, in lower-case digits.
 abbrev pub GivesFingerprint : List ℕ → List ℕ → List ℕ → ShamirAnswer → Type 0
 GivesFingerprint secret old new answer =
     (¬ IsSecretLength (length secret) × (new ≡ old) × (answer ≡ length_refused (length secret)))

@@ -36,7 +36,8 @@ pub extern "C" fn shamir_random_needed(plan: &[u8], secret_bytes: usize) -> Sham
 /// extendable flag is set if `extendable` isn't 0. `random` has exactly as many bytes as `shamir_random_needed` says.
 ///
 /// The call refuses with the first of these that applies, and `mnemonics` is then unchanged: 2 (the exponent), 31 to 34
-/// (the plan), 41 (the passphrase), 42 (the secret), 43 (the random bytes), 1 (`mnemonics` is too short).
+/// (the plan), 41 (the passphrase), 42 (the secret), 43 (the random bytes), 1 (`mnemonics` is too short, which the call
+/// notices only after the iterations).
 ///
 /// ```c
 /// static char mnemonics[SHAMIR_MNEMONICS_BYTES_MAX];

@@ -10,9 +10,10 @@ use crate::memory::give;
 use s39_kdf::{check_secret_length, fingerprint};
 use s39_tool::Fault;
 
-/// Computes the fingerprint of a master secret, by which its owner can recognise it without seeing it. The fingerprint
-/// is the first four bytes of the HMAC-SHA256 of the secret with the key `shamir fingerprint`, in eight lower-case
-/// hexadecimal digits. They go to the start of `text`; `written` is 8, and the bytes after them are unchanged.
+/// Computes the fingerprint of a master secret, by which its owner can recognise the secret without seeing it. The
+/// fingerprint is the first four bytes of the HMAC-SHA256 of the secret with the key `shamir fingerprint`, in eight
+/// lower-case hexadecimal digits. They go to the start of `text`; `written` is 8, and the bytes after them are
+/// unchanged.
 ///
 /// The call refuses with the first of these that applies, and `text` is then unchanged: 42 (the length of the secret),
 /// 1 (`text` is too short).

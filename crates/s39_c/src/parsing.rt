@@ -28,9 +28,9 @@ pub struct ShamirShare {
     pub member_threshold: u8,
 }
 
-/// Reads one mnemonic, which is a line without its line feed. The fields go to `share`. The value of the share goes to
-/// the start of `value`; it has an even number of bytes, 16 to 128, and `written` is that number. The bytes after it
-/// are unchanged.
+/// Reads one mnemonic, which is a line without its line feed. A line feed in `line` counts as part of a word, and that
+/// word is refused with 11. The fields go to `share`. The value of the share goes to the start of `value`; it has an
+/// even number of bytes, 16 to 128, and `written` is that number. The bytes after it are unchanged.
 ///
 /// The call refuses with the first of these that applies, and `share` and `value` are then unchanged: 11 to 15 (the
 /// line isn't a mnemonic), 1 (`value` is too short).

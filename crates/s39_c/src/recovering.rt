@@ -22,7 +22,7 @@ use s39_tool::recover_secret;
 /// - 3, if no line is refused, the mnemonics have a quorum, and their exponent is above `max_exponent`; the call then
 ///   derives no key;
 /// - 41 (the passphrase), then the code of the first refused line (11 to 28, 71), then 29, 30, 51;
-/// - 1, if `secret` is too short.
+/// - 1, if `secret` is too short, which the call notices only after the iterations.
 ///
 /// ```c
 /// uint8_t secret[SHAMIR_SECRET_BYTES_MAX];

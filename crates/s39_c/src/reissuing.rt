@@ -8,10 +8,11 @@ use crate::answer::ShamirAnswer;
 use s39_set::{Quorum, parse_names};
 use s39_tool::{Plan, reissue_lines};
 
-/// Computes mnemonics of a backup from those in `lines`. `plan` is the text of the plan of the backup. `names` lists
-/// the names of the wanted mnemonics, each once and in ascending order, as `0.1+2.0`. The mnemonics go to the start of
-/// `mnemonics` in this order, and a line feed follows each. `written` is their length in bytes; the bytes after them
-/// are unchanged. The call needs no passphrase.
+/// Computes mnemonics of a backup from those in `lines`. `plan` is the text of the plan of the backup, or of that plan
+/// with more members in some groups; the added members are new members of this backup. `names` lists the names of the
+/// wanted mnemonics, each once and in ascending order, as `0.1+2.0`. The mnemonics go to the start of `mnemonics` in
+/// this order, and a line feed follows each. `written` is their length in bytes; the bytes after them are unchanged.
+/// The call needs no passphrase.
 ///
 /// The call refuses with the first of these that applies, and `mnemonics` is then unchanged:
 ///

@@ -7,13 +7,13 @@ pub fn faultless_words_are_taken()
     ensures { FaultlessWordsAreTaken }
 {}
 
-/// Words ask for help alone, or for the version alone, or have only mistakes, or have no fault.
+/// Words ask only for help, ask only for the version, have only mistakes, or have no fault.
 pub fn faults_are_one_request_or_mistakes()
     ensures { FaultsAreOneRequestOrMistakes }
 {}
 
-/// If a command requires a subcommand, the words that it takes name one of its subcommands. What is found for the
-/// arguments of that subcommand are values that their parsers accept.
+/// If a command requires a subcommand, the words that it takes name one of its subcommands. The parsers of that
+/// subcommand's arguments accept the values that are found for them.
 pub fn taken_words_enter_one()
     ensures { TakenWordsEnterOne }
 {}

@@ -143,7 +143,7 @@ abbrev pub is_fingerprint : SecretForm → Bool
 is_fingerprint Digits = false
 is_fingerprint Fingerprint = true
 
--- the form in which a secret is told: by its fingerprint where the flag is said, else by its digits
+-- the form in which a secret is written: its fingerprint if the flag is given, and otherwise its digits
 abbrev pub IsFormSaid : List Row → SecretForm → Type 0
 IsFormSaid rows form = one_of (codes "fingerprint") rows ≡ Some (flag_text (is_fingerprint form))
 

@@ -37,7 +37,7 @@ abbrev pub IsTyped : Source → Job → Type 0
 IsTyped source (Create plan secret passphrase exponent extendable) = source ≡ Terminal
 IsTyped source _ = ⊥
 
--- these are all bytes of a reader, where it tells them
+-- these are all bytes of a reader, if it tells them
 abbrev pub AreAllOf : Option (List ℕ) → List ℕ → Type 0
 AreAllOf told bytes = IfSome told (λ all. bytes ≡ all)
 
@@ -45,7 +45,7 @@ AreAllOf told bytes = IfSome told (λ all. bytes ≡ all)
 abbrev pub IsFrom : Option (List ℕ) → Option (List ℕ) → Input → Type 0
 IsFrom told left input = ((input.ended ≡ true) × AreAllOf told input.bytes) ⊎ ((input.ended ≡ false) × Consumes told left input.bytes)
 
--- the writer holds a beginning of what it held with this text behind it
+-- the writer holds a beginning of what it held with this text after it
 abbrev pub HoldsBeginning : Option (List ℕ) → Option (List ℕ) → List ℕ → Type 0
 HoldsBeginning old new text = (lost : List ℕ) × Keeps (append_known old text) (append_known new lost)
 
@@ -54,7 +54,7 @@ abbrev pub EndsUnwritten : {W : Type 0} → W → ℕ → W → Type 0
 EndsUnwritten writer status written_to = ((status ≡ 2) ⊎ (status ≡ 3)) × (written_to ≡ writer)
 
 module _ {R W : Type 0} where
-  -- this is so of the exit status and of the devices then, unless there was no memory
+  -- this holds for the exit status and the devices at the end, unless memory ran out
   abbrev pub OnEnd : Ended R W → (ℕ → R → W → Type 0) → Type 0
   OnEnd (With status read_to written_to) Is = Is status read_to written_to
   OnEnd NoMemory Is = Unit {0}
@@ -68,7 +68,7 @@ module _ {R W : Type 0} where
   abbrev pub EndsAtOnce : ℕ → R → W → ℕ → R → W → Type 0
   EndsAtOnce wanted reader writer status read_to written_to = (status ≡ wanted) × (read_to ≡ reader) × (written_to ≡ writer)
 
-  -- nothing is said where the exit status is 0
+  -- nothing is said if the exit status is 0
   abbrev pub IsSilentAtNone : {E : Type 0} → Ended R W → E → E → Type 0
   IsSilentAtNone ended old new = OnEnd ended (λ status read_to written_to. status ≡ 0 → new ≡ old)
 
@@ -81,8 +81,9 @@ module _ {R W : Type 0} (contents : W → Option (List ℕ)) where
       ⊎ ((status ≡ 3) × HoldsBeginning (contents writer) (contents written_to) text))
 
 module _ {R W : Type 0} (remaining : R → Option (List ℕ)) (contents : W → Option (List ℕ)) where
-  -- The text that is so of the reader's bytes goes out. With any exit status but 3, all of it does, of all bytes. With 3 a device
-  -- failed: a beginning does, of the text of the bytes that came. Where the reader doesn't tell its bytes, that is so of some bytes.
+  -- The text for the reader's bytes goes out. With any exit status except 3, all of it does, for all bytes. Status 3 stands for a
+  -- failed device: a beginning goes out of the text for the bytes that came. If the reader doesn't tell its bytes, this holds for
+  -- some bytes.
   pub record Delivers (IsOutput : Input → List ℕ → ℕ → Type 0) (reader : R) (writer : W) (status : ℕ) (read_to : R) (written_to : W) : Type 0 where
     pub done : status ≢ 3 → (bytes : List ℕ) × AreAllOf (remaining reader) bytes
         × ((text : List ℕ) × IsOutput (whole bytes) text status × Appends (contents writer) (contents written_to) text)
@@ -108,8 +109,8 @@ module _ {R W : Type 0} (remaining : R → Option (List ℕ)) (contents : W → 
       ⊎ ((IsTyped source call.job → ⊥) × ((job : Job) × (behind : R) × FillsJob remaining call job reader behind
       × DoesJob job behind writer status read_to written_to))
 
-  -- how the program ends with these words and this source of its input: with help or the version where they ask for it; with 2 where
-  -- they are no command, or a value of it is missing or given twice; else by the call that they give
+  -- How the program ends with these words and this source of its input: with help or the version if they ask for it; with 2 if they
+  -- are no command, or a value of it is missing or given twice; and otherwise as the call that they give does.
   pub record EndsAs (source : Source) (words : List Text) (reader : R) (writer : W) (status : ℕ) (read_to : R) (written_to : W) : Type 0 where
     pub asked : AsksForText words → (text : List ℕ) × ShowsText contents text reader writer status read_to written_to
     pub refused : takes shamir_app words ≡ false → (AsksForText words → ⊥) → EndsAtOnce 2 reader writer status read_to written_to
@@ -117,13 +118,13 @@ module _ {R W : Type 0} (remaining : R → Option (List ℕ)) (contents : W → 
         → (((bad : BadValues) × GivesBadValues words bad) × EndsAtOnce 2 reader writer status read_to written_to)
         ⊎ ((call : Call) × GivesCall words call × TakesCall source call reader writer status read_to written_to)
 
-  -- that is so unless there was no memory
+  -- this holds unless memory ran out
   abbrev pub Ends : Source → List Text → R → W → Ended R W → Type 0
   Ends source words reader writer ended = OnEnd ended (EndsAs source words reader writer)
 
 -- ---- within the program; no public contract cites this
 
--- What a device held at the end of a run that answered so is in the writer behind it; or a beginning is, and the writer failed.
+-- What a buffer held at the end of a run with this answer is in the writer below it. Or a beginning is, and the writer failed.
 abbrev pub HandsOn : Option (List ℕ) → Option (List ℕ) → Result Bool Fault → Result Bool Fault → Type 0
 HandsOn held last answer given = ((given ≡ answer) × Keeps held last)
     ⊎ ((given ≡ Err (fault_of (Device Write))) × (lost : List ℕ) × Keeps held (append_known last lost))
@@ -133,7 +134,7 @@ abbrev pub GoesOut : Option (List ℕ) → Option (List ℕ) → List ℕ → Bo
 GoesOut old new text true = Appends old new text
 GoesOut old new text false = HoldsBeginning old new text
 
--- the text is written but for a rest
+-- the text is written except for a rest
 pub record IsGoingOut (old now : Option (List ℕ)) (text rest : List ℕ) : Type 0 where
   pub written : List ℕ
   pub appends : Appends old now written

@@ -33,8 +33,8 @@ abbrev pub form_words : SecretForm → List Text
 form_words Digits = []
 form_words Fingerprint = codes "--fingerprint" ∷ []
 
--- These are the words of a drill: `shamir drill --passphrase P --after Q --limit N`, and behind `drill` the word that asks for
--- fingerprints, where they are asked for. The first word is any name of the program, and each option is one word or two.
+-- These are the words of a drill: `shamir drill --passphrase P --after Q --limit N`. If fingerprints are asked for, the word for
+-- that comes after `drill`. The first word is any name of the program, and each option is one word or two.
 pub record AreDrillWords (form : SecretForm) (passphrase after limit : Text) (words : List Text) : Type 0 where
   pub program : Text
   pub passphrase_words : List Text
@@ -45,8 +45,8 @@ pub record AreDrillWords (form : SecretForm) (passphrase after limit : Text) (wo
   pub limit_given : AreOptionWords (codes "limit") limit limit_words
   pub words_are : words ≡ program ∷ codes "drill" ∷ (form_words form ++ passphrase_words ++ after_words ++ limit_words)
 
--- these are the words of a recovery: `shamir recover --passphrase P`, and behind `recover` the word that asks for the fingerprint,
--- where it is asked for
+-- These are the words of a recovery: `shamir recover --passphrase P`. If the fingerprint is asked for, the word for that comes
+-- after `recover`.
 pub record AreRecoverWords (form : SecretForm) (passphrase : Text) (words : List Text) : Type 0 where
   pub program : Text
   pub passphrase_words : List Text
@@ -77,7 +77,7 @@ drill_apart program passphrase after limit = program ∷ codes "drill" ∷ codes
 abbrev pub JoinedDrill : Type 0
 JoinedDrill = (program passphrase after limit : Text) → AreDrillWords Digits passphrase after limit (drill_joined program passphrase after limit)
 
--- and so are those with each in two, where no value begins with a dash
+-- and so are those with each in two, if no value begins with a dash
 abbrev pub ApartDrill : Type 0
 ApartDrill = (program passphrase after limit : Text) → HasNoDash passphrase → HasNoDash after → HasNoDash limit
     → AreDrillWords Digits passphrase after limit (drill_apart program passphrase after limit)
@@ -140,8 +140,8 @@ ListsOrRefuses form set secret names limit text status =
     (IsQuorum set names × ListsSecret form set secret (Some names) limit text × (status ≡ 0))
     ⊎ (((cause : Undrilled) × IsUndrilled set (Some names) cause) × (text ≡ []) × (status ≡ 1))
 
--- That is so where the input holds mnemonics of a backup that was created with this passphrase: the cursor's text is that of
--- names, and after these just the quorums of the shares read are listed, each with the secret, as many as the limit.
+-- If the input holds mnemonics of a backup that was created with this passphrase, the cursor's text is that of names, and exactly
+-- the quorums of the shares read that come after these are listed, each with the secret, as many as the limit allows.
 abbrev pub DrillsBackup : SecretForm → Text → Text → ℕ → Input → List ℕ → ℕ → Type 0
 DrillsBackup form passphrase after limit input text status = (secret : List ℕ) → HoldsMnemonicsOf passphrase secret input
     → (set : List ShareFields) × IsReadAs input (Ok set)
@@ -164,7 +164,7 @@ RecoversOrRefuses form set secret text status =
     (((names : Names) × IsQuorum set names) × (text ≡ secret_line form secret) × (status ≡ 0))
     ⊎ (((lack : SetLack) × IsLack set lack) × (text ≡ []) × (status ≡ 1))
 
--- that is so of such an input
+-- the same for a recovery from such an input
 abbrev pub RecoversBackup : SecretForm → Text → Input → List ℕ → ℕ → Type 0
 RecoversBackup form passphrase input text status = (secret : List ℕ) → HoldsMnemonicsOf passphrase secret input
     → (set : List ShareFields) × IsReadAs input (Ok set) × RecoversOrRefuses form set secret text status

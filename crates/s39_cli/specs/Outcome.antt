@@ -85,7 +85,7 @@ pub record HasNoCause (job : Job) : Type 0 where
 
 -- ---- what is written
 
--- the names after which a drill goes on: those that the given text writes, and none where no text is given
+-- the names after which a drill continues: those that the given text writes, or none if no text is given
 abbrev pub IsCursor : Option (Bor Text) → Option Names → Type 0
 IsCursor None after = after ≡ None
 IsCursor (Some text) after = (names : Names) × (after ≡ Some names) × IsWrittenForm text.now names
@@ -157,7 +157,7 @@ IsJobOutput Status input text answer =
 IsJobOutput (Reissue plan names) input text answer =
     (plain : Result (Unit {0}) Fault) × Reissues plan.now names.now input text plain × (answer ≡ judged where_done plain)
 
--- the exit status of a refusal: 3 where a device failed, else 1
+-- the exit status of a refusal: 3 if a device failed, and otherwise 1
 abbrev pub status_of_refusal : Refusal → ℕ
 status_of_refusal (Device _) = 3
 status_of_refusal _ = 1

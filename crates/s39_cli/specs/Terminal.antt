@@ -1,4 +1,4 @@
--- What is read behind the end of a run.
+-- What is read after the end of a run.
 use Rattle.std.specs.Prelude.{◌≡◌, ℕ, List, Option}
 use Rattle.std.specs.Io.KnownBytes.{Consumes}
 use Rattle.s39_cli.specs.declared.runner.Ended.{Ended}

@@ -25,7 +25,7 @@ part End bytes = bytes
 part LineEnd bytes = take_through 10 bytes
 
 -- The value stands in the bytes that are read, without the end of their line. They are that part of the reader's bytes, if it tells
--- them, and none behind it is read.
+-- them, and none after it is read.
 pub record IsValueIn (until : Until) (told left : Option (List ℕ)) (value : List ℕ) : Type 0 where
   pub bytes : List ℕ
   pub read : Consumes told left bytes
@@ -104,12 +104,12 @@ pub record IsPart (until : Until) (room : ℕ) (told left : Option (List ℕ)) (
   pub all : IfSome told (λ known. bytes ≡ take room (part until known))
   pub fits : length bytes ≤ room
 
--- the part hasn't ended with these bytes: no line ends in them, where it is a line
+-- the part hasn't ended with these bytes: no line ends in them, if it is a line
 abbrev pub IsOpen : Until → List ℕ → Type 0
 IsOpen End bytes = Unit {0}
 IsOpen LineEnd bytes = All (λ byte. byte ≢ 10) bytes
 
--- so many bytes of the part are read, and it hasn't ended
+-- this number of bytes of the part are read, and it hasn't ended
 pub record IsBegunPart (until : Until) (count : ℕ) (told left : Option (List ℕ)) (bytes : List ℕ) : Type 0 where
   pub read : Consumes told left bytes
   pub unended : IsOpen until bytes

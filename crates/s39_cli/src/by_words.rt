@@ -16,9 +16,9 @@ use std::alloc::Global;
 use std::collections::VecDeque;
 use std::io::{Read, Write};
 
-/// The program with the words of a drill. What these words write goes out. Of mnemonics of a backup that was created with their
-/// passphrase, that is exactly the quorums after the given one, each with the secret in the form that the words ask for, and the
-/// exit status is 0.
+/// Runs the program with the words of a drill, and delivers what the command that they give writes. For mnemonics of a backup
+/// that was created with their passphrase, it lists exactly the quorums after the given one, each with the secret in the form
+/// that the words ask for. The exit status is then 0.
 pub fn drill<S: Shelf, R: Read + Drop, W: Write + Drop, E: Write>(
     shelf: &S,
     alloc: Global,
@@ -48,8 +48,9 @@ pub fn drill<S: Shelf, R: Read + Drop, W: Write + Drop, E: Write>(
     )
 }
 
-/// The program with the words of a recovery. What these words write goes out. Of such mnemonics that meet the thresholds, that is
-/// the secret in the form that the words ask for, and the exit status is 0.
+/// Runs the program with the words of a recovery, and delivers what the command that they give writes. For mnemonics of a
+/// backup that was created with their passphrase, if they meet the thresholds, it writes the secret in the form that the words
+/// ask for. The exit status is then 0.
 pub fn recover<S: Shelf, R: Read + Drop, W: Write + Drop, E: Write>(
     shelf: &S,
     alloc: Global,
@@ -78,9 +79,9 @@ pub fn recover<S: Shelf, R: Read + Drop, W: Write + Drop, E: Write>(
     )
 }
 
-/// The program with the words of a creation, and then with the words of a recovery and the same passphrase, whose input is what
-/// the first wrote. If no device of the second fails, the secret goes out, and its exit status is 0. The result is how the second
-/// ended, or how the first did if that wasn't with status 0.
+/// Runs the program with the words of a creation, and then with the words of a recovery and the same passphrase. The input of
+/// the second run is what the first wrote. If no device of the second fails, the secret goes out, and its exit status is 0. The
+/// result says how the second run ended, or how the first ended if its status wasn't 0.
 pub fn create_and_recover<S: Shelf, R: Read + Drop, W: Write + Drop, E: Write>(
     shelf: &S,
     alloc: Global,

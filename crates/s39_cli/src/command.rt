@@ -22,31 +22,31 @@ pub enum Job<'a> {
     Create {
         /// The text of the plan.
         plan: &'a str,
-        /// The text of the secret in hexadecimal, and the empty text if a file holds it.
+        /// The text of the secret in hexadecimal. It is empty if a file holds the secret.
         secret: &'a [u8],
-        /// The passphrase as it was given, and the empty text if none was, or if a file holds it.
+        /// The passphrase as it was given. It is empty if none was given, or if a file holds it.
         passphrase: &'a [u8],
-        /// The iteration exponent, 0 to 15, and 0 if none was given.
+        /// The iteration exponent, 0 to 15. It is 0 if none was given.
         exponent: u8,
         /// Whether the extendable flag was given.
         extendable: bool,
     },
     /// Recovers the secret from the mnemonics on standard input.
     Recover {
-        /// The passphrase as it was given, and the empty text if none was, or if a file holds it.
+        /// The passphrase as it was given. It is empty if none was given, or if a file holds it.
         passphrase: &'a [u8],
-        /// The form in which the secret is written: its fingerprint if `--fingerprint` was given, and else its digits.
+        /// The form in which the secret is written: its fingerprint if `--fingerprint` was given, and otherwise its digits.
         form: SecretForm,
     },
     /// Tries the quorums of the mnemonics on standard input.
     Drill {
-        /// The passphrase as it was given, and the empty text if none was, or if a file holds it.
+        /// The passphrase as it was given. It is empty if none was given, or if a file holds it.
         passphrase: &'a [u8],
         /// The text of the quorum after which the drill starts, if one was given.
         after: Option<&'a str>,
-        /// How many quorums are tried at most: 1 or more, and 1000 if no number was given.
+        /// How many quorums are tried at most, 1 or more. It is 1000 if no number was given.
         limit: u32,
-        /// The form in which each secret is written: its fingerprint if `--fingerprint` was given, and else its digits.
+        /// The form in which each secret is written: its fingerprint if `--fingerprint` was given, and otherwise its digits.
         form: SecretForm,
     },
     /// Tells which members of each group are on standard input, and whether they are enough.
@@ -60,8 +60,8 @@ pub enum Job<'a> {
     },
 }
 
-/// The names of the files that hold values of a command, instead of its words. The name `-` stands for the first line of the
-/// input.
+/// The names of the files that hold those values of a command that its words don't contain. The name `-` stands for the first
+/// line of the input.
 #[derive(Clone, Copy, Debug, PartialEq, Eq)]
 pub struct ValueFiles<'a> {
     /// The file of the secret's digits, if one was named.
@@ -73,9 +73,9 @@ pub struct ValueFiles<'a> {
 /// What the words of a command line ask for.
 #[derive(Clone, Copy, Debug, PartialEq, Eq)]
 pub struct Call<'a> {
-    /// The command with the values that stand in the words.
+    /// The command, with the values that the words contain.
     pub job: Job<'a>,
-    /// The files of the values that don't.
+    /// The files that hold the other values.
     pub files: ValueFiles<'a>,
 }
 

@@ -46,7 +46,7 @@ fn master_secret<'a>(alloc: Global) -> Arg<'a>
     ensures local { result.global ≡ false }
 {
     option(alloc, "master-secret", "HEX").help(
-        "Back up this secret, in hexadecimal: 16 to 128 bytes, an even number (other users can see it)",
+        "Back up this secret, in hexadecimal: an even number of bytes, 16 to 128 (other users can see it)",
     )
 }
 
@@ -73,7 +73,7 @@ fn passphrase_file<'a>(alloc: Global) -> Arg<'a>
     ensures local { result.global ≡ false }
 {
     option(alloc, "passphrase-file", "FILE").help(
-        "Read the passphrase from FILE; - means the next line of standard input",
+        "Read the passphrase from FILE; - means the first line of standard input (the second if the secret is the first)",
     )
 }
 
@@ -85,7 +85,7 @@ fn exponent<'a>(alloc: Global) -> Arg<'a>
         .default_value("0")
         .value_parser(ValueParser::signed(0, i64::from(MAX_EXPONENT)))
         .help(
-            "Set the iteration exponent, 0 to 15; a recovery takes 10,000 * 2^E iterations, or twice that for over 64 bytes",
+            "Set the iteration exponent, 0 to 15; a recovery takes 10,000 * 2^E iterations, or twice that for a secret of more than 64 bytes",
         )
 }
 
@@ -172,7 +172,7 @@ fn drill<'a>(alloc: Global) -> Result<Command<'a>, AllocError>
     ensures local { IfOk result (λ command. (out-Command command).has_globals ≡ false) }
 {
     let command = Command::new(alloc, "drill").about(
-        "Try the quorums of the mnemonics on standard input and print what each recovers",
+        "Try each quorum (minimal sufficient set) of the mnemonics on standard input and print what it recovers",
     );
     with_passphrase(alloc, command)?
         .arg(after(alloc))?

@@ -26,8 +26,8 @@ pub fn words_are_taken()
     ensures create { CreateWordsAreTaken }
 {}
 
-/// The words of a drill with each option in one word are words of a drill, and so are those with each option in two. There are
-/// such words of each command, there is a text that writes names, and there is one that writes a limit.
+/// Each option of a drill may be one word, as in `--after=Q`, or two words if no value begins with a dash. There are words of a
+/// drill, of a recovery and of a creation. There are also texts that write names, and texts that write a limit.
 pub fn there_are_such_words()
     ensures joined { JoinedDrill }
     ensures apart { ApartDrill }
@@ -49,8 +49,8 @@ pub fn there_are_such_words()
     ensures limit { IsLimit (codes "5") }
 {}
 
-/// Words give one call: its values, and the files of values, are the same whatever call they give. Jobs with the same values
-/// write the same.
+/// Words give one call: any two calls that they give have the same values and the same files of values. Jobs with the same
+/// values write the same.
 pub fn one_call()
     ensures call { OneCall }
     ensures outcome { SameValuesWriteTheSame }
@@ -87,15 +87,16 @@ pub fn one_outcome()
     written_forms();
 }
 
-/// If the words of a drill meet mnemonics of a backup that was created with their passphrase, exactly the quorums after the given
-/// one are listed, each with the secret in the form that the words ask for.
+/// If the input of a drill's words is mnemonics of a backup that was created with their passphrase, exactly the quorums after
+/// the given one are listed, each with the secret in the form that the words ask for.
 pub fn drill_words_list()
     ensures { DrillWordsList }
 {
     created_backups_drill();
 }
 
-/// If the words of a recovery meet such mnemonics, the secret is written in the form that the words ask for.
+/// If the input of a recovery's words is mnemonics of a backup that was created with their passphrase, and they meet the
+/// thresholds, the secret is written in the form that the words ask for.
 pub fn recover_words_recover()
     ensures { RecoverWordsRecover }
 {

@@ -65,20 +65,20 @@ impl<R: Drop, W: Drop> Ended<R, W> {
     }
 }
 
-/// Runs the command that the words give, of which the first is the program's name, and gives the exit status.
+/// Runs the command that the words give, and returns the exit status. The first word is the program's name.
 ///
 /// | Status | When |
 /// |---|---|
 /// | 0 | the command is done, or help or the version was asked for and written |
-/// | 1 | a refusal that isn't a device's, a drill that listed a refused quorum, or a status with too few complete groups |
-/// | 2 | the words or their values are refused, the secret isn't hexadecimal, or random bytes would be typed |
+/// | 1 | a refusal that isn't a device's, a drill that listed a digest mismatch, or a status with too few complete groups |
+/// | 2 | the words or their values are refused, the secret isn't hexadecimal, or `create` would read a terminal |
 /// | 3 | a file couldn't be opened, or a read or a write failed |
 /// | 4 | the program is out of memory |
 ///
-/// Values that the words name a file for are read first: those in files of `shelf`, and then those in the first lines of
-/// `input`. Results and help go to `output`: the lines of `drill`, and at a terminal those of `show`, as soon as each is known.
-/// A fault is a line on `errors`, where the text of a refused command line goes too. The program takes all its memory before it
-/// reads `input`, except for the lines that hold values. A failing `errors` changes no status.
+/// If the words name files for values, the program reads these values first: those in files of `shelf`, and then those in the
+/// first lines of `input`. Results and help go to `output`: the lines of `drill`, and at a terminal those of `show`, as soon as
+/// each is known. A fault is a line on `errors`, where the text of a refused command line goes too. The program takes all its
+/// memory before it reads `input`. Only lines that hold values are read before that. A failing `errors` changes no status.
 pub fn program<S: Shelf, R: Read + Drop, W: Write + Drop, E: Write>(
     shelf: &S,
     alloc: Global,
@@ -341,8 +341,8 @@ fn report<E: Write>(fault: Fault, errors: &mut E) -> u8
     }
 }
 
-/// Says why the arguments are no words, and gives the exit status: 4 if there is no memory for them, and 2 if they aren't
-/// UTF-8.
+/// Reports why the arguments can't be read as words, and returns the exit status: 4 if there is no memory for them, and 2 if
+/// they aren't UTF-8.
 pub fn no_words<E: Write>(error: &io::Error, errors: &mut E) -> u8
     ensures memory { error_kind error.now ≡ ErrorKind.OutOfMemory → result ≡ 4 }
     ensures other { error_kind error.now ≢ ErrorKind.OutOfMemory → result ≡ 2 }

@@ -51,9 +51,10 @@ impl<R: Read> Read for Watched<R> {
     }
 }
 
-/// After a run that was refused before the end of its input, or before it read any, says so on `errors`, and then reads and drops
-/// what is still typed or pasted until that end comes. The status and the output stay as they are. After help, and after a
-/// refused command line, it reads nothing.
+/// If a run that has begun to read its input ends with a status other than 0 before the input ends, or if a run ends with
+/// status 1 before it reads any, this function says on `errors` that the rest is dropped. It then reads and drops what is still
+/// typed or pasted, until the input ends. The status and the output stay as they are. After help, and after a refused command
+/// line, it reads nothing.
 pub fn with_rest_dropped<R: Read + Drop, W: Drop, E: Write>(
     ended: Ended<Watched<R>, W>,
     errors: &mut E,

@@ -87,8 +87,8 @@ pub fn values_multiply<F: Field>()
     ensures reversed_roots { ReversedMultiplesKeepRoots F.operations }
 {}
 
-/// Values at distinct nonzero places are all zero if their sums with the powers of the places are. The
-/// powers are as many as the places: for three values, the first, the second and the third.
+/// Take values at distinct nonzero places. For each exponent from 1 to the number of places, multiply each value by
+/// this power of its place, and add the products. If all these sums are zero, all values are zero.
 pub fn power_sums<F: Field>()
     ensures { PowerSumsDetermineValues F.operations }
 {}

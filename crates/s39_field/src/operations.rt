@@ -17,7 +17,7 @@ ghost use Rattle.s39_field.specs.Field.{Operations, IsField};
 /// assert_eq!(rt; a.inv(), Gf256::from(0xCA));
 /// ```
 pub trait Field: Copy + Eq {
-    /// The elements, zero, one, sum, product and inverse of which contracts and laws speak.
+    /// What contracts and laws call the elements, zero, one, the sum, the product and the inverse.
     ghost operations: { Operations Self };
 
     ghost ZERO: { Self };

@@ -29,7 +29,7 @@ pub struct Gf1024(u16);
 /// The number of elements of the field.
 const ORDER: u16 = 1024;
 
-/// The error of `Gf1024::try_from`: it holds a number that is not below 1,024, the one to be converted.
+/// The error of `Gf1024::try_from`: it holds the number that can't be converted, which is 1,024 or more.
 #[derive(Clone, Copy, Debug, PartialEq, Eq)]
 pub struct NotTenBits(pub u16);
 

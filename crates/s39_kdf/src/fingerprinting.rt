@@ -11,8 +11,7 @@ pub const FINGERPRINT_BYTES: usize = 4;
 /// `shamir fingerprint`. The definition is this program's own, and not part of SLIP-0039.
 ///
 /// A noted fingerprint identifies a secret without showing it: another secret has the same fingerprint in one case of
-/// 4,294,967,296. It lets anyone who reads it check a guess of the secret, with the same chance of an error, and it
-/// doesn't help to guess.
+/// 4,294,967,296. Whoever has it can test guesses of the secret with it, with the same chance of an error.
 ///
 /// ```rust
 /// let secret = b"\xbb\x54\xaa\xc4\xb8\x9d\xc8\x68\xba\x37\xd9\xcc\x21\xb2\xce\xce";

@@ -9,7 +9,7 @@ abbrev pub is_complete : (ℕ → Option ℕ) → Names → ℕ → Bool
 is_complete member_threshold names group =
     option_map_or (λ threshold. nat_le threshold (length (names_in_group group names))) (member_threshold group) false
 
--- the groups of which that is so
+-- the complete groups
 abbrev pub complete_groups : (ℕ → Option ℕ) → Names → List ℕ
 complete_groups member_threshold names = filter (is_complete member_threshold names) (range_with_len 0 most_groups)
 

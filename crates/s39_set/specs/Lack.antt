@@ -10,7 +10,7 @@ use Rattle.s39_set.specs.Quorums.{group_threshold_of, member_threshold_of, Meets
 use Rattle.s39_set.specs.declared.set_lack.SetLack.{SetLack}
 use Rattle.s39_set.specs.declared.set_lack.SetLack.TheVariants.{NoShares, Incomplete}
 
--- the set has shares, so many of its groups are complete, its group threshold is this, and no names meet the
+-- the set has shares, this number of its groups are complete, this is its group threshold, and no names meet the
 -- thresholds
 pub record IsIncomplete (set : List ShareFields) (complete required : ℕ) : Type 0 where
   pub complete_is : complete ≡ length (complete_groups (member_threshold_of set) (map name_of set))

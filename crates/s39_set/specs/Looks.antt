@@ -1,11 +1,11 @@
--- How many looks a call adds: questions whether a set has a share, and turns of loops. Each loop runs to its end, but for
+-- How many looks a call adds: questions whether a set has a share, and turns of loops. Each loop runs to its end, except
 -- the search for a greater quorum, which stops at the place at which its answer differs from the given names.
 use Rattle.std.specs.Prelude.{ℕ, ◌+◌, ◌-◌, ◌*◌, ◌==◌, ◌&&◌, [], ◌∷◌, length, drop, sum_by, Option, Some, None}
 use Rattle.std.specs.Prelude.{Result, Ok, Err, slice_index_or, if◌then◌else◌}
 use Rattle.s39_set.specs.declared.next.NotAQuorum.{NotAQuorum}
 use Rattle.s39_set.specs.Names.{Name, Names, most_groups, most_members, most_names}
 
--- the test whether names are a quorum adds at most so many
+-- the test whether names are a quorum adds at most this number
 abbrev pub most_test_looks : ℕ
 most_test_looks = 1024
 
@@ -34,7 +34,7 @@ later_groups name = most_groups - (name.0 + 1)
 abbrev pub place_looks : Name → ℕ
 place_looks name = 1 + later_members name + later_groups name
 
--- the names before a place, and the least that can stand there and behind it: a turn for each name before, two for each
+-- the names before a place, and the least that can be there and after it: a turn for each name before, two for each
 -- later member, and for each later group two and one for each of its members
 abbrev pub completion_looks : ℕ → Name → ℕ
 completion_looks place name = place + 2 * later_members name + (2 + most_members) * later_groups name

@@ -4,10 +4,10 @@ use Rattle.std.specs.Ordering.{nat_cmp, ordering_then}
 use Rattle.std.specs.declared.cmp.Ordering.{Ordering}
 use Rattle.std.specs.declared.cmp.Ordering.TheVariants.{Less}
 use Rattle.std.specs.Cmp.Lexicographic.{slice_cmp}
--- a backup has at most so many groups, and a group so many members
+-- a backup has at most this number of groups, and a group at most this number of members
 pub use Rattle.s39_words.specs.Layout.{most_groups, most_members}
 
--- so many names there are
+-- how many names there are
 abbrev pub most_names : ℕ
 most_names = 256
 

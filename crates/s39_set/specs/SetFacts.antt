@@ -33,6 +33,6 @@ SetsAreTheirShares = (set other : List ShareFields)
 abbrev pub SetsHaveOneLack : Type 0
 SetsHaveOneLack = (set : List ShareFields) (lack other : SetLack) → IsLack set lack → IsLack set other → lack ≡ other
 
--- and none where it has a quorum
+-- and none if it has a quorum
 abbrev pub SetsWithQuorumsHaveNone : Type 0
 SetsWithQuorumsHaveNone = (set : List ShareFields) (names : Names) (lack : SetLack) → IsQuorum set names → ¬ IsLack set lack

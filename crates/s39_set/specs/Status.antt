@@ -20,7 +20,7 @@ status_of set = option_map (λ required. record {
 abbrev pub is_enough : Status → Bool
 is_enough status = nat_le status.required status.complete
 
--- that is so of a set, which has shares
+-- a set has shares, and enough of its groups are complete
 abbrev pub has_enough : List ShareFields → Bool
 has_enough set = option_map_or is_enough (status_of set) false
 

@@ -37,7 +37,7 @@ members_taken set masks group = take (unwrap_or (member_threshold_of set group) 
 abbrev pub groups_from : List Bool → ℕ → List ℕ
 groups_from complete a = filter (λ g. slice_index_or complete g false) (range_with_len a (most_groups - a))
 
--- the first members of so many complete groups, from one on
+-- the first members of this number of complete groups, from one on
 abbrev pub groups_taken : List ShareFields → StepContext → ℕ → ℕ → Names
 groups_taken set context a wanted = flat_map (members_taken set context.at_hand) (take wanted (groups_from context.complete a))
 
@@ -77,7 +77,7 @@ abbrev pub AllAreUsed : List Bool → List ℕ → ℕ → Type 0
 AllAreUsed complete members group =
     (g : ℕ) → group < g → g < most_groups → slice_index_or complete g false ≡ true → 0 < slice_index_or members g 0
 
--- what can stand in the place of x behind these names, and from where
+-- what can replace x after these names, and from where
 abbrev pub IsReplacementFor : StepContext → Names → Name → Option Replacement → Type 0
 IsReplacementFor context before x None = AllAreChosen context.at_hand context.chosen x
     × (length (names_in_group x.0 before) ≡ 0 → AllAreUsed context.complete context.members x.0)

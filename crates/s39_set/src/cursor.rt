@@ -1,4 +1,4 @@
-//! The written form of names, which shares are asked for by, and which a listing goes on from.
+//! The written form of names. Callers name shares in this form, and a listing continues from it.
 ghost use Rattle.std.specs.Prelude.{◌≡◌, ◌<◌, ◌==◌, ℕ, List, IfOk, Ok, IfSome, Some};
 ghost use Rattle.std.specs.Fmt.{decimal};
 ghost use Rattle.s39_set.specs.Causes.{cursor_cause, names_cause};
@@ -15,7 +15,7 @@ use s39_refusal::{Cause, code};
 pub struct BadNames;
 
 impl BadNames {
-    /// What the refusal says: 63.
+    /// Returns the number of the refusal, 63.
     pub fn cause(&self) -> Cause
         ensures { result ≡ names_cause }
     {
@@ -28,7 +28,7 @@ impl BadNames {
 pub struct BadCursor;
 
 impl BadCursor {
-    /// What the refusal says: 61.
+    /// Returns the number of the refusal, 61.
     pub fn cause(&self) -> Cause
         ensures { result ≡ cursor_cause }
     {
@@ -39,7 +39,7 @@ impl BadCursor {
 /// The names of which a text is the written form: one `G.M` or more, joined by `+`, in strictly ascending order of the
 /// pairs of numbers. `G` is a group and `M` a member index, both from 0 to 15 in decimal without leading zeros.
 ///
-/// The error says that the text is no such form.
+/// The error is returned if the text doesn't have this form.
 ///
 /// ```rust
 /// assert_eq!(rt; parse_names(b"0.2+0.10")?.pairs(), [(0, 2), (0, 10)].as_slice());
@@ -65,7 +65,7 @@ pub fn parse_names(text: &[u8]) -> Result<Quorum, BadNames>
 /// The names of which a cursor is the written form (`parse_names`). Whether they are a quorum depends on a set
 /// (`is_quorum`).
 ///
-/// The error says that the cursor is no such form.
+/// The error is returned if the cursor doesn't have this form.
 ///
 /// ```rust
 /// assert_eq!(rt; parse_quorum(b"0.0+0.2")?.pairs(), [(0, 0), (0, 2)].as_slice());

@@ -13,8 +13,8 @@ use crate::quorum::Quorum;
 use crate::set_lack::SetLack;
 use crate::share_set::{ShareSet, are_a_share_set};
 
-/// The quorum of a set whose list of names is least. Lists are compared name by name, and names by group and then
-/// by member index.
+/// The first quorum of a set: the one whose list of names is least. Lists are compared name by name, and names by group
+/// and then by member index.
 ///
 /// The error is `NoShares` if the set is empty, and `Incomplete` if it has shares, but no names of them meet the
 /// thresholds.

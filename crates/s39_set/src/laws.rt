@@ -24,8 +24,8 @@ pub fn numbers()
     ensures step_looks { MAX_STEP_LOOKS ≡ most_step_looks }
 {}
 
-/// A quorum has names of just as many groups as the group threshold, of each just as many as its member
-/// threshold, and no others; and every list of names at hand with these is a quorum.
+/// A quorum has names of exactly as many groups as the group threshold says, and exactly as many names of each as its
+/// member threshold says. Every list of names at hand with these numbers is a quorum.
 pub fn quorums_are_exact()
     ensures { (set : List ShareFields) (names : Names) → IsShareSet set
         → (IsQuorum set names ↔ HasJustTheGroups set names) }
@@ -54,8 +54,8 @@ pub fn one_first_quorum()
         → names ≡ others }
 {}
 
-/// A walk, from the first quorum to the first after it and so on until none comes after, is all quorums: in
-/// ascending order, each once, none left out.
+/// Begin with the first quorum, and go on to the first one after it, until none comes after. This walk has all quorums,
+/// each once, in ascending order.
 pub fn walks_list_all()
     ensures { (set : List ShareFields) (given : Option Names)
         (quorums : List Names)
@@ -71,8 +71,8 @@ pub fn one_listing()
         → IsListing set given limit listed → IsListing set given limit others → listed ≡ others }
 {}
 
-/// A listing is the first quorum and the listing after it; it is empty where no quorum comes after. A listing and
-/// the one after its last quorum are one listing, of as many as both limits allow.
+/// A listing is the first quorum and the listing after it; it is empty if no quorum comes after. A listing and the one
+/// after its last quorum are one listing, whose limit is the sum of both limits.
 pub fn listings_join()
     ensures first { (set : List ShareFields) (given : Option Names)
         (names : Names) (limit : ℕ) (others : List Names)
@@ -86,18 +86,18 @@ pub fn listings_join()
         → IsListing set given (limit + more) ((before ++ last ∷ []) ++ others) }
 {}
 
-/// Shares refuse no share but one that differs from one of them in what all shares of a backup, or those of a group,
-/// have in common, or in the value of its name.
+/// Shares refuse a share only if it differs from one of them in a field that all shares of a backup have in common, in
+/// the member threshold of its group, or in the value of its name.
 pub fn shares_that_agree_join()
     ensures { SharesThatAgreeJoin }
 {}
 
-/// A share that a set doesn't refuse is one of the set, or there is the set with that share more.
+/// If a set doesn't refuse a share, the share is already in it, or there is a set with one share more.
 pub fn sets_take_shares()
     ensures { SetsTakeShares }
 {}
 
-/// Whether and why shares refuse one depends on which shares they are, and not on their order or number.
+/// Whether and why shares refuse another share depends only on which shares they are, not on their order or number.
 pub fn same_shares_refuse_the_same()
     ensures { SameSharesRefuseTheSame }
 {}
@@ -107,19 +107,19 @@ pub fn one_more_is_added()
     ensures { OneMoreIsAdded }
 {}
 
-/// Shares in the order of their names are known by which shares they are.
+/// A list of shares in the order of their names is determined by which shares it has.
 pub fn sets_are_their_shares()
     ensures { SetsAreTheirShares }
 {}
 
-/// A set has at most one cause for which it has no quorum, and none where it has a quorum.
+/// A set has at most one cause for which it has no quorum, and none if it has a quorum.
 pub fn one_lack()
     ensures one { SetsHaveOneLack }
     ensures none { SetsWithQuorumsHaveNone }
 {}
 
-/// A set has enough, as its status says, exactly where it has a quorum, and exactly where there is no cause for which it has
-/// none.
+/// A set has enough, as its status says, if and only if it has a quorum, and if and only if there is no cause for which
+/// it has none.
 pub fn enough_is_a_quorum()
     ensures quorum { (set : List ShareFields) → IsShareSet set
         → (IsTrue (has_enough set) ↔ ((names : Names) × IsQuorum set names)) }

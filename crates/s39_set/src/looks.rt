@@ -5,8 +5,8 @@ ghost use Rattle.s39_set.specs.ShareSet.{name_of};
 use crate::share_set::ShareSet;
 use std::marker::Model;
 
-/// A count of looks: the questions whether a set has a share (`has`), and the turns of loops of the functions that
-/// take looks (`turn`), one for each run of a loop's body.
+/// A count of looks. A look is a question whether a set has a share (`has`), or one run of a loop's body in a function
+/// that takes looks (`turn`).
 #[derive(Debug, Drop)]
 pub struct Looks {
     count: u64,
@@ -21,7 +21,7 @@ impl Model for Looks {
 }
 
 impl Looks {
-    /// No look so far.
+    /// Returns a count of 0.
     pub fn new() -> Looks
         ensures { result ≡ 0 }
     {

@@ -24,7 +24,7 @@ use s39_refusal::{Cause, code};
 pub struct NotAQuorum;
 
 impl NotAQuorum {
-    /// What the refusal says: 62.
+    /// Returns the number of the refusal, 62.
     pub fn cause(&self) -> Cause
         ensures { result ≡ no_quorum_cause }
     {
@@ -34,17 +34,18 @@ impl NotAQuorum {
 
 /// The first quorum of a set that comes after a given one. It is `None` if the given one is the last.
 ///
-/// The error says that the given list isn't a quorum of the set.
+/// The error is returned if the given list isn't a quorum of the set.
 ///
 /// The call adds at most `MAX_STEP_LOOKS` looks, and the caller keeps their count at most `u64::MAX - MAX_STEP_LOOKS`.
 /// How many it adds follows from the given names and the answer alone:
 ///
 /// - It adds the looks of `is_quorum`, and after an error no others.
 /// - It adds two for each name that a share may have, 17 for each group and two for each name of the quorum.
-/// - It tries the names of the quorum from the last one back to the first that the answer doesn't have in its place. For
-///   each of these it adds one, and one for each member and each group above it.
-/// - If there is a next quorum, it adds for the last name that it tried one for each name before it, two for each member
-///   above it and 18 for each group above it.
+/// - It tries the names of the quorum backwards, from the last one to the first position at which the answer has
+///   another name, or to the first name if there is no answer. For each name that it tries it adds one, and one more
+///   for each member and each group above it.
+/// - If there is a next quorum, it also adds, for the last name that it tried: one for each name before that name, two
+///   for each member above it, and 18 for each group above it.
 ///
 /// ```rust
 /// // The set has members 0 and 2 of group 0, of which two are needed: these are its one quorum.

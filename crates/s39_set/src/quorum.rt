@@ -85,8 +85,8 @@ fn is_earlier(name: (u8, u8), group: u8, member: u8) -> bool
 /// Whether a list of names is a quorum of a set: all are names of its shares, they meet the thresholds, and no
 /// proper subset of them does.
 ///
-/// Whatever it answers, it adds three looks for each name and one for each group that there may be. These are at most
-/// `MAX_TEST_LOOKS`. The caller keeps their count at most `u64::MAX - MAX_TEST_LOOKS`.
+/// Whatever it answers, it adds three looks (`Looks`) for each name of the list, and one for each of the 16 possible
+/// groups. These are at most `MAX_TEST_LOOKS`. The caller keeps their count at most `u64::MAX - MAX_TEST_LOOKS`.
 ///
 /// ```rust
 /// // The set has members 0 and 2 of group 0, of which two are needed.

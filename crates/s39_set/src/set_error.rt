@@ -37,7 +37,7 @@ pub enum SetError {
 impl SetError {
     ghost use Rattle.s39_set.specs.ShareSet.{cause_of};
 
-    /// What the refusal says: 21 to 28, and the group and the member that are named.
+    /// Returns the number of the refusal, 21 to 28, and the group and the member that it names.
     pub fn cause(&self) -> Cause
         ensures { result ≡ cause_of self.now }
     {

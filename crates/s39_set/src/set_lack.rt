@@ -16,7 +16,7 @@ pub enum SetLack {
 impl SetLack {
     ghost use Rattle.s39_set.specs.Lack.{cause_of};
 
-    /// What the refusal says: 29; or 30, and the complete and the required groups.
+    /// Returns the number of the refusal: 29, or 30 with the numbers of complete and required groups.
     pub fn cause(&self) -> Cause
         ensures { result ≡ cause_of self.now }
     {

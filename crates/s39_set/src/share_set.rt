@@ -228,8 +228,8 @@ pub(crate) fn indices_at(slot: usize) -> (u8, u8)
     ((slot / members) as u8, (slot % members) as u8)
 }
 
-/// A set's shares are those of an `IsShareSet`: of one backup, each once, in the order of their names. It does nothing;
-/// a proof takes this from a call of it.
+/// States that a set's shares form an `IsShareSet`: they are of one backup, each once, in the order of their names. The
+/// function does nothing. A proof uses it by a call.
 pub fn are_a_share_set(set: &ShareSet)
     ensures { IsShareSet set.now }
 {

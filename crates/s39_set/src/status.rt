@@ -23,7 +23,8 @@ pub struct Status {
 impl Status {
     ghost use Rattle.s39_set.specs.Status.{is_enough};
 
-    /// Whether there are enough complete groups: exactly where the set has a quorum (`laws::enough_is_a_quorum`).
+    /// Returns whether there are enough complete groups, that is, whether the set has a quorum
+    /// (`laws::enough_is_a_quorum`).
     pub fn is_enough(&self) -> bool
         ensures { result ≡ is_enough self.now }
     {

@@ -3,7 +3,7 @@ ghost use Rattle.std.specs.Prelude.{◌≡◌, ◌<◌, ◌==◌, ℕ, List, pos
 ghost use Rattle.std.specs.Fmt.{decimal};
 ghost use Rattle.s39_set.specs.Texts.{IsCut};
 
-/// What stands before the first such byte of a text, and behind it; `None` where the text has none.
+/// Returns the parts of a text before and after the first `byte`, or `None` if the text doesn't have this byte.
 pub fn cut_at(text: &[u8], byte: u8) -> Option<(&[u8], &[u8])>
     ensures parts { IfSome result (λ parts. IsCut text.now byte parts.0.now parts.1.now) }
     ensures none { result ≡ None → (front back : List ℕ) → ¬ IsCut text.now byte front back }

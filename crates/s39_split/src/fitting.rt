@@ -13,8 +13,8 @@ use crate::places::{DIGEST_PLACE, MAX_RANDOM_BYTES, SECRET_PLACE};
 use arrayvec::ArrayVec;
 use s39_kdf::Bytes;
 
-/// Returns the only random bytes that begin with `r` and with which [`split`](crate::split) into 16 shares at
-/// threshold `t`, from 2 to 16, gives the known shares.
+/// Returns random bytes that begin with `r`: the only ones with which [`split`](crate::split) gives the known shares,
+/// if it splits into 16 shares at threshold `t` (2 to 16).
 ///
 /// Such bytes exist for every secret. So whoever knows two shares fewer than the threshold can't tell which secret they
 /// belong to.

@@ -19,7 +19,7 @@ Commands:
   show     Show the fields of each mnemonic on standard input
   create   Create a backup of a secret, using random bytes from standard input
   recover  Recover the secret from mnemonics on standard input
-  drill    Try the quorums of the mnemonics on standard input and print what each recovers
+  drill    Try each quorum (minimal sufficient set) of the mnemonics on standard input and print what it recovers
   status   Show which members of each group are on standard input, and whether enough groups are complete
   reissue  Recompute lost mnemonics from others of the same backup on standard input
 
@@ -36,11 +36,11 @@ Arguments:
   <PLAN>  The plan of the backup: TofN for one group, GT/T1ofN1,T2ofN2,.. for several
 
 Options:
-      --master-secret <HEX>        Back up this secret, in hexadecimal: 16 to 128 bytes, an even number (other users can see it)
+      --master-secret <HEX>        Back up this secret, in hexadecimal: an even number of bytes, 16 to 128 (other users can see it)
       --master-secret-file <FILE>  Read the secret, in hexadecimal, from FILE; - means the first line of standard input
       --passphrase <TEXT>          Use this passphrase instead of the empty one (other users can see it)
-      --passphrase-file <FILE>     Read the passphrase from FILE; - means the next line of standard input
-      --exponent <E>               Set the iteration exponent, 0 to 15; a recovery takes 10,000 * 2^E iterations, or twice that for over 64 bytes [default: 0]
+      --passphrase-file <FILE>     Read the passphrase from FILE; - means the first line of standard input (the second if the secret is the first)
+      --exponent <E>               Set the iteration exponent, 0 to 15; a recovery takes 10,000 * 2^E iterations, or twice that for a secret of more than 64 bytes [default: 0]
       --extendable                 Set the extendable flag, which leaves the identifier out of the encryption
   -h, --help                       Print help
 ";
@@ -51,19 +51,19 @@ Usage: shamir recover [OPTIONS]
 
 Options:
       --passphrase <TEXT>       Use this passphrase instead of the empty one (other users can see it)
-      --passphrase-file <FILE>  Read the passphrase from FILE; - means the next line of standard input
+      --passphrase-file <FILE>  Read the passphrase from FILE; - means the first line of standard input (the second if the secret is the first)
       --fingerprint             Print the secret's fingerprint (eight hexadecimal digits) instead of the secret
   -h, --help                    Print help
 ";
 
 const HELP_OF_DRILL: &str =
-    "Try the quorums of the mnemonics on standard input and print what each recovers
+    "Try each quorum (minimal sufficient set) of the mnemonics on standard input and print what it recovers
 
 Usage: shamir drill [OPTIONS]
 
 Options:
       --passphrase <TEXT>       Use this passphrase instead of the empty one (other users can see it)
-      --passphrase-file <FILE>  Read the passphrase from FILE; - means the next line of standard input
+      --passphrase-file <FILE>  Read the passphrase from FILE; - means the first line of standard input (the second if the secret is the first)
       --after <Q>               Start after quorum Q instead of at the first quorum
       --limit <N>               Try at most N quorums [default: 1000]
       --fingerprint             Print the secret's fingerprint (eight hexadecimal digits) instead of the secret

@@ -16,7 +16,7 @@ use Rattle.s39_tool.specs.declared.status.WrittenStatus.{WrittenStatus}
 use Rattle.s39_tool.specs.declared.secret_form.SecretForm.TheVariants.{Digits}
 use Rattle.s39_tool.specs.Drill.{last_line, quorum_line, mismatch_in, IsDrill, IsNext}
 
--- a text stands at the front of a slice, and what was behind it stays
+-- a text is at the front of a slice, and the rest of the slice is unchanged
 pub record IsInFront (text old new : List ℕ) : Type 0 where
   pub fits : length text ≤ length old
   pub bytes : new ≡ text ++ drop (length text) old

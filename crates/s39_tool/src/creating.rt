@@ -51,16 +51,16 @@ impl From<ReadFailed> for Fault {
 }
 
 /// Creates a backup of a secret, and writes its mnemonics, one on each line, by group, then member (SLIP-0039, "Format
-/// of the share mnemonic"). The bytes of the input are the random ones: exactly as many as `Plan::random_needed` says,
-/// which `s39_backup::create` consumes in its order.
+/// of the share mnemonic"). The input gives the random bytes, exactly as many as `Plan::random_needed` says.
+/// `s39_backup::create` says in which order it uses them.
 ///
 /// The first error that applies is returned, and then nothing is written:
 ///
 /// - `Passphrase` if a byte of the passphrase isn't printable ASCII, before anything is read;
 /// - `SecretLength` if the secret has an odd number of bytes, fewer than 16, or more than 128, before anything is read;
 /// - `RandomLength` if more bytes come than are needed;
-/// - `Device(Read)` if a read fails before that;
-/// - `RandomLength` if the input ends with fewer bytes.
+/// - `Device(Read)` if a read fails before one byte more than needed has come;
+/// - `RandomLength` if the input ends before all needed bytes have come.
 ///
 /// If a write fails or takes no byte, the fault is `Device(Write)`, and a beginning of the mnemonics is written. The
 /// caller keeps both `failures()` below `u64::MAX`.
@@ -112,14 +112,14 @@ pub fn run_create<R: Read, W: Write>(
 
 /// Creates a backup of a secret, and puts the text that `run_create` writes for these random bytes at the front of
 /// `text`: the mnemonics by group, then member, each followed by a line feed. It returns the length of that text in
-/// bytes. The bytes of `text` behind it are unchanged.
+/// bytes. The bytes of `text` after it are unchanged.
 ///
 /// The first error that applies is returned, and then `text` is unchanged:
 ///
 /// - `Passphrase` if a byte of the passphrase isn't printable ASCII;
 /// - `SecretLength` if the secret has an odd number of bytes, fewer than 16, or more than 128;
 /// - `RandomLength` if there are more or fewer random bytes than `Plan::random_needed` says;
-/// - `TooShort` if the text doesn't fit, with the number of bytes that it has.
+/// - `TooShort`, with the number of bytes needed, if the text doesn't fit.
 ///
 /// ```rust
 /// let plan = Plan::parse("1of1")?;

@@ -74,7 +74,7 @@ impl From<Undrilled> for Fault {
 /// `digest mismatch of groups`. The last line is `end` if no greater quorum remains, and otherwise `more after ` and
 /// the last listed quorum. The function returns the number of mismatches.
 ///
-/// Blank lines are skipped, and so are lines whose first byte that isn't a separator is `#`.
+/// Blank lines and comments are skipped. A comment starts with `#`, after any spaces, tabs and carriage returns.
 ///
 /// The first error that applies is returned, and then nothing is written:
 ///

@@ -36,7 +36,7 @@ impl LineRefusal {
 /// A line that is refused.
 #[derive(Clone, Copy, Debug, PartialEq, Eq, Drop)]
 pub struct RefusedLine<E> {
-    /// The number of the line, counted from 1. The count stays at 2^64 - 1 once it is there.
+    /// The number of the line, counted from 1. The count doesn't rise above 2^64 - 1.
     pub number: u64,
     /// The cause.
     pub refusal: E,
@@ -105,7 +105,7 @@ pub enum Refusal {
     NotInPlan { group: u8, member: u8 },
     /// No backup of the plan can have all of these shares.
     OtherPlan,
-    /// The shares don't determine the share with a name.
+    /// The shares don't determine one of the requested shares.
     Undetermined(TooFew),
     /// A device failed.
     Device(DeviceFailure),

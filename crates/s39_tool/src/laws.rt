@@ -65,7 +65,7 @@ pub fn numbers()
     ensures random { MAX_BACKUP_RANDOM_BYTES ≡ most_random }
 {}
 
-/// Whatever the devices are, even if they don't tell their bytes: a run refuses a passphrase only if a byte of it
+/// This holds for all devices, even if they don't tell their bytes. A run refuses a passphrase only if a byte of it
 /// isn't printable, and names the first such byte. `create` refuses the length of a secret only if no secret can have
 /// it. `reissue` answers `NotInPlan` only for the first name that the plan doesn't have.
 pub fn refusals_have_causes<R: Read, W: Write>()
@@ -96,7 +96,7 @@ pub fn refusals_have_causes<R: Read, W: Write>()
         → ¬ IsSecretLength (length asked.secret) }
 {}
 
-/// Whatever the devices are, what a run answers without a read is right whatever the input is.
+/// If a run answers without a read, its answer is right for every input. This holds for all devices.
 pub fn unread_inputs_decide_nothing<R: Read, W: Write>()
     ensures show { (reader read_to : Counted R) (writer written_to : Counted W)
         (answer : Result (Unit {0}) Fault)
@@ -193,7 +193,7 @@ pub fn every_input_is_read()
     one_more_is_added();
 }
 
-/// What an input is accepted as is a share set.
+/// If an input is accepted, it is read as a share set.
 pub fn accepted_inputs_are_share_sets()
     ensures { (input : Input) (set : List ShareFields) → IsReadAs input (Ok set) → IsShareSet set }
 {
@@ -257,9 +257,9 @@ pub(crate) fn drill_laws()
     walks_list_all();
 }
 
-/// A set has at most one drill with a passphrase, after a list of names or from its first quorum on, and up to a
-/// limit: one text, one answer whether more quorums remain, and one number of mismatches. It has one if the limit is
-/// at least 1.
+/// For a passphrase, an optional list of names to start after, and a limit, a set has at most one drill. That is, there
+/// is at most one text, one answer whether more quorums remain, and one number of mismatches. There is such a drill if
+/// the limit is at least 1.
 pub fn one_drill()
     ensures once { (form : SecretForm) (set : List ShareFields) (passphrase : List ℕ) (after : Option Names)
         (limit : ℕ) (text other : List ℕ) (more another : Option Names)
@@ -277,8 +277,9 @@ pub fn one_drill()
     drill_laws();
 }
 
-/// The lines of a drill that ends with `more after` a quorum, followed by the drill after that quorum, are the drill up
-/// to both limits: its text, its last line, and the number of its mismatches.
+/// Take the quorums' lines of a drill whose last line is `more after` a quorum, and append those of the drill after
+/// that quorum. They are the lines of one drill, whose limit is the sum of both limits. Its last line is that of the
+/// second drill, and its number of mismatches is the sum.
 pub fn drills_join()
     ensures { (form : SecretForm) (set : List ShareFields) (passphrase : List ℕ) (after : Option Names)
         (limit extra : ℕ) (text others : List ℕ) (names : Names)
@@ -290,8 +291,8 @@ pub fn drills_join()
     listings_join();
 }
 
-/// An input has at most one output of `drill` with a passphrase, a list of names after which it starts, or none, and a
-/// limit: one text, and one answer.
+/// For a passphrase, an optional list of names to start after, and a limit, an input has at most one output of `drill`:
+/// one text and one answer.
 pub fn one_drill_output()
     ensures { (form : SecretForm) (passphrase : List ℕ) (after : Option Names) (limit : ℕ) (input : Input)
         (text other : List ℕ) (answer another : Result Done Fault)
@@ -329,7 +330,8 @@ pub fn some_drill_output()
 }
 
 /// For mnemonics of a created backup, an output of `drill` with the passphrase of the creation is exactly the quorums
-/// in order, each with the backup's secret, and no mismatch; or else the reason why none is listed.
+/// after the given one, in order, as many as the limit allows, each with the backup's secret, and no mismatch.
+/// Otherwise it is the reason why none is listed.
 pub fn created_backups_drill()
     ensures { (form : SecretForm) (passphrase : List ℕ) (after : Option Names) (limit : ℕ) (input : Input)
         (text : List ℕ) (answer : Result Done Fault)
@@ -355,8 +357,8 @@ pub fn one_status_output()
     every_input_is_read();
 }
 
-/// An input has at most one output of `create` for a request: one text, and one answer. It has one for every plan, all
-/// bytes of a secret, and all bytes of the input.
+/// An input has at most one output of `create` for a request: one text, and one answer. It has one for every plan, and
+/// for every secret and every input that consist of bytes.
 pub fn one_create_output()
     ensures once { (asked : Asked) (input : Input) (text other : List ℕ)
         (answer another : Result (Unit {0}) Fault)

@@ -21,8 +21,8 @@ use s39_backup::laws::outcomes_in_range;
 use s39_set::laws::written_forms;
 use s39_words::laws::printed_forms;
 
-/// The written form of names that shares can have takes at most 1,215 bytes. The one of all names takes exactly that
-/// many.
+/// The written form of names that shares can have takes at most 1,215 bytes. The written form of all names takes
+/// exactly that many.
 pub fn names_are_short()
     ensures most { (names : Names) → AreNames names → length (quorum_text names) ≤ longest_names }
     ensures reached { (names : Names) × AreNames names

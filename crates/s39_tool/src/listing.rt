@@ -33,11 +33,11 @@ pub struct Listing {
 }
 
 /// Tries the quorums of the lines' shares that come after a given one, or all of them if none is given. It puts what
-/// `run_drill` writes for them at the front of `text`, and leaves the bytes of `text` behind it unchanged.
+/// `run_drill` writes for them at the front of `text`, and leaves the bytes of `text` after it unchanged.
 ///
-/// It lists at most `limit` quorums, and stops before the first one whose line doesn't fit together with the last
-/// line. The last line is `end`, or `more after ` and the quorum after which another call goes on. Blank lines are
-/// skipped, and so are lines whose first byte that isn't a separator is `#`.
+/// It lists at most `limit` quorums, and stops before the first one whose line doesn't fit together with the last line.
+/// The last line is `end`, or `more after ` and the quorum after which another call goes on. Blank lines and comments
+/// are skipped. A comment starts with `#`, after any spaces, tabs and carriage returns.
 ///
 /// The first error that applies is returned, and then `text` is unchanged:
 ///
@@ -46,8 +46,8 @@ pub struct Listing {
 ///   share can't join those of the lines before it;
 /// - `Lack` if the shares have no quorum;
 /// - `NotAQuorum` if the given names aren't a quorum of the shares;
-/// - `TooShort` if not even the first line and the last line fit, or `end` if no quorum is left, with the number of
-///   bytes that are needed.
+/// - `TooShort`, with the number of bytes needed, if the line of the first quorum and the last line don't fit, or, if
+///   no quorum is left, the line `end`.
 ///
 /// A wrong passphrase isn't detected: as a rule it gives other secrets. The caller passes a `limit` of at least 1.
 ///

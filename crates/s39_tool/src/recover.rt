@@ -18,12 +18,12 @@ use s39_kdf::Bytes;
 use s39_set::{ShareSet, first};
 use std::io::{Read, Write};
 
-/// Recovers the secret from the least quorum of the input's shares with the passphrase (SLIP-0039, "Shamir's secret
-/// sharing" and "Encryption of the master secret"). It writes the secret, or its fingerprint, in lower-case
-/// hexadecimal, on one line.
+/// Recovers the secret from the first quorum (`s39_set::first`) of the input's shares with the passphrase (SLIP-0039,
+/// "Shamir's secret sharing" and "Encryption of the master secret"). It writes the secret, or its fingerprint, in
+/// lower-case hexadecimal, on one line.
 ///
-/// Shares beyond that quorum are accepted, and repeats change nothing. Blank lines are skipped, and so are lines whose
-/// first byte that isn't a separator is `#`.
+/// Shares beyond that quorum are accepted, and repeats change nothing. Blank lines and comments are skipped. A comment
+/// starts with `#`, after any spaces, tabs and carriage returns.
 ///
 /// The first error that applies is returned, and then nothing is written:
 ///
@@ -32,7 +32,7 @@ use std::io::{Read, Write};
 ///   share can't join those of the lines before it;
 /// - `Device(Read)` if a read fails; an unfinished line is then dropped, unless it is too long already;
 /// - `Lack` if the shares have no quorum;
-/// - `DigestMismatch` if a digest of the least quorum doesn't match.
+/// - `DigestMismatch` if a digest of the first quorum doesn't match.
 ///
 /// If a write fails or takes no byte, the fault is `Device(Write)`, and a beginning of the line is written. A wrong
 /// passphrase isn't detected: as a rule it gives another secret. The caller keeps both `failures()` below `u64::MAX`.
@@ -74,9 +74,9 @@ pub fn run_recover<R: Read, W: Write>(
     Ok(())
 }
 
-/// Returns the secret that the least quorum of the lines' shares recovers with the passphrase. It is the secret whose
-/// digits `run_recover` writes for these lines. Blank lines are skipped, and so are lines whose first byte that isn't
-/// a separator is `#`.
+/// Returns the secret that the first quorum (`s39_set::first`) of the lines' shares recovers with the passphrase. It is
+/// the secret whose digits `run_recover` writes for these lines. Blank lines and comments are skipped. A comment starts
+/// with `#`, after any spaces, tabs and carriage returns.
 ///
 /// The first error that applies is returned:
 ///
@@ -84,7 +84,7 @@ pub fn run_recover<R: Read, W: Write>(
 /// - the first refused line, with its number: a word error, `TooLong` if it has more than 1,024 bytes, or `Set` if its
 ///   share can't join those of the lines before it;
 /// - `Lack` if the shares have no quorum;
-/// - `DigestMismatch` if a digest of the least quorum doesn't match.
+/// - `DigestMismatch` if a digest of the first quorum doesn't match.
 ///
 /// A wrong passphrase isn't detected: as a rule it gives another secret.
 ///

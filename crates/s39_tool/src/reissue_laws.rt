@@ -41,7 +41,8 @@ pub fn one_reissue_output()
 }
 
 /// For mnemonics of a created backup, an output of `reissue` with its plan and names of it is the backup's mnemonics
-/// with these names; or both counts for the first name that isn't determined, or that there are no shares.
+/// with these names. Otherwise it says how many members and groups are at hand and needed for the first name that isn't
+/// determined, or that there are no shares.
 pub fn created_backups_reissue()
     ensures { (group_threshold : ℕ) (groups : List Members) (names : Names)
         (input : Input) (text : List ℕ) (answer : Result (Unit {0}) Fault)

@@ -40,12 +40,12 @@ impl From<OtherName> for Fault {
     }
 }
 
-/// Writes the mnemonics with these names of a plan, one on each line, in the order of the names, as the input's shares
-/// determine them. A share that is at hand is written as it is. Another one follows from enough members of its group,
-/// or from one member fewer and enough other groups (`s39_backup::reissue`).
+/// Writes the mnemonics with these names of a plan, one on each line, in the order of the names. A share that is at
+/// hand is written as it is. Any other share follows from enough members of its group, or from one member fewer and
+/// enough other complete groups (`s39_backup::reissue`).
 ///
-/// All of them are computed before the first is written, without the passphrase. Blank lines are skipped, and so are
-/// lines whose first byte that isn't a separator is `#`.
+/// All of them are computed before the first is written, without the passphrase. Blank lines and comments are skipped.
+/// A comment starts with `#`, after any spaces, tabs and carriage returns.
 ///
 /// The first error that applies is returned, and then nothing is written:
 ///
@@ -56,8 +56,8 @@ impl From<OtherName> for Fault {
 /// - `Lack` if there are no shares;
 /// - `OtherPlan` if no backup of the plan can have all shares: their group threshold or number of groups differs, or
 ///   the plan doesn't have a share's name, or has it with another member threshold;
-/// - name by name, `Undetermined`, with both counts, if the shares don't determine the share with the name, or
-///   `DigestMismatch` if a digest doesn't match in what it is computed from.
+/// - for each name in turn, `Undetermined` if the shares don't determine the share with this name, or `DigestMismatch`
+///   if a digest of the shares that it is computed from doesn't match.
 ///
 /// If a write fails or takes no byte, the fault is `Device(Write)`, and a beginning of the mnemonics is written. The
 /// caller keeps both `failures()` below `u64::MAX`.
@@ -87,8 +87,8 @@ pub fn run_reissue<R: Read, W: Write>(
     ensures runs { Runs R.remaining W.contents
         (IsReissueOutput plan.now.group_threshold plan.now.groups.items names.now)
         input.old input.new output.old output.new result }
-    // Of mnemonics of a backup that was created by the plan: those of these names, or both counts for the first that
-    // isn't determined.
+    // Of mnemonics of a backup that was created by the plan: those with these names, or what is at hand and needed for
+    // the first name that isn't determined.
     ensures created { Runs R.remaining W.contents
         (ReissuesCreated plan.now.group_threshold plan.now.groups.items names.now)
         input.old input.new output.old output.new result }
@@ -109,7 +109,7 @@ pub fn run_reissue<R: Read, W: Write>(
 }
 
 /// Puts the text that `run_reissue` writes for these lines at the front of `text`: the mnemonics with these names of a
-/// plan, each followed by a line feed. It returns the length of that text in bytes. The bytes of `text` behind it are
+/// plan, each followed by a line feed. It returns the length of that text in bytes. The bytes of `text` after it are
 /// unchanged.
 ///
 /// The first error that applies is returned, and then `text` is unchanged:
@@ -118,8 +118,8 @@ pub fn run_reissue<R: Read, W: Write>(
 /// - the first refused line, with its number;
 /// - `Lack` if there are no shares;
 /// - `OtherPlan` if no backup of the plan can have all shares;
-/// - name by name, `Undetermined` or `DigestMismatch`;
-/// - `TooShort` if the text doesn't fit, with the number of bytes that it has.
+/// - for each name in turn, `Undetermined` or `DigestMismatch`;
+/// - `TooShort`, with the number of bytes needed, if the text doesn't fit.
 ///
 /// ```rust
 /// let plan = Plan::parse("2of3")?;
@@ -143,8 +143,8 @@ pub fn reissue_lines(
     ensures reissued { Puts
         (IsReissueOutput plan.now.group_threshold plan.now.groups.items names.now (whole lines.now))
         text.old text.new result }
-    // Of mnemonics of a backup that was created by the plan: those of these names, or both counts for the first that
-    // isn't determined.
+    // Of mnemonics of a backup that was created by the plan: those with these names, or what is at hand and needed for
+    // the first name that isn't determined.
     ensures created { Puts
         (ReissuesCreated plan.now.group_threshold plan.now.groups.items names.now (whole lines.now))
         text.old text.new result }

@@ -87,7 +87,7 @@ pub fn written_mnemonics_recover()
 
 /// `create`, then `drill` with the same passphrase. For all lines that `create` writes for random bytes, `drill` lists
 /// exactly the quorums, each with the secret, and answers no mismatch. For some of them, in any order and with repeats,
-/// blank lines and comments, it does so after each quorum if they have any, and otherwise answers why none is listed.
+/// blank lines and comments, it lists the quorums after the given one, or answers why none is listed.
 pub fn written_mnemonics_drill()
     ensures all_lines { (form : SecretForm) (asked : Asked) (random text : List ℕ) (limit : ℕ)
         (output : List ℕ) (answer : Result Done Fault)
@@ -112,10 +112,10 @@ pub fn written_mnemonics_drill()
     created_backups_drill();
 }
 
-/// `create`, then `reissue`. For some lines that `create` writes for random bytes, in any order and with repeats,
-/// blank lines and comments, `reissue` with the same plan gives the mnemonics of that backup with the requested names,
-/// word for word. Otherwise it gives both counts for the first name that isn't determined, or answers that there are
-/// no shares.
+/// `create`, then `reissue`. For some lines that `create` writes for random bytes, in any order and with repeats, blank
+/// lines and comments, `reissue` with the same plan gives the mnemonics of that backup with the requested names, word
+/// for word. Otherwise it says how many members and groups are at hand and needed for the first name that isn't
+/// determined, or that there are no shares.
 ///
 /// With a plan that has more members in some groups, it gives mnemonics of the backup that `create` makes by that plan
 /// and the same random bytes. An input of lines that `create` wrote and of lines that `reissue` gave, in any order and

@@ -108,14 +108,15 @@ fn fault_of_show(stop: Stop<ShowRefusal>) -> Fault
     }
 }
 
-/// Writes a line with the fields of each mnemonic of the input, in the order of its lines (SLIP-0039, "Format of the
-/// share mnemonic"). It skips blank lines, and lines whose first byte that isn't a separator is `#`.
+/// Writes a line for each mnemonic of the input, with its fields, in the order of the input's lines (SLIP-0039, "Format
+/// of the share mnemonic"). Blank lines and comments are skipped. A comment starts with `#`, after any spaces, tabs and
+/// carriage returns.
 ///
 /// The run stops at the first error:
 ///
 /// - a line is refused, by a word error or as `TooLong` (more than 1,024 bytes): the fault has its number, and the
 ///   lines for the mnemonics before it are written;
-/// - a read fails: the fault is `Device(Read)`, and the lines for the mnemonics that ended before are written;
+/// - a read fails: the fault is `Device(Read)`, and the answers to the lines that ended before are written;
 /// - a write fails or takes no byte: the fault is `Device(Write)`, and a beginning of the output is written.
 ///
 /// The caller keeps both `failures()` below `u64::MAX`.

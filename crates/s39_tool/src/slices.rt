@@ -15,7 +15,7 @@ pub struct TooShort {
 pub enum Unwritten {
     /// The request was refused.
     Refused(Fault),
-    /// The slice is too short for it.
+    /// The slice is too short for the text.
     TooShort(TooShort),
 }
 
@@ -39,8 +39,8 @@ impl From<TooShort> for Unwritten {
     }
 }
 
-/// Puts bytes into a slice from the place `at` on, and leaves the bytes before and behind them unchanged. The caller
-/// makes sure that they fit.
+/// Puts bytes into a slice at the offset `at`, and leaves the bytes before and after them unchanged. The caller makes
+/// sure that they fit.
 ///
 /// ```rust
 /// let mut slice = *b"recover";

@@ -17,15 +17,15 @@ use crate::slices::{TooShort, Unwritten, put};
 use s39_set::{GroupStatus, MAX_GROUPS, SetLack, ShareSet, Status, group_status_of, status_of};
 use std::io::{Read, Write};
 
-/// Writes what is at hand of each group, and how many groups are complete, without the passphrase. The first line is
-/// `groups C of R`: `C` groups have at least their member threshold of shares, and `R` is the group threshold.
+/// Writes which members of each group are at hand, and how many groups are complete. It needs no passphrase. The first
+/// line is `groups C of R`: `C` groups have at least their member threshold of shares, and `R` is the group threshold.
 ///
 /// A line `group G members N of T NAMES` follows for each group of which a share is at hand, in ascending order. `N`
 /// members are at hand, `T` is the member threshold, and `NAMES` are their names in ascending order, joined by plus
-/// signs. Repeats count once. Blank lines are skipped, and so are lines whose first byte that isn't a separator is
-/// `#`.
+/// signs. Repeats count once. Blank lines and comments are skipped. A comment starts with `#`, after any spaces, tabs
+/// and carriage returns.
 ///
-/// The function returns the numbers of the first line. There are enough shares exactly if `C` is at least `R`. The
+/// The function returns the numbers of the first line. There are enough shares if and only if `C` is at least `R`. The
 /// first error that applies is returned instead, and then nothing is written:
 ///
 /// - the first refused line, with its number: a word error, `TooLong` if it has more than 1,024 bytes, or `Set` if its
@@ -78,10 +78,10 @@ pub struct WrittenStatus {
 }
 
 /// Puts the text that `run_status` writes for these lines at the front of `text`. It returns the length of that text in
-/// bytes, and the numbers of its first line. The bytes of `text` behind it are unchanged.
+/// bytes, and the numbers of its first line. The bytes of `text` after it are unchanged.
 ///
 /// The first error that applies is returned, and then `text` is unchanged: the first refused line with its number,
-/// `Lack` if there are no shares, or `TooShort` if the text doesn't fit, with the number of bytes that it has.
+/// `Lack` if there are no shares, or `TooShort`, with the number of bytes needed, if the text doesn't fit.
 ///
 /// ```rust
 /// let line =
