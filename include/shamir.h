@@ -5,21 +5,22 @@
  * lost mnemonics and fingerprints of secrets. docs/LIBRARY.md introduces it with examples, and the manual page shamir(3) is a
  * reference.
  *
- * A backup consists of mnemonics, which are lines of words. A mnemonic spells the fields of a share, which shamir_parse gives,
- * and a value, the bytes that a recovery combines. Each mnemonic is a member of a group. Groups and members are numbered from
+ * A backup consists of mnemonics, which are lines of words. A mnemonic spells a share: its fields, and its value, the bytes
+ * that a recovery combines. shamir_parse gives both. Each mnemonic is a member of a group. Groups and members are numbered from
  * 0, and the name of a mnemonic has both numbers: 0.2 is member 2 of group 0.
  *
  * A group is complete if at least as many of its members are at hand as its member threshold says. Mnemonics are enough if at
  * least as many groups are complete as the group threshold says. A quorum is a minimal set of mnemonics that is enough: no
  * mnemonic of it can be left out. The values of the members of a group combine to a group share, and the group shares combine
- * to the encrypted secret. A digest is four bytes by which the library usually detects values that don't belong together. A
- * threshold of 1 has none.
+ * to the encrypted secret. A digest is four bytes by which the library usually detects values that don't belong together. If a
+ * threshold is 1, there is no digest.
  *
  * Each call works in buffers of its caller. It allocates no memory, makes no system call and keeps nothing between calls. It
  * returns for every input. Calls share no data, so any number of threads can make calls at once.
  *
- * A call uses at most SHAMIR_STACK_BYTES bytes of stack, which the main thread has by default. In a thread with a smaller
- * stack, shamir_create and the calls that take lines can crash the program. The other calls use little stack.
+ * A call uses at most SHAMIR_STACK_BYTES bytes of stack; the main thread has more by default. In a thread with a smaller stack,
+ * shamir_create and the calls that take lines can crash the program. The other calls use little stack. Give a thread more than
+ * SHAMIR_STACK_BYTES, because its own functions use some too; examples/c/cleared.c gives it twice as much.
  *
  * A buffer is a pointer and a length in bytes. If the length is 0, the pointer isn't used and may be NULL. A pointer to a
  * struct must not be NULL. An output buffer or an output struct must not overlap any other argument. Lengths exclude any
@@ -155,7 +156,7 @@ typedef struct shamir_answer {
     uint64_t written;    /* how many bytes the call wrote to its output buffer */
 } shamir_answer;
 
-/* The fields of a mnemonic, except its value. */
+/* The fields of a mnemonic. Its value isn't among them. */
 typedef struct shamir_share {
     uint16_t id;              /* the identifier of the backup, 0 to 32767 */
     uint8_t extendable;       /* the extendable flag, 0 or 1 */
@@ -236,9 +237,9 @@ shamir_answer shamir_create(
  * after any spaces, tabs and carriage returns. A blank line has only these. A line feed ends a line; the last line may lack
  * it. A mnemonic that comes again changes nothing.
  *
- * The call recovers the secret from the first quorum, in the order of shamir_drill. The secret goes to the start of secret.
- * written is its length, an even number from SHAMIR_SECRET_BYTES_MIN to SHAMIR_SECRET_BYTES_MAX. A wrong passphrase isn't
- * detected: it gives another secret.
+ * The call recovers the secret from the first quorum, in the order of shamir_drill, and doesn't try further mnemonics. The
+ * secret goes to the start of secret. written is its length, an even number from SHAMIR_SECRET_BYTES_MIN to
+ * SHAMIR_SECRET_BYTES_MAX. A wrong passphrase isn't detected: it gives another secret.
  *
  * The exponent of the mnemonics determines how long the call takes: 10,000 * 2^exponent iterations of PBKDF2, and twice as
  * many for a secret of more than 64 bytes. With the exponent 15 these take minutes. The call refuses with 3 if no line is
@@ -383,7 +384,8 @@ shamir_answer shamir_fingerprint(const uint8_t *secret, size_t secret_bytes, cha
  *
  * The text goes to the start of text. SHAMIR_TEXT_BYTES_MAX bytes are always enough. For 0 it is "done", for 1 it is "slice
  * too short: N bytes needed", for 2 it is "number out of range", and for 3 it is "exponent E above the most". For a code that
- * no call gives it is "unknown answer". It may be this text too if no call gives these details with the code.
+ * no call gives it is "unknown answer". For details that no call gives with the code, the text may be
+ * "unknown answer" too.
  *
  * The only refusal is 1.
  *

@@ -76,7 +76,7 @@ static int print_secret(size_t bytes)
         digits[2 * i + 1] = hexadecimal[secret[i] & 15];
     }
     digits[2 * bytes] = '\n';
-    /* This buffer would keep a copy of the secret. */
+    /* A buffer of stdout would keep a copy of the secret. */
     setvbuf(stdout, NULL, _IONBF, 0);
     if (fwrite(digits, 1, 2 * bytes + 1, stdout) != 2 * bytes + 1 || fflush(stdout) != 0) {
         perror("recover: the secret can't be written");

@@ -12,16 +12,19 @@ and then by member, as numbers: 0.2 comes before 0.10. A group is complete if at
 hand as its member threshold says. Mnemonics are enough if at least as many groups are complete as the group threshold
 says. A quorum is a minimal set of mnemonics that is enough.
 
+The values of the members of a group combine to a group share, and the group shares combine to the encrypted secret. A
+digest is four bytes by which the library usually detects values that don't belong together.
+
 Each function passes its arguments to the library, and raises `Refusal` if the library refuses them. No rule of the
 format is in this module. A text is a str, which is encoded as UTF-8, or an object with the buffer protocol. Secrets and
 random bytes are objects with the buffer protocol. Anything else raises TypeError, and a number that doesn't fit the C
 type raises OverflowError.
 
-The module loads the library that the environment variable SHAMIR_LIBRARY names. Without the variable
-it loads libshamir.so in the folder of this package, where `make lib` puts it, or else the system's libshamir.so.1.
+The module loads the library that the environment variable SHAMIR_LIBRARY names. Without the variable it loads
+libshamir.so in the folder of this package, where `make lib` puts it, or else the system's libshamir.so.1.
 
 Calls share no data, so any number of threads can make calls at once. A call uses at most 512 KiB of stack. A call in a
-thread with a smaller `threading.stack_size` can crash the program. Neither the package nor the library clears the
+thread with a smaller `threading.stack_size` can crash the program; 1,048,576 is enough for every call. Neither the package nor the library clears the
 memory where copies of secrets and passphrases remain.
 """
 from __future__ import annotations
@@ -214,8 +217,8 @@ class Outcome:
     """What one quorum of a drill recovers.
 
     `names` are the names of its mnemonics, such as `0.0+0.2+1.0`, and `secret` is what it recovers. If a digest doesn't
-    match, `secret` is None, and `mismatch` is the lowest group whose digest doesn't match, or OF_GROUPS. Otherwise
-    `mismatch` is None. The repr leaves the secret out.
+    match, `secret` is None, and `mismatch` is the lowest group whose digest doesn't match, or OF_GROUPS for the
+    digest of the group shares. Otherwise `mismatch` is None. The repr leaves the secret out.
     """
 
     names: str
@@ -349,7 +352,8 @@ def create(
     `plan` is TofN for one group, or GT/T1ofN1,T2ofN2,.. for up to 16 groups. GT is the group threshold, each T is the
     member threshold of a group, and each N is its number of members. Each number is from 1 to 16. T may be 1 only if N
     is 1. `secret` has an even number of bytes, 16 to 128. `passphrase` is an additional secret, which `recover` needs
-    too, of printable ASCII. `extendable` sets the extendable flag, which leaves the identifier out of the encryption.
+    too, of printable ASCII. `extendable` sets the extendable flag, which leaves the backup's identifier out of the
+    encryption.
 
     `exponent` is the iteration exponent, 0 to 15. The call takes 10,000 * 2^exponent iterations of PBKDF2, and twice as
     many for a secret of more than 64 bytes.
@@ -374,6 +378,8 @@ def _random_for(plan: bytes, secret_bytes: int) -> bytes:
 
 def recover(lines: Lines, *, passphrase: Text = b"", max_exponent: int = EXPONENT_MAX) -> bytes:
     """Recover the secret from mnemonics, by the first quorum among them in the order of `drill`.
+
+    The call doesn't try mnemonics beyond that quorum.
 
     `lines` is one text of lines, or an iterable of lines. Each line is a mnemonic, or a comment, or blank. A comment
     starts with #, after any spaces, tabs and carriage returns. A line has at most 1,024 bytes without its line feed,

@@ -1,8 +1,9 @@
-"""Cut a drill into parts that can run at once.
+"""Cut a drill into parts that can run at the same time.
 
-`python3 -m shamir.cuts N < mnemonics` prints the options of N drills, one line for each. If there are fewer quorums than
-N, it prints one line for each quorum. Together these drills list what one drill would list, in the same order. Their
-numbers of quorums differ by at most one. The lines look like `--limit 3217` and `--after 0.0+0.2 --limit 3217`.
+`python3 -m shamir.cuts N < mnemonics` prints the options of N runs of the command `shamir drill`, one line for each. If
+there are fewer quorums than N, it prints one line for each quorum. Without their lines `more after`, these drills
+together list what one drill would list, in the same order. Their numbers of quorums differ by at most one. The lines
+look like `--limit 3217` and `--after 0.0+0.2 --limit 3217`.
 
 The module decrypts nothing. It counts the quorums from the fields of the mnemonics: their groups, members and
 thresholds.
