@@ -55,7 +55,7 @@ extern "C" {
 /* The maximum number of random bytes that a backup takes. */
 #define SHAMIR_RANDOM_BYTES_MAX 32574
 
-/* The maximum length of a mnemonic, and of all mnemonics of a backup with a line feed after each. */
+/* The maximum length of a mnemonic that a call writes, and of all mnemonics of a backup with a line feed after each. */
 #define SHAMIR_MNEMONIC_BYTES_MAX 989
 #define SHAMIR_MNEMONICS_BYTES_MAX 253440
 
