@@ -16,6 +16,7 @@
 #   make deb         builds the Debian packages shamir, libshamir1 and libshamir-dev
 #   make check-packages  installs, runs and uninstalls what these targets install and build
 #   make dist        packs the committed sources. The same commit gives the same bytes each time
+#   make clean       removes what these targets build
 RT ?= rt
 PYTHON ?= python3
 INSTALL ?= install
@@ -38,10 +39,11 @@ override LIBDIR := $(abspath $(LIBDIR))
 override INCLUDEDIR := $(abspath $(INCLUDEDIR))
 # Plain x86-64 lets the program and the library run on every such processor. Old machines without a network suit secrets well.
 CPU = x86-64
-# The crate of the program is the only one with a main, except the bench and the examples over arrays.
+# The crate of the program is the only one with a main, except s39_bench and s39_allocations.
 PROGRAM = $(filter-out s39_bench s39_allocations,$(patsubst crates/%/src/main.rt,%,$(wildcard crates/*/src/main.rt)))
 DOCUMENTS = README.md CHANGELOG.md CONTRIBUTING.md SECURITY.md NOTICE
-# This command prints the name of each call of the library. Under each name, a link leads to the manual page shamir(3).
+# This command prints the name of each call of the library. `make install-lib` makes a link with each of these names to the
+# manual page shamir(3).
 CALLS = sed -n 's/^shamir_answer \([a-z_]*\).*/\1/p' include/shamir.h
 SOURCES = $(shell find crates -path '*/out' -prune -o -type f -print) crates.txt
 

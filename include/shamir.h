@@ -288,10 +288,10 @@ shamir_answer shamir_recover(
  *
  * The mnemonics of a quorum combine to an encrypted secret. Decrypting it takes the iterations of shamir_recover. The quorums
  * of a sound backup all combine to the same encrypted secret. A call keeps the last four results, so it decrypts this one
- * once. The next call decrypts it anew. If text is too short for one quorum, the call refuses with 1 only after the iterations.
+ * once. The next call decrypts it anew.
  *
  * So use an output buffer of about 65536 bytes. A drill of a large backup takes tens of times as long if each call lists only
- * one quorum.
+ * one quorum. If text is too short for one quorum, the call refuses with 1 only after the iterations.
  *
  * The call refuses with the first of these that applies: 3 (as for shamir_recover), 2 (a limit of 0), 61, 41, the code of the
  * first refused line (11 to 28, 71), 29, 30, 62, 1.
@@ -352,7 +352,7 @@ shamir_answer shamir_status(const char *lines, size_t lines_bytes, char *text, s
  * If mnemonics is too short, the call refuses with 1, and first is the length of all wanted mnemonics.
  *
  * The call refuses with the first of these that applies: 31 to 34, 63, 64, the code of the first refused line (11 to 28, 71),
- * 29, 65, 66 or 51 for the names in turn, 1.
+ * 29, 65, then for each name in turn 66 or 51, then 1.
  *
  *     shamir_answer answer = shamir_reissue("2of3", 4, "0.1", 3, lines, lines_bytes, mnemonics, sizeof mnemonics);
  */

@@ -32,7 +32,7 @@ class Group:
         return math.comb(len(self.members), self.threshold)
 
     def choice(self, rank: int) -> List[Name]:
-        """Return the choice of its members at this position, from 0, in ascending order of their names."""
+        """Return the choice of its members at this position. Choices are in ascending order, from position 0."""
         chosen: List[Name] = []
         for at, member in enumerate(self.members):
             more = self.threshold - len(chosen)
@@ -106,7 +106,7 @@ def check(text: bytes, shares: List[shamir.Share]) -> None:
 
 
 def quorums(text: bytes) -> Quorums:
-    """Return the quorums of these lines. Raises `Refusal` as a drill of them does, except with the codes 41 and 61."""
+    """Return the quorums of these lines. Raises `Refusal` with one of the codes 11 to 30 or 71."""
     shares = list(shares_of(text))
     check(text, shares)
     thresholds = {share.group_index: share.member_threshold for share in shares}
