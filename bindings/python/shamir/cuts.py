@@ -87,7 +87,7 @@ def mnemonics_of(text: bytes) -> Iterator[bytes]:
 
 
 def shares_of(text: bytes) -> Iterator[shamir.Share]:
-    """Yield the shares of the lines, up to the first line that is refused."""
+    """Yield the shares of the lines, up to the first line that `shamir.parse` refuses."""
     for line in mnemonics_of(text):
         try:
             yield shamir.parse(line)
