@@ -1,8 +1,9 @@
-# `make` proves and builds the program shamir, and `make test` runs the merge gate. The other targets are:
+# `make` proves and builds the program shamir. `make test` runs the merge gate (`rt ci`), and then `make check`. The other
+# targets are:
 #
-#   make lib         proves and builds the library: libshamir.a, and libshamir.so for the Python binding
-#   make check       runs the fast checks, as `make test` does too. They cover the documents, examples of doc comments, manual
-#                    pages, completions, terminals, values from files, refused allocations, the library and the packages
+#   make lib         proves and builds the library: libshamir.a and libshamir.so
+#   make check       runs the fast checks. They cover the documents, examples of doc comments, manual pages, completions,
+#                    terminals, values from files, refused allocations, the library and the packages
 #   make check-library   checks the library alone: its header, examples in C, the Python binding, the cuts of a drill, and
 #                    generated cases
 #   make faults      makes each allocation, open, read and write of the program fail in turn
@@ -10,13 +11,13 @@
 #   make bench       measures speed
 #   make install     installs the program and the library into the folders below, under DESTDIR. It proves nothing: if one
 #                    of them isn't up to date, it says so and installs nothing
-#   make install-bin, make install-lib   install the program or the library, as it is here
+#   make install-bin, make install-lib   install the program or the library as it is here, up to date or not
 #   make uninstall   uninstalls both
 #   make wheel       builds a wheel of the Python package, with libshamir.so in it
 #   make deb         builds the Debian packages shamir, libshamir1 and libshamir-dev
-#   make check-packages  installs, runs and uninstalls what these targets install and build
+#   make check-packages  installs, runs and uninstalls what `make install`, `make wheel` and `make deb` make
 #   make dist        packs the committed sources. The same commit gives the same bytes each time
-#   make clean       removes what these targets build
+#   make clean       removes what these targets build, and what checks kept in crates/*/out
 RT ?= rt
 PYTHON ?= python3
 INSTALL ?= install

@@ -7,7 +7,7 @@ _shamir() {
     local command='' said=' ' options at
     local redirection='^&?[<>]+[&|]?$'
     COMPREPLY=()
-    # Bash itself completes the file of a redirection, variables, and the words of another command.
+    # Bash itself completes the file of a redirection, variables, and the words of a command in <(..).
     [[ $word =~ $redirection || $previous =~ $redirection || $word == *[\$\`]* ]] && return 0
     for ((at = 1; at < COMP_CWORD; at++)); do
         [[ ${COMP_WORDS[at]} == [\<\>]\(* ]] && return 0

@@ -1,26 +1,28 @@
 /*
  * shamir.h: SLIP-0039 backups of a master secret, for C and C++.
  *
- * The library creates backups, reads mnemonics, recovers secrets and runs drills. It also reports what is missing, and computes
- * lost mnemonics and fingerprints of secrets. docs/LIBRARY.md introduces it with examples, and the manual page shamir(3) is a
- * reference.
+ * The library creates backups, reads mnemonics, recovers secrets and runs drills. It also reports whether mnemonics are enough
+ * for a recovery, and computes lost mnemonics and fingerprints of secrets. docs/LIBRARY.md introduces it with examples, and the
+ * manual page shamir(3) is a reference.
  *
- * A backup consists of mnemonics, which are lines of words. A mnemonic spells a share: its fields, and its value, the bytes
+ * A backup consists of mnemonics, which are lines of words. A mnemonic spells a share, which has fields and a value: the bytes
  * that a recovery combines. shamir_parse gives both. Each mnemonic is a member of a group. Groups and members are numbered from
  * 0, and the name of a mnemonic has both numbers: 0.2 is member 2 of group 0.
  *
- * A group is complete if at least as many of its members are at hand as its member threshold says. Mnemonics are enough if at
- * least as many groups are complete as the group threshold says. A quorum is a minimal set of mnemonics that is enough: no
- * mnemonic of it can be left out. The values of the members of a group combine to a group share, and the group shares combine
- * to the encrypted secret. A digest is four bytes by which the library usually detects values that don't belong together. If a
- * threshold is 1, there is no digest.
+ * A group is complete if the number of its members at hand is at least its member threshold. Mnemonics are enough if the number
+ * of complete groups is at least the group threshold. A quorum is a minimal set of mnemonics that is enough: no mnemonic of it
+ * can be left out. A drill tries every quorum.
+ *
+ * The values of the members of a group combine to a group share, and the group shares combine to the encrypted secret. A digest
+ * is four bytes by which the library usually detects values that don't belong together. If a threshold is 1, there is no
+ * digest.
  *
  * Each call works in buffers of its caller. It allocates no memory, makes no system call and keeps nothing between calls. It
  * returns for every input. Calls share no data, so any number of threads can make calls at once.
  *
  * A call uses at most SHAMIR_STACK_BYTES bytes of stack; the main thread has more by default. In a thread with a smaller stack,
- * shamir_create and the calls that take lines can crash the program. The other calls use little stack. Give a thread more than
- * SHAMIR_STACK_BYTES, because its own functions use some too; examples/c/cleared.c gives it twice as much.
+ * a call can crash the program. Give a thread more than SHAMIR_STACK_BYTES, because its own functions use some too;
+ * examples/c/cleared.c gives it twice as much.
  *
  * A buffer is a pointer and a length in bytes. If the length is 0, the pointer isn't used and may be NULL. A pointer to a
  * struct must not be NULL. An output buffer or an output struct must not overlap any other argument. Lengths exclude any
@@ -28,12 +30,12 @@
  * secrets, values and random bytes have the type uint8_t. So a compiler can warn if a text and bytes are exchanged.
  *
  * Each call returns a shamir_answer. If its code is SHAMIR_DONE, the call succeeded: the output is at the start of the output
- * buffer, and the bytes after it are unchanged. Any other code is a refusal. On refusal the output buffer and the output struct
- * are unchanged, and written is 0.
+ * buffer, the field written is its length, and the bytes after it are unchanged. Any other code is a refusal. On refusal the
+ * output buffer and the output struct are unchanged, and written is 0.
  *
  * The library doesn't clear its stack, where copies of secrets and passphrases may remain. examples/c/cleared.c makes calls
- * on a stack of its own, and clears that. The time of a call can depend on secrets. docs/LIBRARY.md says what is promised and
- * what isn't.
+ * on a stack of its own, and clears that stack afterwards. The time of a call can depend on secrets. docs/LIBRARY.md says what
+ * is promised and what isn't.
  */
 #ifndef SHAMIR_H
 #define SHAMIR_H
@@ -80,13 +82,13 @@ extern "C" {
 /* The maximum length of the output of shamir_text. */
 #define SHAMIR_TEXT_BYTES_MAX 64
 
-/* The maximum iteration exponent, which shamir_create explains. As max_exponent, it allows every mnemonic. */
+/* The maximum iteration exponent, which shamir_create explains. As max_exponent, it allows every exponent. */
 #define SHAMIR_EXPONENT_MAX 15
 
 /* The maximum number of bytes of stack that a call uses. It is measured, not proved. */
 #define SHAMIR_STACK_BYTES 524288
 
-/* In SHAMIR_DIGEST_MISMATCH, first is the group whose digest doesn't match, or this number for the digest of the group shares. */
+/* If the code is SHAMIR_DIGEST_MISMATCH, first is the group whose digest doesn't match, or this number for the group shares. */
 #define SHAMIR_OF_GROUPS 16
 
 /* These attributes let a compiler warn if an answer is ignored, or if a pointer to a struct is NULL. */
@@ -235,7 +237,7 @@ shamir_answer shamir_create(
  *
  * lines has any number of lines. Each is a mnemonic as for shamir_parse, or a comment, or blank. A comment starts with #,
  * after any spaces, tabs and carriage returns. A blank line has only these. A line feed ends a line; the last line may lack
- * it. A mnemonic that comes again changes nothing.
+ * it. A repeated mnemonic changes nothing.
  *
  * The call recovers the secret from the first quorum, in the order of shamir_drill, and doesn't try further mnemonics. The
  * secret goes to the start of secret. written is its length, an even number from SHAMIR_SECRET_BYTES_MIN to
@@ -243,7 +245,7 @@ shamir_answer shamir_create(
  *
  * The exponent of the mnemonics determines how long the call takes: 10,000 * 2^exponent iterations of PBKDF2, and twice as
  * many for a secret of more than 64 bytes. With the exponent 15 these take minutes. The call refuses with 3 if no line is
- * refused, the mnemonics have a quorum, and their exponent is above max_exponent. It makes no iteration before this refusal.
+ * refused, the mnemonics have a quorum, and their exponent is above max_exponent. This refusal comes before any iteration.
  * SHAMIR_EXPONENT_MAX or a greater number allows every exponent. If secret is too short, the call refuses with 1 only after
  * the iterations.
  *
@@ -261,9 +263,9 @@ shamir_answer shamir_recover(
 /*
  * Runs a drill: the call tries the quorums of mnemonics, and lists what each of them recovers.
  *
- * lines, passphrase and max_exponent are those of shamir_recover. The parameter after is the cursor. If it is empty,
- * the call starts with the first quorum. If it names a quorum, such as 0.0+0.2+1.0, the call starts with the next one. The
- * call lists at most limit quorums, and limit is 1 or more.
+ * lines, passphrase and max_exponent are as for shamir_recover. The parameter after is the cursor. If it is empty, the call
+ * starts with the first quorum. If it names a quorum, such as 0.0+0.2+1.0, the call starts with the next one. The call lists at
+ * most limit quorums, and limit is 1 or more.
  *
  * The listing goes to the start of text, in the format of the command drill. It has a line for each quorum, and a last line:
  *
@@ -271,27 +273,26 @@ shamir_answer shamir_recover(
  *     NAMES digest mismatch in group G    G is the lowest group whose digest doesn't match
  *     NAMES digest mismatch of groups     the digest of the group shares doesn't match
  *     end                                 this last line says that no quorum is left
- *     more after NAMES                    this last line says that there are more quorums, and gives the next cursor
+ *     more after NAMES                    this last line says that more quorums are left; NAMES are the next cursor
  *
- * A line feed ends every line. NAMES are the names of the quorum in ascending order, joined by plus signs. Names are ordered by
- * their group, and then by their member, as numbers: 0.2 comes before 0.10. Quorums come in ascending order: they are compared
- * by their first names, then by their second names, and so on. mismatches is the number of listed quorums with a digest
- * mismatch. A digest mismatch is no refusal here.
+ * A line feed ends every line. NAMES are the names of a quorum in ascending order, joined by plus signs. In the last line they
+ * are those of the last quorum listed. Names are ordered by their group, and then by their member, as numbers: 0.2 comes before
+ * 0.10. Quorums come in ascending order: they are compared by their first names, then by their second names, and so on. The
+ * field mismatches of the answer is the number of listed quorums with a digest mismatch. A digest mismatch is no refusal here.
  *
  * The call stops at the limit. It also stops before the first quorum whose line, with the last line after it, doesn't fit
- * into text. A loop that passes the names of each last line to the next call lists every quorum exactly once. Copy these
- * names before the next call, as after and text must not overlap. They have at most SHAMIR_NAMES_BYTES_MAX bytes.
+ * into text. A loop that passes the cursor in each last line to the next call lists every quorum exactly once. Copy the cursor
+ * before the next call, as after and text must not overlap. It has at most SHAMIR_NAMES_BYTES_MAX bytes.
  *
- * The call refuses with 1 if the line of one quorum and the last line don't fit into text; first is their length. If no
- * quorum comes after the cursor, the length is 4, for "end" and a line feed. SHAMIR_LISTING_BYTES_ENOUGH bytes are always
- * enough.
+ * The call refuses with 1 if the line of the first quorum and the last line after it don't fit into text; first is their
+ * length. If no quorum comes after the cursor, the length is 4, for "end" and a line feed. SHAMIR_LISTING_BYTES_ENOUGH bytes
+ * are always enough.
  *
  * The mnemonics of a quorum combine to an encrypted secret. Decrypting it takes the iterations of shamir_recover. The quorums
- * of a sound backup all combine to the same encrypted secret. A call keeps the last four results, so it decrypts this one
- * once. The next call decrypts it anew.
- *
- * So use an output buffer of about 65536 bytes. A drill of a large backup takes tens of times as long if each call lists only
- * one quorum. If text is too short for one quorum, the call refuses with 1 only after the iterations.
+ * of a sound backup all combine to the same encrypted secret. A call keeps the last four results, so it decrypts this encrypted
+ * secret only once. The next call decrypts it anew. So use an output buffer of about 65536 bytes: a drill of a large backup takes
+ * many times as long if each call lists only one quorum. If text is too short for one quorum, the call refuses with 1 only after
+ * the iterations.
  *
  * The call refuses with the first of these that applies: 3 (as for shamir_recover), 2 (a limit of 0), 61, 41, the code of the
  * first refused line (11 to 28, 71), 29, 30, 62, 1.
@@ -307,9 +308,9 @@ shamir_answer shamir_drill(
 /*
  * Reports how many members of each group are among mnemonics, and whether the mnemonics are enough for a recovery.
  *
- * lines is that of shamir_recover. The call needs no passphrase, and decrypts nothing. A mnemonic that comes again counts
- * once. The output goes to the start of text, in the format of the command status. SHAMIR_STATUS_BYTES_MAX bytes are always
- * enough. It has a first line, and a line for each group that has a member among the mnemonics, in ascending order:
+ * lines is as for shamir_recover. The call needs no passphrase, and decrypts nothing. A repeated mnemonic counts once. The
+ * output goes to the start of text, in the format of the command status. It has at most SHAMIR_STATUS_BYTES_MAX bytes. The first
+ * line is followed by a line for each group that has a member among the mnemonics, in ascending order:
  *
  *     groups C of R                   C groups are complete, and the group threshold is R
  *     group G members N of T NAMES    group G has N members in lines, its member threshold is T, and NAMES are their names
@@ -328,7 +329,7 @@ SHAMIR_CALL
 shamir_answer shamir_status(const char *lines, size_t lines_bytes, char *text, size_t text_bytes);
 
 /*
- * Computes lost mnemonics of a backup from others of it.
+ * Computes lost mnemonics of a backup from other mnemonics of it.
  *
  * plan          the text of the plan of the backup, or of that plan with more members in some groups; the added members are new
  *               members of this backup
@@ -339,12 +340,12 @@ shamir_answer shamir_status(const char *lines, size_t lines_bytes, char *text, s
  *               SHAMIR_MNEMONICS_BYTES_MAX bytes is always enough
  *
  * The call needs no passphrase, and decrypts nothing. If a wanted mnemonic is among lines, it is the result. Otherwise other
- * members of its group determine it, if there are as many of them in lines as the member threshold. One member fewer is
- * enough if the number of other complete groups is at least the group threshold.
+ * members of its group determine it, if their number in lines is at least the member threshold. One member fewer is enough if
+ * the number of other complete groups is at least the group threshold.
  *
- * In any other case the mnemonic isn't determined, and the call refuses with 66. Then first is 256 * group + member. The bits
- * 24 to 31 of second are the number of members of the group in lines, and the bits 16 to 23 are the member threshold. The bits
- * 8 to 15 are the number of other complete groups, and the bits 0 to 7 are the group threshold.
+ * In any other case the mnemonic isn't determined, and the call refuses with 66. Then first is 256 * group + member. Bits 24 to
+ * 31 of second are the number of members of the group in lines, and bits 16 to 23 are the member threshold. Bits 8 to 15 are
+ * the number of other complete groups, and bits 0 to 7 are the group threshold.
  *
  * This call is for mnemonics that were destroyed. If somebody else may have the lost one, create a new backup. If they may
  * have a quorum, use a new secret too.
@@ -367,8 +368,8 @@ shamir_answer shamir_reissue(
  * The fingerprint is the first four bytes of the HMAC-SHA256 of the secret with the key "shamir fingerprint" (18 bytes). The
  * call writes it as eight lower-case hexadecimal digits to the start of text. The command shamir gives the same digits.
  *
- * The chance that another secret has the same fingerprint is 1 in 4,294,967,296. Whoever has the fingerprint can test guesses
- * of the secret with it.
+ * About one in 4,294,967,296 other secrets has the same fingerprint. Whoever has the fingerprint can test guesses of the secret
+ * with it.
  *
  * The call refuses with the first of these that applies: 42, 1.
  *
@@ -379,13 +380,11 @@ SHAMIR_CALL
 shamir_answer shamir_fingerprint(const uint8_t *secret, size_t secret_bytes, char *text, size_t text_bytes);
 
 /*
- * Gives the text of an answer, without its code and its line. If the command shamir has the same refusal, it prints this text
- * after them.
+ * Gives the text of an answer, without its code and its line. For the same refusal, the command shamir prints the same text.
  *
- * The text goes to the start of text. SHAMIR_TEXT_BYTES_MAX bytes are always enough. For 0 it is "done", for 1 it is "slice
- * too short: N bytes needed", for 2 it is "number out of range", and for 3 it is "exponent E above the most". For a code that
- * no call gives it is "unknown answer". For details that no call gives with the code, the text may be
- * "unknown answer" too.
+ * The text goes to the start of text. SHAMIR_TEXT_BYTES_MAX bytes are always enough. It is "done" for the code 0, "buffer too
+ * short: N bytes needed" for 1, "number out of range" for 2, and "exponent E above the maximum" for 3. For a code that no call
+ * gives, it is "unknown answer". For details that no call gives with the code, it may be "unknown answer" too.
  *
  * The only refusal is 1.
  *

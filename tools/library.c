@@ -153,7 +153,7 @@ typedef struct reissue_example {
 
 #define DONE {0, 0, 0, 0, "done"}
 /* The vector of two mnemonics has the exponent 2. */
-#define HIGH {3, 0, 2, 0, "exponent 2 above the most"}
+#define HIGH {3, 0, 2, 0, "exponent 2 above the maximum"}
 #define NO_SHARE {65535, 255, 255, 255, 255, 255, 255, 255}
 
 /* NULL stands for the pointer NULL with the length 0. */
@@ -226,11 +226,11 @@ static const drill_example drill_examples[] = {
     {{FIVE}, KEY, SHAMIR_EXPONENT_MAX, "1.0+2.0", 1, 4, DONE, 0, "end\n"},
     {{UNEVEN_0, UNEVEN_1}, NULL, 0, NULL, 1, 39, DONE, 1, "0.0+0.1 digest mismatch in group 0\nend\n"},
     {{UNEVEN_GROUP_0, UNEVEN_GROUP_1}, "", 0, "", 1, ROOM_BYTES, DONE, 1, "0.0+1.0 digest mismatch of groups\nend\n"},
-    {{FIVE}, KEY, SHAMIR_EXPONENT_MAX, NULL, 9, 67, {1, 0, 68, 0, "slice too short: 68 bytes needed"}, 0, ""},
-    {{FIVE}, KEY, SHAMIR_EXPONENT_MAX, "0.0+0.2+2.0", 9, 0, {1, 0, 68, 0, "slice too short: 68 bytes needed"}, 0, ""},
-    {{FIVE}, KEY, SHAMIR_EXPONENT_MAX, "1.0+2.0", 9, 3, {1, 0, 4, 0, "slice too short: 4 bytes needed"}, 0, ""},
-    {{UNEVEN_0, UNEVEN_1}, NULL, 0, NULL, 9, 38, {1, 0, 39, 0, "slice too short: 39 bytes needed"}, 0, ""},
-    {{ONE}, KEY, 0, NULL, 9, 40, {1, 0, 41, 0, "slice too short: 41 bytes needed"}, 0, ""},
+    {{FIVE}, KEY, SHAMIR_EXPONENT_MAX, NULL, 9, 67, {1, 0, 68, 0, "buffer too short: 68 bytes needed"}, 0, ""},
+    {{FIVE}, KEY, SHAMIR_EXPONENT_MAX, "0.0+0.2+2.0", 9, 0, {1, 0, 68, 0, "buffer too short: 68 bytes needed"}, 0, ""},
+    {{FIVE}, KEY, SHAMIR_EXPONENT_MAX, "1.0+2.0", 9, 3, {1, 0, 4, 0, "buffer too short: 4 bytes needed"}, 0, ""},
+    {{UNEVEN_0, UNEVEN_1}, NULL, 0, NULL, 9, 38, {1, 0, 39, 0, "buffer too short: 39 bytes needed"}, 0, ""},
+    {{ONE}, KEY, 0, NULL, 9, 40, {1, 0, 41, 0, "buffer too short: 41 bytes needed"}, 0, ""},
     {{ONE_WRONG}, KEY, 0, NULL, 9, ROOM_BYTES, {13, 1, 0, 0, "bad checksum"}, 0, ""},
     {{NULL}, "a\x07", 0, "0.1+", 0, ROOM_BYTES, {2, 0, 0, 0, "number out of range"}, 0, ""},
     {{NULL}, "a\x07", 0, "0.1+", 1, ROOM_BYTES, {61, 0, 0, 0, "bad cursor"}, 0, ""},
@@ -283,7 +283,7 @@ static const fingerprint_example fingerprint_examples[] = {
     {NULL, {42, 0, 0, 0, "secret of 0 bytes"}, ""}
 };
 
-/* The export and the example of its table, from 0, for messages; and the number of differences. */
+/* The name of the export and the number of the example in its table, from 0, for messages. Then the number of differences. */
 static const char *export_name;
 static size_t example_number;
 static int differences;
@@ -411,7 +411,7 @@ static void compare(shamir_answer found, shamir_answer right, slice bytes)
     compare_room(bytes);
 }
 
-/* Checks the text of an answer, and that a buffer that is one byte too short for it is refused, and NULL too. */
+/* Checks the text of an answer. Also checks that NULL, and a buffer that is one byte too short for the text, are refused. */
 static void check_text(shamir_answer answer, const char *told)
 {
     const char *of = export_name;

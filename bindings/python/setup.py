@@ -1,4 +1,4 @@
-"""The wheel holds the shared library, so its tag names the platform. It is for every Python 3, as no extension of Python is in it."""
+"""The wheel contains the shared library, so its tag names the platform. It contains no Python extension, so it is for every Python 3."""
 import pathlib
 import sys
 

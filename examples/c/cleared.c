@@ -1,12 +1,12 @@
 /*
  * This program does what recover.c does, on a stack of its own. The library may leave copies of secrets and passphrases on
- * its stack. So this program clears its stack before it frees that memory.
+ * the stack. So this program clears that stack before it frees the memory.
  *
  *   cc -std=c99 -Iinclude examples/c/cleared.c libshamir.a -pthread -o cleared
  *   ./cleared FILE [PASSPHRASE]
  *
- * Its output and its exit status are those of recover.c. If it gets no memory for a stack, it says so and exits with
- * status 2. Other programs can reuse call_cleared.
+ * Its output and its exit status are those of recover.c. If it gets no memory for that stack, it says so and exits
+ * with status 2. Other programs can reuse call_cleared.
  */
 #define _GNU_SOURCE
 #include <pthread.h>
@@ -17,12 +17,12 @@
 #include "recover.c"
 #undef main
 
-/* The library uses half of this at most. The other half is for the C library. */
+/* The library uses at most half of this. The other half is for the C library and for the functions of this program. */
 #define STACK_BYTES (2 * SHAMIR_STACK_BYTES)
 
 /*
  * Makes a call in a thread with a stack of its own, waits until the call ends, and clears the stack. mlock keeps the stack
- * out of swap if the system allows it. Returns 0 if there is no memory or no thread; the call wasn't made then.
+ * out of swap if the system allows it. Returns 0 if there is no memory or no thread, and then the call wasn't made.
  */
 static int call_cleared(void *(*call)(void *), void *what)
 {

@@ -5,7 +5,7 @@
  *   ./recover FILE [PASSPHRASE]
  *
  * The exit status is 0 if the secret was printed, and 1 if the library refuses the file or the passphrase. It is 2 if the
- * program has other arguments, if it can't read the file, or if the file is too long. It is 3 if the program can't write
+ * program gets other arguments, if it can't read the file, or if the file is too long. It is 3 if the program can't write
  * the secret.
  */
 #include <stdio.h>

@@ -8,24 +8,24 @@
 
 A backup consists of mnemonics, which are lines of words. Each mnemonic is a member of a group. Groups and members are
 numbered from 0, and the name of a mnemonic has both numbers: 0.2 is member 2 of group 0. Names are ordered by group,
-and then by member, as numbers: 0.2 comes before 0.10. A group is complete if at least as many of its members are at
-hand as its member threshold says. Mnemonics are enough if at least as many groups are complete as the group threshold
-says. A quorum is a minimal set of mnemonics that is enough.
+and then by member, as numbers: 0.2 comes before 0.10.
 
-The values of the members of a group combine to a group share, and the group shares combine to the encrypted secret. A
-digest is four bytes by which the library usually detects values that don't belong together.
+A group is complete if the number of its members at hand is at least its member threshold. Mnemonics are enough if the
+number of complete groups is at least the group threshold. A quorum is a minimal set of mnemonics that is enough.
 
-Each function passes its arguments to the library, and raises `Refusal` if the library refuses them. No rule of the
-format is in this module. A text is a str, which is encoded as UTF-8, or an object with the buffer protocol. Secrets and
-random bytes are objects with the buffer protocol. Anything else raises TypeError, and a number that doesn't fit the C
-type raises OverflowError.
+A mnemonic has a value. The values of the members of a group combine to a group share, and the group shares combine to
+the encrypted secret. A digest is four bytes by which the library usually detects values that don't belong together.
+
+Each function passes its arguments to the library, and raises `Refusal` if the library refuses them. A text is a str,
+which is encoded as UTF-8, or an object with the buffer protocol. Secrets and random bytes are objects with the buffer
+protocol. Anything else raises TypeError, and a number that doesn't fit the C type raises OverflowError.
 
 The module loads the library that the environment variable SHAMIR_LIBRARY names. Without the variable it loads
 libshamir.so in the folder of this package, where `make lib` puts it, or else the system's libshamir.so.1.
 
 Calls share no data, so any number of threads can make calls at once. A call uses at most 512 KiB of stack. A call in a
-thread with a smaller `threading.stack_size` can crash the program; 1,048,576 is enough for every call. Neither the package nor the library clears the
-memory where copies of secrets and passphrases remain.
+thread with a smaller `threading.stack_size` can crash the program; 1,048,576 is enough for every call. Neither the
+package nor the library clears the memory where copies of secrets and passphrases remain.
 """
 from __future__ import annotations
 
@@ -196,7 +196,7 @@ class Refusal(Exception):
 
 @dataclass(frozen=True)
 class Share:
-    """The fields of a mnemonic.
+    """The fields and the value of a mnemonic.
 
     Groups and members are numbered from 0. `value` is as secret as the mnemonic, and the repr leaves it out.
     """
@@ -320,7 +320,7 @@ def library_version() -> str:
 
 
 def parse(mnemonic: Text) -> Share:
-    """Read one mnemonic, which is a line without its line feed, and return its fields.
+    """Read one mnemonic, which is a line without its line feed, and return its fields and its value.
 
     >>> shamir.parse(mnemonics[2]).member_index
     2
@@ -351,15 +351,15 @@ def create(
 
     `plan` is TofN for one group, or GT/T1ofN1,T2ofN2,.. for up to 16 groups. GT is the group threshold, each T is the
     member threshold of a group, and each N is its number of members. Each number is from 1 to 16. T may be 1 only if N
-    is 1. `secret` has an even number of bytes, 16 to 128. `passphrase` is an additional secret, which `recover` needs
-    too, of printable ASCII. `extendable` sets the extendable flag, which leaves the backup's identifier out of the
+    is 1. `secret` has an even number of bytes, 16 to 128. `passphrase` is an additional secret of printable ASCII, which
+    `recover` needs too. `extendable` sets the extendable flag, which leaves the backup's identifier out of the
     encryption.
 
     `exponent` is the iteration exponent, 0 to 15. The call takes 10,000 * 2^exponent iterations of PBKDF2, and twice as
     many for a secret of more than 64 bytes.
 
     `random` has exactly as many bytes as `random_needed` gives. They must be unpredictable, and no other backup may use
-    them. If it is None, they come from `os.urandom`.
+    them. If `random` is None, they come from `os.urandom`.
 
     Raises `Refusal` with one of the codes 2, 31 to 34, or 41 to 43.
     """
@@ -377,7 +377,7 @@ def _random_for(plan: bytes, secret_bytes: int) -> bytes:
 
 
 def recover(lines: Lines, *, passphrase: Text = b"", max_exponent: int = EXPONENT_MAX) -> bytes:
-    """Recover the secret from mnemonics, by the first quorum among them in the order of `drill`.
+    """Recover the secret from the first quorum of mnemonics, in the order of `drill`.
 
     The call doesn't try mnemonics beyond that quorum.
 
@@ -432,7 +432,7 @@ def drill(lines: Lines, *, passphrase: Text = b"", after: Optional[Text] = None,
 def _outcome(line: bytes) -> Outcome:
     """Read a line of a drill.
 
-    After the names it has the digits of the secret, or words of which the last is a group or `groups`.
+    After the names it has the digits of the secret, or several words, the last of which is a group or `groups`.
     """
     names, *found = line.decode().split(" ")
     if len(found) == 1:
@@ -446,8 +446,8 @@ def status(lines: Lines) -> Status:
     >>> shamir.status(mnemonics[:1]).enough
     False
 
-    `lines` is as for `recover`. A mnemonic that comes again counts once. The call needs no passphrase, and decrypts
-    nothing. Too few mnemonics are no refusal.
+    `lines` is as for `recover`. A repeated mnemonic counts once. The call needs no passphrase, and decrypts nothing. Too
+    few mnemonics are no refusal.
 
     Raises `Refusal` with one of the codes 11 to 29 or 71.
     """
@@ -464,7 +464,7 @@ def _group_status(line: str) -> GroupStatus:
 
 
 def reissue(plan: Text, names: Text, lines: Lines) -> List[str]:
-    """Compute lost mnemonics of a backup from others of it, and return them in the order of `names`.
+    """Compute lost mnemonics of a backup from other mnemonics of it, and return them in the order of `names`.
 
     >>> shamir.reissue("2of3", "0.0", mnemonics[1:]) == mnemonics[:1]
     True

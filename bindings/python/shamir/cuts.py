@@ -1,9 +1,9 @@
 """Cut a drill into parts that can run at the same time.
 
 `python3 -m shamir.cuts N < mnemonics` prints the options of N runs of the command `shamir drill`, one line for each. If
-there are fewer quorums than N, it prints one line for each quorum. Without their lines `more after`, these drills
-together list what one drill would list, in the same order. Their numbers of quorums differ by at most one. The lines
-look like `--limit 3217` and `--after 0.0+0.2 --limit 3217`.
+there are fewer quorums than N, it prints one line for each quorum. The lines look like `--limit 3217` and
+`--after 0.0+0.2 --limit 3217`. Without their lines `more after`, these drills together list what one drill would list,
+in the same order. The numbers of quorums that they list differ by at most one.
 
 The module decrypts nothing. It counts the quorums from the fields of the mnemonics: their groups, members and
 thresholds.
@@ -96,7 +96,7 @@ def shares_of(text: bytes) -> Iterator[shamir.Share]:
 
 
 def check(text: bytes, shares: List[shamir.Share]) -> None:
-    """Raise the `Refusal` of a drill of these lines, if there is one. The cursor is never a quorum, so nothing is decrypted."""
+    """Raise the `Refusal` of a drill of these lines, if there is one. The cursor here is never a quorum, so nothing is decrypted."""
     alone = any((share.group_index, share.member_threshold) == (0, 1) for share in shares)
     try:
         next(shamir.drill(text, after="0.0+0.1" if alone else "0.0"))

@@ -214,7 +214,7 @@ class WorkedExamples(unittest.TestCase):
             self.assertEqual(secret.hex(), "b43ceb7e57a0ea8766221624d01b0864")
             self.assertEqual([it.secret for it in shamir.drill(TWO, passphrase="TREZOR", max_exponent=most)], [secret])
         self.refused(30, None, (0, 1), shamir.recover, TWO[:1], max_exponent=0)
-        with self.assertRaisesRegex(shamir.Refusal, "^3 exponent 2 above the most$"):
+        with self.assertRaisesRegex(shamir.Refusal, "^3 exponent 2 above the maximum$"):
             shamir.recover(TWO, max_exponent=1)
 
     def test_version(self):

@@ -3,8 +3,8 @@
 //! and `S`, `R`, `C`, `D`, `T` and `I` for the runs below it.
 //!
 //! It takes no memory itself, so that `make faults` can refuse each allocation of an example in turn. The example then
-//! ends as it does by itself, or for want of memory: with status 4, which this program hands on, the line that says so
-//! alone, and nothing read and nothing written.
+//! ends as it does otherwise, or it runs out of memory. In that case it ends with status 4, which this program returns, and
+//! with the line that says so alone. Nothing is read then, and nothing is written.
 #![tactic(auto)]
 
 mod arrays;
@@ -21,11 +21,11 @@ use std::process::ExitCode;
 /// How an example ended.
 #[derive(Clone, Copy, Debug, PartialEq, Eq)]
 enum Ending {
-    /// As it does by itself.
+    /// As it does if no allocation is refused.
     Own,
-    /// For want of memory, with nothing read and nothing written.
+    /// Out of memory, with nothing read and nothing written.
     NoMemory,
-    /// Otherwise.
+    /// In another way.
     Other,
 }
 
@@ -75,7 +75,7 @@ fn ending_of_run(letter: u8) -> Ending {
     }
 }
 
-/// Runs the examples of these letters; whether one of them ended for want of memory.
+/// Runs the examples of these letters. Returns whether one of them ran out of memory.
 fn run_all(rt: &(impl Print + AllocGlobal), letters: &[u8]) -> io::Result<bool> {
     let mut has_no_memory = false;
     for letter in letters.iter().filter(|letter| letter.is_ascii_alphabetic()) {

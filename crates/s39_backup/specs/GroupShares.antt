@@ -24,7 +24,8 @@ pub record IsExactQuorum (set : List ShareFields) (names : Names) : Type 0 where
   pub is_set : IsShareSet set
   pub exact : HasJustTheGroups set names
 
--- shares that can be combined: at least one, with distinct indices, and all of the same length
+-- Shares that can be combined: one to sixteen of them, with distinct indices below 16, and all of the same length, which is at
+-- least that of the shortest secret.
 pub record AreOfOneLevel (bytes : ℕ) (shares : List (ℕ × List ℕ)) : Type 0 where
   pub some : 0 < length shares
   pub few : length shares ≤ most_shares

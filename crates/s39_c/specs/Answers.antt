@@ -31,7 +31,7 @@ too_short needed = refusal (cause 1 needed 0) 0
 abbrev pub out_of_range : ShamirAnswer
 out_of_range = refusal (cause 2 0 0) 0
 
--- mnemonics have this exponent, which is above the most that is allowed
+-- mnemonics have this exponent, which is above the maximum that is allowed
 abbrev pub high_exponent : ℕ → ShamirAnswer
 high_exponent exponent = refusal (cause 3 exponent 0) 0
 

@@ -21,7 +21,7 @@ header_of f = record {
   member_threshold = f.member_threshold;
 }
 
--- the header of a share that is read, where its value fits, else the one that was there
+-- the header of a share that is read if its value fits, and otherwise the one that was there
 abbrev pub HasHeader : ShareFields → List ℕ → ShamirShare → ShamirShare → Type 0
 HasHeader fields room old new =
     (length fields.value.items ≤ length room → new ≡ header_of fields) × (length room < length fields.value.items → new ≡ old)

@@ -6,8 +6,8 @@ use Rattle.s39_tool.specs.Recover.{secret_line}
 use Rattle.s39_c.specs.declared.answer.ShamirAnswer.{ShamirAnswer}
 use Rattle.s39_c.specs.Answers.{Gives, refused}
 
--- The secret of which an output has the digits, or the refusal that is answered, and then the slice is as it was: of a
--- recovery with these outputs.
+-- How a recovery with these outputs is answered: by the secret whose digits the output has, or by the refusal. After a refusal
+-- the slice is as it was.
 abbrev pub GivesSecret : (List ℕ → Result (Unit {0}) Fault → Type 0) → List ℕ → List ℕ → ShamirAnswer → Type 0
 GivesSecret IsOutput old new answer =
     ((secret : List ℕ) × IsOutput (secret_line Digits secret) (Ok tt) × Gives secret old new answer)

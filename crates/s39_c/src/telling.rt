@@ -16,11 +16,11 @@ const TEXT_BYTES: usize = 64;
 enum AnswerText {
     #[error("done")]
     Done,
-    #[error("slice too short: {0} bytes needed")]
+    #[error("buffer too short: {0} bytes needed")]
     TooShort(u64),
     #[error("number out of range")]
     OutOfRange,
-    #[error("exponent {0} above the most")]
+    #[error("exponent {0} above the maximum")]
     HighExponent(u64),
     #[error("{0}")]
     Refused(RefusalText),

@@ -17,9 +17,9 @@ const fn refusal(code: u32, line: u64, first: u64, second: u64) -> ShamirAnswer 
 fn tells(rt: HostRuntime) {
     let cases: [(ShamirAnswer, &[u8]); 41] = [
         (refusal(0, 0, 0, 0), b"done"),
-        (refusal(1, 0, 715, 0), b"slice too short: 715 bytes needed"),
+        (refusal(1, 0, 715, 0), b"buffer too short: 715 bytes needed"),
         (refusal(2, 0, 0, 0), b"number out of range"),
-        (refusal(3, 0, 15, 0), b"exponent 15 above the most"),
+        (refusal(3, 0, 15, 0), b"exponent 15 above the maximum"),
         (refusal(11, 3, 2, 0), b"unknown word 2"),
         (refusal(12, 3, 19, 0), b"19 words make no share"),
         (refusal(13, 3, 0, 0), b"bad checksum"),

@@ -147,7 +147,7 @@ is_fingerprint Fingerprint = true
 abbrev pub IsFormSaid : List Row → SecretForm → Type 0
 IsFormSaid rows form = one_of (codes "fingerprint") rows ≡ Some (flag_text (is_fingerprint form))
 
--- the text that is found for an id, and the empty text where none is
+-- the text that is found for an id, or the empty text if none is found
 abbrev pub text_or_empty : Text → List Row → Text
 text_or_empty id rows = unwrap_or (first_of id rows) []
 
@@ -255,8 +255,8 @@ AnswersWords (Refused text) words = (takes shamir_app words ≡ false) × (AsksF
 AnswersWords (Values bad) words = (takes shamir_app words ≡ true) × (AsksForText words → ⊥) × GivesBadValues words bad
 AnswersWords Memory words = Unit {0}
 
--- a text goes to an error that shows help or the version, and a refusal neither to one of these nor to
--- want of memory
+-- a text goes with an error that shows help or the version; a refusal goes with none of these, nor with the error that memory
+-- ran out
 abbrev pub AnswersKind : NoJob → ErrorKind → Type 0
 AnswersKind (Help text) kind = (kind ≡ DisplayHelp) ⊎ (kind ≡ DisplayVersion)
 AnswersKind (Refused text) kind =

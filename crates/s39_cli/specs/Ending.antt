@@ -41,7 +41,7 @@ IsTyped source _ = ⊥
 abbrev pub AreAllOf : Option (List ℕ) → List ℕ → Type 0
 AreAllOf told bytes = IfSome told (λ all. bytes ≡ all)
 
--- the input is what came from a reader, of which these bytes are left: all that it had, or those before a read failed
+-- the input is what came from a reader that has these bytes left: all that it had, or those before a read failed
 abbrev pub IsFrom : Option (List ℕ) → Option (List ℕ) → Input → Type 0
 IsFrom told left input = ((input.ended ≡ true) × AreAllOf told input.bytes) ⊎ ((input.ended ≡ false) × Consumes told left input.bytes)
 
@@ -149,7 +149,7 @@ module _ {R W : Type 0} (contents : W → Option (List ℕ)) where
   EndsWithoutJob no_job.Memory reader writer ended = ended ≡ NoMemory
 
 module _ {R W : Type 0} where
-  -- how a call ends of which a value isn't read
+  -- how a call ends if one of its values isn't read
   abbrev pub EndsUnread : R → W → Ended R W → Type 0
   EndsUnread reader writer ended = OnEnd ended (λ status read_to written_to. (read_to ≡ reader) × EndsUnwritten writer status written_to)
 

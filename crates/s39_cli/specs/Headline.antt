@@ -133,8 +133,8 @@ abbrev pub SomeOutcome : Type 0
 SomeOutcome = (job : Job) (input : Input) → IsReady job → IsInRange job → AreBytes input.bytes
     → (text : List ℕ) × (status : ℕ) × IsOutcome job input text status
 
--- just the quorums after these are listed, each with the secret, and the exit status is 0; or nothing is written, and it is 1, as
--- the set has no quorum, or these are none
+-- Either exactly the quorums after these are listed, each with the secret, and the exit status is 0. Or nothing is written, and it
+-- is 1, because the set has no quorum, or because these names aren't one.
 abbrev pub ListsOrRefuses : SecretForm → List ShareFields → List ℕ → Names → ℕ → List ℕ → ℕ → Type 0
 ListsOrRefuses form set secret names limit text status =
     (IsQuorum set names × ListsSecret form set secret (Some names) limit text × (status ≡ 0))
@@ -183,8 +183,8 @@ RecoverWordsRecover = (form : SecretForm) (passphrase : Text) (words : List Text
 abbrev pub GivesSecret : SecretForm → Text → List ℕ → ℕ → Type 0
 GivesSecret form digits text status = (secret : List ℕ) × (decode_of digits ≡ Ok secret) × (text ≡ secret_line form secret) × (status ≡ 0)
 
--- What the words of a creation write with exit status 0 is an input of which the words of a recovery with the same passphrase
--- write the secret.
+-- If the words of a creation write a text with exit status 0, the words of a recovery with the same passphrase write the secret
+-- for the input that is this text.
 abbrev pub CreatedWordsRecover : Type 0
 CreatedWordsRecover = (form : SecretForm) (plan secret passphrase : Text) (creating recovering : List Text) (random : Input) (text output : List ℕ) (status : ℕ)
     → AreCreateWords plan secret passphrase creating → AreRecoverWords form passphrase recovering

@@ -263,7 +263,7 @@ fn job_of<'a>(name: &str, options: &ArgMatches<'a>) -> Job<'a>
     }
 }
 
-/// Reads the words of a command line, of which the first is the program's name, and gives the command with its values.
+/// Reads the words of a command line, and returns the command with its values. The first word is the program's name.
 ///
 /// A value that begins with a dash is given as one word, as in `--passphrase=TEXT`. `clap` writes the texts of help and of the
 /// version, and those that refuse words.
@@ -272,7 +272,7 @@ pub fn read_words<'a>(alloc: Global, words: &'a [&'a str]) -> Result<Call<'a>, N
     // command.
     ensures call { IfOk result (GivesCall (map (λ word. word.now) words.now)) }
     ensures range { IfOk result (λ call. IsInRange call.job) }
-    // Where that definition takes the words, only memory can be wanting, or a value is missing or given twice.
+    // If that definition takes the words, an error means that memory ran out, or that a value is missing or given twice.
     ensures memory { takes shamir_app (map (λ word. word.now) words.now) ≡ true
         → IfErr result (λ error. (error ≡ NoJob.Memory) ⊎ ((bad : BadValues) × (error ≡ NoJob.Values bad))) }
     // Words that it doesn't take are no job.

@@ -73,7 +73,7 @@ fn passphrase_file<'a>(alloc: Global) -> Arg<'a>
     ensures local { result.global ≡ false }
 {
     option(alloc, "passphrase-file", "FILE").help(
-        "Read the passphrase from FILE; - means the first line of standard input (the second if the secret is the first)",
+        "Read the passphrase from FILE; - means the first line of standard input (the second in create if --master-secret-file is also -)",
     )
 }
 
@@ -94,7 +94,7 @@ fn extendable<'a>(alloc: Global) -> Arg<'a>
     ensures local { result.global ≡ false }
 {
     flag(alloc, "extendable").help(
-        "Set the extendable flag, which leaves the identifier out of the encryption",
+        "Set the extendable flag: backups of one secret with the same passphrase and exponent then give the same result for every other passphrase too",
     )
 }
 

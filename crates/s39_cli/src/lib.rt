@@ -1,4 +1,4 @@
-//! The program `shamir` but for its `main`: the command line, the commands over any reader and writers, and the
+//! The program `shamir` without its `main`: the command line, the commands over any reader and writers, and the
 //! exit status.
 #![tactic(auto)]
 

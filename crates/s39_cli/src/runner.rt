@@ -235,7 +235,7 @@ For more information, try '--help'.
     }
 }
 
-/// Whether the job creates a backup of which the random bytes would be typed.
+/// Whether the job creates a backup whose random bytes would be typed.
 fn is_typed(source: Source, job: &Job) -> bool
     ensures typed { IsTrue result → IsTyped source job.now }
     ensures untyped { IsFalse result → IsTyped source job.now → ⊥ }
@@ -252,7 +252,7 @@ fn typed<R: Drop, W: Drop, E: Write>(input: R, output: W, errors: &mut E) -> End
     ensures silent { IsSilentAtNone result errors.old errors.new }
 {
     let _ = errors.write_all(
-        b"shamir: random bytes aren't typed: hand them in, as by head -c N /dev/urandom | shamir create ..\n",
+        b"shamir: random bytes aren't typed: pass them in, as with head -c N /dev/urandom | shamir create ..\n",
     );
     Ended::With {
         status: NO_JOB,

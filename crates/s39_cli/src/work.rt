@@ -144,7 +144,7 @@ fn cursor_of(text: Option<&str>) -> Result<Option<Quorum>, BadCursor>
 impl Reissue {
     ghost use Rattle.s39_cli.specs.Work.{IsReissueOf};
 
-    /// The plan and the names of which these are the texts: the plan is read first.
+    /// The plan and the names that these texts give. The plan is read first.
     fn of(plan: &str, names: &str) -> Result<Reissue, Unready>
         ensures reissue { IfOk result (IsReissueOf plan.now names.now) }
         ensures refused { IfErr result (IsNoReissue plan.now names.now) }

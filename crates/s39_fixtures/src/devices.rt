@@ -134,7 +134,7 @@ impl Write for Flushing {
     }
 }
 
-/// A writer of which the system interrupts a number of calls before each call that takes bytes.
+/// A writer for which the system interrupts a number of calls before each call that takes bytes.
 #[derive(Drop)]
 pub struct Interrupted {
     pub bytes: Vec<u8>,

@@ -168,8 +168,8 @@ pub fn expect_told<R: Read + Drop, W: Write + Drop>(
     expect_status(words, answer, status)
 }
 
-/// Runs the program over a writer of which each flush fails, or none, and compares its output, its message, its status,
-/// and how often the writer is flushed.
+/// Runs the program over a writer whose flushes all fail or all succeed. Compares its output, its message, its status, and
+/// how often the writer is flushed.
 ///
 /// # Errors
 /// The errors are those of `expect_run`.

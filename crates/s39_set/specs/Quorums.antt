@@ -56,13 +56,13 @@ IsLeastQuorum set names = IsFirstQuorumAfter set None names
 abbrev pub HasNoQuorumAfter : List ShareFields → Option Names → Type 0
 HasNoQuorumAfter set given = (names : Names) → IsQuorum set names → ¬ ComesAfter given names
 
--- just as many groups as the group threshold are complete, and each group with a name here has just as many as its
+-- exactly as many groups as the group threshold are complete, and each group with a name here has exactly as many names as its
 -- member threshold
 pub record HasJustTheMembers (set : List ShareFields) (names : Names) : Type 0 where
   pub groups : group_threshold_of set ≡ Some (length (complete_groups (member_threshold_of set) names))
   pub members : All (λ name. member_threshold_of set name.0 ≡ Some (length (names_in_group name.0 names))) names
 
--- names at hand, of just as many groups and members as the thresholds ask
+-- names at hand, of exactly as many groups and members as the thresholds require
 pub record HasJustTheGroups (set : List ShareFields) (names : Names) : Type 0 where
   pub at_hand : AreAtHand set names
   pub just : HasJustTheMembers set names

@@ -21,7 +21,7 @@ name_at names position = slice_index_or names position (0, 0)
 abbrev pub earlier_of_group : Names → ℕ → ℕ
 earlier_of_group names position = length (names_in_group (name_at names position).0 (take position names))
 
--- the masks have just these names
+-- the masks have exactly these names
 abbrev pub AreMasksOf : Masks → Names → Type 0
 AreMasksOf masks names = (g m : ℕ) → g < most_groups → m < most_members → (IsTrue (is_in masks g m) ↔ Contains names (g, m))
 

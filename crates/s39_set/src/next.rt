@@ -266,8 +266,8 @@ impl StepContext {
         next
     }
 
-    /// Appends the first members of the first complete groups from one on, so many groups as wanted, of each as many
-    /// as its member threshold asks.
+    /// Appends the first members of the first complete groups, from one group on: as many groups as wanted, and as many
+    /// members of each as its member threshold requires.
     pub(crate) fn push_groups(
         &self,
         set: &ShareSet,
@@ -342,7 +342,7 @@ fn groups_complete(set: &ShareSet, at_hand: &Masks, looks: &mut Looks) -> [bool;
     complete
 }
 
-/// Whether so many members meet a member threshold. Where there is none, they don't.
+/// Whether this many members meet a member threshold. They don't if there is none.
 fn meets(threshold: Option<u8>, members: u8) -> bool
     ensures { result ≡ option_map_or (λ threshold. nat_le threshold members) threshold false }
 {

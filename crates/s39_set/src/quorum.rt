@@ -124,8 +124,8 @@ fn are_at_hand(set: &ShareSet, names: &[(u8, u8)], looks: &mut Looks) -> bool
     all
 }
 
-/// Whether just as many groups as the group threshold have a name among these, and each of them just as many
-/// as its member threshold.
+/// Whether the names are of exactly as many groups as the group threshold, and of each of these groups there are exactly
+/// as many names as its member threshold.
 fn has_just_the_members(set: &ShareSet, names: &[(u8, u8)], looks: &mut Looks) -> bool
     requires groups { All (λ name. name.0 < most_groups) names.now }
     requires short { length names.now ≤ most_names }

@@ -39,14 +39,14 @@ AnyPointsComplete =
     → Completes threshold chosen index (Some share)
     × ((outcome : Option (List ℕ)) → Completes threshold chosen index outcome → outcome ≡ Some share)
 
--- points at distinct places complete to at most one outcome at an index
+-- one or more points at distinct places below 256 complete to at most one outcome at an index
 abbrev pub PointsCompleteOnce : Type 0
 PointsCompleteOnce = (threshold : ℕ) (points : List (ℕ × List ℕ)) (index : ℕ) (outcome other : Option (List ℕ))
     → 0 < length points → HaveByteIndices points → AreDistinct points
     → Completes threshold points index outcome → Completes threshold points index other → outcome ≡ other
 
--- points at distinct places, of bytes and of one length, complete to an outcome if they are as many as the threshold,
--- at least one
+-- points complete to an outcome if they are as many as the threshold, at least one, have different places below 256, and
+-- consist of equally many bytes
 abbrev pub PointsComplete : Type 0
 PointsComplete = (threshold : ℕ) (points : List (ℕ × List ℕ)) (index : ℕ)
     → 1 ≤ threshold

@@ -1,5 +1,5 @@
--- Two shares fewer than the threshold reveal nothing about the secret. Whatever it is, and for each key of its digest,
--- exactly one list of random bytes gives these shares.
+-- Known shares, two fewer than the threshold, fit every secret. For each secret and each key of its digest, exactly one list of
+-- random bytes gives these shares.
 use Rattle.std.specs.Prelude.{◌≡◌, ℕ, List, ◌++◌}
 use Rattle.s39_split.specs.Sharing.{most_shares, IsSplit}
 use Rattle.s39_split.specs.Recovery.{AreSharesOf}

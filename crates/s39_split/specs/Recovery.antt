@@ -41,13 +41,14 @@ AnySharesCombine =
     → Combines threshold chosen (Some secret)
     × ((outcome : Option (List ℕ)) → Combines threshold chosen outcome → outcome ≡ Some secret)
 
--- shares with different indices combine to at most one outcome
+-- one or more shares with different indices below 256 combine to at most one outcome
 abbrev pub SharesCombineOnce : Type 0
 SharesCombineOnce = (threshold : ℕ) (shares : List (ℕ × List ℕ)) (outcome other : Option (List ℕ))
     → 0 < length shares → HaveByteIndices shares → AreDistinct shares
     → Combines threshold shares outcome → Combines threshold shares other → outcome ≡ other
 
--- shares with different indices and one length, as many as the threshold and at least one, combine to an outcome
+-- shares combine to an outcome if they are as many as the threshold, at least one, have different indices below 256, and
+-- consist of equally many bytes
 abbrev pub SharesCombine : Type 0
 SharesCombine = (threshold : ℕ) (shares : List (ℕ × List ℕ))
     → 1 ≤ threshold

@@ -179,7 +179,7 @@ fn created(rt: &impl Abort, alloc: Global, words: &[&str], random: &[u8]) -> Vec
     created.written
 }
 
-/// The names of so many first members of sixteen groups.
+/// The names of the first members of sixteen groups, this many of each.
 fn first_members(alloc: Global, members: u8) -> Result<String, AllocError> {
     let mut all = String::new(alloc);
     for group in 0..16 {

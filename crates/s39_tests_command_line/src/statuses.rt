@@ -39,9 +39,9 @@ Options:
       --master-secret <HEX>        Back up this secret, in hexadecimal: an even number of bytes, 16 to 128 (other users can see it)
       --master-secret-file <FILE>  Read the secret, in hexadecimal, from FILE; - means the first line of standard input
       --passphrase <TEXT>          Use this passphrase instead of the empty one (other users can see it)
-      --passphrase-file <FILE>     Read the passphrase from FILE; - means the first line of standard input (the second if the secret is the first)
+      --passphrase-file <FILE>     Read the passphrase from FILE; - means the first line of standard input (the second in create if --master-secret-file is also -)
       --exponent <E>               Set the iteration exponent, 0 to 15; a recovery takes 10,000 * 2^E iterations, or twice that for a secret of more than 64 bytes [default: 0]
-      --extendable                 Set the extendable flag, which leaves the identifier out of the encryption
+      --extendable                 Set the extendable flag: backups of one secret with the same passphrase and exponent then give the same result for every other passphrase too
   -h, --help                       Print help
 ";
 
@@ -51,7 +51,7 @@ Usage: shamir recover [OPTIONS]
 
 Options:
       --passphrase <TEXT>       Use this passphrase instead of the empty one (other users can see it)
-      --passphrase-file <FILE>  Read the passphrase from FILE; - means the first line of standard input (the second if the secret is the first)
+      --passphrase-file <FILE>  Read the passphrase from FILE; - means the first line of standard input (the second in create if --master-secret-file is also -)
       --fingerprint             Print the secret's fingerprint (eight hexadecimal digits) instead of the secret
   -h, --help                    Print help
 ";
@@ -63,7 +63,7 @@ Usage: shamir drill [OPTIONS]
 
 Options:
       --passphrase <TEXT>       Use this passphrase instead of the empty one (other users can see it)
-      --passphrase-file <FILE>  Read the passphrase from FILE; - means the first line of standard input (the second if the secret is the first)
+      --passphrase-file <FILE>  Read the passphrase from FILE; - means the first line of standard input (the second in create if --master-secret-file is also -)
       --after <Q>               Start after quorum Q instead of at the first quorum
       --limit <N>               Try at most N quorums [default: 1000]
       --fingerprint             Print the secret's fingerprint (eight hexadecimal digits) instead of the secret

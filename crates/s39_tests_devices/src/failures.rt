@@ -247,8 +247,8 @@ fn shows_lines_of_any_bytes(rt: HostRuntime) -> Result<(), Fail> {
     Ok(())
 }
 
-/// The command over a writer that takes so many bytes in all, at most so many a call: a beginning of the output is
-/// written, and the answer is 73 exactly where that isn't all.
+/// Runs the command over a writer that takes `room` bytes in all, at most `piece` in a call. A beginning of the output is
+/// written, and the answer is 73 if and only if that isn't all of it.
 fn expect_beginning(rt: &impl Abort, alloc: Global, example: &Example, piece: usize, room: usize) {
     let command = example.command;
     let whole = example.output.as_bytes();

@@ -10,8 +10,8 @@ use std::test::Fail;
 
 const ALL: usize = usize::MAX;
 
-/// The words at a terminal, whose input comes in pieces of so many bytes, by so many reads that don't fail: what is said, the
-/// status, and the reads.
+/// Runs the words at a terminal, whose input comes in pieces of `piece` bytes. The first `good_calls` reads don't fail.
+/// Compares what is said, the status, and the number of reads.
 fn expect_reads(
     rt: &impl Abort,
     alloc: Global,
@@ -92,7 +92,7 @@ fn reads_no_further_behind_the_end(rt: HostRuntime) -> Result<(), Fail> {
 fn takes_no_random_bytes_from_a_terminal(rt: HostRuntime) {
     let words = create("2of3", SECRET);
     let told =
-        "shamir: random bytes aren't typed: hand them in, as by head -c N /dev/urandom | shamir create ..\n";
+        "shamir: random bytes aren't typed: pass them in, as with head -c N /dev/urandom | shamir create ..\n";
     let typed = ("my dog is red\n", 4096, ALL);
     expect_reads(&rt, rt.alloc(), &words, typed, (told, 2, 0));
 }

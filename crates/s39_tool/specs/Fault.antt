@@ -60,7 +60,7 @@ line_number n = min (suc n) (2 ^ 64 - 1)
 abbrev pub fault_of : Refusal → Fault
 fault_of refusal = record { line = None; refusal = refusal }
 
--- the fault of an input of which not all lines are taken
+-- the fault of an input if not all of its lines are taken
 abbrev pub fault_of_stop : Stop LineRefusal → Fault
 fault_of_stop (AtLine refused) = record { line = Some refused.number; refusal = Line refused.refusal }
 fault_of_stop ReadFailed = fault_of (Device Read)
