@@ -138,7 +138,7 @@ def options(whole: Quorums, count: int, parts: int) -> Iterator[str]:
 
 def main() -> None:
     signal.signal(signal.SIGPIPE, signal.SIG_DFL)
-    parser = argparse.ArgumentParser(prog="python3 -m shamir.cuts", description="Prints the options of N drills that together list what one would.")
+    parser = argparse.ArgumentParser(prog="python3 -m shamir.cuts", description="Prints the options of N drills that together list what one drill would list.")
     parser.add_argument("parts", metavar="N", type=int, help="how many drills, 1 or more")
     parts = parser.parse_args().parts
     if parts < 1:
