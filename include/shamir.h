@@ -282,11 +282,11 @@ shamir_answer shamir_recover(
  *
  * The call stops at the limit. It also stops before the first quorum whose line, with the last line after it, doesn't fit
  * into text. A loop that passes the cursor in each last line to the next call lists every quorum exactly once. Copy the cursor
- * before the next call, as after and text must not overlap. It has at most SHAMIR_NAMES_BYTES_MAX bytes.
+ * before the next call, because the buffers after and text must not overlap. It has at most SHAMIR_NAMES_BYTES_MAX bytes.
  *
- * The call refuses with 1 if the line of the first quorum and the last line after it don't fit into text; first is their
- * length. If no quorum comes after the cursor, the length is 4, for "end" and a line feed. SHAMIR_LISTING_BYTES_ENOUGH bytes
- * are always enough.
+ * The call refuses with 1 if the line of the first quorum and the last line after it don't fit into text. Then
+ * the field first of the answer is their length. If no quorum comes after the cursor, the length is 4, for "end" and a line
+ * feed. SHAMIR_LISTING_BYTES_ENOUGH bytes are always enough.
  *
  * The mnemonics of a quorum combine to an encrypted secret. Decrypting it takes the iterations of shamir_recover. The quorums
  * of a sound backup all combine to the same encrypted secret. A call keeps the last four results, so it decrypts this encrypted

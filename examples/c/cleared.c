@@ -5,8 +5,8 @@
  *   cc -std=c99 -Iinclude examples/c/cleared.c libshamir.a -pthread -o cleared
  *   ./cleared FILE [PASSPHRASE]
  *
- * Its output and its exit status are those of recover.c. If it gets no memory for that stack, it says so and exits
- * with status 2. Other programs can reuse call_cleared.
+ * Its output and its exit status are those of recover.c. If it gets no memory or no thread for that stack, it says so
+ * and exits with status 2. Other programs can reuse call_cleared.
  */
 #define _GNU_SOURCE
 #include <pthread.h>
@@ -65,7 +65,7 @@ int main(int argc, char **argv)
     command given = {argc, argv, 2};
 
     if (!call_cleared(run, &given)) {
-        fprintf(stderr, "recover: no memory for a stack\n");
+        fprintf(stderr, "recover: no memory or no thread for a stack\n");
     }
     return given.status;
 }

@@ -407,7 +407,7 @@ def drill(lines: Lines, *, passphrase: Text = b"", after: Optional[Text] = None,
 
     `lines`, `passphrase` and `max_exponent` are as for `recover`. If `after` is None, the drill starts with the first
     quorum. If it names a quorum, the drill starts with the next one. An empty `after` is refused (61). The library
-    computes the outcomes in parts, each of as many as fit into 64 KiB of its output.
+    computes the outcomes in parts. Each part has as many outcomes as fit into 64 KiB of output.
 
     A digest mismatch is no refusal here. The generator looks at its arguments only at the first `next`, which then
     raises any refusal.

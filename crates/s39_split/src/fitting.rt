@@ -16,8 +16,8 @@ use s39_kdf::Bytes;
 /// Returns random bytes that begin with `r`: the only ones with which [`split`](crate::split) gives the known shares,
 /// if it splits into 16 shares at threshold `t` (2 to 16).
 ///
-/// Such bytes exist for every secret. So whoever knows two shares fewer than the threshold can't tell which secret they
-/// belong to.
+/// Such bytes exist for every secret. So the known shares, which are two fewer than the threshold, fit every secret of
+/// their length.
 ///
 /// The secret must have 16 to 128 bytes, and `r`, the key of its digest, must have 4 bytes fewer. There must be exactly
 /// `t - 2` known shares with different indices, 0 to 15, each as long as the secret. The result has as many bytes as
