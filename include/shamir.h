@@ -282,7 +282,7 @@ shamir_answer shamir_recover(
  *
  * The call stops at the limit. It also stops before the first quorum whose line, with the last line after it, doesn't fit
  * into text. A loop that passes the cursor in each last line to the next call lists every quorum exactly once. Copy the cursor
- * before the next call, because the buffers after and text must not overlap. It has at most SHAMIR_NAMES_BYTES_MAX bytes.
+ * before the next call, because it must not overlap the output buffer. A cursor has at most SHAMIR_NAMES_BYTES_MAX bytes.
  *
  * The call refuses with 1 if the line of the first quorum and the last line after it don't fit into text. Then
  * the field first of the answer is their length. If no quorum comes after the cursor, the length is 4, for "end" and a line
@@ -382,9 +382,10 @@ shamir_answer shamir_fingerprint(const uint8_t *secret, size_t secret_bytes, cha
 /*
  * Gives the text of an answer, without its code and its line. For the same refusal, the command shamir prints the same text.
  *
- * The text goes to the start of text. SHAMIR_TEXT_BYTES_MAX bytes are always enough. It is "done" for the code 0, "buffer too
- * short: N bytes needed" for 1, "number out of range" for 2, and "exponent E above the maximum" for 3. For a code that no call
- * gives, it is "unknown answer". For details that no call gives with the code, it may be "unknown answer" too.
+ * The call writes the text of the answer to the start of the output buffer. SHAMIR_TEXT_BYTES_MAX bytes are always enough. The
+ * text is "done" for the code 0, "buffer too short: N bytes needed" for 1, "number out of range" for 2, and "exponent E above
+ * the maximum" for 3. For a code that no call gives, it is "unknown answer". For details that no call gives with the code, it
+ * may be "unknown answer" too.
  *
  * The only refusal is 1.
  *

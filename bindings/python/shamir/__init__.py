@@ -250,7 +250,10 @@ class Status:
 
 
 def _data(data: Data) -> bytes:
-    """Return the bytes that the object really holds, even if a subclass reports another length, or raise TypeError."""
+    """Return the bytes that the object really holds, even if a subclass reports another length.
+
+    Raise TypeError if the object lacks the buffer protocol.
+    """
     return memoryview(data).tobytes()
 
 
