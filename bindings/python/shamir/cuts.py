@@ -32,7 +32,7 @@ class Group:
         return math.comb(len(self.members), self.threshold)
 
     def choice(self, rank: int) -> List[Name]:
-        """Return the choice of its members at this position. Choices are in ascending order, from position 0."""
+        """Return one choice of `threshold` members of the group, by its position. Choices are in ascending order, from position 0."""
         chosen: List[Name] = []
         for at, member in enumerate(self.members):
             more = self.threshold - len(chosen)
@@ -61,7 +61,7 @@ class Quorums:
     def names(self, rank: int) -> str:
         """Return the names of the quorum at this position, as a drill writes them.
 
-        Quorums with the first group come first, in the order of its choices.
+        Quorums that have the lowest group come first, in the order of that group's choices.
         """
         found: List[Name] = []
         needed = self.needed
