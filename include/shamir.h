@@ -153,8 +153,8 @@ typedef struct shamir_answer {
     uint32_t code;       /* a shamir_code: SHAMIR_DONE, or the cause of the refusal */
     uint32_t mismatches; /* how many listed quorums have a digest mismatch */
     uint64_t line;       /* the refused line, or 0 */
-    uint64_t first;      /* the first detail, or 0 */
-    uint64_t second;     /* the second detail, or 0 */
+    uint64_t first;      /* the first detail or result, or 0 */
+    uint64_t second;     /* the second detail or result, or 0 */
     uint64_t written;    /* how many bytes the call wrote to its output buffer */
 } shamir_answer;
 
