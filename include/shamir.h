@@ -29,9 +29,9 @@
  * terminating NUL; an embedded NUL is part of the text. No call writes a terminating NUL. Texts have the type char, and
  * secrets, values and random bytes have the type uint8_t. So a compiler can warn if a text and bytes are exchanged.
  *
- * Each call returns a shamir_answer. If its code is SHAMIR_DONE, the call succeeded: the output is at the start of the output
- * buffer, the field written is its length, and the bytes after it are unchanged. Any other code is a refusal. On refusal the
- * output buffer and the output struct are unchanged, and written is 0.
+ * Each call returns a shamir_answer. If its code is SHAMIR_DONE, the call succeeded. The output is at the start of the output
+ * buffer, and the bytes after it are unchanged. The answer's field "written" is the length of the output. Any other code is a
+ * refusal. On refusal the output buffer and the output struct are unchanged, and "written" is 0.
  *
  * The library doesn't clear its stack, where copies of secrets and passphrases may remain. examples/c/cleared.c makes calls
  * on a stack of its own, and clears that stack afterwards. The time of a call can depend on secrets. docs/LIBRARY.md says what
@@ -102,8 +102,8 @@ extern "C" {
 
 /*
  * The codes of an answer. A call that refuses gives the code of the first cause that applies. The command shamir uses the
- * same numbers, except 1 to 3, which only the library gives. The comments say what the details first and second of a refusal
- * are. A detail that a comment doesn't mention is 0. Groups and members are numbered from 0.
+ * same numbers, except 1 to 3, which only the library gives. Each comment says what the fields "first" and "second" of such
+ * a refusal are. A field that it doesn't mention is 0. Groups and members are numbered from 0.
  */
 typedef enum shamir_code {
     SHAMIR_DONE = 0,                    /* the call succeeded */
@@ -263,9 +263,9 @@ shamir_answer shamir_recover(
 /*
  * Runs a drill: the call tries the quorums of mnemonics, and lists what each of them recovers.
  *
- * lines, passphrase and max_exponent are as for shamir_recover. The parameter after is the cursor. If it is empty, the call
- * starts with the first quorum. If it names a quorum, such as 0.0+0.2+1.0, the call starts with the next one. The call lists at
- * most limit quorums, and limit is 1 or more.
+ * lines, passphrase and max_exponent are as for shamir_recover. The cursor is the parameter named "after". If it is empty, the
+ * call starts with the first quorum. If it names a quorum, such as 0.0+0.2+1.0, the call starts with the next one. The call
+ * lists at most limit quorums, and limit is 1 or more.
  *
  * The listing goes to the start of text, in the format of the command drill. It has a line for each quorum, and a last line:
  *

@@ -22,7 +22,7 @@
 
 /*
  * Makes a call in a thread with a stack of its own, waits until the call ends, and clears the stack. mlock keeps the stack
- * out of swap if the system allows it. Returns 0 if there is no memory or no thread, and then the call wasn't made.
+ * out of swap if the system allows it. Returns 1 if the call was made and has ended, and 0 if there is no memory or no thread.
  */
 static int call_cleared(void *(*call)(void *), void *what)
 {
