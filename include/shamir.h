@@ -284,8 +284,8 @@ shamir_answer shamir_recover(
  * into text. A loop that passes the cursor in each last line to the next call lists every quorum exactly once. Copy the cursor
  * before the next call, because it must not overlap the output buffer. A cursor has at most SHAMIR_NAMES_BYTES_MAX bytes.
  *
- * The call refuses with 1 if the line of the first quorum and the last line after it don't fit into text. Then
- * the field first of the answer is their length. If no quorum comes after the cursor, the length is 4, for "end" and a line
+ * The call refuses with 1 if the line of the first quorum to list and the last line after it don't fit into text. Then
+ * the field "first" of the answer is their length. If no quorum comes after the cursor, the length is 4, for "end" and a line
  * feed. SHAMIR_LISTING_BYTES_ENOUGH bytes are always enough.
  *
  * The mnemonics of a quorum combine to an encrypted secret. Decrypting it takes the iterations of shamir_recover. The quorums
@@ -384,8 +384,8 @@ shamir_answer shamir_fingerprint(const uint8_t *secret, size_t secret_bytes, cha
  *
  * The call writes the text of the answer to the start of the output buffer. SHAMIR_TEXT_BYTES_MAX bytes are always enough. The
  * text is "done" for the code 0, "buffer too short: N bytes needed" for 1, "number out of range" for 2, and "exponent E above
- * the maximum" for 3. For a code that no call gives, it is "unknown answer". For details that no call gives with the code, it
- * may be "unknown answer" too.
+ * the maximum" for 3. If no call gives the code, the text is "unknown answer". If no call gives the code together with these
+ * details, the text may be "unknown answer" too.
  *
  * The only refusal is 1.
  *
