@@ -9,8 +9,8 @@
 #   make faults      makes each allocation, open, read and write of the program fail in turn
 #   make compare     compares the program with a plain reading of the standard in Python, on generated cases
 #   make bench       measures speed
-#   make install     installs the program and the library into the folders below, under DESTDIR. It proves nothing: if one
-#                    of them isn't up to date, it says so and installs nothing
+#   make install     installs the program and the library into the folders below, under DESTDIR. It proves nothing. If the
+#                    program or the library isn't up to date, it says so and installs nothing
 #   make install-bin, make install-lib   install the program or the library as it is here, up to date or not
 #   make uninstall   uninstalls both
 #   make wheel       builds a wheel of the Python package, with libshamir.so in it

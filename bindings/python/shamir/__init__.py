@@ -449,8 +449,8 @@ def status(lines: Lines) -> Status:
     >>> shamir.status(mnemonics[:1]).enough
     False
 
-    `lines` is as for `recover`. A repeated mnemonic counts once. The call needs no passphrase, and decrypts nothing. Too
-    few mnemonics are no refusal.
+    `lines` is as for `recover`. A repeated mnemonic counts once. The call needs no passphrase, and decrypts nothing. If
+    the mnemonics have no quorum, the call raises no `Refusal` for that.
 
     Raises `Refusal` with one of the codes 11 to 29 or 71.
     """

@@ -2,8 +2,9 @@
 
 `python3 -m shamir.cuts N < mnemonics` prints the options of N runs of the command `shamir drill`, one line for each. If
 there are fewer quorums than N, it prints one line for each quorum. The lines look like `--limit 3217` and
-`--after 0.0+0.2 --limit 3217`. If you leave out the lines `more after` that these runs write, their outputs together
-are that of one drill. The numbers of quorums that they list differ by at most one.
+`--after 0.0+0.2 --limit 3217`. Join the outputs of these runs in order, and leave out their lines
+`more after`: the result is the output of one drill. The runs list equal numbers of quorums, or numbers that differ by
+one.
 
 The module decrypts nothing. It counts the quorums from the fields of the mnemonics: their groups, members and
 thresholds.
