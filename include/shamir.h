@@ -384,8 +384,8 @@ shamir_answer shamir_fingerprint(const uint8_t *secret, size_t secret_bytes, cha
  *
  * The call writes the text of the answer to the start of the output buffer. SHAMIR_TEXT_BYTES_MAX bytes are always enough. The
  * text is "done" for the code 0, "buffer too short: N bytes needed" for 1, "number out of range" for 2, and "exponent E above
- * the maximum" for 3. For a code that no call returns, the text is "unknown answer". It may also be "unknown answer" if no call
- * returns the code with this "first" and "second".
+ * the maximum" for 3. For a code that no call returns, the text is "unknown answer". A code that calls do return may have
+ * this text too, if no call returns it with this "first" and "second".
  *
  * The only refusal is 1.
  *
