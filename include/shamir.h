@@ -339,9 +339,9 @@ shamir_answer shamir_status(const char *lines, size_t lines_bytes, char *text, s
  * mnemonics     the output: the wanted mnemonics in the order of names, with a line feed after each; an output buffer of
  *               SHAMIR_MNEMONICS_BYTES_MAX bytes is always enough
  *
- * The call needs no passphrase, and decrypts nothing. If a wanted mnemonic is among lines, it is the result. Otherwise other
- * members of its group determine it, if their number in lines is at least the member threshold. One member fewer is enough if
- * the number of other complete groups is at least the group threshold.
+ * The call needs no passphrase, and decrypts nothing. If a wanted mnemonic is among lines, it is the result. Otherwise the
+ * members of its group that are among lines determine it, if they are at least as many as the member threshold. One member
+ * fewer is enough if the number of other complete groups is at least the group threshold.
  *
  * In any other case the mnemonic isn't determined, and the call refuses with 66. Then first is 256 * group + member. Bits 24 to
  * 31 of second are the number of members of the group in lines, and bits 16 to 23 are the member threshold. Bits 8 to 15 are
@@ -384,8 +384,8 @@ shamir_answer shamir_fingerprint(const uint8_t *secret, size_t secret_bytes, cha
  *
  * The call writes the text of the answer to the start of the output buffer. SHAMIR_TEXT_BYTES_MAX bytes are always enough. The
  * text is "done" for the code 0, "buffer too short: N bytes needed" for 1, "number out of range" for 2, and "exponent E above
- * the maximum" for 3. For a code that no call returns, the text is "unknown answer". A code that calls do return may have
- * this text too, if no call returns it with this "first" and "second".
+ * the maximum" for 3. For a code that no call returns, the text is "unknown answer". For a code that some call returns, the
+ * text may also be "unknown answer" if no call returns that code with these details.
  *
  * The only refusal is 1.
  *
