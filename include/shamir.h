@@ -384,8 +384,8 @@ shamir_answer shamir_fingerprint(const uint8_t *secret, size_t secret_bytes, cha
  *
  * The call writes the text of the answer to the start of the output buffer. SHAMIR_TEXT_BYTES_MAX bytes are always enough. The
  * text is "done" for the code 0, "buffer too short: N bytes needed" for 1, "number out of range" for 2, and "exponent E above
- * the maximum" for 3. For a code that no call returns, the text is "unknown answer". For a code that some call returns, the
- * text may also be "unknown answer" if no call returns that code with these details.
+ * the maximum" for 3. The text is "unknown answer" for a code that no call returns. It may also be "unknown answer" for a code
+ * that some call returns, but never with these details.
  *
  * The only refusal is 1.
  *

@@ -30,7 +30,8 @@ FIVE = [
     "academic aluminum ceramic leader cylinder decorate mobile devote echo finger program firm starting dwarf grumpy harvest enforce raisin sprinkle phantom",
 ]
 PLAN = "2/2of3,1of1,1of1"
-# These are two members of a group, and members of two groups. Their digests don't match. Another program made them.
+# MISMATCHED has two members of one group, and MISMATCHED_GROUPS has members of two groups. Their digests don't match.
+# Another program made them.
 MISMATCHED = [
     "academic academic academic acid disease prepare husky home result arcade lunar cover shame email oven tension nylon carpet prospect hand",
     "academic academic academic agency dragon mineral broken simple lips custody flame cylinder ending prune party scout beaver enlarge glasses bundle",
