@@ -384,8 +384,8 @@ shamir_answer shamir_fingerprint(const uint8_t *secret, size_t secret_bytes, cha
  *
  * The call writes the text of the answer to the start of the output buffer. SHAMIR_TEXT_BYTES_MAX bytes are always enough. The
  * text is "done" for the code 0, "buffer too short: N bytes needed" for 1, "number out of range" for 2, and "exponent E above
- * the maximum" for 3. The text is "unknown answer" for a code that no call returns. It may also be "unknown answer" for a code
- * that some call returns, but never with these details.
+ * the maximum" for 3. If no call returns the code of this answer, the text is "unknown answer". If some call returns the code,
+ * but not together with the details of this answer, the text may be "unknown answer" too.
  *
  * The only refusal is 1.
  *

@@ -99,8 +99,9 @@ def shares_of(text: bytes) -> Iterator[shamir.Share]:
 def check(text: bytes, shares: List[shamir.Share]) -> None:
     """Raise the `Refusal` of a drill of these lines, if there is one.
 
-    The cursor here names two members of group 0 if one member completes that group, and one member otherwise. So it is never a
-    quorum, and nothing is decrypted. If the lines are right, the drill refuses the cursor with `NOT_A_QUORUM`, which isn't raised.
+    If one member completes group 0, the cursor here names two members of it, which are too many for a quorum. Otherwise it names
+    one member, which is too few. So the cursor is never a quorum, and nothing is decrypted. If the lines are right, the drill
+    refuses the cursor with `NOT_A_QUORUM`, which isn't raised.
     """
     alone = any((share.group_index, share.member_threshold) == (0, 1) for share in shares)
     try:
