@@ -350,7 +350,7 @@ class WorkedExamples(unittest.TestCase):
         self.assertEqual(repr(sound), "Outcome(names='0.0+0.2', mismatch=None)")
 
     def test_after(self):
-        """An empty text is a bad cursor. None starts at the first quorum."""
+        """With `after=None`, a drill starts at the first quorum. An empty text is a bad cursor."""
         self.assertEqual(len(list(shamir.drill(FIVE, after=None))), 7)
         for empty in ["", b"", OddText()]:
             self.refused(61, None, (0, 0), list, shamir.drill(FIVE, after=empty))
