@@ -99,10 +99,10 @@ def shares_of(text: bytes) -> Iterator[shamir.Share]:
 def check(text: bytes, shares: List[shamir.Share]) -> None:
     """Raise the `Refusal` of a drill of these lines, if there is one.
 
-    If one member completes group 0, the cursor here names two members of it, which are too many for a quorum. Otherwise it names
-    one member of group 0. Either one member is too few for this group, or no mnemonic of this group is in the text. So the cursor
-    is never a quorum, and nothing is decrypted. If the lines are right, the drill refuses the cursor with `NOT_A_QUORUM`, which
-    isn't raised.
+    If a mnemonic of group 0 was read whose member threshold is 1, the cursor names two members of group 0, which are too many for
+    a quorum. Otherwise it names one member. If no line is refused, one member is then too few for group 0, or the text has no
+    mnemonic of this group. So nothing is decrypted. If nothing else is refused, the drill refuses the cursor with `NOT_A_QUORUM`,
+    which isn't raised.
     """
     alone = any((share.group_index, share.member_threshold) == (0, 1) for share in shares)
     try:
