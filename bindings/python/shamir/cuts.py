@@ -99,10 +99,9 @@ def shares_of(text: bytes) -> Iterator[shamir.Share]:
 def check(text: bytes, shares: List[shamir.Share]) -> None:
     """Raise the `Refusal` of a drill of these lines, if there is one.
 
-    If a mnemonic of group 0 was read whose member threshold is 1, the cursor names two members of group 0, which are too many for
-    a quorum. Otherwise it names one member. If no line is refused, one member is then too few for group 0, or the text has no
-    mnemonic of this group. So nothing is decrypted. If nothing else is refused, the drill refuses the cursor with `NOT_A_QUORUM`,
-    which isn't raised.
+    The drill gets a cursor that is no quorum, so it is refused before it decrypts anything. If a line is refused, or if the
+    mnemonics have no quorum, that comes first. Otherwise the drill refuses the cursor with `NOT_A_QUORUM`, which isn't raised. The
+    cursor names one member of group 0, or two members if the shares say that one completes this group.
     """
     alone = any((share.group_index, share.member_threshold) == (0, 1) for share in shares)
     try:
