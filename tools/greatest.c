@@ -100,7 +100,7 @@ static size_t create(const char *plan)
     return bytes;
 }
 
-/* Prints the status of a backup, all its mnemonics, and the last of them, computed from the others of all groups. */
+/* Prints the status of a backup, then all its mnemonics, and then the last one again, computed from all the others. */
 static void status_and_reissue(void)
 {
     static const char plan[] = "15/16of16," GROUPS;

@@ -78,7 +78,7 @@ typedef struct slice {
     size_t length;
 } slice;
 
-/* The expected answer, except the number of bytes written, and its text. */
+/* The fields of the expected answer except `mismatches` and `written`, and its text. */
 typedef struct wanted {
     uint32_t code;
     uint64_t line;
