@@ -7,7 +7,7 @@ use Rattle.s39_set.specs.Quorums.{IsQuorum}
 use Rattle.s39_set.specs.Lack.{IsLack}
 use Rattle.s39_set.specs.declared.set_lack.SetLack.{SetLack}
 
--- whether and why shares refuse one depends on which shares they are, and not on their order or number
+-- whether and why shares refuse one depends on which shares they are, and not on their order, or on how often each is listed
 abbrev pub SameSharesRefuseTheSame : Type 0
 SameSharesRefuseTheSame = (shares others : List ShareFields) (share : ShareFields)
     → All (Contains shares) others

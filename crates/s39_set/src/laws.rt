@@ -97,7 +97,7 @@ pub fn sets_take_shares()
     ensures { SetsTakeShares }
 {}
 
-/// Whether and why shares refuse another share depends only on which shares they are, not on their order or number.
+/// Whether and why shares refuse another share depends only on which shares they are, not on their order, or on how often each is listed.
 pub fn same_shares_refuse_the_same()
     ensures { SameSharesRefuseTheSame }
 {}
