@@ -1,4 +1,4 @@
-"""The wheel contains the shared library, so its tag names the platform. It contains no Python extension, so it is for every Python 3."""
+"""The wheel contains the shared library, so its tag names the platform. It contains no Python extension, so it is for Python 3.8 and every later Python 3."""
 import pathlib
 import sys
 
