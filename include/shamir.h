@@ -14,8 +14,8 @@
  * can be left out. A drill tries every quorum.
  *
  * The values of the members of a group combine to a group share, and the group shares combine to the encrypted secret. A digest
- * is four bytes by which the library usually detects values that don't belong together. If a threshold is 1, there is no
- * digest.
+ * is four bytes by which the library usually detects values that don't belong together. A group with the member threshold 1
+ * has no digest, and the group shares have none if the group threshold is 1.
  *
  * Each call works in buffers of its caller. It allocates no memory, makes no system call and keeps nothing between calls. It
  * returns for every input. Calls share no data, so any number of threads can make calls at once.
@@ -146,8 +146,8 @@ typedef enum shamir_code {
  * The answer of a call.
  *
  * line is the number of the refused line, counted from 1, for the codes 11 to 28 and 71 of calls that take lines. Otherwise
- * it is 0. Only shamir_drill sets mismatches; in answers of other calls it is 0. first and second are the details of a
- * refusal, or results of shamir_random_needed and shamir_status. Otherwise they are 0.
+ * it is 0. Only shamir_drill sets the field "mismatches"; in answers of other calls this field is 0. first and second are the
+ * details of a refusal, or results of shamir_random_needed and shamir_status. Otherwise they are 0.
  */
 typedef struct shamir_answer {
     uint32_t code;       /* a shamir_code: SHAMIR_DONE, or the cause of the refusal */
@@ -278,7 +278,7 @@ shamir_answer shamir_recover(
  * A line feed ends every line. NAMES are the names of a quorum in ascending order, joined by plus signs. In the last line they
  * are those of the last quorum listed. Names are ordered by their group, and then by their member, as numbers: 0.2 comes before
  * 0.10. Quorums come in ascending order: they are compared by their first names, then by their second names, and so on. The
- * field mismatches of the answer is the number of listed quorums with a digest mismatch. A digest mismatch is no refusal here.
+ * field "mismatches" of the answer is the number of listed quorums with a digest mismatch. A digest mismatch is no refusal here.
  *
  * The call stops at the limit. It also stops before the first quorum whose line, with the last line after it, doesn't fit
  * into text. A loop that passes the cursor in each last line to the next call lists every quorum exactly once. Copy the cursor
@@ -289,10 +289,10 @@ shamir_answer shamir_recover(
  * feed. SHAMIR_LISTING_BYTES_ENOUGH bytes are always enough.
  *
  * The mnemonics of a quorum combine to an encrypted secret. Decrypting it takes the iterations of shamir_recover. The quorums
- * of a sound backup all combine to the same encrypted secret. A call keeps the last four results, so it decrypts this encrypted
- * secret only once. The next call decrypts it anew. So use an output buffer of about 65536 bytes: a drill of a large backup takes
- * many times as long if each call lists only one quorum. If text is too short for one quorum, the call refuses with 1 only after
- * the iterations.
+ * of a sound backup all combine to the same encrypted secret. A call keeps the results of its last four decryptions, so it
+ * decrypts this encrypted secret only once. The next call decrypts it anew. So use an output buffer of about 65536 bytes: a
+ * drill of a large backup takes many times as long if each call lists only one quorum. If text is too short for one quorum, the
+ * call refuses with 1 only after the iterations.
  *
  * The call refuses with the first of these that applies: 3 (as for shamir_recover), 2 (a limit of 0), 61, 41, the code of the
  * first refused line (11 to 28, 71), 29, 30, 62, 1.
@@ -347,8 +347,8 @@ shamir_answer shamir_status(const char *lines, size_t lines_bytes, char *text, s
  * 31 of second are the number of members of the group in lines, and bits 16 to 23 are the member threshold. Bits 8 to 15 are
  * the number of other complete groups, and bits 0 to 7 are the group threshold.
  *
- * This call is for mnemonics that were destroyed. If somebody else may have the lost one, create a new backup. If they may
- * have a quorum, use a new secret too.
+ * This call is for mnemonics that were destroyed. If somebody else may have a lost mnemonic, create a new backup. If that
+ * person may have a quorum, use a new secret too.
  *
  * If mnemonics is too short, the call refuses with 1, and first is the length of all wanted mnemonics.
  *

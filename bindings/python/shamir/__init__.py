@@ -44,7 +44,8 @@ __all__ += ["create", "drill", "fingerprint", "library_version", "parse", "rando
 
 __version__ = "1.0.0"
 
-# Objects with the buffer protocol. Everything that memoryview takes works; these are the types that a type checker knows.
+# Objects with the buffer protocol. Every object that memoryview accepts can be passed; these are the types that a type checker
+# knows.
 Data = Union[bytes, bytearray, memoryview, "array.array[Any]", mmap.mmap]
 Text = Union[str, Data]
 # One text of lines, or an iterable of lines. A line of an iterable may end with a line feed.
@@ -477,8 +478,8 @@ def reissue(plan: Text, names: Text, lines: Lines) -> List[str]:
     joined by plus signs, such as `0.1+2.0`. `lines` is as for `recover`. The call needs no passphrase, and decrypts
     nothing.
 
-    This call is for mnemonics that were destroyed. If somebody else may have the lost one, create a new backup. If they
-    may have a quorum, use a new secret too.
+    This call is for mnemonics that were destroyed. If somebody else may have a lost mnemonic, create a new backup. If
+    that person may have a quorum, use a new secret too.
 
     Raises `Refusal` with one of the codes 11 to 29, 31 to 34, 51, 63 to 66 or 71.
     """

@@ -99,9 +99,9 @@ def shares_of(text: bytes) -> Iterator[shamir.Share]:
 def check(text: bytes, shares: List[shamir.Share]) -> None:
     """Raise the `Refusal` of a drill of these lines, if there is one.
 
-    The drill gets a cursor that is no quorum, so it is refused before it decrypts anything. If a line is refused, or if the
-    mnemonics have no quorum, that comes first. Otherwise the drill refuses the cursor with `NOT_A_QUORUM`, and this function
-    returns without raising that.
+    The drill gets a cursor that is no quorum, so it decrypts nothing, and is refused. If a line is refused, or if the mnemonics
+    have no quorum, that refusal comes before the one of the cursor. Otherwise the drill refuses the cursor with `NOT_A_QUORUM`,
+    and this function returns without raising that.
 
     A quorum has exactly as many members of a group as the member threshold, or none. So the cursor names two members of group 0
     if a share says that this group has the member threshold 1, and otherwise one member.

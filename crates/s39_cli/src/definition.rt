@@ -94,7 +94,7 @@ fn extendable<'a>(alloc: Global) -> Arg<'a>
     ensures local { result.global ≡ false }
 {
     flag(alloc, "extendable").help(
-        "Set the extendable flag: backups of one secret with the same passphrase and exponent then give the same result for every other passphrase too",
+        "Set the extendable flag: two backups of one secret that have it, the same passphrase and the same exponent then agree with each other for any other passphrase too",
     )
 }
 

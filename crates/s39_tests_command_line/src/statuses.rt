@@ -41,7 +41,7 @@ Options:
       --passphrase <TEXT>          Use this passphrase instead of the empty one (other users can see it)
       --passphrase-file <FILE>     Read the passphrase from FILE; - means the first line of standard input (the second in create if --master-secret-file is also -)
       --exponent <E>               Set the iteration exponent, 0 to 15; a recovery takes 10,000 * 2^E iterations, or twice that for a secret of more than 64 bytes [default: 0]
-      --extendable                 Set the extendable flag: backups of one secret with the same passphrase and exponent then give the same result for every other passphrase too
+      --extendable                 Set the extendable flag: two backups of one secret that have it, the same passphrase and the same exponent then agree with each other for any other passphrase too
   -h, --help                       Print help
 ";
 
