@@ -40,7 +40,7 @@ MISMATCHED_GROUPS = [
     "academic academic acrobat easy disease prepare husky home result arcade lunar cover shame email oven tension nylon lawsuit smear antenna",
     "academic academic beard easy dragon mineral broken simple lips custody flame cylinder ending prune party scout beaver presence thank adapt",
 ]
-# This is member 3 of group 0 of the backup of FIVE, if PLAN gave that group four members. Another program made it.
+# This would be member 3 of group 0 of the backup of FIVE, if PLAN gave that group four members. Another program made it.
 FOURTH = "academic aluminum acrobat marathon crisis luxury step activity teammate unfair fumes endorse always ranked alto problem mailman ounce teacher bumpy"
 # With these random bytes, 2of3 gives the two mnemonics of TWO in reverse order, and one between them.
 TWO_RANDOM = bytes.fromhex("64359164e7a006aadd75179d6d5c")
