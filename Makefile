@@ -15,7 +15,8 @@
 #   make uninstall   uninstalls both
 #   make wheel       builds a wheel of the Python package, with libshamir.so in it
 #   make deb         builds the Debian packages shamir, libshamir1 and libshamir-dev
-#   make check-packages  installs, runs and uninstalls what `make install`, `make wheel`, `make deb` and `make dist` make
+#   make check-packages  installs, runs and uninstalls what `make install`, `make wheel` and `make deb` make, and unpacks an
+#                    archive of the sources, such as `make dist` makes
 #   make dist        packs the committed sources. The same commit gives the same bytes each time
 #   make clean       removes what these targets build, and what checks kept in crates/*/out
 RT ?= rt
