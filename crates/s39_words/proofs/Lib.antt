@@ -1,6 +1,7 @@
 pub mod WordTable
 pub mod WordSearch
 pub mod Beginnings
+pub mod Prefixes
 pub mod Rows
 pub mod Indices
 pub mod TextWords

@@ -35,7 +35,7 @@ fits_from_alphabetic word short all = record {
 short_from_fits : (word : List ℕ) → FitsRow (str_to_ascii_lowercase word) → length word ≤ 8
 short_from_fits word fits = simp length-map at fits.short
 
-alphabetic_from_fits : (word : List ℕ) → FitsRow (str_to_ascii_lowercase word) → All (λ b. IsTrue (is_ascii_alphabetic b)) word
+pub alphabetic_from_fits : (word : List ℕ) → FitsRow (str_to_ascii_lowercase word) → All (λ b. IsTrue (is_ascii_alphabetic b)) word
 alphabetic_from_fits word fits = All-from_get_or (λ b. IsTrue (is_ascii_alphabetic b)) word 0 (λ k inside.
     let within : k < length (str_to_ascii_lowercase word) = simp length-map inside in
     let letter : IsLetter (get_or (str_to_ascii_lowercase word) k 0) = fits.letters k 0 within in

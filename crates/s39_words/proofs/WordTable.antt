@@ -36,6 +36,10 @@ words_ascend : ascends word_list ≡ true
 unfolding word_list
 words_ascend = refl
 
+rows_ascend : ascends (map row_of word_list) ≡ true
+unfolding word_list
+rows_ascend = refl
+
 starts_ascend : ascends (map (take telling_letters) word_list) ≡ true
 unfolding word_list
 starts_ascend = refl
@@ -131,3 +135,6 @@ ascending = all_pairs_from_ascends word_list words_ascend
 
 pub starts_ascending : AllPairs ComesBefore (map (take telling_letters) word_list)
 starts_ascending = all_pairs_from_ascends (map (take telling_letters) word_list) starts_ascend
+
+pub rows_ascending : AllPairs ComesBefore (map row_of word_list)
+rows_ascending = all_pairs_from_ascends (map row_of word_list) rows_ascend

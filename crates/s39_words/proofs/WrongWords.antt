@@ -30,13 +30,13 @@ axioms : IsField word_field
 axioms = word_field_is_field
 
 -- the inverse of 2; it, its square and its third power are where the generator is 0, with its highest power first
-abbrev half : ℕ
+abbrev pub half : ℕ
 half = 516
 
-half-element : word_field.IsElement half
+pub half-element : word_field.IsElement half
 half-element = omega arith
 
-generator_at_halves : (k : ℕ) → 1 ≤ k → k ≤ most_wrong_words → value_at word_field generator (power word_field half k) ≡ 0
+pub generator_at_halves : (k : ℕ) → 1 ≤ k → k ≤ most_wrong_words → value_at word_field generator (power word_field half k) ≡ 0
 unfolding product_modulo
 generator_at_halves zero low high = absurd (omega arith)
 generator_at_halves (suc zero) low high = refl
@@ -47,7 +47,7 @@ generator_at_halves (suc (suc (suc (suc k)))) low high = absurd (omega arith)
 -- ---- the powers of a half are distinct
 
 -- no more coefficients are checked than these
-abbrev longest_list : ℕ
+abbrev pub longest_list : ℕ
 longest_list = 130
 
 half_of_two : word_field.mul 2 half ≡ 1
@@ -131,7 +131,7 @@ are_terms n (v ∷ vs) (w ∷ ws) p q =
       }) rest
     ]
 
-apart_from : (i n : ℕ) → i < n → n < i + longest_list → power word_field half i ≢ power word_field half n
+pub apart_from : (i n : ℕ) → i < n → n < i + longest_list → power word_field half i ≢ power word_field half n
 apart_from i n low high =
     let exponent : i + (n - i) ≡ n = omega arith in
     subst (λ m. power word_field half i ≢ power word_field half m) exponent
@@ -181,19 +181,19 @@ sum_of_ones : (x y : ℕ) → bit_xor (bit_xor x 1) (bit_xor y 1) ≡ bit_xor x 
 sum_of_ones x y = add_of_sums word_field axioms x 1 y 1 ∙ ap (bit_xor (bit_xor x y)) (axioms.add_self 1) ∙ axioms.add_zero (bit_xor x y)
 
 -- what is added to the last coefficient of both is gone in their sum
-sum_without_ones : (x y : ℕ) (xs ys : List ℕ) → length xs ≡ length ys → sum_of word_field (one_added_to_last (x ∷ xs)) (one_added_to_last (y ∷ ys))
+pub sum_without_ones : (x y : ℕ) (xs ys : List ℕ) → length xs ≡ length ys → sum_of word_field (one_added_to_last (x ∷ xs)) (one_added_to_last (y ∷ ys))
     ≡ sum_of word_field (x ∷ xs) (y ∷ ys)
 sum_without_ones x y [] [] e = ap (λ z. z ∷ []) (sum_of_ones x y)
 sum_without_ones x y [] (w ∷ ws) e = absurd (omega arith)
 sum_without_ones x y (v ∷ vs) [] e = absurd (omega arith)
 sum_without_ones x y (v ∷ vs) (w ∷ ws) e = ap (λ zs. bit_xor x y ∷ zs) (sum_without_ones v w vs ws (omega arith))
 
-short_string : (extendable : Bool) → length (customization_string extendable) ≤ 17
+pub short_string : (extendable : Bool) → length (customization_string extendable) ≤ 17
 short_string true = omega arith
 short_string false = omega arith
 
 -- what stands before the words
-abbrev front : Bool → List ℕ
+abbrev pub front : Bool → List ℕ
 front extendable = 1 ∷ customization_string extendable
 
 module _ (extendable : Bool) (vs ws : List ℕ) (same_count : length vs ≡ length ws) (p : All IsIndex vs) (q : All IsIndex ws)

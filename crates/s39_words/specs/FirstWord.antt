@@ -1,4 +1,4 @@
--- The word that a text begins with. No public contract cites this.
+-- The word that a text begins with. Of the public contracts, only that of `after_separators` cites `BeginsInWord`.
 use Rattle.std.specs.Prelude.{◌≡◌, ℕ, List, ◌++◌, All, take, true, false}
 use Rattle.s39_words.specs.Spelling.{is_separator}
 

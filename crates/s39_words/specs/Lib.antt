@@ -4,6 +4,7 @@ pub mod Share
 pub mod Checksum
 pub mod Division
 pub mod WordList
+pub mod Prefix
 pub mod Rows
 pub mod Spelling
 pub mod Reading

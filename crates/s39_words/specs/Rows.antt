@@ -1,8 +1,9 @@
 -- A word as the code's table holds it: eight bytes, which are one number. No public contract cites this.
-use Rattle.std.specs.Prelude.{ℕ, ◌-◌, ◌≤◌, List, ◌++◌, All, length, replicate}
+use Rattle.std.specs.Prelude.{ℕ, ◌-◌, ◌≤◌, List, ◌++◌, All, length, replicate, take}
 use Rattle.std.specs.Int.{w64, from_be_bytes}
 use Rattle.s39_words.specs.Layout.{longest_word}
 use Rattle.s39_words.specs.WordList.{IsLetter}
+use Rattle.s39_words.specs.Printing.{listed_word}
 
 -- eight bytes can hold this word
 pub record FitsRow (word : List ℕ) : Type 0 where
@@ -16,3 +17,7 @@ row_of word = word ++ replicate (longest_word - length word) 32
 -- a row as one number, its first byte the highest
 unfoldable pub number_of_row : List ℕ → ℕ
 number_of_row row = from_be_bytes w64 row
+
+-- as many first bytes of the row of the word at an index as there are letters
+abbrev pub start_of : List ℕ → ℕ → List ℕ
+start_of letters index = take (length letters) (row_of (listed_word index))

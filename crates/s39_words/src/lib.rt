@@ -15,6 +15,7 @@
 mod checksum;
 pub mod laws;
 mod packing;
+mod prefix;
 mod printing;
 mod share;
 mod size;
@@ -24,12 +25,13 @@ mod word_list;
 mod word_reader;
 mod word_writer;
 
-pub use printing::print;
+pub use prefix::{WordRange, words_beginning};
+pub use printing::{print, text_of, word_at};
 pub use share::{Share, ShareFields};
-pub use size::{ID_BITS, MAX_GROUPS, MAX_MEMBERS, MAX_TEXT_BYTES};
-pub use spelling::parse;
+pub use size::{ID_BITS, MAX_GROUPS, MAX_MEMBERS, MAX_TEXT_BYTES, MAX_WORDS};
+pub use spelling::{is_word_count, parse};
 pub use word_error::WordError;
-pub use word_reader::is_separator;
+pub use word_reader::{after_separators, is_separator};
 
 #[cfg(test)]
 mod examples;

@@ -11,8 +11,12 @@ use crate::size::{MAX_LETTERS, MAX_TEXT_BYTES, MAX_WORDS};
 use crate::word_list::rows;
 use arrayvec::ArrayVec;
 
-/// The word at an index of the list.
-pub(crate) fn word_at(index: u16) -> &'static [u8]
+/// Returns the word at an index of the list, 0 to 1023.
+///
+/// ```rust
+/// assert_eq!(rt; word_at(1023), b"zero".as_slice());
+/// ```
+pub fn word_at(index: u16) -> &'static [u8]
     requires { IsIndex index }
     ensures { result.now ≡ listed_word index }
 {
@@ -24,8 +28,12 @@ pub(crate) fn word_at(index: u16) -> &'static [u8]
     &row[..len]
 }
 
-/// The words at these indices of the list, with single spaces between them.
-fn text_of(indices: &[u16]) -> ArrayVec<u8, MAX_TEXT_BYTES>
+/// Returns the words at these indices of the list, with single spaces between them. There may be at most 110.
+///
+/// ```rust
+/// assert_eq!(rt; text_of(&[0, 1023]).as_slice(), b"academic zero".as_slice());
+/// ```
+pub fn text_of(indices: &[u16]) -> ArrayVec<u8, MAX_TEXT_BYTES>
     requires in_list { All IsIndex indices.now }
     requires short { length indices.now ≤ MAX_WORDS }
     ensures { result.items ≡ join_with_byte 32 (map listed_word indices.now) }

@@ -64,8 +64,7 @@ pub(crate) const MIN_WORDS: usize = (8 * MIN_SECRET_BYTES + WORD_BITS - 1) / WOR
     + OTHER_WORDS;
 
 /// The most words of a mnemonic.
-pub(crate) const MAX_WORDS: usize = (8 * MAX_SECRET_BYTES + WORD_BITS - 1) / WORD_BITS
-    + OTHER_WORDS;
+pub const MAX_WORDS: usize = (8 * MAX_SECRET_BYTES + WORD_BITS - 1) / WORD_BITS + OTHER_WORDS;
 
 /// The most words of a mnemonic before its checksum.
 pub(crate) const MAX_DATA_WORDS: usize = MAX_WORDS - CHECKSUM_WORDS;

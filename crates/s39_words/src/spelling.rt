@@ -80,8 +80,13 @@ pub(crate) fn indices_of(line: &[u8]) -> Result<Indices, WordError>
     }
 }
 
-/// Whether a mnemonic may have this many words.
-fn is_word_count(words: usize) -> bool
+/// Returns whether a mnemonic may have this many words.
+///
+/// ```rust
+/// assert!(rt; is_word_count(20) && is_word_count(110));
+/// assert!(rt; !is_word_count(21));
+/// ```
+pub fn is_word_count(words: usize) -> bool
     ensures { IsTrue result ↔ IsWordCount words }
 {
     (MIN_WORDS..=MAX_WORDS).contains(&words)

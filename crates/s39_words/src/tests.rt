@@ -4,7 +4,7 @@ use crate::laws::read_back;
 use crate::printing::word_at;
 use crate::word_list::rows;
 use crate::word_reader::{after_separators, first_word};
-use crate::{MAX_TEXT_BYTES, Share, ShareFields, WordError, parse, print};
+use crate::{MAX_TEXT_BYTES, Share, ShareFields, WordError, parse, print, words_beginning};
 use arrayvec::ArrayVec;
 use s39_kdf::Bytes;
 use sha2::{Digest, Sha256};
@@ -201,5 +201,28 @@ fn first_four_letters_tell_words_apart(rt: HostRuntime) {
         let front = [row[0], row[1], row[2], row[3]];
         assert_ne!(rt; front, before);
         before = front;
+    }
+}
+
+// Where these words stand in the list of the standard, whose first line has the index 0.
+#[test]
+fn words_that_begin_with_letters(rt: HostRuntime) {
+    let cases: &[(&[u8], u16, u16)] = &[
+        (b"", 0, 1024),
+        (b"a", 0, 67),
+        (b"ACADEMIC", 0, 1),
+        (b"le", 512, 523),
+        (b"So", 837, 843),
+        (b"yo", 1022, 1023),
+        (b"ze", 1023, 1024),
+    ];
+    for (letters, first, end) in cases {
+        let range = words_beginning(letters);
+        assert_eq!(rt; (range.first, range.end), (*first, *end));
+    }
+    let none: &[&[u8]] = &[b"zz", b"em?", b"acid ", b"academics", b"?", b"-", b"e\xC3"];
+    for letters in none {
+        let range = words_beginning(letters);
+        assert_eq!(rt; range.first, range.end);
     }
 }

@@ -7,7 +7,7 @@ ghost use Rattle.s39_words.specs.Rows.{FitsRow, row_of, number_of_row};
 use crate::size::MAX_LETTERS;
 
 /// A word's letters, padded with spaces. A space is never part of a word.
-type Row = [u8; MAX_LETTERS];
+pub(crate) type Row = [u8; MAX_LETTERS];
 
 #[rattlefmt::skip]
 static ROWS: [Row; 1024] = [

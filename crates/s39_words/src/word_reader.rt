@@ -46,8 +46,12 @@ pub fn is_separator(byte: u8) -> bool
     byte == b' ' || byte == b'\t' || byte == b'\r'
 }
 
-/// The text from its first word on.
-pub(crate) fn after_separators(text: &[u8]) -> &[u8]
+/// Returns the text from its first byte on that separates no words, or an empty text if there is no such byte.
+///
+/// ```rust
+/// assert_eq!(rt; after_separators(b" \tzero "), b"zero ".as_slice());
+/// ```
+pub fn after_separators(text: &[u8]) -> &[u8]
     ensures same_words { words_of result.now ≡ words_of text.now }
     ensures begins { BeginsInWord result.now }
     ensures short { length result.now ≤ length text.now }
@@ -60,7 +64,7 @@ pub(crate) fn after_separators(text: &[u8]) -> &[u8]
 }
 
 /// The lower-case form of an ASCII letter, or `None` for any other byte.
-fn small_letter(byte: u8) -> Option<u8>
+pub(crate) fn small_letter(byte: u8) -> Option<u8>
     ensures letter { IsSome result ↔ IsTrue (is_ascii_alphabetic byte) }
     ensures small { IfSome result (λ letter. letter ≡ to_ascii_lowercase byte) }
 {
