@@ -24,7 +24,7 @@ use Rattle.s39_backup.specs.declared.combination.Mismatch.TheVariants.{InGroup, 
 use Rattle.s39_backup.specs.declared.reissue_error.ReissueError.{ReissueError}
 use Rattle.s39_backup.specs.declared.reissue_error.ReissueError.TheVariants.{Undetermined, DigestMismatch}
 use Rattle.s39_backup.specs.Plan.{IsPlan, IsGroup}
-use Rattle.s39_backup.specs.TwoShort.{IsNameOfPlan}
+use Rattle.s39_backup.specs.Plan.{IsNameOfPlan}
 use Rattle.s39_backup.specs.GroupShares.{value_bytes_of, AreOfOneLevel}
 use Rattle.s39_backup.specs.Reissue.{members_at_hand, least_members, is_at_hand, other_groups, LeastCombine, EachCombines, IsRefusedFirst, IsGroupShare}
 use Rattle.s39_backup.specs.Reissue.{IsOneShort, ArePoints, IsValue, share_like, IsMissing, IsReissue}

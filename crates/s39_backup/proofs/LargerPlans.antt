@@ -12,7 +12,7 @@ use Rattle.s39_words.specs.declared.share.ShareFields.{ShareFields}
 use Rattle.s39_set.specs.ShareSet.{name_of}
 use Rattle.s39_backup.specs.declared.plan.Members.{Members}
 use Rattle.s39_backup.specs.Plan.{IsGroup}
-use Rattle.s39_backup.specs.TwoShort.{IsNameOfPlan}
+use Rattle.s39_backup.specs.Plan.{IsNameOfPlan}
 use Rattle.s39_backup.specs.LargerPlan.{HaveMoreMembers, ArePartOf}
 use Rattle.s39_backup.specs.Created.{Asked, AreSplitAmong, created_share, created_groups, IsCreatedFrom, identifier_length, random_needed}
 use Rattle.s39_lists.proofs.Finds.{some_same}

@@ -16,12 +16,7 @@ pub mod EveryReading
 pub mod Creations
 pub mod Causes
 pub mod SharesCreated
-pub mod Chosen
-pub mod HeldGroups
-pub mod SameShares
-pub mod AfterFirst
 pub mod WholeBackups
-pub mod RefittedBack
 pub mod MembersAtHand
 pub mod OtherGroups
 pub mod Determined

@@ -17,7 +17,7 @@ use Rattle.s39_backup.specs.declared.combination.Mismatch.TheVariants.{InGroup}
 use Rattle.s39_backup.specs.declared.reissue_error.ReissueError.{ReissueError}
 use Rattle.s39_backup.specs.declared.reissue_error.ReissueError.TheVariants.{DigestMismatch}
 use Rattle.s39_backup.specs.Plan.{IsPlan, IsGroup}
-use Rattle.s39_backup.specs.TwoShort.{IsNameOfPlan}
+use Rattle.s39_backup.specs.Plan.{IsNameOfPlan}
 use Rattle.s39_backup.specs.GroupShares.{value_bytes_of}
 use Rattle.s39_backup.specs.Reissue.{members_at_hand, least_members, other_groups, ArePoints, IsValue}
 use Rattle.s39_backup.specs.Reissuing.{ArePointsOfOneLevel, AreComplete}

@@ -26,7 +26,7 @@ use Rattle.s39_backup.specs.declared.combination.Mismatch.TheVariants.{InGroup, 
 use Rattle.s39_backup.specs.declared.reissue_error.ReissueError.{ReissueError}
 use Rattle.s39_backup.specs.declared.reissue_error.ReissueError.TheVariants.{Undetermined, DigestMismatch}
 use Rattle.s39_backup.specs.Plan.{IsGroup}
-use Rattle.s39_backup.specs.TwoShort.{IsNameOfPlan}
+use Rattle.s39_backup.specs.Plan.{IsNameOfPlan}
 use Rattle.s39_backup.specs.Created.{created_share, created_groups, IsCreatedFrom, AreOfBackup, asked_for}
 use Rattle.s39_backup.specs.GroupShares.{value_bytes_of}
 use Rattle.s39_backup.specs.Reissue.{IsOfPlan, AreOfPlan, members_at_hand, least_members, is_at_hand, other_groups, LeastCombine, EachCombines, TellGroup}

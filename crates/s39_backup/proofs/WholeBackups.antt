@@ -1,8 +1,8 @@
 -- All shares of a created backup meet its thresholds.
 use Rattle.std.proofs.Common.{◌≡◌, ℕ, zero, suc, ◌+◌, ◌<◌, ◌≤◌, ◌==◌, false, List, [], ◌∷◌, length, get_or, find, map, All, Contains}
-use Rattle.std.proofs.Common.{Option, Some, None, refl, sym, ap, subst, ◌∙◌, arith}
+use Rattle.std.proofs.Common.{Option, Some, None, refl, sym, ap, ap₂, subst, ◌∙◌, arith}
 use Rattle.std.specs.Prelude.{IsSomeAnd}
-use Rattle.std.specs.List.{range_with_len, slice_get}
+use Rattle.std.specs.List.{enumerate_from, range_with_len, slice_get}
 use Rattle.std.specs.Option.{option_map}
 use Rattle.std.proofs.lemmas.Bool.{eq-eqb, eqb-true, false≢true}
 use Rattle.std.proofs.lemmas.List.{length-map}
@@ -16,7 +16,7 @@ use Rattle.s39_set.specs.Names.{Name, Names, name_cmp, names_in_group, IsAscendi
 use Rattle.s39_set.specs.Groups.{complete_groups}
 use Rattle.s39_set.specs.ShareSet.{IsShareSet, name_of, is_in_group}
 use Rattle.s39_set.specs.Quorums.{group_threshold_of, member_threshold_of, MeetsThresholds}
-use Rattle.s39_lists.proofs.Sublists.{length-sublist, sublist_from_contains, Contains-filter}
+use Rattle.s39_lists.proofs.Sublists.{length-sublist, sublist_from_contains, Contains-filter, Contains-head, Contains-cons}
 use Rattle.s39_set.proofs.Ascending.{names-sublist}
 use Rattle.s39_set.proofs.Ascending.{member-less}
 use Rattle.s39_lists.proofs.Images.{Contains-map}
@@ -30,11 +30,31 @@ use Rattle.s39_backup.specs.Plan.{IsGroup}
 use Rattle.s39_backup.specs.Created.{AreSplitAmong, created_share, created_group, created_groups, IsCreatedFrom, AreOfBackup, asked_for}
 use Rattle.s39_backup.proofs.Agreeing.{All-at}
 use Rattle.s39_backup.proofs.Promise.{IsCreatedShare, in_created_groups}
-use Rattle.s39_backup.proofs.SameShares.{contains_member}
 
 -- ---- the created shares
 
 module _ (params : Params) (group_threshold group_count : ℕ) where
+  -- a group has the share of each of its members
+  pub contains_member : (group : ℕ) (members : Members) (first : ℕ) (values : List (List ℕ)) (k : ℕ) (v : List ℕ) → slice_get values k ≡ Some v
+      → Contains (map (λ s. created_share params group_threshold group_count group members s.0 s.1) (enumerate_from first values))
+      (created_share params group_threshold group_count group members (first + k) v)
+  contains_member group members first [] k v at = absurd (let none : None ≡ Some v = at in cc)
+  contains_member group members first (x ∷ xs) zero v at =
+      let here : x ≡ v = some_same x v at in
+      let start : first ≡ first + 0 = omega arith in
+      subst (Contains (map (λ s. created_share params group_threshold group_count group members s.0 s.1) (enumerate_from first (x ∷ xs))))
+      (ap₂ (λ (m : ℕ) y. created_share params group_threshold group_count group members m y) start here)
+      (Contains-head (created_share params group_threshold group_count group members first x)
+      (map (λ s. created_share params group_threshold group_count group members s.0 s.1) (enumerate_from (first + 1) xs)))
+  contains_member group members first (x ∷ xs) (suc k) v at =
+      let next : (first + 1) + k ≡ first + suc k = omega arith in
+      subst (λ (m : ℕ). Contains (map (λ s. created_share params group_threshold group_count group members s.0 s.1) (enumerate_from first (x ∷ xs)))
+      (created_share params group_threshold group_count group members m v)) next
+      (Contains-cons (created_share params group_threshold group_count group members first x)
+      (map (λ s. created_share params group_threshold group_count group members s.0 s.1) (enumerate_from (first + 1) xs))
+      (created_share params group_threshold group_count group members ((first + 1) + k) v)
+      (contains_member group members (first + 1) xs k v at))
+
   abbrev share_of_member : ℕ → Members → ℕ → List ℕ → ShareFields
   share_of_member group members member value = created_share params group_threshold group_count group members member value
 
@@ -56,7 +76,7 @@ module _ (params : Params) (group_threshold group_count : ℕ) where
       subst (Contains (created_groups params group_threshold group_count start (g ∷ gs) (v ∷ vs))) same
       (Contains-append_left (created_group params group_threshold group_count start g v)
       (created_groups params group_threshold group_count (start + 1) gs vs) share
-      (contains_member params group_threshold group_count start g 0 v member value (subst (λ l. slice_get l member ≡ Some value) (sym same_values) is)))
+      (contains_member start g 0 v member value (subst (λ l. slice_get l member ≡ Some value) (sym same_values) is)))
   contains_created start (g ∷ gs) (v ∷ vs) (suc place) members others member value at among is =
       let next : (start + 1) + place ≡ start + suc place = omega arith in
       subst (λ (n : ℕ). Contains (created_groups params group_threshold group_count start (g ∷ gs) (v ∷ vs)) (share_of_member n members member value)) next

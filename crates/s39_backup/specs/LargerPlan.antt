@@ -4,7 +4,7 @@ use Rattle.std.specs.List.{AllZip}
 use Rattle.s39_words.specs.declared.share.ShareFields.{ShareFields}
 use Rattle.s39_set.specs.ShareSet.{name_of}
 use Rattle.s39_backup.specs.declared.plan.Members.{Members}
-use Rattle.s39_backup.specs.TwoShort.{IsNameOfPlan}
+use Rattle.s39_backup.specs.Plan.{IsNameOfPlan}
 
 -- there are as many groups, with the same thresholds, and none of them has fewer members
 abbrev pub HaveMoreMembers : List Members → List Members → Type 0

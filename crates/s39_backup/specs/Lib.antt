@@ -7,8 +7,6 @@ pub mod PlanText
 pub mod Created
 pub mod Asking
 pub mod Building
-pub mod TwoShort
-pub mod Refitting
 pub mod Memo
 pub mod Reissue
 pub mod Reissuing

@@ -1,10 +1,10 @@
 -- Plans, and the texts that give them.
-use Rattle.std.specs.Prelude.{◌≡◌, ◌⊎◌, ◌≢◌, ℕ, ◌<◌, ◌≤◌, List, [], ◌∷◌, ◌++◌, All, codes, length, map, Result, Ok, Err}
-use Rattle.std.specs.List.{join_with_byte}
+use Rattle.std.specs.Prelude.{◌≡◌, ◌⊎◌, ◌≢◌, ℕ, ◌<◌, ◌≤◌, List, [], ◌∷◌, ◌++◌, All, codes, length, map, Result, Ok, Err, IsSomeAnd}
+use Rattle.std.specs.List.{join_with_byte, slice_get}
 use Rattle.std.specs.Fmt.{decimal}
 use Rattle.s39_refusal.specs.declared.cause.Cause.{Cause}
 use Rattle.s39_refusal.specs.Causes.{cause}
-use Rattle.s39_set.specs.Names.{most_groups, most_members}
+use Rattle.s39_set.specs.Names.{Name, most_groups, most_members}
 use Rattle.s39_backup.specs.declared.plan.Members.{Members}
 use Rattle.s39_backup.specs.declared.plan_error.PlanError.{PlanError}
 use Rattle.s39_backup.specs.declared.plan_error.PlanError.TheVariants.{BadPlan, PlanGroups, PlanMembers, OneOfMany}
@@ -34,6 +34,10 @@ pub record IsPlan (group_threshold : ℕ) (groups : List Members) : Type 0 where
   pub positive : 1 ≤ group_threshold
   pub enough : HasEnoughGroups group_threshold groups
   pub each : All IsGroup groups
+
+-- a plan has a share with this name
+abbrev pub IsNameOfPlan : List Members → Name → Type 0
+IsNameOfPlan groups name = IsSomeAnd (slice_get groups name.0) (λ members. name.1 < members.count)
 
 -- ---- texts
 

@@ -6,9 +6,8 @@ ghost use Rattle.s39_set.specs.Names.{Name, Names, most_groups, most_members};
 ghost use Rattle.s39_backup.specs.declared.plan.Members.{Members};
 ghost use Rattle.s39_backup.specs.declared.create_error.CreateError.{CreateError};
 ghost use Rattle.s39_backup.specs.declared.plan_error.PlanError.{PlanError};
-ghost use Rattle.s39_backup.specs.Plan.{IsPlan, IsPlanReading};
+ghost use Rattle.s39_backup.specs.Plan.{IsPlan, IsNameOfPlan, IsPlanReading};
 ghost use Rattle.s39_backup.specs.Created.{Asked, IsCreatedFrom, IsCreation, AreOfBackup, identifier_length, needed_by, random_needed, most_random};
-ghost use Rattle.s39_backup.specs.Refitting.{IsRefitting};
 ghost use Rattle.s39_words.specs.declared.ShareFields.{ShareFields};
 ghost use Rattle.s39_words.specs.Share.{IsShare};
 ghost use Rattle.s39_set.specs.ShareSet.{IsShareSet, name_of, refusal_of};
@@ -18,7 +17,6 @@ ghost use Rattle.s39_backup.specs.declared.combination.Mismatch.TheVariants.{InG
 ghost use Rattle.s39_backup.specs.Combination.{IsCombination};
 ghost use Rattle.s39_backup.specs.Outcome.{IsOutcome};
 ghost use Rattle.s39_backup.specs.Memo.{most_kept};
-ghost use Rattle.s39_backup.specs.TwoShort.{IsNameOfPlan};
 ghost use Rattle.s39_backup.specs.Reissue.{AreOfPlan, IsReissue, IsDetermined, IsUndetermined, IsRightFor};
 ghost use Rattle.s39_backup.specs.LargerPlan.{HaveMoreMembers, ArePartOf};
 ghost use Rattle.s39_backup.specs.declared.reissue_error.ReissueError.{ReissueError};
@@ -84,22 +82,6 @@ pub fn created_shares_are_shares()
         → All IsShare shares }
 {
     shares_of_a_split();
-    encryption_keeps_length_and_bytes();
-}
-
-/// Random bytes that are refitted to another secret of the same length, and then back with the same names, are what
-/// they were.
-pub fn refitted_back()
-    ensures { (names : Names) (asked : Asked) (other random fitted back : List ℕ)
-        → IsSecretLength (length asked.secret) → length other ≡ length asked.secret
-        → IsRefitting names asked other random fitted
-        → IsRefitting names (record asked { secret = other }) asked.secret fitted back
-        → back ≡ random }
-{
-    needed_random_bytes();
-    shares_of_a_split();
-    one_split();
-    one_encryption();
     encryption_keeps_length_and_bytes();
 }
 

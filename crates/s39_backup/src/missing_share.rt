@@ -13,7 +13,7 @@ ghost use Rattle.s39_backup.specs.Created.{AreOfBackup};
 ghost use Rattle.s39_backup.specs.declared.combination.Mismatch.TheVariants.{InGroup};
 ghost use Rattle.s39_backup.specs.declared.reissue_error.ReissueError.TheVariants.{DigestMismatch as IsMismatch};
 ghost use Rattle.s39_backup.specs.Plan.{IsGroup};
-ghost use Rattle.s39_backup.specs.TwoShort.{IsNameOfPlan};
+ghost use Rattle.s39_backup.specs.Plan.{IsNameOfPlan};
 ghost use Rattle.s39_backup.specs.GroupShares.{indexed_group_shares, value_bytes_of};
 ghost use Rattle.s39_backup.specs.Reissue.{AreOfPlan, is_at_hand, least_members, members_at_hand, LeastCombine, EachCombines, IsRefusedFirst, IsGroupShare, IsValue, share_like, IsMissing, IsReissue, IsRightFor};
 ghost use Rattle.s39_backup.specs.Reissuing.{ArePointsOfOneLevel, AreComplete, IsValueBy};

@@ -3,15 +3,13 @@ ghost use Rattle.std.specs.Prelude.{◌≡◌, ◌↔◌, ◌≤◌, length, All
 ghost use Rattle.std.specs.Result.{result_map_both};
 ghost use Rattle.s39_set.specs.Names.{most_groups};
 ghost use Rattle.s39_kdf.specs.Limits.{shortest_secret, longest_secret};
-ghost use Rattle.s39_backup.specs.Plan.{IsPlan, IsPlanNumber, IsGroup, IsOnlyReading};
+ghost use Rattle.s39_backup.specs.Plan.{IsPlan, IsPlanNumber, IsGroup, IsNameOfPlan, IsOnlyReading};
 ghost use Rattle.s39_backup.specs.PlanText.{RefusesAGroup};
 ghost use Rattle.s39_backup.specs.Created.{random_needed, most_random};
-ghost use Rattle.s39_backup.specs.TwoShort.{IsNameOfPlan};
 
 use crate::creation::ID_BYTES;
 use crate::plan_error::PlanError;
 use crate::plan_text::plan_form;
-use crate::two_short::is_of_plan;
 use arrayvec::ArrayVec;
 use s39_set::{GROUPS, MAX_MEMBERS};
 use s39_split::random_needed;
@@ -126,7 +124,10 @@ impl Plan {
     pub fn has_name(&self, group: u8, member: u8) -> bool
         ensures { IsTrue result ↔ IsNameOfPlan self.now.groups.items (group, member) }
     {
-        is_of_plan(self.groups.as_slice(), (group, member))
+        match self.groups.get(usize::from(group)) {
+            Some(members) => member < members.count,
+            None => false,
+        }
     }
 }
 

@@ -1,9 +1,6 @@
 //! Plans, created backups and the memo, with values from outside.
 use super::*;
-use crate::two_short::are_two_short;
 use s39_kdf::{Bytes, Params};
-use s39_set::parse_quorum;
-use s39_words::print;
 
 /// The master secret of a published vector.
 const SECRET: [u8; 16] = *b"\xbb\x54\xaa\xc4\xb8\x9d\xc8\x68\xba\x37\xd9\xcc\x21\xb2\xce\xce";
@@ -158,76 +155,5 @@ fn values_deciphered_once(rt: HostRuntime) {
             let _ = memo.secret(&encrypted);
         }
         assert_eq!(rt; memo.made(), made);
-    }
-}
-
-#[test]
-fn names_two_short(rt: HostRuntime) {
-    let rows: [(&str, &[(u8, u8)], bool); 15] = [
-        ("1of1", &[], true),
-        ("1of1", &[(0, 0)], false),
-        ("2of2", &[(0, 1)], false),
-        ("3of5", &[], true),
-        ("3of5", &[(0, 4)], true),
-        ("3of5", &[(0, 5)], false),
-        ("3of5", &[(0, 1), (0, 4)], false),
-        ("2/2of3,1of1", &[], true),
-        ("2/2of3,1of1", &[(0, 2)], false),
-        ("2/3of3,4of4", &[(0, 0), (1, 0), (1, 3)], true),
-        ("2/3of3,4of4", &[(0, 0), (1, 0), (1, 2), (1, 3)], false),
-        ("2/3of3,4of4", &[(2, 0)], false),
-        ("3/1of1,1of1,2of2", &[(2, 0), (2, 1)], true),
-        ("3/1of1,1of1,2of2", &[(0, 0), (2, 1)], false),
-        ("4/1of1,1of1,2of2,3of4", &[(0, 0), (2, 1), (3, 3)], true),
-    ];
-    for (plan, names, two_short) in rows {
-        let plan = Plan::parse(plan).expect(&rt, "a plan");
-        assert_eq!(rt; are_two_short(&plan, names), two_short);
-    }
-}
-
-#[test]
-fn shares_fit_another_secret(rt: HostRuntime) {
-    let other = *b"\xb4\x3c\xeb\x7e\x57\xa0\xea\x87\x66\x22\x16\x24\xd0\x1b\x08\x64";
-    let bytes = *b"0123456789abcdefghijklmnopqrstuvwxyzABCDEFGHIJKLMNOPQRSTUVWXYZ01234567";
-    let rows: [(&[u8], bool); 6] = [
-        (b"0.0+1.0", true),
-        (b"0.0+0.1", true),
-        (b"0.2+2.1", true),
-        (b"0.0+0.1+1.0", false),
-        (b"1.0+2.0", false),
-        (b"0.3", false),
-    ];
-    let plan = Plan::parse("3/3of3,1of1,2of2").expect(&rt, "a plan");
-    let options = Options {
-        exponent: 0,
-        extendable: false,
-    };
-    let mut first = Created::new();
-    create(&plan, &SECRET, b"TREZOR", options, &bytes, &mut first).expect(&rt, "accepted");
-    for (names, two_short) in rows {
-        let keep = parse_quorum(names).expect(&rt, "names");
-        let mut random = bytes;
-        let fits = refit(
-            &plan,
-            &SECRET,
-            &other,
-            b"TREZOR",
-            options,
-            &keep,
-            &mut random,
-        );
-        assert_eq!(rt; fits, two_short);
-        assert!(rt; two_short || random.as_slice() == bytes.as_slice());
-        let mut second = Created::new();
-        create(&plan, &other, b"TREZOR", options, &random, &mut second).expect(&rt, "accepted");
-        assert_eq!(rt; second.shares().len(), 6);
-        for (share, new) in first.shares().iter().zip(second.shares()) {
-            let fields = share.fields();
-            let name = (fields.group_index, fields.member_index);
-            if two_short && keep.pairs().contains(&name) {
-                assert_eq!(rt; print(share).as_slice(), print(new).as_slice());
-            }
-        }
     }
 }

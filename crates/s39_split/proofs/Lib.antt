@@ -12,5 +12,4 @@ pub mod Splits
 pub mod Pieces
 pub mod SplitLaws
 pub mod OneOutcome
-pub mod FittedPoints
 pub mod Completions

@@ -1,6 +1,5 @@
 pub mod Shares
 pub mod Sharing
 pub mod Recovery
-pub mod Fitting
 pub mod Completion
 pub mod Mismatch

@@ -16,7 +16,6 @@
 
 mod completion;
 mod digest;
-mod fitting;
 mod interpolation;
 pub mod laws;
 mod lent_points;
@@ -25,7 +24,6 @@ mod recovery;
 mod sharing;
 
 pub use completion::complete;
-pub use fitting::fit;
 pub use lent_points::Points;
 pub use places::{DIGEST_BYTES, DIGEST_PLACE, MAX_RANDOM_BYTES, MAX_SHARES, SECRET_PLACE};
 pub use recovery::{DigestMismatch, combine};

@@ -1,6 +1,6 @@
 use Rattle.std.proofs.Common.{List, ℕ, sym, subst}
 use Rattle.s39_backup.specs.declared.plan.Members.{Members}
-use Rattle.s39_backup.specs.TwoShort.{IsNameOfPlan}
+use Rattle.s39_backup.specs.Plan.{IsNameOfPlan}
 use Rattle.s39_backup.specs.Reissue.{IsReissue}
 use Rattle.s39_backup.proofs.missing_share.reissue.Goals as goal
 

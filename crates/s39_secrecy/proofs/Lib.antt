@@ -1,0 +1,12 @@
+pub mod Chosen
+pub mod HeldGroups
+pub mod KnownShares
+pub mod Levels
+pub mod Backups
+pub mod KeptShares
+pub mod Back
+pub mod OneToOne
+pub mod Counts
+pub mod Border
+pub mod TwoFunctions
+pub mod Listed

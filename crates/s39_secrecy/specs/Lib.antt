@@ -1,0 +1,5 @@
+pub mod TwoShort
+pub mod Fitting
+pub mod Correspondence
+pub mod Secrecy
+pub mod Rows
