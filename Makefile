@@ -1,33 +1,44 @@
-# `make` proves and builds the program shamir. `make test` runs the merge gate (`rt ci`), and then `make check`. The other
-# targets are:
+# `make` proves and builds the program shamir. It proves as many libraries side by side as the machine can, so it needs no -j.
+# `make test` runs the merge gate (`rt ci`), and then `make check`. The other targets are:
 #
 #   make lib         proves and builds the library: libshamir.a and libshamir.so
+#   make prove-NAME  proves a library of crates/, after those that it uses
+#   make wasm        proves and builds the library for WebAssembly: shamir.wasm, with 64-bit memory, and shamir32.wasm, with
+#                    32-bit memory
+#   make page        builds shamir.html, the page with the library in it
 #   make check       runs the fast checks. They cover the documents, examples of doc comments, manual pages, completions,
 #                    terminals, values from files, refused allocations, the library and the packages
 #   make check-library   checks the library alone: its header, examples in C, the Python binding, the cuts of a drill, and
-#                    generated cases
+#                    generated cases; and the JavaScript package
+#   make check-page  checks shamir.html in Chromium and in Firefox: each task by keyboard, each refusal, what the browser keeps
+#   make check-js    checks the JavaScript package alone: its types, and its tests with both forms of the library
 #   make faults      makes each allocation, open, read and write of the program fail in turn
 #   make compare     compares the program with a plain reading of the standard in Python, on generated cases
 #   make bench       measures speed
-#   make install     installs the program and the library into the folders below, under DESTDIR. It proves nothing. If the
-#                    program or the library isn't up to date, it says so and installs nothing
-#   make install-bin, make install-lib   install the program or the library as it is here, up to date or not
-#   make uninstall   uninstalls both
+#   make install     installs the program, the library and the page into the folders below, under DESTDIR. It proves nothing. If
+#                    one of them isn't up to date, it says so and installs nothing. Without DESTDIR, it lets the loader know of
+#                    the library if it can, and otherwise says what is left to do (packaging/loader)
+#   make install-bin, make install-lib, make install-page   install the program, the library or the page as it is here, up to
+#                    date or not
+#   make uninstall   uninstalls all three
 #   make wheel       builds a wheel of the Python package, with libshamir.so in it
-#   make deb         builds the Debian packages shamir, libshamir1 and libshamir-dev
+#   make deb         builds the Debian packages shamir (with the page in it), libshamir1 and libshamir-dev
 #   make check-packages  installs, runs and uninstalls what `make install`, `make wheel` and `make deb` make, and unpacks an
 #                    archive of the sources, such as `make dist` makes
-#   make dist        packs the committed sources. The same commit gives the same bytes each time
+#   make dist        packs the committed sources, builds the page, and writes the sha256 of both and what they were made with.
+#                    The same commit gives the same bytes each time
 #   make clean       removes what these targets build, and what checks kept in crates/*/out
 RT ?= rt
 PYTHON ?= python3
 INSTALL ?= install
+LDCONFIG ?= ldconfig
 PREFIX ?= /usr/local
 BINDIR ?= $(PREFIX)/bin
 LIBDIR ?= $(PREFIX)/lib
 INCLUDEDIR ?= $(PREFIX)/include
 MANDIR ?= $(PREFIX)/share/man
 DOCDIR ?= $(PREFIX)/share/doc/shamir
+PAGEDIR ?= $(PREFIX)/share/shamir
 BASHDIR ?= $(PREFIX)/share/bash-completion/completions
 ZSHDIR ?= $(PREFIX)/share/zsh/site-functions
 FISHDIR ?= $(PREFIX)/share/fish/vendor_completions.d
@@ -41,27 +52,45 @@ override LIBDIR := $(abspath $(LIBDIR))
 override INCLUDEDIR := $(abspath $(INCLUDEDIR))
 # Plain x86-64 lets the program and the library run on every such processor. Old machines without a network suit secrets well.
 CPU = x86-64
+# The logic of the kit decides what is proved. `rt version` prints its sum, and README.md names it.
+LOGIC = dac8208d650f15bf
+TELL_OF_KIT = @found=$$($(RT) version 2> /dev/null) || found="no version"; case "$$found" in *" logic $(LOGIC)") ;; \
+	*) echo "make: 'rt version' says '$$found', and README.md names a kit with logic $(LOGIC)" >&2 ;; esac
 # The crate of the program is the only one with a main, except s39_bench and s39_allocations.
 PROGRAM = $(filter-out s39_bench s39_allocations,$(patsubst crates/%/src/main.rt,%,$(wildcard crates/*/src/main.rt)))
+# crates.txt lists all crates, and after each the crates and libraries that it uses.
+CRATES := $(shell sed -n 's/^\([a-z0-9_]*\).*:.*/\1/p' crates.txt)
+STATIC := $(shell sed -n 's/^\([a-z0-9_]*\) staticlib.*:.*/\1/p' crates.txt)
+uses = $(filter $(CRATES),$(shell sed -n 's/^$(1)\( [a-z0-9_=]*\)*://p' crates.txt))
+# `make` proves these libraries, and then the program: all that the program uses, and crates that hold only theorems. The others
+# are tests, measurements, and libraries for other languages. What the program uses comes first, since the most waits for it.
+LIBRARIES = $(call uses,$(PROGRAM)) $(filter-out $(PROGRAM) $(STATIC) s39_bench s39_allocations s39_fixtures s39_tests_%,$(CRATES))
+# Libraries are proved side by side: as many as there are processors, and as many as get 3 GB of memory each.
+JOBS = $(shell awk -v most="$$(nproc)" '/^MemAvailable/ { n = int($$2 / 3000000); print n < 1 ? 1 : n < most ? n : most }' /proc/meminfo)
+SIDE_BY_SIDE = $(if $(filter -j%,$(MAKEFLAGS)),,-j$(JOBS)) --no-print-directory
 DOCUMENTS = README.md CHANGELOG.md CONTRIBUTING.md SECURITY.md NOTICE
 # This command prints the name of each call of the library. `make install-lib` makes a link with each of these names to the
 # manual page shamir(3).
 CALLS = sed -n 's/^shamir_answer \([a-z_]*\).*/\1/p' include/shamir.h
 SOURCES = $(shell find crates -path '*/out' -prune -o -type f -print) crates.txt
 
-.PHONY: all lib test check check-library check-packages bench faults compare install install-bin install-lib uninstall wheel deb dist clean
+.PHONY: all lib wasm page test check check-library check-js check-page check-packages bench faults compare install install-bin install-lib install-page uninstall wheel deb dist clean
 
 all: shamir
 
-# Proves every crate that the program uses, builds the program, and runs `show` once on the input stored in its crate.
+# Proves the libraries, proves and builds the program, and runs `show` once on the input stored in its crate.
 shamir: $(SOURCES)
+	$(TELL_OF_KIT)
+	@$(MAKE) $(SIDE_BY_SIDE) $(addprefix prove-,$(LIBRARIES))
 	cd crates/$(PROGRAM) && $(RT) run --cpu=$(CPU) -- show < stdin > /dev/null
 	cp crates/$(PROGRAM)/out/$(PROGRAM) $@
 
-lib: libshamir.so
+lib: libshamir.so $(SONAME)
 
 # Proves every crate that the library uses, and builds the archive.
 libshamir.a: $(SOURCES)
+	$(TELL_OF_KIT)
+	@$(MAKE) $(SIDE_BY_SIDE) $(addprefix prove-,$(call uses,s39_c))
 	cd crates/s39_c && $(RT) lib --cpu=$(CPU) > /dev/null
 	cp crates/s39_c/out/libs39_c.a $@
 
@@ -71,11 +100,16 @@ libshamir.so: libshamir.a packaging/libshamir.map
 	cp $@ bindings/python/shamir/libshamir.so
 	cp NOTICE bindings/python/NOTICE
 
+# The loader looks for the library under this name, also for a program that is linked in this folder.
+$(SONAME): libshamir.so
+	ln -sf libshamir.so $@
+
 test:
 	@RT=$(RT) tools/gate
 
 check: shamir check-library check-packages
 	@test "$$(./shamir --version)" = "shamir $(VERSION)"
+	@tools/figures
 	@tools/recipes
 	@tools/texts
 	@tools/examples
@@ -85,28 +119,32 @@ check: shamir check-library check-packages
 	@tools/values
 	@tools/faults --allocations
 
-check-library: shamir libshamir.so
+check-library: shamir libshamir.so $(SONAME)
 	@tools/library
 	@tools/cuts
 
-check-packages: shamir libshamir.so
+# Without wasm-opt there is no page, and the checks say what they leave out.
+check-packages: shamir libshamir.so $(if $(shell command -v wasm-opt 2> /dev/null),shamir.html)
 	@tools/packages
+	@tools/debs
 
 faults: shamir
 	cd crates/s39_allocations && $(RT) run < stdin > /dev/null
 	@tools/faults
 
-compare: shamir
+compare: shamir shamir32.wasm shamir.html
 	@tools/compare
+	@tools/module
+	@$(PYTHON) tools/check_page --cases 200 agreement
 
-bench: shamir
+bench: shamir shamir32.wasm
 	cd crates/s39_bench && $(RT) run > /dev/null
 	@$(PYTHON) tools/bench
 
 install:
-	@stale=; for file in shamir libshamir.a libshamir.so; do $(MAKE) -s -q $$file 2> /dev/null || stale="$$stale $$file"; done; \
-	test -z "$$stale" || { echo "make install: first 'make$$stale', which proves them; or 'make install-bin install-lib', which installs what is built here" >&2; exit 1; }
-	@$(MAKE) install-bin install-lib
+	@stale=; for file in shamir libshamir.a libshamir.so shamir.html; do $(MAKE) -s -q $$file 2> /dev/null || stale="$$stale $$file"; done; \
+	test -z "$$stale" || { echo "make install: first 'make$$stale', which proves them; or 'make install-bin install-lib install-page', which installs what is built here" >&2; exit 1; }
+	@$(MAKE) install-bin install-lib install-page
 
 install-bin:
 	@test -f shamir || { echo "make install-bin: ./shamir isn't here: 'make' proves and builds it" >&2; exit 1; }
@@ -118,7 +156,7 @@ install-bin:
 	$(INSTALL) -m 644 completions/_shamir "$(DESTDIR)$(ZSHDIR)/_shamir"
 	$(INSTALL) -m 644 completions/shamir.fish "$(DESTDIR)$(FISHDIR)/shamir.fish"
 	$(INSTALL) -m 644 $(DOCUMENTS) "$(DESTDIR)$(DOCDIR)"
-	$(INSTALL) -m 644 docs/*.md "$(DESTDIR)$(DOCDIR)/docs"
+	$(INSTALL) -m 644 docs/*.md docs/*.png "$(DESTDIR)$(DOCDIR)/docs"
 	$(INSTALL) -m 644 examples/*.txt "$(DESTDIR)$(DOCDIR)/examples"
 
 install-lib:
@@ -136,23 +174,31 @@ install-lib:
 	chmod 644 "$(DESTDIR)$(LIBDIR)/pkgconfig/shamir.pc"
 	$(INSTALL) -m 644 man/shamir.3 "$(DESTDIR)$(MANDIR)/man3/shamir.3"
 	for call in $$($(CALLS)); do ln -sf shamir.3 "$(DESTDIR)$(MANDIR)/man3/$$call.3"; done
-	$(INSTALL) -m 644 NOTICE "$(DESTDIR)$(DOCDIR)"
-	$(INSTALL) -m 644 docs/LIBRARY.md "$(DESTDIR)$(DOCDIR)/docs"
+	$(INSTALL) -m 644 $(DOCUMENTS) "$(DESTDIR)$(DOCDIR)"
+	$(INSTALL) -m 644 docs/*.md docs/*.png "$(DESTDIR)$(DOCDIR)/docs"
 	$(INSTALL) -m 644 examples/c/*.c "$(DESTDIR)$(DOCDIR)/examples/c"
+	@test -n "$(DESTDIR)" || PATH="$$PATH:/usr/sbin:/sbin" LDCONFIG="$(LDCONFIG)" packaging/loader "$(LIBDIR)" $(SONAME)
+
+install-page:
+	@test -f shamir.html || { echo "make install-page: ./shamir.html isn't here: 'make page' builds it" >&2; exit 1; }
+	$(INSTALL) -d "$(DESTDIR)$(PAGEDIR)"
+	$(INSTALL) -m 644 shamir.html "$(DESTDIR)$(PAGEDIR)/shamir.html"
 
 uninstall:
 	rm -f "$(DESTDIR)$(BINDIR)/shamir" "$(DESTDIR)$(MANDIR)/man1/shamir.1"
 	rm -f "$(DESTDIR)$(BASHDIR)/shamir" "$(DESTDIR)$(ZSHDIR)/_shamir" "$(DESTDIR)$(FISHDIR)/shamir.fish"
 	rm -f "$(DESTDIR)$(LIBDIR)/libshamir.a" "$(DESTDIR)$(LIBDIR)/libshamir.so" "$(DESTDIR)$(LIBDIR)/$(SONAME)" "$(DESTDIR)$(LIBDIR)/libshamir.so.$(VERSION)"
 	rm -f "$(DESTDIR)$(LIBDIR)/pkgconfig/shamir.pc" "$(DESTDIR)$(INCLUDEDIR)/shamir.h"
+	rm -f "$(DESTDIR)$(PAGEDIR)/shamir.html"
+	rmdir "$(DESTDIR)$(PAGEDIR)" 2> /dev/null; true
 	for page in shamir $$($(CALLS)); do rm -f "$(DESTDIR)$(MANDIR)/man3/$$page.3"; done
-	cd "$(DESTDIR)$(DOCDIR)" && rm -f $(DOCUMENTS) docs/*.md examples/*.txt examples/c/*.c && \
+	cd "$(DESTDIR)$(DOCDIR)" && rm -f $(DOCUMENTS) docs/*.md docs/*.png examples/*.txt examples/c/*.c && \
 	rmdir examples/c examples docs "$$(pwd)" 2> /dev/null; true
 
 wheel: libshamir.so
 	$(PYTHON) tools/wheel
 
-deb: shamir libshamir.so
+deb: shamir libshamir.so shamir.html
 	tools/deb
 
 dist:
@@ -160,7 +206,37 @@ dist:
 	{ echo "make dist: this folder isn't the top of a git checkout, so there is no commit to pack: $$top" >&2; exit 1; }
 	git -c tar.umask=0022 archive --format=tar --prefix=shamir-$(VERSION)/ --output=shamir-$(VERSION).tar HEAD
 	gzip -9nf shamir-$(VERSION).tar
-	sha256sum shamir-$(VERSION).tar.gz
+	@$(MAKE) -s shamir.html || { echo "make dist: shamir-$(VERSION).tar.gz is written, and shamir.html isn't" >&2; exit 1; }
+	@RT=$(RT) $(PYTHON) tools/notes $(VERSION)
+
+wasm: shamir32.wasm
+
+# Proves the library once more, for WebAssembly, over the crates that it uses.
+shamir.wasm: libshamir.a
+	@RT=$(RT) tools/wasm
+
+shamir32.wasm: shamir.wasm
+	@tools/wasm --lower
+
+page: shamir.html
+
+shamir.html: shamir32.wasm tools/page $(wildcard page/*.js page/*.html page/*.css bindings/js/*.js)
+	@tools/page
+
+check-library: check-js
+
+check-js: shamir.wasm
+	@tools/javascript
+
+check-page: shamir
+	@$(PYTHON) tools/check_page --build
 
 clean:
-	rm -rf shamir libshamir.a libshamir.so bindings/python/shamir/libshamir.so bindings/python/NOTICE shamir-$(VERSION).tar.gz shamir-*.whl *.deb crates/*/out
+	rm -rf shamir libshamir.a libshamir.so $(SONAME) shamir.wasm shamir32.wasm shamir.html page/out bindings/python/shamir/libshamir.so bindings/python/NOTICE shamir-$(VERSION).tar.gz shamir-$(VERSION).sha256 shamir-$(VERSION).txt shamir-*.whl *.deb crates/*/out
+
+# prove-NAME proves the library NAME once those are proved that it uses. `rt` looks at the contents of all files, and proves only
+# what changed.
+.SECONDEXPANSION:
+.PHONY: $(CRATES:%=prove-%)
+$(CRATES:%=prove-%): prove-%: $$(addprefix prove-,$$(call uses,$$*))
+	@RT=$(RT) tools/prove $*

@@ -4,29 +4,29 @@ use Rattle.std.specs.Io.KnownBytes.{Appends}
 use Rattle.clap.specs.Words.{Row, Text, first_of, subcommand_of, takes}
 use Rattle.s39_set.specs.Names.{Names}
 use Rattle.s39_set.specs.Written.{IsWrittenForm}
-use Rattle.s39_tool.specs.declared.secret_form.SecretForm.{SecretForm}
-use Rattle.s39_tool.specs.Input.{whole}
-use Rattle.s39_cli.specs.declared.command.Job.{Job}
-use Rattle.s39_cli.specs.declared.command.Job.TheVariants as job
+use Rattle.s39_kdf.specs.declared.secret_form.SecretForm.{SecretForm}
+use Rattle.s39_input.specs.Input.{whole}
+use Rattle.s39_command.specs.declared.command.Job.{Job}
+use Rattle.s39_command.specs.declared.command.Job.TheVariants as job
 use Rattle.s39_cli.specs.declared.runner.Ended.{Ended}
 use Rattle.s39_cli.specs.declared.runner.Ended.TheVariants.{With, NoMemory}
 use Rattle.s39_cli.specs.declared.runner.Source.{Source}
 use Rattle.s39_cli.specs.declared.runner.Source.TheVariants.{Elsewhere}
-use Rattle.s39_cli.specs.Command.{Gives, GivesBadValues, GivesCall, IsGiven, LacksSecret, NamesFiles, shamir_app}
+use Rattle.s39_command.specs.Command.{Gives, GivesBadValues, GivesCall, IsGiven, LacksSecret, NamesFiles, shamir_app}
 use Rattle.s39_cli.specs.Ending.{AreAllOf, Delivers, DoesJob, Ends, EndsAs, EndsAtOnce, IsOutcome, IsTyped, OnEnd, TakesCall}
 use Rattle.s39_cli.specs.Values.{IsFilledBy}
-use Rattle.s39_cli.specs.declared.command.BadValues.{BadValues}
-use Rattle.s39_cli.specs.declared.command.BadValues.TheVariants.{NoSecret, TwoSecrets, TwoPassphrases}
-use Rattle.s39_cli.specs.declared.command.Call.{Call}
-use Rattle.s39_cli.specs.declared.command.ValueFiles.{ValueFiles}
-use Rattle.s39_cli.specs.Headline.{AreCreateWords, AreDrillWords, AreRecoverWords, CreatedWordsRecover, DrillWordsList, GivesJob, GivesSecret}
-use Rattle.s39_cli.specs.Headline.{IsLimit}
-use Rattle.s39_cli.specs.Headline.{RecoverWordsRecover, WordsDrill, WordsRecover, WordsWrite, limit_of}
+use Rattle.s39_command.specs.declared.command.BadValues.{BadValues}
+use Rattle.s39_command.specs.declared.command.BadValues.TheVariants.{NoSecret, TwoSecrets, TwoPassphrases}
+use Rattle.s39_command.specs.declared.command.Call.{Call}
+use Rattle.s39_command.specs.declared.command.ValueFiles.{ValueFiles}
+use Rattle.s39_command.specs.Words.{AreCreateWords, AreDrillWords, AreRecoverWords, IsLimit, limit_of}
+use Rattle.s39_cli.specs.Headline.{CreatedWordsRecover, DrillWordsList, GivesJob, GivesSecret}
+use Rattle.s39_cli.specs.Headline.{RecoverWordsRecover, WordsDrill, WordsRecover, WordsWrite}
 use Rattle.s39_cli.specs.Outcome.{IsReady}
 use Rattle.s39_cli.proofs.Deliveries.{Delivers-map}
-use Rattle.s39_cli.proofs.Headlines.{other_text}
-use Rattle.s39_cli.proofs.Words.{IsDrillFound, IsRecoverFound, create_found, create_words_are_taken, drill_found, drill_words_are_taken, recover_found}
-use Rattle.s39_cli.proofs.Words.{recover_words_are_taken}
+use Rattle.s39_command.proofs.OneCall.{other_text}
+use Rattle.s39_command.proofs.Words.{IsDrillFound, IsRecoverFound, create_found, create_words_are_taken, drill_found, drill_words_are_taken, recover_found}
+use Rattle.s39_command.proofs.Words.{recover_words_are_taken}
 use Rattle.s39_cli.proofs.Works.{no_cause}
 
 drill_ready : (source : Source) (form : SecretForm) (p q n name : Text) (rows : List Row) (names : Names) → IsDrillFound form p q n name rows

@@ -5,14 +5,14 @@ use Rattle.std.specs.Io.KnownBytes.{Appends, Keeps, append_known}
 use Rattle.std.specs.Io.Buffered.{writer_buffer, writer_contents, writer_inner}
 use Rattle.std.specs.declared.io.buffered.BufWriter.{BufWriter}
 use Rattle.std.proofs.KnownBytes.{Keeps-refl}
-use Rattle.s39_tool.specs.declared.fault.Refusal.{Refusal}
-use Rattle.s39_tool.specs.declared.fault.Refusal.TheVariants.{Device}
-use Rattle.s39_tool.specs.declared.fault.Fault.{Fault}
-use Rattle.s39_tool.specs.Device.{Counted}
-use Rattle.s39_tool.specs.Fault.{read_failures, read_failures_in, write_failures, write_failures_in}
-use Rattle.s39_tool.specs.Input.{Input, whole}
-use Rattle.s39_tool.specs.Runs.{OfInput, Runs, Writes}
-use Rattle.s39_tool.proofs.Runs.Devices.{of_known, of_cut_off}
+use Rattle.s39_input.specs.declared.fault.Refusal.{Refusal}
+use Rattle.s39_input.specs.declared.fault.Refusal.TheVariants.{Device}
+use Rattle.s39_input.specs.declared.fault.Fault.{Fault}
+use Rattle.s39_input.specs.Device.{Counted}
+use Rattle.s39_input.specs.Fault.{read_failures, read_failures_in, write_failures, write_failures_in}
+use Rattle.s39_input.specs.Input.{Input, whole}
+use Rattle.s39_input.specs.Runs.{OfInput, Runs, Writes}
+use Rattle.s39_input.proofs.Runs.Devices.{of_known, of_cut_off}
 use Rattle.s39_cli.specs.Outcome.{status_of, status_of_refusal}
 use Rattle.s39_cli.specs.Ending.{AreAllOf, Delivers, HandsOn, HasStatus, HoldsBeginning, IsFrom}
 

@@ -1,24 +1,24 @@
 -- How the program ends, from how its parts do.
-use Rattle.std.proofs.Common.{◌≡◌, ◌⊎◌, ◌∙◌, ⊎_elim, ℕ, List, [], Option, string_bytes, true, true≢false, inl, inr, subst, sym}
+use Rattle.std.proofs.Common.{◌≡◌, ◌⊎◌, ◌∙◌, ⊎_elim, ℕ, List, [], Option, string_bytes, true, true≢false, inl, inr, refl, subst, sym}
 use Rattle.clap.specs.Words.{Text, fault_of, takes}
-use Rattle.s39_cli.specs.declared.command.BadValues.{BadValues}
-use Rattle.s39_cli.specs.declared.command.Call.{Call}
-use Rattle.s39_cli.specs.declared.command.Job.{Job}
-use Rattle.s39_cli.specs.declared.command.NoJob.{NoJob}
-use Rattle.s39_cli.specs.declared.command.NoJob.TheVariants.{Help, Refused, Values, Memory}
+use Rattle.s39_command.specs.declared.command.BadValues.{BadValues}
+use Rattle.s39_command.specs.declared.command.Call.{Call}
+use Rattle.s39_command.specs.declared.command.Job.{Job}
+use Rattle.s39_command.specs.declared.command.NoJob.{NoJob}
+use Rattle.s39_command.specs.declared.command.NoJob.TheVariants.{Help, Refused, Values, Memory}
 use Rattle.s39_cli.specs.declared.runner.Ended.{Ended}
 use Rattle.s39_cli.specs.declared.runner.Ended.TheVariants.{With, NoMemory}
 use Rattle.s39_cli.specs.declared.runner.Source.{Source}
 use Rattle.s39_cli.specs.declared.work.Unready.{Unready}
 use Rattle.s39_cli.specs.declared.work.Unready.TheVariants as unready
 use Rattle.s39_cli.specs.declared.work.Work.{Work}
-use Rattle.s39_cli.specs.Command.{AnswersWords, GivesCall, shamir_app}
+use Rattle.s39_command.specs.Command.{AnswersWords, GivesCall, shamir_app}
 use Rattle.s39_cli.specs.Ending.{Delivers, DoesJob, Ends, EndsAs, EndsUnbegun, EndsUnread, EndsWithoutJob, HasStatus, IsTyped, OnEnd, TakesCall}
 use Rattle.s39_cli.specs.Unready.{IsUnready}
 use Rattle.s39_cli.specs.Values.{FillsJob, LacksValue}
 use Rattle.s39_cli.specs.Work.{IsWorkOf, IsWorkOutput}
 use Rattle.s39_cli.proofs.Deliveries.{Delivers-map}
-use Rattle.s39_cli.proofs.Jobs.{asks_none}
+use Rattle.s39_command.proofs.Jobs.{asks_none}
 use Rattle.s39_cli.proofs.Works.{output_of_job, ready_of_work}
 
 module _ {R W : Type 0} (remaining : R → Option (List ℕ)) (contents : W → Option (List ℕ)) (job : Job) (reader : R) (writer : W) where
@@ -65,6 +65,10 @@ module _ {R W : Type 0} (remaining : R → Option (List ℕ)) (contents : W → 
       refused = λ refused _. absurd (true≢false (sym taken ∙ refused));
       taken = λ _. inr (call, gives, does);
     }
+
+    pub ends_typed : (ended : Ended R W) → IsTyped source call.job → ended ≡ With 2 reader writer → Ends remaining contents source words reader writer ended
+    ends_typed ended typed same =
+        subst (Ends remaining contents source words reader writer) (sym same) (ends_by_call 2 reader writer (inl (typed, (refl, refl, refl))))
 
     pub ends_unread : (behind : R) (ended : Ended R W) → (IsTyped source call.job → ⊥) → LacksValue call.files reader behind
         → EndsUnread behind writer ended → Ends remaining contents source words reader writer ended

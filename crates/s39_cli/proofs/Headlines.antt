@@ -1,40 +1,35 @@
 -- What is written for the words of a drill, of a recovery and of a creation.
 use Rattle.std.proofs.Common.{◌≡◌, ◌∙◌, ◌==◌, ℕ, Bool, List, [], Bor, codes, Option, Some, None, Result, Ok, Err, arith, ap, inl, inr, if◌then◌else◌}
-use Rattle.std.proofs.Common.{option_map, refl, subst, sym, unwrap_or, false, true≢false}
-use Rattle.std.specs.Str.{bytes_eq}
+use Rattle.std.proofs.Common.{option_map, refl, subst, sym, unwrap_or}
 use Rattle.std.specs.Str.Parse.{digits_value, without_leading_plus}
-use Rattle.std.proofs.lemmas.Slice.Eq.{bytes_eq-Decides}
 use Rattle.hex.specs.Hex.{decode_of}
 use Rattle.clap.specs.Words.{Row, Text}
 use Rattle.s39_words.specs.declared.ShareFields.{ShareFields}
 use Rattle.s39_set.specs.Names.{Names}
 use Rattle.s39_set.specs.Written.{IsWrittenForm}
 use Rattle.s39_backup.specs.Plan.{IsPlan}
-use Rattle.s39_tool.specs.declared.drill.Done.{Done}
-use Rattle.s39_tool.specs.declared.drill.Undrilled.{Undrilled}
-use Rattle.s39_tool.specs.declared.drill.Undrilled.TheVariants.{Lack, NotAQuorum}
-use Rattle.s39_tool.specs.declared.fault.Refusal.{Refusal}
-use Rattle.s39_tool.specs.declared.fault.Refusal.TheVariants.{Device}
-use Rattle.s39_tool.specs.declared.fault.Fault.{Fault}
-use Rattle.s39_tool.specs.declared.secret_form.SecretForm.{SecretForm}
-use Rattle.s39_tool.specs.declared.secret_form.SecretForm.TheVariants.{Digits, Fingerprint}
-use Rattle.s39_tool.specs.Input.{Input, whole}
-use Rattle.s39_tool.specs.Accepted.{IsReadAs}
+use Rattle.s39_drilling.specs.declared.drill.Done.{Done}
+use Rattle.s39_drilling.specs.declared.drill.Undrilled.{Undrilled}
+use Rattle.s39_drilling.specs.declared.drill.Undrilled.TheVariants.{Lack, NotAQuorum}
+use Rattle.s39_input.specs.declared.fault.Refusal.{Refusal}
+use Rattle.s39_input.specs.declared.fault.Refusal.TheVariants.{Device}
+use Rattle.s39_input.specs.declared.fault.Fault.{Fault}
+use Rattle.s39_kdf.specs.declared.secret_form.SecretForm.{SecretForm}
+use Rattle.s39_input.specs.Input.{Input, whole}
+use Rattle.s39_input.specs.Accepted.{IsReadAs}
 use Rattle.s39_backup.specs.Created.{Asked}
-use Rattle.s39_tool.specs.Create.{IsCreateOutput}
-use Rattle.s39_tool.specs.OfBackup.{HoldsMnemonicsOf, IsSecretOrLack, RecoversCreated}
-use Rattle.s39_tool.specs.Recover.{IsRecoverOutput, secret_line}
-use Rattle.s39_tool.specs.Drill.{DrillsCreated, IsDrillOutput, ListsSecretOrCause, fault_of_undrilled}
-use Rattle.s39_cli.specs.declared.command.Job.{Job}
-use Rattle.s39_cli.specs.declared.command.Job.TheVariants as job
-use Rattle.s39_cli.specs.Command.{Gives, IsFormSaid}
+use Rattle.s39_input.specs.Create.{IsCreateOutput}
+use Rattle.s39_input.specs.OfBackup.{HoldsMnemonicsOf}
+use Rattle.s39_reading.specs.Recover.{IsRecoverOutput, IsSecretOrLack, RecoversCreated, secret_line}
+use Rattle.s39_drilling.specs.Drill.{DrillsCreated, IsDrillOutput, ListsSecretOrCause, fault_of_undrilled}
+use Rattle.s39_command.specs.declared.command.Job.{Job}
+use Rattle.s39_command.specs.declared.command.Job.TheVariants as job
+use Rattle.s39_command.specs.Command.{Gives}
 use Rattle.s39_cli.specs.Outcome.{CreatesFrom, IsCursor, IsJobOutput, judged, status_of, status_of_refusal, where_done, without_mismatches}
-use Rattle.s39_cli.specs.Headline.{AreRecoverWords, CreatedWordsRecover, DrillWordsList, ListsOrRefuses, RecoverWordsRecover, RecoversOrRefuses, WordsWrite}
-use Rattle.s39_cli.specs.Headline.{limit_of}
-use Rattle.s39_cli.proofs.Words.{IsCreateFound, IsDrillFound, IsRecoverFound, create_found, drill_found, recover_found}
-
-pub other_text : (a b : Text) → bytes_eq a b ≡ false → a ≡ b → ⊥
-other_text a b differ same = true≢false (sym ((bytes_eq-Decides a b).1 same) ∙ differ)
+use Rattle.s39_command.specs.Words.{AreRecoverWords, limit_of}
+use Rattle.s39_command.proofs.OneCall.{one_form, other_text}
+use Rattle.s39_cli.specs.Headline.{CreatedWordsRecover, DrillWordsList, ListsOrRefuses, RecoverWordsRecover, RecoversOrRefuses, WordsWrite}
+use Rattle.s39_command.proofs.Words.{IsCreateFound, IsDrillFound, IsRecoverFound, create_found, drill_found, recover_found}
 
 some_now : (o : Option (Bor Text)) (found : Option Text) (text : Text) → option_map (λ (t : Bor Text). t.now) o ≡ found → found ≡ Some text
     → (t : Bor Text) × (o ≡ Some t) × (t.now ≡ text)
@@ -47,16 +42,6 @@ cursor_given : (o : Option (Bor Text)) (t : Bor Text) (text : Text) (names : Opt
 cursor_given o t text names some same cursor =
     let c = subst (λ (x : Option (Bor Text)). IsCursor x names) some cursor in
     (c.0, c.1, subst (λ (x : Text). IsWrittenForm x c.0) same c.2)
-
-pub said_same : {a b : Text} → Some a ≡ Some b → a ≡ b
-said_same same = cc
-
--- the flag is said for one form
-pub one_form : (rows : List Row) (form given : SecretForm) → IsFormSaid rows form → IsFormSaid rows given → given ≡ form
-one_form rows Digits Digits is also = refl
-one_form rows Fingerprint Fingerprint is also = refl
-one_form rows Digits Fingerprint is also = absurd (other_text (codes "true") (codes "false") refl (said_same (sym also ∙ is)))
-one_form rows Fingerprint Digits is also = absurd (other_text (codes "true") (codes "false") refl (said_same (sym is ∙ also)))
 
 -- the exit status of a drill that answers so
 abbrev drill_status : Result Done Fault → ℕ

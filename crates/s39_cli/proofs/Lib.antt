@@ -5,12 +5,10 @@ pub mod Ends
 pub mod GoingOut
 pub mod Headlines
 pub mod Interrupted
-pub mod Jobs
 pub mod Literals
-pub mod OneCall
 pub mod Outcomes
 pub mod Parts
+pub mod SameValues
 pub mod SomeOutcomes
 pub mod Unreadiness
-pub mod Words
 pub mod Works

@@ -11,19 +11,19 @@ use Rattle.s39_backup.specs.Created.{Asked, asked_for}
 use Rattle.s39_backup.specs.Plan.{IsPlan}
 use Rattle.s39_backup.specs.declared.options.Options.{Options}
 use Rattle.s39_backup.specs.declared.plan.Members.{Members}
-use Rattle.s39_tool.specs.declared.drill.Done.{Done}
-use Rattle.s39_tool.specs.declared.fault.Fault.{Fault}
-use Rattle.s39_tool.specs.declared.secret_form.SecretForm.{SecretForm}
-use Rattle.s39_tool.specs.Input.{Input}
-use Rattle.s39_tool.specs.Show.{IsShowOutput}
-use Rattle.s39_tool.specs.Create.{IsCreateOutput}
-use Rattle.s39_tool.specs.Recover.{IsRecoverOutput}
-use Rattle.s39_tool.specs.Drill.{IsDrillOutput}
-use Rattle.s39_tool.specs.Status.{IsStatusOutput}
-use Rattle.s39_tool.specs.Reissue.{IsReissueOutput}
-use Rattle.s39_cli.specs.declared.command.Job.{Job}
-use Rattle.s39_cli.specs.declared.command.Job.TheVariants as job
-use Rattle.s39_cli.specs.Command.{IsInRange}
+use Rattle.s39_drilling.specs.declared.drill.Done.{Done}
+use Rattle.s39_input.specs.declared.fault.Fault.{Fault}
+use Rattle.s39_kdf.specs.declared.secret_form.SecretForm.{SecretForm}
+use Rattle.s39_input.specs.Input.{Input}
+use Rattle.s39_input.specs.Show.{IsShowOutput}
+use Rattle.s39_input.specs.Create.{IsCreateOutput}
+use Rattle.s39_reading.specs.Recover.{IsRecoverOutput}
+use Rattle.s39_drilling.specs.Drill.{IsDrillOutput}
+use Rattle.s39_reading.specs.Status.{IsStatusOutput}
+use Rattle.s39_creating.specs.Reissue.{IsReissueOutput}
+use Rattle.s39_command.specs.declared.command.Job.{Job}
+use Rattle.s39_command.specs.declared.command.Job.TheVariants as job
+use Rattle.s39_command.specs.Command.{IsInRange}
 use Rattle.s39_cli.specs.Headline.{SomeOutcome}
 use Rattle.s39_cli.specs.Outcome.{GivesPlan, IsHexadecimal, IsJobOutput, IsReady, WritesNames, judged, status_of, where_done, without_mismatches}
 

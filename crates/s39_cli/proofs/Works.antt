@@ -4,18 +4,18 @@ use Rattle.hex.specs.Hex.{decode_of}
 use Rattle.s39_backup.specs.declared.plan.Members.{Members}
 use Rattle.s39_backup.specs.declared.plan_error.PlanError.{PlanError}
 use Rattle.s39_backup.proofs.PlanReadings.{reading_once}
-use Rattle.s39_tool.specs.declared.fault.Fault.{Fault}
-use Rattle.s39_tool.specs.declared.secret_form.SecretForm.{SecretForm}
-use Rattle.s39_tool.specs.Device.{Counted}
-use Rattle.s39_tool.specs.Fault.{read_failures, write_failures}
-use Rattle.s39_tool.specs.Input.{Input}
-use Rattle.s39_tool.specs.Runs.{Runs}
-use Rattle.s39_tool.proofs.Runs.Devices.{OfInput-map}
-use Rattle.s39_tool.specs.Create.{IsCreateOutput}
-use Rattle.s39_tool.specs.Recover.{IsRecoverOutput}
-use Rattle.s39_tool.specs.Drill.{IsDrillOutput}
-use Rattle.s39_cli.specs.declared.command.Job.{Job}
-use Rattle.s39_cli.specs.declared.command.Job.TheVariants as job
+use Rattle.s39_input.specs.declared.fault.Fault.{Fault}
+use Rattle.s39_kdf.specs.declared.secret_form.SecretForm.{SecretForm}
+use Rattle.s39_input.specs.Device.{Counted}
+use Rattle.s39_input.specs.Fault.{read_failures, write_failures}
+use Rattle.s39_input.specs.Input.{Input}
+use Rattle.s39_input.specs.Runs.{Runs}
+use Rattle.s39_input.proofs.Runs.Devices.{OfInput-map}
+use Rattle.s39_input.specs.Create.{IsCreateOutput}
+use Rattle.s39_reading.specs.Recover.{IsRecoverOutput}
+use Rattle.s39_drilling.specs.Drill.{IsDrillOutput}
+use Rattle.s39_command.specs.declared.command.Job.{Job}
+use Rattle.s39_command.specs.declared.command.Job.TheVariants as job
 use Rattle.s39_cli.specs.declared.work.Work.{Work}
 use Rattle.s39_backup.specs.Plan.{IsPlanReading}
 use Rattle.s39_cli.specs.Outcome.{GivesPlan, HasNoCause, IsJobOutput, IsReady, judged}

@@ -3,24 +3,24 @@ use Rattle.std.specs.Prelude.{◌≡◌, ◌≢◌, ◌⊎◌, ◌++◌, ℕ, Bo
 use Rattle.std.specs.Io.KnownBytes.{Appends, Consumes, Keeps, append_known}
 use Rattle.clap.specs.Words.{Text, takes}
 use Rattle.s39_backup.specs.declared.plan_error.PlanError.{PlanError}
-use Rattle.s39_tool.specs.declared.fault.DeviceFailure.TheVariants.{Write}
-use Rattle.s39_tool.specs.declared.fault.Refusal.TheVariants.{Device}
-use Rattle.s39_tool.specs.declared.fault.Fault.{Fault}
-use Rattle.s39_tool.specs.Fault.{fault_of}
-use Rattle.s39_tool.specs.Input.{Input, whole}
-use Rattle.s39_cli.specs.declared.command.Job.{Job}
-use Rattle.s39_cli.specs.declared.command.Job.TheVariants.{Create}
-use Rattle.s39_cli.specs.declared.command.NoJob.{NoJob}
-use Rattle.s39_cli.specs.declared.command.NoJob.TheVariants as no_job
+use Rattle.s39_input.specs.declared.fault.DeviceFailure.TheVariants.{Write}
+use Rattle.s39_input.specs.declared.fault.Refusal.TheVariants.{Device}
+use Rattle.s39_input.specs.declared.fault.Fault.{Fault}
+use Rattle.s39_input.specs.Fault.{fault_of}
+use Rattle.s39_input.specs.Input.{Input, whole}
+use Rattle.s39_command.specs.declared.command.Job.{Job}
+use Rattle.s39_command.specs.declared.command.Job.TheVariants.{Create}
+use Rattle.s39_command.specs.declared.command.NoJob.{NoJob}
+use Rattle.s39_command.specs.declared.command.NoJob.TheVariants as no_job
 use Rattle.s39_cli.specs.declared.runner.Ended.{Ended}
 use Rattle.s39_cli.specs.declared.runner.Ended.TheVariants.{With, NoMemory}
 use Rattle.s39_cli.specs.declared.runner.Source.{Source}
 use Rattle.s39_cli.specs.declared.runner.Source.TheVariants.{Terminal}
 use Rattle.s39_cli.specs.declared.work.Unready.{Unready}
 use Rattle.s39_cli.specs.declared.work.Unready.TheVariants as unready
-use Rattle.s39_cli.specs.Command.{AsksForText, GivesBadValues, GivesCall, shamir_app}
-use Rattle.s39_cli.specs.declared.command.BadValues.{BadValues}
-use Rattle.s39_cli.specs.declared.command.Call.{Call}
+use Rattle.s39_command.specs.Command.{AsksForText, GivesBadValues, GivesCall, shamir_app}
+use Rattle.s39_command.specs.declared.command.BadValues.{BadValues}
+use Rattle.s39_command.specs.declared.command.Call.{Call}
 use Rattle.s39_cli.specs.Values.{FillsJob, LacksValue}
 use Rattle.s39_cli.specs.Outcome.{HasBadSecret, HasBadPlan, HasBadCursor, HasBadNames, IsJobOutput, IsReady, status_of}
 

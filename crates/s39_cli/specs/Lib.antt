@@ -1,4 +1,3 @@
-pub mod Command
 pub mod Ending
 pub mod Headline
 pub mod Outcome

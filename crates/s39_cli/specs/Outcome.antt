@@ -12,19 +12,19 @@ use Rattle.s39_backup.specs.declared.plan.Members.{Members}
 use Rattle.s39_backup.specs.declared.plan_error.PlanError.{PlanError}
 use Rattle.s39_backup.specs.declared.options.Options.{Options}
 use Rattle.s39_backup.specs.Plan.{IsPlanReading}
-use Rattle.s39_tool.specs.declared.fault.Refusal.{Refusal}
-use Rattle.s39_tool.specs.declared.fault.Refusal.TheVariants.{Device}
-use Rattle.s39_tool.specs.declared.fault.Fault.{Fault}
-use Rattle.s39_tool.specs.declared.drill.Done.{Done}
-use Rattle.s39_tool.specs.Input.{Input}
-use Rattle.s39_tool.specs.Show.{IsShowOutput}
-use Rattle.s39_tool.specs.Create.{IsCreateOutput}
-use Rattle.s39_tool.specs.Recover.{IsRecoverOutput}
-use Rattle.s39_tool.specs.Drill.{IsDrillOutput}
-use Rattle.s39_tool.specs.Status.{IsStatusOutput}
-use Rattle.s39_tool.specs.Reissue.{IsReissueOutput}
-use Rattle.s39_cli.specs.declared.command.Job.{Job}
-use Rattle.s39_cli.specs.declared.command.Job.TheVariants.{Show, Create, Recover, Drill, Status, Reissue}
+use Rattle.s39_input.specs.declared.fault.Refusal.{Refusal}
+use Rattle.s39_input.specs.declared.fault.Refusal.TheVariants.{Device}
+use Rattle.s39_input.specs.declared.fault.Fault.{Fault}
+use Rattle.s39_drilling.specs.declared.drill.Done.{Done}
+use Rattle.s39_input.specs.Input.{Input}
+use Rattle.s39_input.specs.Show.{IsShowOutput}
+use Rattle.s39_input.specs.Create.{IsCreateOutput}
+use Rattle.s39_reading.specs.Recover.{IsRecoverOutput}
+use Rattle.s39_drilling.specs.Drill.{IsDrillOutput}
+use Rattle.s39_reading.specs.Status.{IsStatusOutput}
+use Rattle.s39_creating.specs.Reissue.{IsReissueOutput}
+use Rattle.s39_command.specs.declared.command.Job.{Job}
+use Rattle.s39_command.specs.declared.command.Job.TheVariants.{Show, Create, Recover, Drill, Status, Reissue}
 
 -- ---- a job that isn't begun
 

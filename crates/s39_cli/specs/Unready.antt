@@ -4,7 +4,7 @@ use Rattle.hex.specs.declared.error.FromHexError.{FromHexError}
 use Rattle.hex.specs.declared.error.FromHexError.TheVariants.{OutOfMemory}
 use Rattle.clap.specs.Words.{Text}
 use Rattle.s39_backup.specs.Plan.{IsPlanReading}
-use Rattle.s39_cli.specs.declared.command.Job.{Job}
+use Rattle.s39_command.specs.declared.command.Job.{Job}
 use Rattle.s39_cli.specs.declared.work.Unready.{Unready}
 use Rattle.s39_cli.specs.declared.work.Unready.TheVariants.{Secret, Plan, Cursor, Names, Memory}
 use Rattle.s39_cli.specs.Outcome.{IsNotHexadecimal, HasBadSecret, HasBadPlan, HasBadCursor, HasBadNames, GivesPlan, WritesNoNames}

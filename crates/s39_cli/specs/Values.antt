@@ -4,10 +4,10 @@ use Rattle.std.specs.Borrow.{Bor}
 use Rattle.std.specs.Io.BufRead.{ends_with_byte, strip_last, take_through}
 use Rattle.std.specs.Io.KnownBytes.{Consumes, IsAtEnd, Keeps}
 use Rattle.clap.specs.Words.{Text}
-use Rattle.s39_cli.specs.declared.command.Call.{Call}
-use Rattle.s39_cli.specs.declared.command.ValueFiles.{ValueFiles}
-use Rattle.s39_cli.specs.declared.command.Job.{Job}
-use Rattle.s39_cli.specs.declared.command.Job.TheVariants.{Create, Recover, Drill}
+use Rattle.s39_command.specs.declared.command.Call.{Call}
+use Rattle.s39_command.specs.declared.command.ValueFiles.{ValueFiles}
+use Rattle.s39_command.specs.declared.command.Job.{Job}
+use Rattle.s39_command.specs.declared.command.Job.TheVariants.{Create, Recover, Drill}
 use Rattle.s39_cli.specs.declared.values.Until.{Until}
 use Rattle.s39_cli.specs.declared.values.Until.TheVariants.{End, LineEnd}
 

@@ -6,18 +6,18 @@ use Rattle.s39_set.specs.Status.{is_enough}
 use Rattle.s39_set.specs.Written.{IsWrittenForm}
 use Rattle.s39_set.specs.declared.status.Status.{Status}
 use Rattle.s39_backup.specs.Plan.{IsPlanReading}
-use Rattle.s39_tool.specs.declared.fault.Fault.{Fault}
-use Rattle.s39_tool.specs.declared.drill.Done.{Done}
-use Rattle.s39_tool.specs.declared.secret_form.SecretForm.{SecretForm}
-use Rattle.s39_tool.specs.Input.{Input}
-use Rattle.s39_tool.specs.Show.{IsShowOutput}
-use Rattle.s39_tool.specs.Create.{IsCreateOutput}
-use Rattle.s39_tool.specs.Recover.{IsRecoverOutput}
-use Rattle.s39_tool.specs.Drill.{IsDrillOutput}
-use Rattle.s39_tool.specs.Status.{IsStatusOutput}
-use Rattle.s39_tool.specs.Reissue.{IsReissueOutput}
-use Rattle.s39_cli.specs.declared.command.Job.{Job}
-use Rattle.s39_cli.specs.declared.command.Job.TheVariants as job
+use Rattle.s39_input.specs.declared.fault.Fault.{Fault}
+use Rattle.s39_drilling.specs.declared.drill.Done.{Done}
+use Rattle.s39_kdf.specs.declared.secret_form.SecretForm.{SecretForm}
+use Rattle.s39_input.specs.Input.{Input}
+use Rattle.s39_input.specs.Show.{IsShowOutput}
+use Rattle.s39_input.specs.Create.{IsCreateOutput}
+use Rattle.s39_reading.specs.Recover.{IsRecoverOutput}
+use Rattle.s39_drilling.specs.Drill.{IsDrillOutput}
+use Rattle.s39_reading.specs.Status.{IsStatusOutput}
+use Rattle.s39_creating.specs.Reissue.{IsReissueOutput}
+use Rattle.s39_command.specs.declared.command.Job.{Job}
+use Rattle.s39_command.specs.declared.command.Job.TheVariants as job
 use Rattle.s39_cli.specs.declared.work.Creation.{Creation}
 use Rattle.s39_cli.specs.declared.work.Drill.{Drill}
 use Rattle.s39_cli.specs.declared.work.Reissue.{Reissue}

@@ -3,10 +3,10 @@ ghost use Rattle.std.specs.Prelude.{◌≡◌, ◌≢◌, ℕ, List, [], map, So
 ghost use Rattle.std.specs.Io.KnownBytes.{Appends};
 ghost use Rattle.clap.specs.Words.{Text};
 ghost use Rattle.s39_set.specs.Names.{Names};
-ghost use Rattle.s39_tool.specs.declared.secret_form.SecretForm.{SecretForm};
+ghost use Rattle.s39_kdf.specs.declared.secret_form.SecretForm.{SecretForm};
 ghost use Rattle.s39_set.specs.Written.{IsWrittenForm};
 ghost use Rattle.s39_cli.specs.Ending.{Delivers, Ends, OnEnd, status_in};
-ghost use Rattle.s39_cli.specs.Headline.{AreCreateWords, AreDrillWords, AreRecoverWords, IsLimit, limit_of};
+ghost use Rattle.s39_command.specs.Words.{AreCreateWords, AreDrillWords, AreRecoverWords, IsLimit, limit_of};
 ghost use Rattle.s39_cli.specs.Headline.{GivesSecret, WordsDrill, WordsRecover};
 
 use crate::laws::{created_words_recover, drill_words_list, recover_words_recover};

@@ -2,14 +2,14 @@
 ghost use Rattle.std.specs.Prelude.{◌≡◌, IsTrue, IfSome, []};
 ghost use Rattle.std.specs.Io.Buffered.{writer_buffer, writer_contents};
 ghost use Rattle.std.specs.Io.KnownBytes.{Keeps};
-ghost use Rattle.s39_tool.specs.Fault.{fault_of};
+ghost use Rattle.s39_input.specs.Fault.{fault_of};
 ghost use Rattle.s39_cli.specs.Ending.{Delivers, GoesOut, HandsOn, HasStatus};
 ghost use Rattle.s39_cli.specs.Outcome.{status_of};
 ghost use Rattle.s39_cli.specs.Work.{IsWorkOutput};
 
 use crate::patient::Patient;
 use crate::work::Work;
-use s39_tool::{Counting, DeviceFailure, Fault, Refusal};
+use s39_input::{Counting, DeviceFailure, Fault, Refusal};
 use std::alloc::Global;
 use std::io::{BufWriter, Read, Write};
 
@@ -115,7 +115,7 @@ fn flushed<W: Write>(answer: Result<bool, Fault>, output: Patient<W>) -> (Result
 fn has_failed(answer: &Result<bool, Fault>) -> bool {
     match answer {
         Ok(_) => false,
-        Err(fault) => fault.refusal == Refusal::Device(DeviceFailure::Write),
+        Err(fault) => matches!(fault.refusal, Refusal::Device(DeviceFailure::Write)),
     }
 }
 

@@ -3,8 +3,6 @@
 #![tactic(auto)]
 
 pub mod by_words;
-mod command;
-mod definition;
 mod delivery;
 pub mod laws;
 mod patient;
@@ -13,7 +11,6 @@ mod terminal;
 mod values;
 mod work;
 
-pub use command::{BadValues, Call, Job, NoJob, ValueFiles, read_words};
 pub use runner::{Destination, Ended, Source, no_words, program};
 pub use terminal::{Watched, with_rest_dropped};
 pub use values::{Shelf, SystemFiles};

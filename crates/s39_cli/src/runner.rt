@@ -1,17 +1,17 @@
 //! The program: a command line, a reader and two writers.
 ghost use Rattle.std.specs.Prelude.{◌≡◌, ◌≢◌, map, IfOk, IsFalse, IsTrue};
 ghost use Rattle.std.specs.IoError.{error_kind};
-ghost use Rattle.s39_cli.specs.Command.{IsInRange};
+ghost use Rattle.s39_command.specs.Command.{IsInRange};
 ghost use Rattle.s39_cli.specs.Ending.{DoesJob, Ends, EndsUnbegun, EndsUnread, EndsWithoutJob, IsSilentAtNone, IsTyped, OnEnd, status_in};
 ghost use Rattle.s39_cli.specs.Outcome.{status_of, status_of_refusal};
 
-use crate::command::{BadValues, Call, Job, NoJob, read_words};
 use crate::delivery::{Finished, by_buffer, by_lines, show, write_failed};
 use crate::values::{NoValue, Shelf, Unread, Values};
 use crate::work::{Unready, Work};
+use s39_command::{Call, Job, NoJob, read_words};
+use s39_input::{Fault, Refusal};
 use s39_refusal::Cause;
 use s39_text::FaultText;
-use s39_tool::{Fault, Refusal};
 use std::alloc::Global;
 use std::io;
 use std::io::{ErrorKind, Read, Write};
@@ -209,29 +209,6 @@ fn without_value<R: Drop, W: Drop, E: Write>(
         status,
         input,
         output,
-    }
-}
-
-impl BadValues {
-    /// What is said of them.
-    fn text(self) -> &'static str {
-        match self {
-            BadValues::NoSecret =>
-                "error: one of --master-secret <HEX> and --master-secret-file <FILE> is required
-
-For more information, try '--help'.
-",
-            BadValues::TwoSecrets =>
-                "error: --master-secret <HEX> and --master-secret-file <FILE> can't be given together
-
-For more information, try '--help'.
-",
-            BadValues::TwoPassphrases =>
-                "error: --passphrase <TEXT> and --passphrase-file <FILE> can't be given together
-
-For more information, try '--help'.
-",
-        }
     }
 }
 

@@ -3,8 +3,8 @@ ghost use Rattle.std.specs.Prelude.{◌≡◌, ◌≢◌, ◌≤◌, Err, None, 
 ghost use Rattle.s39_cli.specs.Values.{HasLongValue, IsFilledBy, IsInFile, IsInput, IsPart, IsText, IsValueIn, LacksValue, TakesByte};
 ghost use Rattle.s39_cli.specs.Values.{TakesValue, TakesValues, longest_value, without_line_end};
 
-use crate::command::{Job, ValueFiles};
 use arrayvec::ArrayVec;
+use s39_command::{Job, ValueFiles};
 use std::io::{ErrorKind, Read};
 use std::rt::Files;
 use std::{fs, io};
@@ -19,7 +19,7 @@ const ROOM: usize = 1027;
 const INPUT: &str = "-";
 
 /// Where a value ends.
-#[derive(Clone, Copy, Debug)]
+#[derive(Clone, Copy)]
 enum Until {
     /// At the end of the bytes.
     End,

@@ -2,24 +2,25 @@
 ghost use Rattle.std.specs.Prelude.{◌≡◌, ◌<◌, ◌≤◌, IfOk, IfErr, IsSomeAnd, Ok};
 ghost use Rattle.hex.specs.Hex.{decode_of};
 ghost use Rattle.s39_set.specs.Status.{is_enough};
-ghost use Rattle.s39_tool.specs.Runs.{Runs};
-ghost use Rattle.s39_cli.specs.Command.{IsInRange};
+ghost use Rattle.s39_input.specs.Runs.{Runs};
+ghost use Rattle.s39_command.specs.Command.{IsInRange};
 ghost use Rattle.s39_cli.specs.Outcome.{IsCursor, WritesNoNames, judged, where_done, without_mismatches};
 ghost use Rattle.s39_cli.specs.Unready.{IsNoReissue, IsNoSecret, IsUnready};
 
-use crate::command::Job;
 use crate::runner::Destination;
 use hex::FromHexError;
+use s39_backup::{Options, Plan, PlanError};
+use s39_command::Job;
+use s39_creating::{run_create, run_reissue};
+use s39_drilling::{Done, run_drill};
+use s39_input::{Counting, Fault, SecretForm, run_show};
+use s39_reading::{run_recover, run_status};
 use s39_set::{BadCursor, BadNames, Quorum, Status, parse_names, parse_quorum};
-use s39_tool::{
-    Counting, Done, Fault, Options, Plan, PlanError, SecretForm, run_create, run_drill,
-    run_recover, run_reissue, run_show, run_status,
-};
 use std::alloc::Global;
 use std::io::{Read, Write};
 
 /// What a backup is created from, beside its random bytes.
-#[derive(Debug, Drop)]
+#[derive(Drop)]
 pub(crate) struct Creation<'a> {
     plan: Plan,
     secret: Vec<u8>,
@@ -28,7 +29,7 @@ pub(crate) struct Creation<'a> {
 }
 
 /// What a drill is of, beside the mnemonics.
-#[derive(Debug, Drop)]
+#[derive(Drop)]
 pub(crate) struct Drill<'a> {
     passphrase: &'a [u8],
     after: Option<Quorum>,
@@ -38,14 +39,14 @@ pub(crate) struct Drill<'a> {
 }
 
 /// What is reissued, beside the mnemonics that it is computed from.
-#[derive(Debug, Drop)]
+#[derive(Drop)]
 pub(crate) struct Reissue {
     plan: Plan,
     names: Quorum,
 }
 
 /// A command that is ready to run: it needs no more memory.
-#[derive(Debug, Drop)]
+#[derive(Drop)]
 pub(crate) enum Work<'a> {
     /// Shows the fields of mnemonics.
     Show,
@@ -65,7 +66,7 @@ pub(crate) enum Work<'a> {
 }
 
 /// Why a command can't be begun.
-#[derive(Clone, Copy, Debug, PartialEq, Eq)]
+#[derive(Clone, Copy)]
 pub(crate) enum Unready {
     /// The text of the master secret isn't hexadecimal, or has an odd number of digits.
     Secret,

@@ -22,6 +22,7 @@ mod keyed_hash;
 pub mod laws;
 mod limits;
 mod params;
+mod secret_form;
 
 pub use cipher::{decrypt, encrypt};
 pub use fingerprinting::{FINGERPRINT_BYTES, fingerprint};
@@ -32,6 +33,7 @@ pub use limits::{
     check_secret, check_secret_length,
 };
 pub use params::{MAX_EXPONENT, Params};
+pub use secret_form::SecretForm;
 
 #[cfg(test)]
 mod examples;

@@ -1,9 +1,9 @@
 //! The command line.
 
-use s39_cli::{Call, Job, NoJob, ValueFiles, read_words};
+use s39_command::{Call, Job, NoJob, ValueFiles, read_words};
 use s39_fixtures::devices::Full;
 use s39_fixtures::{ONE_OF_ONE, WRITE_FAILED_LINE, expect_told, run_on};
-use s39_tool::SecretForm;
+use s39_input::SecretForm;
 use std::alloc::Global;
 use std::process::Abort;
 use std::test::Fail;
@@ -247,7 +247,9 @@ fn reads_status_and_reissue(rt: HostRuntime) {
 #[test]
 fn answers_without_a_command(rt: HostRuntime) -> Result<(), Fail> {
     let alloc = rt.alloc();
-    expect_refusals(&rt, alloc, &[&["shamir"]]);
+    assert!(rt; matches!(read_words(alloc, &["shamir"]), Err(NoJob::Refused(_))));
+    assert!(rt; matches!(read_words(alloc, &["shamir", "help"]), Err(NoJob::Help(_))));
+    expect_refusals(&rt, alloc, &[&["shamir", "show", "help"]]);
     let help = ["shamir", "--help"];
     assert!(rt; matches!(read_words(alloc, &help), Err(NoJob::Help(_))));
     let run = run_on(alloc, &help, b"");

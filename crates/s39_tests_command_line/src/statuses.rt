@@ -26,6 +26,8 @@ Commands:
 Options:
   -h, --help     Print help
   -V, --version  Print version
+
+Example: shamir recover --help
 ";
 
 const HELP_OF_CREATE: &str = "Create a backup of a secret, using random bytes from standard input
@@ -39,10 +41,12 @@ Options:
       --master-secret <HEX>        Back up this secret, in hexadecimal: an even number of bytes, 16 to 128 (other users can see it)
       --master-secret-file <FILE>  Read the secret, in hexadecimal, from FILE; - means the first line of standard input
       --passphrase <TEXT>          Use this passphrase instead of the empty one (other users can see it)
-      --passphrase-file <FILE>     Read the passphrase from FILE; - means the first line of standard input (the second in create if --master-secret-file is also -)
+      --passphrase-file <FILE>     Read the passphrase from FILE; - means the first line of standard input (the second if --master-secret-file is also -)
       --exponent <E>               Set the iteration exponent, 0 to 15; a recovery takes 10,000 * 2^E iterations, or twice that for a secret of more than 64 bytes [default: 0]
       --extendable                 Set the extendable flag: two backups of one secret that have it, the same passphrase and the same exponent then agree with each other for any other passphrase too
   -h, --help                       Print help
+
+Example: head -c 14 /dev/urandom | shamir create 2of3 --master-secret-file secret.txt
 ";
 
 const HELP_OF_RECOVER: &str = "Recover the secret from mnemonics on standard input
@@ -51,9 +55,13 @@ Usage: shamir recover [OPTIONS]
 
 Options:
       --passphrase <TEXT>       Use this passphrase instead of the empty one (other users can see it)
-      --passphrase-file <FILE>  Read the passphrase from FILE; - means the first line of standard input (the second in create if --master-secret-file is also -)
+      --passphrase-file <FILE>  Read the passphrase from FILE; - means the first line of standard input
       --fingerprint             Print the secret's fingerprint (eight hexadecimal digits) instead of the secret
   -h, --help                    Print help
+
+Standard input has one mnemonic in each line. At a terminal, end with Ctrl-D on an empty line.
+
+Example: shamir recover --fingerprint < mnemonics.txt
 ";
 
 const HELP_OF_DRILL: &str =
@@ -63,11 +71,15 @@ Usage: shamir drill [OPTIONS]
 
 Options:
       --passphrase <TEXT>       Use this passphrase instead of the empty one (other users can see it)
-      --passphrase-file <FILE>  Read the passphrase from FILE; - means the first line of standard input (the second in create if --master-secret-file is also -)
+      --passphrase-file <FILE>  Read the passphrase from FILE; - means the first line of standard input
       --after <Q>               Start after quorum Q instead of at the first quorum
       --limit <N>               Try at most N quorums [default: 1000]
       --fingerprint             Print the secret's fingerprint (eight hexadecimal digits) instead of the secret
   -h, --help                    Print help
+
+Standard input has one mnemonic in each line. At a terminal, end with Ctrl-D on an empty line.
+
+Example: shamir drill --fingerprint < mnemonics.txt
 ";
 
 const HELP_OF_REISSUE: &str =
@@ -81,18 +93,52 @@ Arguments:
 
 Options:
   -h, --help  Print help
+
+Standard input has one mnemonic in each line. At a terminal, end with Ctrl-D on an empty line.
+
+Example: shamir reissue 2of3 0.1 < mnemonics.txt
+";
+
+const HELP_OF_SHOW: &str = "Show the fields of each mnemonic on standard input
+
+Usage: shamir show
+
+Options:
+  -h, --help  Print help
+
+Standard input has one mnemonic in each line. At a terminal, end with Ctrl-D on an empty line.
+
+Example: shamir show < mnemonics.txt
+";
+
+const HELP_OF_STATUS: &str =
+    "Show which members of each group are on standard input, and whether enough groups are complete
+
+Usage: shamir status
+
+Options:
+  -h, --help  Print help
+
+Standard input has one mnemonic in each line. At a terminal, end with Ctrl-D on an empty line.
+
+Example: shamir status < mnemonics.txt
 ";
 
 #[test]
 fn answers_help_and_the_version(rt: HostRuntime) -> Result<(), Fail> {
     let alloc = rt.alloc();
-    let cases: [(&[&str], &str); 8] = [
+    let cases: [(&[&str], &str); 13] = [
         (&["shamir", "create", "--help"], HELP_OF_CREATE),
         (&["shamir", "drill", "--help"], HELP_OF_DRILL),
         (&["shamir", "--help"], HELP),
         (&["shamir", "-h"], HELP),
+        (&["shamir", "help"], HELP),
+        (&["shamir", "help", "create"], HELP),
+        (&["shamir", "help", "--limit"], HELP),
         (&["shamir", "recover", "--help"], HELP_OF_RECOVER),
         (&["shamir", "reissue", "--help"], HELP_OF_REISSUE),
+        (&["shamir", "show", "--help"], HELP_OF_SHOW),
+        (&["shamir", "status", "--help"], HELP_OF_STATUS),
         (&["shamir", "--version"], "shamir 1.0.0\n"),
         (&["shamir", "-V"], "shamir 1.0.0\n"),
     ];
@@ -144,10 +190,7 @@ fn says_why_words_are_refused(rt: HostRuntime) -> Result<(), Fail> {
             &WRONG_EXPONENT,
             "error: invalid value '16' for '--exponent <E>': 16 is not in 0..=15\n\nFor more information, try '--help'.\n",
         ),
-        (
-            &["shamir"],
-            "error: 'shamir' requires a subcommand but one was not provided\n  [subcommands: show, create, recover, drill, status, reissue]\n\nUsage: shamir <COMMAND>\n\nFor more information, try '--help'.\n",
-        ),
+        (&["shamir"], HELP),
         (
             &["shamir", "list"],
             "error: unrecognized subcommand 'list'\n\nUsage: shamir <COMMAND>\n\nFor more information, try '--help'.\n",

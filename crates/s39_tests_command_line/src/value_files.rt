@@ -1,9 +1,9 @@
 //! The files of values in the words of a command line.
 
 use crate::command_line::expect_refusals;
-use s39_cli::{BadValues, Call, Job, NoJob, ValueFiles, read_words};
+use s39_command::{BadValues, Call, Job, NoJob, ValueFiles, read_words};
 use s39_fixtures::{ONE_OF_ONE, ONE_OF_ONE_SECRET, expect_over, run_on};
-use s39_tool::SecretForm;
+use s39_input::SecretForm;
 use std::alloc::Global;
 use std::process::Abort;
 use std::test::Fail;

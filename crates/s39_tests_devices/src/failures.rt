@@ -2,31 +2,44 @@
 
 ghost use Rattle.std.specs.Prelude.{◌<◌};
 
+use s39_backup::{Options, Plan};
+use s39_creating::run_create;
+use s39_drilling::{Done, run_drill};
 use s39_fixtures::devices::{Filling, Full, Interrupted, InterruptedAtFirst, Source};
 use s39_fixtures::{
     FIVE, ONE_OF_ONE, ONE_OF_ONE_BAD_CHECKSUM, ONE_OF_ONE_BAD_PADDING, ONE_OF_ONE_SECRET, RANDOM,
     SHOW, SHOWN, WRITE_FAILED_LINE, drilled, expect_told, lines,
 };
+use s39_input::{Counting, Fault, LineRefusal, Refusal, SecretForm, run_show};
 use s39_kdf::check_secret;
-use s39_tool::{
-    Counting, DeviceFailure, Done, Fault, LineRefusal, Options, Plan, Refusal, SecretForm,
-    run_create, run_drill, run_recover, run_show,
-};
+use s39_reading::run_recover;
+use s39_refusal::Cause;
 use s39_words::WordError;
 use std::alloc::{AllocError, Global};
 use std::io::{Read, Write};
 use std::process::Abort;
 use std::test::Fail;
 
-const READ_FAILED: Fault = Fault {
-    line: None,
-    refusal: Refusal::Device(DeviceFailure::Read),
-};
+/// The line and the cause of a fault.
+type Told = (Option<u64>, Cause);
 
-const WRITE_FAILED: Fault = Fault {
-    line: None,
-    refusal: Refusal::Device(DeviceFailure::Write),
-};
+const READ_FAILED: Told = (
+    None,
+    Cause {
+        code: 72,
+        first: 0,
+        second: 0,
+    },
+);
+
+const WRITE_FAILED: Told = (
+    None,
+    Cause {
+        code: 73,
+        first: 0,
+        second: 0,
+    },
+);
 
 /// A command of the worked examples.
 #[derive(Clone, Copy, Debug)]
@@ -40,7 +53,7 @@ enum Command {
 /// What a command answers, how many calls of the reader and of the writer failed, and the devices.
 #[derive(Drop)]
 struct Outcome<R, W> {
-    answer: Result<u32, Fault>,
+    answer: Result<u32, Told>,
     failures: (u64, u64),
     input: R,
     output: W,
@@ -67,6 +80,10 @@ fn create_five<R: Read, W: Write>(
     run_create(&plan, &secret, b"TREZOR", options, input, output)
 }
 
+fn told(fault: Fault) -> Told {
+    (fault.line, fault.refusal.cause())
+}
+
 fn outcome_of<R: Read + Drop, W: Write + Drop>(
     command: Command,
     input: R,
@@ -91,7 +108,7 @@ fn outcome_of<R: Read + Drop, W: Write + Drop>(
         .map(|Done { mismatches }| mismatches),
     };
     Outcome {
-        answer,
+        answer: answer.map_err(told),
         failures: (input.failures(), output.failures()),
         input: input.into_inner(),
         output: output.into_inner(),
@@ -134,11 +151,8 @@ const COMMANDS: [Command; 4] = [
 ];
 
 /// A refusal of the first line.
-fn at_line_1(refusal: LineRefusal) -> Result<u32, Fault> {
-    Err(Fault {
-        line: Some(1),
-        refusal: Refusal::Line(refusal),
-    })
+fn at_line_1(refusal: LineRefusal) -> Result<u32, Told> {
+    Err((Some(1), refusal.cause()))
 }
 
 #[test]
@@ -393,10 +407,8 @@ fn counts_a_write_of_nothing_as_a_failure(rt: HostRuntime) -> Result<(), Fail> {
     assert_eq!(rt; input.read(&mut buf)?, 2);
     assert_eq!(rt; input.failures(), 0);
     let mut input = Counting::new(ONE_OF_ONE_BAD_PADDING.as_bytes());
-    let bad_padding = Fault {
-        line: Some(1),
-        refusal: Refusal::Line(LineRefusal::Word(WordError::BadPadding)),
-    };
-    assert_eq!(rt; run_show(&mut input, &mut output), Err(bad_padding));
+    let answer = run_show(&mut input, &mut output).map_err(told);
+    let refusal = LineRefusal::Word(WordError::BadPadding);
+    assert_eq!(rt; answer, Err((Some(1), refusal.cause())));
     Ok(())
 }

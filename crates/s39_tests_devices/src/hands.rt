@@ -8,7 +8,7 @@ use s39_fixtures::{
     WRITE_FAILED_LINE, create, drilled, expect_flushed, expect_told, lines, program,
     program_at_terminal,
 };
-use s39_tool::Counting;
+use s39_input::Counting;
 use std::alloc::Global;
 use std::process::Abort;
 use std::test::Fail;

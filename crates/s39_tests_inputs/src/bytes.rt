@@ -1,9 +1,9 @@
 //! What each byte stands for: every one of the 256 in the place of a byte of a text.
 
+use s39_backup::Plan;
 use s39_fixtures::{ONE_OF_ONE, SHOW, create, run_on};
 use s39_kdf::{BadPassphrase, check_passphrase};
 use s39_set::parse_quorum;
-use s39_tool::Plan;
 use s39_words::{WordError, parse};
 use std::alloc::{AllocError, Global};
 use std::test::Fail;

@@ -1,9 +1,10 @@
 //! The texts of faults.
 
+use s39_backup::{Mismatch, PlanError, TooFew};
+use s39_input::{LineRefusal, Refusal};
 use s39_kdf::BadPassphrase;
 use s39_set::{BadNames, SetError, SetLack};
 use s39_text::FaultText;
-use s39_tool::{LineRefusal, Mismatch, PlanError, Refusal, TooFew};
 use std::alloc::Global;
 use std::process::Abort;
 use std::test::Fail;

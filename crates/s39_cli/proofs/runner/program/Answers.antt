@@ -1,5 +1,5 @@
 use Rattle.std.proofs.Common.{ℕ, Bor, List, map, option_map}
-use Rattle.s39_cli.proofs.Ends.{ends_by_call, ends_by_job, ends_unread, ends_without_job}
+use Rattle.s39_cli.proofs.Ends.{ends_by_job, ends_typed, ends_unread, ends_without_job}
 use Rattle.s39_cli.proofs.runner.program.Goals as goal
 
 pub returns-in-Err-clause-ends : goal.returns-in-Err-clause-ends
@@ -7,6 +7,12 @@ returns-in-Err-clause-ends g c =
     let words = map (λ (word : Bor (List ℕ)). word.now) c.args.words.now in
     ends_without_job g.R.Read.remaining g.W.Write.contents c.args.source words c.args.input c.args.output c.in-Err.no_job c.without_job.result
     c.in-Err.ensures.answer c.in-Err.ensures.memory c.without_job.ensures.ends
+
+pub returns-then-is_typed-clause-ends : goal.returns-then-is_typed-clause-ends
+returns-then-is_typed-clause-ends g c =
+    let words = map (λ (word : Bor (List ℕ)). word.now) c.args.words.now in
+    ends_typed g.R.Read.remaining g.W.Write.contents c.args.source words c.args.input c.args.output c.in-Ok.call c.in-Ok.ensures.call
+    c.in-Ok.ensures.taken c.in-Ok.ensures.faultless c.typed.result (c.is_typed.ensures.typed c.if-is_typed.true) c.typed.ensures.ends
 
 pub returns-in-Err-read-clause-ends : goal.returns-in-Err-read-clause-ends
 returns-in-Err-read-clause-ends g c =

@@ -1,15 +1,15 @@
 use Rattle.std.proofs.Common.{ℕ, List, Option, refl, subst, sym}
 use Rattle.s39_set.specs.Names.{Names}
-use Rattle.s39_tool.specs.Create.{IsCreateOutput}
-use Rattle.s39_tool.specs.Drill.{IsDrillOutput}
-use Rattle.s39_tool.specs.Recover.{IsRecoverOutput}
-use Rattle.s39_tool.specs.Runs.{Runs}
-use Rattle.s39_tool.specs.Show.{IsShowOutput}
+use Rattle.s39_input.specs.Create.{IsCreateOutput}
+use Rattle.s39_drilling.specs.Drill.{IsDrillOutput}
+use Rattle.s39_reading.specs.Recover.{IsRecoverOutput}
+use Rattle.s39_input.specs.Runs.{Runs}
+use Rattle.s39_input.specs.Show.{IsShowOutput}
 use Rattle.s39_cli.specs.declared.work.Work.{Work}
 use Rattle.s39_cli.specs.declared.work.Work.TheVariants as work
 use Rattle.s39_set.specs.Status.{is_enough}
-use Rattle.s39_tool.specs.Reissue.{IsReissueOutput}
-use Rattle.s39_tool.specs.Status.{IsStatusOutput}
+use Rattle.s39_creating.specs.Reissue.{IsReissueOutput}
+use Rattle.s39_reading.specs.Status.{IsStatusOutput}
 use Rattle.s39_cli.specs.Outcome.{where_done, without_mismatches}
 use Rattle.s39_cli.specs.Work.{IsWorkOutput}
 use Rattle.s39_cli.proofs.Works.{Runs-judged}

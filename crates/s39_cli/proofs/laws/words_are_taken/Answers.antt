@@ -1,5 +1,0 @@
-use Rattle.s39_cli.proofs.Words.{create_words_are_taken, drill_words_are_taken, recover_words_are_taken}
-use Rattle.s39_cli.proofs.laws.words_are_taken.Goals as goal
-
-pub returns : goal.returns
-returns c = record { drill = drill_words_are_taken; recover = recover_words_are_taken; create = create_words_are_taken }

@@ -1,0 +1,4 @@
+pub mod Jobs
+pub mod Literals
+pub mod OneCall
+pub mod Words

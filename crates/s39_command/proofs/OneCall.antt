@@ -1,0 +1,121 @@
+-- The words of a command line give one call, up to how its texts are lent.
+use Rattle.std.proofs.Common.{◌≡◌, ◌∙◌, ℕ, Bool, true, false, Bor, List, codes, Option, Some, ap, ap₂, refl, subst, sym, true≢false}
+use Rattle.std.specs.Str.{bytes_eq}
+use Rattle.std.proofs.lemmas.Slice.Eq.{bytes_eq-Decides}
+use Rattle.clap.specs.Words.{Row, Text, first_of, one_of, subcommand_of}
+use Rattle.s39_clap.specs.Found.{HasNumber}
+use Rattle.s39_kdf.specs.declared.secret_form.SecretForm.{SecretForm}
+use Rattle.s39_kdf.specs.declared.secret_form.SecretForm.TheVariants.{Digits, Fingerprint}
+use Rattle.s39_command.specs.declared.command.Call.{Call}
+use Rattle.s39_command.specs.declared.command.Job.{Job}
+use Rattle.s39_command.specs.declared.command.Job.TheVariants as job
+use Rattle.s39_command.specs.Command.{Gives, GivesCall, HaveSameValues, IsFormSaid, flag_text, shamir_app}
+use Rattle.s39_command.specs.Words.{OneCall}
+
+pub other_text : (a b : Text) → bytes_eq a b ≡ false → a ≡ b → ⊥
+other_text a b differ same = true≢false (sym ((bytes_eq-Decides a b).1 same) ∙ differ)
+
+pub said_same : {a b : Text} → Some a ≡ Some b → a ≡ b
+said_same same = cc
+
+-- the flag is said for one form
+pub one_form : (rows : List Row) (form given : SecretForm) → IsFormSaid rows form → IsFormSaid rows given → given ≡ form
+one_form rows Digits Digits is also = refl
+one_form rows Fingerprint Fingerprint is also = refl
+one_form rows Digits Fingerprint is also = absurd (other_text (codes "true") (codes "false") refl (said_same (sym also ∙ is)))
+one_form rows Fingerprint Digits is also = absurd (other_text (codes "true") (codes "false") refl (said_same (sym is ∙ also)))
+
+-- the name of a job's command
+abbrev name_of : Job → Text
+name_of job.Show = codes "show"
+name_of (job.Create t s p e x) = codes "create"
+name_of (job.Recover p f) = codes "recover"
+name_of (job.Drill p a l f) = codes "drill"
+name_of job.Status = codes "status"
+name_of (job.Reissue t n) = codes "reissue"
+
+name_given : (name : Text) (rows : List Row) (j : Job) → Gives name rows j → name ≡ name_of j
+name_given name rows job.Show is = is
+name_given name rows (job.Create t s p e x) is = is.0
+name_given name rows (job.Recover p f) is = is.0
+name_given name rows (job.Drill p a l f) is = is.0
+name_given name rows job.Status is = is
+name_given name rows (job.Reissue t n) is = is.0
+
+same_flag : (o : Option Text) (x y : Bool) → o ≡ Some (flag_text x) → o ≡ Some (flag_text y) → x ≡ y
+same_flag o true true is also = refl
+same_flag o false false is also = refl
+same_flag o true false is also = absurd (other_text (codes "true") (codes "false") refl (said_same (sym is ∙ also)))
+same_flag o false true is also = absurd (other_text (codes "true") (codes "false") refl (said_same (sym also ∙ is)))
+
+same_number : (id : Text) (rows : List Row) (m n : ℕ) → HasNumber id rows m → HasNumber id rows n → m ≡ n
+same_number id rows m n is also = cc
+
+module _ (name : Text) (rows : List Row) where
+  same_values : (j k : Job) → bytes_eq (name_of j) (name_of k) ≡ true → Gives name rows j → Gives name rows k → HaveSameValues j k
+  same_values job.Show job.Show same is also = refl
+  same_values (job.Create t s p e x) (job.Create t' s' p' e' x') same is also =
+      let exponents = same_number (codes "exponent") rows e' e also.1.exponent_number is.1.exponent_number in
+      let flags = same_flag (one_of (codes "extendable") rows) x' x also.1.extendable_said is.1.extendable_said in (
+        t',
+        s',
+        p',
+        ap₂ (λ (n : ℕ) (f : Bool). job.Create t' s' p' n f) exponents flags,
+        said_same (sym is.1.plan_given ∙ also.1.plan_given),
+        is.1.secret_or_empty ∙ sym also.1.secret_or_empty,
+        is.1.passphrase_or_empty ∙ sym also.1.passphrase_or_empty,
+      )
+  same_values (job.Recover p f) (job.Recover p' f') same is also =
+      (p', ap (λ (g : SecretForm). job.Recover p' g) (one_form rows f f' is.2 also.2), is.1 ∙ sym also.1)
+  same_values (job.Drill p a l f) (job.Drill p' a' l' f') same is also =
+      let limits = same_number (codes "limit") rows l' l also.3 is.3 in
+      (p', a', ap₂ (λ (n : ℕ) (g : SecretForm). job.Drill p' a' n g) limits (one_form rows f f' is.4 also.4), is.1 ∙ sym also.1, is.2 ∙ sym also.2)
+  same_values job.Status job.Status same is also = refl
+  same_values (job.Reissue t n) (job.Reissue t' n') same is also =
+      (t', n', refl, said_same (sym is.1 ∙ also.1), said_same (sym is.2 ∙ also.2))
+  same_values job.Show (job.Create t' s' p' e' x') same is also = cc same
+  same_values job.Show (job.Recover p' f') same is also = cc same
+  same_values job.Show (job.Drill p' a' l' f') same is also = cc same
+  same_values job.Show job.Status same is also = cc same
+  same_values job.Show (job.Reissue t' n') same is also = cc same
+  same_values (job.Create t s p e x) job.Show same is also = cc same
+  same_values (job.Create t s p e x) (job.Recover p' f') same is also = cc same
+  same_values (job.Create t s p e x) (job.Drill p' a' l' f') same is also = cc same
+  same_values (job.Create t s p e x) job.Status same is also = cc same
+  same_values (job.Create t s p e x) (job.Reissue t' n') same is also = cc same
+  same_values (job.Recover p f) job.Show same is also = cc same
+  same_values (job.Recover p f) (job.Create t' s' p' e' x') same is also = cc same
+  same_values (job.Recover p f) (job.Drill p' a' l' f') same is also = cc same
+  same_values (job.Recover p f) job.Status same is also = cc same
+  same_values (job.Recover p f) (job.Reissue t' n') same is also = cc same
+  same_values (job.Drill p a l f) job.Show same is also = cc same
+  same_values (job.Drill p a l f) (job.Create t' s' p' e' x') same is also = cc same
+  same_values (job.Drill p a l f) (job.Recover p' f') same is also = cc same
+  same_values (job.Drill p a l f) job.Status same is also = cc same
+  same_values (job.Drill p a l f) (job.Reissue t' n') same is also = cc same
+  same_values job.Status job.Show same is also = cc same
+  same_values job.Status (job.Create t' s' p' e' x') same is also = cc same
+  same_values job.Status (job.Recover p' f') same is also = cc same
+  same_values job.Status (job.Drill p' a' l' f') same is also = cc same
+  same_values job.Status (job.Reissue t' n') same is also = cc same
+  same_values (job.Reissue t n) job.Show same is also = cc same
+  same_values (job.Reissue t n) (job.Create t' s' p' e' x') same is also = cc same
+  same_values (job.Reissue t n) (job.Recover p' f') same is also = cc same
+  same_values (job.Reissue t n) (job.Drill p' a' l' f') same is also = cc same
+  same_values (job.Reissue t n) job.Status same is also = cc same
+
+one_found : (o : Option (Text × List Row)) (x y : Text × List Row) → o ≡ Some x → o ≡ Some y → x ≡ y
+one_found o x y is also = cc
+
+pub one_call : OneCall
+one_call words call other is also =
+    let found : (is.0, is.1) ≡ (also.0, also.1) = one_found (subcommand_of shamir_app words) (is.0, is.1) (also.0, also.1) is.2 also.2 in
+    let gives : Gives also.0 also.1 call.job = subst (λ (p : Text × List Row). Gives p.0 p.1 call.job) found is.3 in
+    let files = subst (λ (p : Text × List Row). first_of (codes "master-secret-file") is.1 ≡ first_of (codes "master-secret-file") p.1) found refl in
+    let phrases = subst (λ (p : Text × List Row). first_of (codes "passphrase-file") is.1 ≡ first_of (codes "passphrase-file") p.1) found refl in
+    let names = sym (name_given also.0 also.1 call.job gives) ∙ name_given also.0 also.1 other.job also.3 in
+    record {
+      values = same_values also.0 also.1 call.job other.job ((bytes_eq-Decides (name_of call.job) (name_of other.job)).1 names) gives also.3;
+      secret_file = is.4.secret_is ∙ files ∙ sym also.4.secret_is;
+      passphrase_file = is.4.passphrase_is ∙ phrases ∙ sym also.4.passphrase_is;
+    }

@@ -1,0 +1,5 @@
+use Rattle.s39_command.proofs.Words.{create_words_are_taken, drill_words_are_taken, recover_words_are_taken}
+use Rattle.s39_command.proofs.laws.words_are_taken.Goals as goal
+
+pub returns : goal.returns
+returns c = record { drill = drill_words_are_taken; recover = recover_words_are_taken; create = create_words_are_taken }

@@ -1,0 +1,276 @@
+-- The command line.
+use Rattle.std.specs.Prelude.{◌≡◌, ◌≢◌, ◌⊎◌, ◌<◌, ◌≤◌, ◌^◌, ℕ, Bool, true, false, List, Option, [], ◌∷◌, codes, if◌then◌else◌, pos, Some, None, option_map, slice_get, unwrap_or}
+use Rattle.std.specs.Borrow.{Bor}
+use Rattle.clap.specs.Words.{App, Row, Rule, Shape, Text, built, fault_of, first_of, new_app, new_rule, one_of}
+use Rattle.clap.specs.Words.{subcommand_of, takes, with_rule, with_subcommand}
+use Rattle.clap.specs.declared.builder.action.ArgAction.TheVariants.{SetTrue}
+use Rattle.clap.specs.declared.builder.value_parser.ValueParser.TheVariants.{Signed}
+use Rattle.clap.specs.declared.error.kind.ErrorKind.{ErrorKind}
+use Rattle.clap.specs.declared.error.kind.ErrorKind.TheVariants.{DisplayHelp, DisplayVersion, OutOfMemory}
+use Rattle.s39_clap.specs.Found.{HasNumber}
+use Rattle.s39_kdf.specs.Limits.{exponent_bits}
+use Rattle.s39_kdf.specs.declared.secret_form.SecretForm.{SecretForm}
+use Rattle.s39_kdf.specs.declared.secret_form.SecretForm.TheVariants.{Digits, Fingerprint}
+use Rattle.s39_command.specs.declared.command.Job.{Job}
+use Rattle.s39_command.specs.declared.command.Job.TheVariants.{Show, Create, Recover, Drill, Status, Reissue}
+use Rattle.s39_command.specs.declared.command.NoJob.{NoJob}
+use Rattle.s39_command.specs.declared.command.NoJob.TheVariants.{Help, Refused, Values, Memory}
+use Rattle.s39_command.specs.declared.command.Call.{Call}
+use Rattle.s39_command.specs.declared.command.ValueFiles.{ValueFiles}
+use Rattle.s39_command.specs.declared.command.BadValues.{BadValues}
+use Rattle.s39_command.specs.declared.command.BadValues.TheVariants.{NoSecret, TwoSecrets, TwoPassphrases}
+
+-- the command `show`
+abbrev pub show_app : App
+show_app = new_app (codes "show")
+
+-- an option of this name with a value, which has no default
+abbrev pub option_rule : Text → Rule
+option_rule name = record (new_rule name) {
+  long = Some name;
+  value_names = 1;
+}
+
+-- the option `--passphrase TEXT`
+abbrev pub passphrase_rule : Rule
+passphrase_rule = option_rule (codes "passphrase")
+
+-- the plan, which has to be given
+abbrev pub plan_rule : Rule
+plan_rule = record (new_rule (codes "plan")) {
+  value_names = 1;
+  required = true;
+}
+
+-- the option `--passphrase-file FILE`
+abbrev pub passphrase_file_rule : Rule
+passphrase_file_rule = option_rule (codes "passphrase-file")
+
+-- the option `--master-secret HEX`
+abbrev pub secret_rule : Rule
+secret_rule = option_rule (codes "master-secret")
+
+-- the option `--master-secret-file FILE`
+abbrev pub secret_file_rule : Rule
+secret_file_rule = option_rule (codes "master-secret-file")
+
+-- the option `--exponent E`, a number from 0 to 15, by default 0
+abbrev pub exponent_rule : Rule
+exponent_rule = record (option_rule (codes "exponent")) {
+  defaults = codes "0" ∷ [];
+  parser = Some (Signed (pos 0) (pos 15));
+}
+
+-- a flag of this name
+abbrev pub flag_rule : Text → Rule
+flag_rule name = record (new_rule name) {
+  long = Some name;
+  action = Some SetTrue;
+}
+
+-- the flag `--extendable`
+abbrev pub extendable_rule : Rule
+extendable_rule = flag_rule (codes "extendable")
+
+-- the command `create`, with these
+abbrev pub create_app : App
+create_app = with_rule (with_rule (with_rule (with_rule (with_rule (with_rule (with_rule (new_app (codes "create"))
+    plan_rule) secret_rule) secret_file_rule) passphrase_rule) passphrase_file_rule) exponent_rule) extendable_rule
+
+-- the flag `--fingerprint`
+abbrev pub fingerprint_rule : Rule
+fingerprint_rule = flag_rule (codes "fingerprint")
+
+-- the command `recover`, with the options of the passphrase and this flag
+abbrev pub recover_app : App
+recover_app = with_rule (with_rule (with_rule (new_app (codes "recover")) passphrase_rule) passphrase_file_rule) fingerprint_rule
+
+-- the option `--after Q`
+abbrev pub after_rule : Rule
+after_rule = option_rule (codes "after")
+
+-- the option `--limit N`, a number from 1 to 4294967295, by default 1000
+abbrev pub limit_rule : Rule
+limit_rule = record (option_rule (codes "limit")) {
+  defaults = codes "1000" ∷ [];
+  parser = Some (Signed (pos 1) (pos 4294967295));
+}
+
+-- the command `drill`, with these, the options of the passphrase and the flag
+abbrev pub drill_app : App
+drill_app = with_rule (with_rule (with_rule (with_rule (with_rule (new_app (codes "drill")) passphrase_rule) passphrase_file_rule)
+    after_rule) limit_rule) fingerprint_rule
+
+-- the command `status`
+abbrev pub status_app : App
+status_app = new_app (codes "status")
+
+-- the names of mnemonics, which have to be given
+abbrev pub names_rule : Rule
+names_rule = record (new_rule (codes "names")) {
+  value_names = 1;
+  required = true;
+}
+
+-- the command `reissue`, with a plan and these
+abbrev pub reissue_app : App
+reissue_app = with_rule (with_rule (new_app (codes "reissue")) plan_rule) names_rule
+
+-- the program, which has a version and has to be given a command; without any argument, its error has the text of help
+abbrev pub shamir_top : Shape
+shamir_top = record (new_app (codes "shamir")).top {
+  has_version = true;
+  subcommand_required = true;
+  arg_required_else_help = true;
+  disable_help_subcommand = true;
+}
+
+-- the program with its commands
+unfoldable pub shamir_app : App
+shamir_app = with_subcommand (with_subcommand (with_subcommand (with_subcommand (with_subcommand
+    (with_subcommand (record { top = shamir_top; subs = [] }) show_app.top) create_app.top)
+    recover_app.top) drill_app.top) status_app.top) reissue_app.top
+
+-- its commands, built
+abbrev pub commands : List Shape
+commands = (built shamir_app).subs
+
+-- whether a flag is said, as text
+abbrev pub flag_text : Bool → Text
+flag_text said = if said then codes "true" else codes "false"
+
+-- the form of a secret is its fingerprint
+abbrev pub is_fingerprint : SecretForm → Bool
+is_fingerprint Digits = false
+is_fingerprint Fingerprint = true
+
+-- the form in which a secret is written: its fingerprint if the flag is given, and otherwise its digits
+abbrev pub IsFormSaid : List Row → SecretForm → Type 0
+IsFormSaid rows form = one_of (codes "fingerprint") rows ≡ Some (flag_text (is_fingerprint form))
+
+-- the text that is found for an id, or the empty text if none is found
+abbrev pub text_or_empty : Text → List Row → Text
+text_or_empty id rows = unwrap_or (first_of id rows) []
+
+-- the text that is lent, if there is one
+abbrev pub text_in : Option (Bor Text) → Option Text
+text_in lent = option_map (λ text. text.now) lent
+
+-- what is found for the arguments of `create` gives these values
+pub record GivesCreate (rows : List Row) (plan secret passphrase : Text) (exponent : ℕ)
+    (extendable : Bool) : Type 0 where
+  pub plan_given : first_of (codes "plan") rows ≡ Some plan
+  pub secret_or_empty : secret ≡ text_or_empty (codes "master-secret") rows
+  pub passphrase_or_empty : passphrase ≡ text_or_empty (codes "passphrase") rows
+  pub exponent_number : HasNumber (codes "exponent") rows exponent
+  pub extendable_said : one_of (codes "extendable") rows ≡ Some (flag_text extendable)
+
+-- the command of this name, with what is found for its arguments, gives the job
+abbrev pub Gives : Text → List Row → Job → Type 0
+Gives name rows Show = name ≡ codes "show"
+Gives name rows (Create plan secret passphrase exponent extendable) = (name ≡ codes "create")
+    × GivesCreate rows plan.now secret.now passphrase.now exponent extendable
+Gives name rows (Recover passphrase form) =
+    (name ≡ codes "recover") × (passphrase.now ≡ text_or_empty (codes "passphrase") rows) × IsFormSaid rows form
+Gives name rows (Drill passphrase after limit form) =
+    (name ≡ codes "drill") × (passphrase.now ≡ text_or_empty (codes "passphrase") rows)
+    × (text_in after ≡ first_of (codes "after") rows)
+    × HasNumber (codes "limit") rows limit × IsFormSaid rows form
+Gives name rows Status = name ≡ codes "status"
+Gives name rows (Reissue plan names) = (name ≡ codes "reissue")
+    × (first_of (codes "plan") rows ≡ Some plan.now)
+    × (first_of (codes "names") rows ≡ Some names.now)
+
+-- what is found names these files for values
+pub record NamesFiles (rows : List Row) (files : ValueFiles) : Type 0 where
+  pub secret_is : text_in files.secret ≡ first_of (codes "master-secret-file") rows
+  pub passphrase_is : text_in files.passphrase ≡ first_of (codes "passphrase-file") rows
+
+-- something is found for the id
+abbrev pub IsGiven : Text → List Row → Type 0
+IsGiven id rows = (text : Text) × (first_of id rows ≡ Some text)
+
+-- a backup is created, and neither a secret nor a file of it is given
+abbrev pub LacksSecret : Text → List Row → Type 0
+LacksSecret name rows = (name ≡ codes "create")
+    × (first_of (codes "master-secret") rows ≡ None) × (first_of (codes "master-secret-file") rows ≡ None)
+
+-- both are given
+abbrev pub HasTwoSecrets : List Row → Type 0
+HasTwoSecrets rows = IsGiven (codes "master-secret") rows × IsGiven (codes "master-secret-file") rows
+
+-- both a passphrase and a file of it are given
+abbrev pub HasTwoPassphrases : List Row → Type 0
+HasTwoPassphrases rows = IsGiven (codes "passphrase") rows × IsGiven (codes "passphrase-file") rows
+
+-- this is the first fault of the values of the command of this name: one of the secret comes before one of the passphrase
+abbrev pub HasBadValues : Text → List Row → BadValues → Type 0
+HasBadValues name rows NoSecret = LacksSecret name rows
+HasBadValues name rows TwoSecrets = HasTwoSecrets rows
+HasBadValues name rows TwoPassphrases = (LacksSecret name rows → ⊥) × (HasTwoSecrets rows → ⊥) × HasTwoPassphrases rows
+
+-- the words give the command with its values and the files of such, by the definition of a simple command, and its values are sound
+abbrev pub GivesCall : List Text → Call → Type 0
+GivesCall words call = (name : Text) × (rows : List Row)
+    × (subcommand_of shamir_app words ≡ Some (name, rows)) × Gives name rows call.job × NamesFiles rows call.files
+    × (((bad : BadValues) × HasBadValues name rows bad) → ⊥)
+
+-- the words give a command with this fault in its values
+abbrev pub GivesBadValues : List Text → BadValues → Type 0
+GivesBadValues words bad = (name : Text) × (rows : List Row)
+    × (subcommand_of shamir_app words ≡ Some (name, rows)) × HasBadValues name rows bad
+
+-- the numbers among a job's values are in their ranges
+abbrev pub IsInRange : Job → Type 0
+IsInRange (Create plan secret passphrase exponent extendable) = exponent < 2 ^ exponent_bits
+IsInRange (Drill passphrase after limit form) = 1 ≤ limit
+IsInRange job = Unit {0}
+
+-- the other job has the values of the first, whose texts may be lent from elsewhere
+abbrev pub HaveSameValues : Job → Job → Type 0
+HaveSameValues Show other = other ≡ Show
+HaveSameValues (Create plan secret passphrase exponent extendable) other = (p s w : Bor Text)
+    × (other ≡ Create p s w exponent extendable) × (plan.now ≡ p.now) × (secret.now ≡ s.now) × (passphrase.now ≡ w.now)
+HaveSameValues (Recover passphrase form) other = (w : Bor Text) × (other ≡ Recover w form) × (passphrase.now ≡ w.now)
+HaveSameValues (Drill passphrase after limit form) other = (w : Bor Text) × (a : Option (Bor Text))
+    × (other ≡ Drill w a limit form) × (passphrase.now ≡ w.now) × (text_in after ≡ text_in a)
+HaveSameValues Status other = other ≡ Status
+HaveSameValues (Reissue plan names) other = (p n : Bor Text) × (other ≡ Reissue p n) × (plan.now ≡ p.now) × (names.now ≡ n.now)
+
+-- the calls are of one command, with the same values, and name the same files
+pub record AreSameCalls (call other : Call) : Type 0 where
+  pub values : HaveSameValues call.job other.job
+  pub secret_file : text_in call.files.secret ≡ text_in other.files.secret
+  pub passphrase_file : text_in call.files.passphrase ≡ text_in other.files.passphrase
+
+-- the word after the program's name is `help`
+abbrev pub SaysHelp : List Text → Type 0
+SaysHelp words = slice_get words 1 ≡ Some (codes "help")
+
+-- the words ask for help or for the version: they say `help`, or have an option for it, and nothing before that is wrong with them
+abbrev pub AsksForText : List Text → Type 0
+AsksForText words = SaysHelp words ⊎ ((fault_of shamir_app words ≡ DisplayHelp ∷ [])
+    ⊎ (fault_of shamir_app words ≡ DisplayVersion ∷ []))
+
+-- the answer is a text of help, or that memory ran out
+abbrev pub IsHelp : NoJob → Type 0
+IsHelp (Help text) = Unit {0}
+IsHelp Memory = Unit {0}
+IsHelp _ = ⊥
+
+-- help and the version go to words that ask for them, and a refusal to words that don't and that the
+-- definition doesn't take; a fault of values goes to words that it takes
+abbrev pub AnswersWords : NoJob → List Text → Type 0
+AnswersWords (Help text) words = AsksForText words
+AnswersWords (Refused text) words = (takes shamir_app words ≡ false) × (AsksForText words → ⊥)
+AnswersWords (Values bad) words = (takes shamir_app words ≡ true) × (AsksForText words → ⊥) × GivesBadValues words bad
+AnswersWords Memory words = Unit {0}
+
+-- a text goes with an error that shows help or the version; a refusal goes with none of these, nor with the error that memory
+-- ran out
+abbrev pub AnswersKind : NoJob → ErrorKind → Type 0
+AnswersKind (Help text) kind = (kind ≡ DisplayHelp) ⊎ (kind ≡ DisplayVersion)
+AnswersKind (Refused text) kind =
+    (kind ≢ DisplayHelp) × (kind ≢ DisplayVersion) × (kind ≢ OutOfMemory)
+AnswersKind (Values bad) kind = ⊥
+AnswersKind Memory kind = Unit {0}

@@ -1,0 +1,354 @@
+//! The command line: which command its words give, with which values.
+ghost use Rattle.std.specs.Prelude.{◌≡◌, ◌⊎◌, [], codes, None, Some, true, map, IfOk, IfErr, IfNone, IfSome, IsFalse, IsTrue, OnOk};
+ghost use Rattle.clap.specs.Words.{fault_of, first_of, found_of, kind_of, one_text, rows_of, takes};
+ghost use Rattle.s39_clap.specs.Found.{EntersOne};
+ghost use Rattle.s39_command.specs.Command.{shamir_app, commands, text_or_empty};
+ghost use Rattle.s39_command.specs.Command.{Gives, GivesCall, IsInRange, AnswersKind, AnswersWords};
+ghost use Rattle.s39_command.specs.Command.{HasBadValues, IsGiven, IsHelp, NamesFiles, SaysHelp};
+ghost use Rattle.s39_command.specs.declared.command.BadValues.{BadValues};
+
+use crate::definition::shamir;
+use clap::error::ErrorKind;
+use clap::{ArgMatches, Error};
+use s39_kdf::SecretForm;
+use std::alloc::{AllocError, Global};
+
+/// A command of the program, with its values.
+#[derive(Clone, Copy, Debug, PartialEq, Eq)]
+pub enum Job<'a> {
+    /// Shows the fields of the mnemonics on standard input.
+    Show,
+    /// Creates a backup of a secret from the random bytes on standard input.
+    Create {
+        /// The text of the plan.
+        plan: &'a str,
+        /// The text of the secret in hexadecimal. It is empty if a file holds the secret.
+        secret: &'a [u8],
+        /// The passphrase as it was given. It is empty if none was given, or if a file holds it.
+        passphrase: &'a [u8],
+        /// The iteration exponent, 0 to 15. It is 0 if none was given.
+        exponent: u8,
+        /// Whether the extendable flag was given.
+        extendable: bool,
+    },
+    /// Recovers the secret from the mnemonics on standard input.
+    Recover {
+        /// The passphrase as it was given. It is empty if none was given, or if a file holds it.
+        passphrase: &'a [u8],
+        /// The form in which the secret is written: its fingerprint if `--fingerprint` was given, and otherwise its digits.
+        form: SecretForm,
+    },
+    /// Tries the quorums of the mnemonics on standard input.
+    Drill {
+        /// The passphrase as it was given. It is empty if none was given, or if a file holds it.
+        passphrase: &'a [u8],
+        /// The text of the quorum after which the drill starts, if one was given.
+        after: Option<&'a str>,
+        /// How many quorums are tried at most, 1 or more. It is 1000 if no number was given.
+        limit: u32,
+        /// The form in which each secret is written: its fingerprint if `--fingerprint` was given, and otherwise its digits.
+        form: SecretForm,
+    },
+    /// Tells which members of each group are on standard input, and whether they are enough.
+    Status,
+    /// Computes lost mnemonics of a backup from the mnemonics on standard input.
+    Reissue {
+        /// The text of the plan.
+        plan: &'a str,
+        /// The text of the names of the mnemonics.
+        names: &'a str,
+    },
+}
+
+/// The names of the files that hold those values of a command that its words don't contain. The name `-` stands for the first
+/// line of the input.
+#[derive(Clone, Copy, Debug, PartialEq, Eq)]
+pub struct ValueFiles<'a> {
+    /// The file of the secret's digits, if one was named.
+    pub secret: Option<&'a str>,
+    /// The file of the passphrase, if one was named.
+    pub passphrase: Option<&'a str>,
+}
+
+/// What the words of a command line ask for.
+#[derive(Clone, Copy, Debug, PartialEq, Eq)]
+pub struct Call<'a> {
+    /// The command, with the values that the words contain.
+    pub job: Job<'a>,
+    /// The files that hold the other values.
+    pub files: ValueFiles<'a>,
+}
+
+/// What is wrong with the values of a command.
+#[derive(Clone, Copy, Debug, PartialEq, Eq)]
+pub enum BadValues {
+    /// The command creates a backup, and neither a secret nor a file of it is given.
+    NoSecret,
+    /// Both a secret and a file of it are given.
+    TwoSecrets,
+    /// Both a passphrase and a file of it are given.
+    TwoPassphrases,
+}
+
+impl BadValues {
+    /// The text that refuses the words, for standard error. It has the form of `clap`'s texts.
+    pub fn text(self) -> &'static str {
+        match self {
+            BadValues::NoSecret =>
+                "error: one of --master-secret <HEX> and --master-secret-file <FILE> is required
+
+For more information, try '--help'.
+",
+            BadValues::TwoSecrets =>
+                "error: --master-secret <HEX> and --master-secret-file <FILE> can't be given together
+
+For more information, try '--help'.
+",
+            BadValues::TwoPassphrases =>
+                "error: --passphrase <TEXT> and --passphrase-file <FILE> can't be given together
+
+For more information, try '--help'.
+",
+        }
+    }
+}
+
+/// Why the words of a command line give no command.
+#[derive(Debug, Drop)]
+pub enum NoJob {
+    /// They ask for help or the version. The text goes to standard output.
+    Help(String),
+    /// They are no command of the program. The text goes to standard error.
+    Refused(String),
+    /// A value is missing, or it is given twice.
+    Values(BadValues),
+    /// The program is out of memory.
+    Memory,
+}
+
+impl From<AllocError> for NoJob {
+    ghost use Rattle.s39_command.specs.declared.command.NoJob.TheVariants.{Memory};
+
+    ghost from_gives = { λ _ no_job. no_job ≡ Memory };
+
+    fn from(_error: AllocError) -> NoJob {
+        NoJob::Memory
+    }
+}
+
+fn no_job(alloc: Global, error: &Error) -> NoJob
+    ensures memory { kind_of error.now ≡ ErrorKind.OutOfMemory → result ≡ NoJob.Memory }
+    ensures answer { AnswersKind result (kind_of error.now) }
+{
+    if error.kind() == ErrorKind::OutOfMemory {
+        return NoJob::Memory;
+    }
+    match error.to_string(alloc) {
+        Ok(text) if error.use_stderr() => NoJob::Refused(text),
+        Ok(text) => NoJob::Help(text),
+        Err(_) => NoJob::Memory,
+    }
+}
+
+/// The text that was found for this id, and the empty text if none was.
+fn text_of<'a>(options: &ArgMatches<'a>, id: &str) -> &'a [u8]
+    ensures { result.now ≡ text_or_empty id.now (rows_of (found_of options.now)) }
+{
+    options.get_str(id).unwrap_or("").as_bytes()
+}
+
+/// Whether a text was found for this id.
+fn is_given(options: &ArgMatches, id: &str) -> bool
+    ensures given { IsTrue result → IsGiven id.now (rows_of (found_of options.now)) }
+    ensures missing { IsFalse result → first_of id.now (rows_of (found_of options.now)) ≡ None }
+{
+    options.get_str(id).is_some()
+}
+
+/// The files of values that were found.
+fn files_of<'a>(options: &ArgMatches<'a>) -> ValueFiles<'a>
+    ensures { NamesFiles (rows_of (found_of options.now)) result }
+{
+    ValueFiles {
+        secret: options.get_str("master-secret-file"),
+        passphrase: options.get_str("passphrase-file"),
+    }
+}
+
+/// What is first wrong with the values that were found for the command with this name.
+fn bad_values(name: &str, options: &ArgMatches) -> Option<BadValues>
+    ensures bad { IfSome result (HasBadValues name.now (rows_of (found_of options.now))) }
+    ensures sound { IfNone result
+        (((bad : BadValues) × HasBadValues name.now (rows_of (found_of options.now)) bad) → ⊥) }
+{
+    let has_secret = is_given(options, "master-secret");
+    let has_secret_file = is_given(options, "master-secret-file");
+    let has_passphrase = is_given(options, "passphrase");
+    let has_passphrase_file = is_given(options, "passphrase-file");
+    if name == "create" && !has_secret && !has_secret_file {
+        return Some(BadValues::NoSecret);
+    }
+    if has_secret && has_secret_file {
+        return Some(BadValues::TwoSecrets);
+    }
+    if has_passphrase && has_passphrase_file {
+        return Some(BadValues::TwoPassphrases);
+    }
+    None
+}
+
+/// The job `create`, from what was found for its arguments.
+#[tactic(auto, unfolding(crate::specs::Command::shamir_app))]
+fn create_job<'a>(options: &ArgMatches<'a>) -> Job<'a>
+    requires { EntersOne commands (Some (codes "create", rows_of (found_of options.now))) }
+    ensures gives { Gives (codes "create") (rows_of (found_of options.now)) result }
+    ensures range { IsInRange result }
+{
+    Job::Create {
+        plan: options.get_str("plan").unwrap(),
+        secret: text_of(options, "master-secret"),
+        passphrase: text_of(options, "passphrase"),
+        exponent: options.get_one("exponent").unwrap(),
+        extendable: options.get_flag("extendable"),
+    }
+}
+
+/// The form in which a secret is told, by the flag that was found.
+fn form_of(options: &ArgMatches) -> SecretForm
+    ensures said { one_text (found_of options.now) (codes "fingerprint") ≡ Some (codes "true")
+        → result ≡ SecretForm.Fingerprint }
+    ensures unsaid { one_text (found_of options.now) (codes "fingerprint") ≡ Some (codes "false")
+        → result ≡ SecretForm.Digits }
+{
+    if options.get_flag("fingerprint") {
+        SecretForm::Fingerprint
+    } else {
+        SecretForm::Digits
+    }
+}
+
+/// The job `recover`, from what was found for its arguments.
+#[tactic(auto, unfolding(crate::specs::Command::shamir_app))]
+fn recover_job<'a>(options: &ArgMatches<'a>) -> Job<'a>
+    requires { EntersOne commands (Some (codes "recover", rows_of (found_of options.now))) }
+    ensures gives { Gives (codes "recover") (rows_of (found_of options.now)) result }
+    ensures range { IsInRange result }
+{
+    Job::Recover {
+        passphrase: text_of(options, "passphrase"),
+        form: form_of(options),
+    }
+}
+
+/// The job `drill`, from what was found for its arguments.
+#[tactic(auto, unfolding(crate::specs::Command::shamir_app))]
+fn drill_job<'a>(options: &ArgMatches<'a>) -> Job<'a>
+    requires { EntersOne commands (Some (codes "drill", rows_of (found_of options.now))) }
+    ensures gives { Gives (codes "drill") (rows_of (found_of options.now)) result }
+    ensures range { IsInRange result }
+{
+    Job::Drill {
+        passphrase: text_of(options, "passphrase"),
+        after: options.get_str("after"),
+        limit: options.get_one("limit").unwrap(),
+        form: form_of(options),
+    }
+}
+
+/// The job `reissue`, from what was found for its arguments.
+#[tactic(auto, unfolding(crate::specs::Command::shamir_app))]
+fn reissue_job<'a>(options: &ArgMatches<'a>) -> Job<'a>
+    requires { EntersOne commands (Some (codes "reissue", rows_of (found_of options.now))) }
+    ensures gives { Gives (codes "reissue") (rows_of (found_of options.now)) result }
+    ensures range { IsInRange result }
+{
+    Job::Reissue {
+        plan: options.get_str("plan").unwrap(),
+        names: options.get_str("names").unwrap(),
+    }
+}
+
+/// The job of the command with this name, from what was found for its arguments.
+#[tactic(auto, unfolding(crate::specs::Command::shamir_app))]
+fn job_of<'a>(name: &str, options: &ArgMatches<'a>) -> Job<'a>
+    requires { EntersOne commands (Some (name.now, rows_of (found_of options.now))) }
+    ensures gives { Gives name.now (rows_of (found_of options.now)) result }
+    ensures range { IsInRange result }
+{
+    match name {
+        "show" => Job::Show,
+        "create" => create_job(options),
+        "recover" => recover_job(options),
+        "drill" => drill_job(options),
+        "status" => Job::Status,
+        "reissue" => reissue_job(options),
+        _ => unreachable!(),
+    }
+}
+
+/// Whether the word after the program's name is `help`.
+fn says_help(words: &[&str]) -> bool
+    ensures said { IsTrue result → SaysHelp (map (λ word. word.now) words.now) }
+    ensures unsaid { IsFalse result → SaysHelp (map (λ word. word.now) words.now) → ⊥ }
+{
+    match words.get(1) {
+        Some(word) => *word == "help",
+        None => false,
+    }
+}
+
+/// The text of `--help`.
+fn help(alloc: Global) -> NoJob
+    ensures { IsHelp result }
+{
+    let Ok(mut command) = shamir(alloc) else {
+        return NoJob::Memory;
+    };
+    match command.render_help() {
+        Ok(help) => NoJob::Help(help),
+        Err(_) => NoJob::Memory,
+    }
+}
+
+/// Reads the words of a command line, and returns the command with its values. The first word is the program's name. The word
+/// `help` after it is read as `--help`.
+///
+/// A value that begins with a dash is given as one word, as in `--passphrase=TEXT`. `clap` writes the texts of help and of the
+/// version, and those that refuse words.
+pub fn read_words<'a>(alloc: Global, words: &'a [&'a str]) -> Result<Call<'a>, NoJob>
+    // The command, its values and the files of values are those that the words give, by `clap`'s definition of a simple
+    // command.
+    ensures call { IfOk result (GivesCall (map (λ word. word.now) words.now)) }
+    ensures range { IfOk result (λ call. IsInRange call.job) }
+    // If that definition takes the words, an error means that memory ran out, or that a value is missing or given twice.
+    ensures memory { takes shamir_app (map (λ word. word.now) words.now) ≡ true
+        → IfErr result (λ error. (error ≡ NoJob.Memory) ⊎ ((bad : BadValues) × (error ≡ NoJob.Values bad))) }
+    // Words that it doesn't take are no job.
+    ensures taken { OnOk result (takes shamir_app (map (λ word. word.now) words.now) ≡ true) }
+    // No step of the reading of words that are one fails.
+    ensures faultless { OnOk result (fault_of shamir_app (map (λ word. word.now) words.now) ≡ []) }
+    // Help and the version go only to words that ask for them, and a refusal only to words that don't and that the
+    // definition doesn't take.
+    ensures answer { IfErr result (λ error. AnswersWords error (map (λ word. word.now) words.now)) }
+{
+    if says_help(words) {
+        return Err(help(alloc));
+    }
+    let command = shamir(alloc)?;
+    let matches = match command.try_get_matches_from(words) {
+        Ok(matches) => matches,
+        Err(error) => return Err(no_job(alloc, &error)),
+    };
+    match matches.subcommand() {
+        Some((name, options)) => {
+            if let Some(bad) = bad_values(name, options) {
+                return Err(NoJob::Values(bad));
+            }
+            Ok(Call {
+                job: job_of(name, options),
+                files: files_of(options),
+            })
+        }
+        None => unreachable!(),
+    }
+}

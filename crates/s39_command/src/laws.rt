@@ -1,0 +1,41 @@
+//! Facts about the definitions of the command line. Each is the contract of a function that does nothing.
+ghost use Rattle.std.specs.Prelude.{[], ◌∷◌, codes};
+ghost use Rattle.s39_kdf.specs.declared.secret_form.SecretForm.TheVariants.{Digits, Fingerprint};
+ghost use Rattle.s39_command.specs.Words.{ApartDrill, AreCreateWords, AreDrillWords, AreRecoverWords};
+ghost use Rattle.s39_command.specs.Words.{IsLimit, JoinedDrill, drill_apart};
+ghost use Rattle.s39_command.specs.Words.{CreateWordsAreTaken, DrillWordsAreTaken, OneCall, RecoverWordsAreTaken};
+
+/// The definition of the command line takes the words of a drill, of a recovery and of a creation, whatever their texts are,
+/// if the limit is a number in its range and the plan doesn't begin with a dash.
+pub fn words_are_taken()
+    ensures drill { DrillWordsAreTaken }
+    ensures recover { RecoverWordsAreTaken }
+    ensures create { CreateWordsAreTaken }
+{}
+
+/// Each option of a drill may be one word, as in `--after=Q`, or two words if no value begins with a dash. There are words of a
+/// drill, of a recovery and of a creation. There are also texts that write a limit.
+pub fn there_are_such_words()
+    ensures joined { JoinedDrill }
+    ensures apart { ApartDrill }
+    ensures drill { AreDrillWords Digits (codes "TREZOR") (codes "0.0") (codes "5")
+        (drill_apart (codes "shamir") (codes "TREZOR") (codes "0.0") (codes "5")) }
+    ensures recover { AreRecoverWords Digits (codes "TREZOR")
+        (codes "shamir" ∷ codes "recover" ∷ codes "--passphrase" ∷ codes "TREZOR" ∷ []) }
+    ensures fingerprints { AreDrillWords Fingerprint (codes "TREZOR") (codes "0.0") (codes "5")
+        (codes "shamir" ∷ codes "drill" ∷ codes "--fingerprint" ∷ codes "--passphrase=TREZOR"
+        ∷ codes "--after=0.0" ∷ codes "--limit=5" ∷ []) }
+    ensures fingerprint { AreRecoverWords Fingerprint (codes "TREZOR")
+        (codes "shamir" ∷ codes "recover" ∷ codes "--fingerprint" ∷ codes "--passphrase"
+        ∷ codes "TREZOR" ∷ []) }
+    ensures create { AreCreateWords (codes "2of3") (codes "00112233445566778899aabbccddeeff")
+        (codes "TREZOR") (codes "shamir" ∷ codes "create" ∷ codes "--master-secret"
+        ∷ codes "00112233445566778899aabbccddeeff"
+        ∷ codes "--passphrase" ∷ codes "TREZOR" ∷ codes "2of3" ∷ []) }
+    ensures limit { IsLimit (codes "5") }
+{}
+
+/// Words give one call: any two calls that they give have the same values and the same files of values.
+pub fn one_call()
+    ensures { OneCall }
+{}

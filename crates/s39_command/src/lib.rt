@@ -1,0 +1,8 @@
+//! The words of the command line of `shamir`: which command they give, with which values, or why they give none.
+#![tactic(auto)]
+
+mod command;
+mod definition;
+pub mod laws;
+
+pub use command::{BadValues, Call, Job, NoJob, ValueFiles, read_words};

@@ -1,0 +1,3 @@
+-- How long texts are.
+pub mod Backups
+pub mod Reissues

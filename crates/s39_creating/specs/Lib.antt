@@ -1,0 +1,3 @@
+pub mod Writing
+pub mod Reissue
+pub mod Lengths

@@ -1,0 +1,10 @@
+-- The command `drill`.
+pub mod Drilling
+pub mod LinesOfDrills
+pub mod Filling
+pub mod Complete
+pub mod OneDrill
+pub mod OneListing
+pub mod Outputs
+pub mod OneCreated
+pub mod WholeTexts

@@ -1,0 +1,2 @@
+-- How long texts are.
+pub mod FirstLines

@@ -1,0 +1,2 @@
+-- The runs of the command.
+pub mod Causes

@@ -1,0 +1,292 @@
+//! The command `drill`: the quorums of an input's shares in order, each with its outcome.
+ghost use Rattle.std.specs.Prelude.{◌≡◌, ◌≢◌, ℕ, List, Option, ◌+◌, ◌-◌, ◌*◌, ◌<◌, ◌≤◌, ◌++◌, All, Some, None, Ok, Err, IfOk, IfErr, length};
+ghost use Rattle.std.specs.Option.{option_copied};
+ghost use Rattle.s39_kdf.specs.Limits.{IsPrintable, longest_secret};
+ghost use Rattle.s39_kdf.specs.declared.limits.BadPassphrase.{BadPassphrase};
+ghost use Rattle.s39_set.specs.Names.{Names};
+ghost use Rattle.s39_set.specs.Looks.{most_step_looks};
+ghost use Rattle.s39_set.specs.Quorums.{IsQuorum, IsFirstQuorumAfter};
+ghost use Rattle.s39_set.specs.ShareSet.{IsShareSet};
+ghost use Rattle.s39_backup.specs.Outcome.{AreParams, IsOutcome};
+ghost use Rattle.s39_drilling.specs.Drill.{IsNext, IsUndrilled, StartsAt, IsDrillOutput, DrillsCreated, WritesDrill};
+ghost use Rattle.s39_drilling.specs.Drill.{in_bytes, mismatch_in, mismatch_text, outcome_text, quorum_line, last_line};
+ghost use Rattle.s39_input.specs.declared.output.TheConstants.{LINE_BYTES};
+ghost use Rattle.s39_input.specs.Fault.{fault_of};
+ghost use Rattle.s39_input.specs.Runs.{Runs};
+
+use crate::laws::{created_backups_drill, drill_laws};
+use s39_backup::{Memo, Mismatch, combine_quorum, params_of};
+use s39_input::{
+    Counting, DeviceFailure, Fault, Line, Refusal, SecretForm, WriteFailed, checked_set,
+    push_field, push_names, push_secret, push_text, write_text,
+};
+use s39_kdf::Bytes;
+use s39_set::laws::listings_join;
+use s39_set::{Looks, NotAQuorum, Quorum, SetLack, ShareSet, first, next_after};
+use std::io::{Read, Write};
+
+/// What a drill found.
+#[derive(Clone, Copy, Debug, PartialEq, Eq)]
+pub struct Done {
+    /// How many of the listed quorums have a digest that doesn't match.
+    pub mismatches: u32,
+}
+
+/// Why a set isn't drilled.
+#[derive(Clone, Copy, Debug)]
+pub enum Undrilled {
+    /// The set has no quorum.
+    Lack(SetLack),
+    /// The names after which the drill is to start aren't a quorum of the set.
+    NotAQuorum,
+}
+
+impl From<SetLack> for Undrilled {
+    ghost use Rattle.s39_drilling.specs.declared.drill.Undrilled.TheVariants.{Lack};
+
+    ghost from_gives = { λ lack cause. cause ≡ Lack lack };
+
+    fn from(lack: SetLack) -> Undrilled {
+        Undrilled::Lack(lack)
+    }
+}
+
+impl From<Undrilled> for Fault {
+    ghost use Rattle.s39_drilling.specs.Drill.{fault_of_undrilled};
+
+    ghost from_gives = { λ cause fault. fault ≡ fault_of_undrilled cause };
+
+    fn from(cause: Undrilled) -> Fault {
+        match cause {
+            Undrilled::Lack(lack) => Fault::from(Refusal::Lack(lack)),
+            Undrilled::NotAQuorum => Fault::from(Refusal::NotAQuorum),
+        }
+    }
+}
+
+/// Tries the quorums of the input's shares in ascending order, and writes a line for each as soon as it is known: the
+/// quorum, a space, and its outcome. It starts after the given quorum, or at the first one if none is given, and tries
+/// at most `limit` quorums.
+///
+/// The outcome is the secret that the quorum recovers with the passphrase, or its fingerprint, in lower-case
+/// hexadecimal. If a digest doesn't match, it is `digest mismatch in group G` with the lowest such group, or
+/// `digest mismatch of groups`. The last line is `end` if no greater quorum remains, and otherwise `more after ` and
+/// the last listed quorum. The function returns the number of mismatches.
+///
+/// Blank lines and comments are skipped. A comment starts with `#`, after any spaces, tabs and carriage returns.
+///
+/// The first error that applies is returned, and then nothing is written:
+///
+/// - `Passphrase` if a byte of the passphrase isn't printable ASCII, before anything is read;
+/// - the first refused line, with its number: a word error, `TooLong` if it has more than 1,024 bytes, or `Set` if its
+///   share can't join those of the lines before it;
+/// - `Device(Read)` if a read fails; an unfinished line is then dropped, unless it is too long already;
+/// - `Lack` if the shares have no quorum;
+/// - `NotAQuorum` if the given names aren't a quorum of the shares.
+///
+/// If a write fails or takes no byte, the fault is `Device(Write)`, and a beginning of the lines is written. A wrong
+/// passphrase isn't detected: as a rule it gives other secrets. The caller passes a `limit` of at least 1, and keeps
+/// both `failures()` below `u64::MAX`.
+///
+/// ```rust
+/// let mut input = Counting::new(
+///     b"duckling enlarge academic academic agency result length solution fridge kidney coal \
+///     piece deal husband erode duke ajar critical decision keyboard\n"
+///         .as_slice(),
+/// );
+/// let mut text = Vec::new(rt.alloc());
+/// let mut output = Counting::new(&mut text);
+/// let form = SecretForm::Fingerprint;
+/// let done = run_drill(form, b"TREZOR", None, 1000, &mut input, &mut output)?;
+/// assert_eq!(rt; done.mismatches, 0);
+/// assert_eq!(rt; text.as_slice(), b"0.0 df41d8fe\nend\n".as_slice());
+/// ```
+pub fn run_drill<R: Read, W: Write>(
+    form: SecretForm,
+    passphrase: &[u8],
+    after: Option<&Quorum>,
+    limit: u32,
+    input: &mut Counting<R>,
+    output: &mut Counting<W>,
+) -> Result<Done, Fault>
+    requires some { 1 ≤ limit }
+    requires readable { input.old.failures < u64.MAX }
+    requires writable { output.old.failures < u64.MAX }
+    ensures runs { Runs R.remaining W.contents
+        (IsDrillOutput form passphrase.now (option_copied after.entry) limit)
+        input.old input.new output.old output.new result }
+    // Of mnemonics of a created backup, with the passphrase of the creation: just the quorums, each with its secret.
+    ensures complete { Runs R.remaining W.contents
+        (DrillsCreated form passphrase.now (option_copied after.entry) limit)
+        input.old input.new output.old output.new result }
+    // Of any devices.
+    ensures untouched { IfErr result (λ fault.
+        fault.refusal ≢ Refusal.Device DeviceFailure.Write → output.new ≡ output.old) }
+    ensures unread { (bad : BadPassphrase)
+        → result ≡ Err (fault_of (Refusal.Passphrase bad)) → input.new ≡ input.old }
+{
+    created_backups_drill();
+    listings_join();
+    let set = checked_set(passphrase, input)?;
+    let mut looks = Looks::new();
+    let Some(start) = start_of(&set, after, &mut looks)? else {
+        write_text(output, last_line(None).as_slice())?;
+        return Ok(Done { mismatches: 0 });
+    };
+    Ok(write_drill(form, &set, start, passphrase, limit, &mut looks, output)?)
+}
+
+/// The quorum at which a drill of a set starts, if there is one.
+pub(crate) fn start_of(
+    set: &ShareSet,
+    after: Option<&Quorum>,
+    looks: &mut Looks,
+) -> Result<Option<Quorum>, Undrilled>
+    requires looks { looks.old ≤ u64.MAX - most_step_looks }
+    ensures is_set { IsShareSet set.now }
+    ensures start { IfOk result (StartsAt set.now (option_copied after.entry)) }
+    ensures refused { IfErr result (IsUndrilled set.now (option_copied after.entry)) }
+    ensures looks { looks.new ≤ looks.old + most_step_looks }
+{
+    let least = first(set)?;
+    match after {
+        None => Ok(Some(least)),
+        Some(quorum) => match next_after(set, quorum, looks) {
+            Ok(next) => Ok(next),
+            Err(NotAQuorum) => Err(Undrilled::NotAQuorum),
+        },
+    }
+}
+
+/// Writes the lines of a drill that starts at this quorum, the last line too.
+fn write_drill<W: Write>(
+    form: SecretForm,
+    set: &ShareSet,
+    start: Quorum,
+    passphrase: &[u8],
+    limit: u32,
+    looks: &mut Looks,
+    output: &mut Counting<W>,
+) -> Result<Done, WriteFailed>
+    requires is_set { IsShareSet set.now }
+    requires quorum { IsQuorum set.now start }
+    requires printable { All IsPrintable passphrase.now }
+    requires some { 1 ≤ limit }
+    requires looks { looks.old ≤ most_step_looks }
+    requires writable { output.old.failures < u64.MAX }
+    ensures { (after : Option Names) → IsFirstQuorumAfter set.now after start
+        → WritesDrill W.contents output.old form set.now passphrase.now after limit result output.new }
+{
+    drill_laws();
+    let mut memo = Memo::new(passphrase, params_of(set, &start));
+    let mut quorum = start;
+    let mut mismatches = 0;
+    let mut left = limit;
+    loop {
+        let outcome = outcome_of(set, &quorum, &mut memo);
+        write_text(output, quorum_line(form, &quorum, &outcome).as_slice())?;
+        mismatches += mismatch_in(&outcome);
+        left -= 1;
+        let next = following(set, &quorum, looks);
+        if left == 0 || next.is_none() {
+            let last = last_line(next.is_some().then_some(&quorum));
+            write_text(output, last.as_slice())?;
+            return Ok(Done { mismatches });
+        }
+        quorum = next.unwrap();
+    }
+}
+
+/// The quorum that comes after one of a set, if there is one.
+pub(crate) fn following(set: &ShareSet, quorum: &Quorum, looks: &mut Looks) -> Option<Quorum>
+    requires quorum { IsQuorum set.now quorum.now }
+    requires looks { looks.old ≤ u64.MAX - most_step_looks }
+    ensures next { IsNext set.now (Some quorum.now) result }
+    ensures looks { looks.new ≤ looks.old + most_step_looks }
+{
+    next_after(set, quorum, looks).unwrap()
+}
+
+/// What a quorum recovers with the passphrase of a memo, or the mismatch to which it combines.
+pub(crate) fn outcome_of(
+    set: &ShareSet,
+    quorum: &Quorum,
+    memo: &mut Memo<'_>,
+) -> Result<Bytes, Mismatch>
+    requires quorum { IsQuorum set.now quorum.now }
+    requires params { AreParams set.now memo.old.params }
+    ensures outcome { IsOutcome set.now quorum.now memo.old.passphrase (in_bytes result) }
+    ensures passphrase { memo.new.passphrase ≡ memo.old.passphrase }
+    ensures params { memo.new.params ≡ memo.old.params }
+{
+    let encrypted = combine_quorum(set, quorum)?;
+    Ok(memo.secret(&encrypted))
+}
+
+/// How many mismatches an outcome is: one, or none.
+pub(crate) fn mismatch_in(outcome: &Result<Bytes, Mismatch>) -> u32
+    ensures { result ≡ mismatch_in (in_bytes outcome.now) }
+{
+    match outcome {
+        Ok(_) => 0,
+        Err(_) => 1,
+    }
+}
+
+/// The line of a quorum and its outcome.
+pub(crate) fn quorum_line(
+    form: SecretForm,
+    quorum: &Quorum,
+    outcome: &Result<Bytes, Mismatch>,
+) -> Line
+    ensures { result.items ≡ quorum_line form (quorum.now, in_bytes outcome.now) }
+{
+    let mut line = Line::new();
+    push_names(&mut line, quorum.pairs());
+    line.push(b' ');
+    push_outcome(&mut line, form, outcome);
+    line.push(b'\n');
+    line
+}
+
+/// Appends a secret in this form, or says which digest doesn't match.
+fn push_outcome(line: &mut Line, form: SecretForm, outcome: &Result<Bytes, Mismatch>)
+    requires room { length line.old.items + 2 * longest_secret ≤ LINE_BYTES }
+    ensures text { line.new.items ≡ line.old.items ++ outcome_text form (in_bytes outcome.now) }
+    ensures room { length line.new.items ≤ length line.old.items + 2 * longest_secret }
+{
+    match outcome {
+        Ok(secret) => push_secret(line, form, secret),
+        Err(mismatch) => push_mismatch(line, *mismatch),
+    }
+}
+
+/// Appends which digest doesn't match.
+fn push_mismatch(line: &mut Line, mismatch: Mismatch)
+    requires room { length line.old.items + 2 * longest_secret ≤ LINE_BYTES }
+    ensures text { line.new.items ≡ line.old.items ++ mismatch_text mismatch }
+    ensures room { length line.new.items ≤ length line.old.items + 2 * longest_secret }
+{
+    match mismatch {
+        Mismatch::InGroup { group } => {
+            push_field(line, b"digest mismatch in group ", u16::from(group));
+        }
+        Mismatch::OfGroups => push_text(line, b"digest mismatch of groups"),
+    }
+}
+
+/// The last line of a drill: after which quorum more remain, or that none do.
+pub(crate) fn last_line(more: Option<&Quorum>) -> Line
+    ensures { result.items ≡ last_line (option_copied more.entry) }
+{
+    let mut line = Line::new();
+    match more {
+        Some(quorum) => {
+            push_text(&mut line, b"more after ");
+            push_names(&mut line, quorum.pairs());
+            line.push(b'\n');
+        }
+        None => push_text(&mut line, b"end\n"),
+    }
+    line
+}

@@ -1,0 +1,5 @@
+pub mod Steps
+pub mod Taking
+pub mod Sets
+pub mod Texts
+pub mod Runs

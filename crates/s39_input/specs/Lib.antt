@@ -1,0 +1,16 @@
+pub mod Device
+pub mod Input
+pub mod Fault
+pub mod Lines
+pub mod Steps
+pub mod Runs
+pub mod Midway
+pub mod Output
+pub mod Accepted
+pub mod Collecting
+pub mod SecretForm
+pub mod Show
+pub mod Create
+pub mod OfBackup
+pub mod Slices
+pub mod Lengths

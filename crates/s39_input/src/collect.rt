@@ -1,0 +1,105 @@
+//! The set of the shares of an input, with a passphrase.
+ghost use Rattle.std.specs.Prelude.{◌≡◌, ◌+◌, ◌<◌, Err, IfOk};
+ghost use Rattle.s39_kdf.specs.declared.limits.BadPassphrase.{BadPassphrase};
+ghost use Rattle.s39_set.specs.ShareSet.{IsShareSet};
+ghost use Rattle.s39_input.specs.Accepted.{IsCheckedSet, IsReadAs};
+ghost use Rattle.s39_input.specs.Fault.{fault_of, read_failures, stop_failures, write_failures};
+ghost use Rattle.s39_input.specs.Input.{whole};
+ghost use Rattle.s39_input.specs.Runs.{OfInput};
+
+use crate::device::Counting;
+use crate::fault::{Fault, LineRefusal, Refusal, Stop};
+use crate::lines::{TakeLine, share_in, take_lines, take_lines_of};
+use s39_kdf::check_passphrase;
+use s39_set::ShareSet;
+use s39_set::laws::{one_more_is_added, same_shares_refuse_the_same};
+use std::io::Read;
+
+/// A set takes a line by adding the share that it holds.
+impl TakeLine for ShareSet {
+    ghost use Rattle.std.proofs.Common.{inl};
+    ghost use Rattle.s39_input.specs.Collecting.{CollectsLine};
+    ghost use Rattle.s39_input.specs.declared.fault.LineRefusal.TheVariants.{TooLong};
+
+    type Refusal = LineRefusal;
+
+    ghost can_take = { λ set. Unit {0} };
+
+    ghost takes = { CollectsLine };
+
+    ghost length_refusal = { TooLong };
+
+    fn take_line(&mut self, line: &[u8]) -> Result<(), LineRefusal> {
+        if let Some(share) = share_in(line)? {
+            self.add(share).map_err(LineRefusal::Set)?;
+        }
+        Ok(())
+    }
+
+    fn too_long() -> LineRefusal {
+        LineRefusal::TooLong
+    }
+
+    ghost refuses_long = { λ set line long. inl long };
+}
+
+/// The set of the shares of an input, each once, if the passphrase is printable. The passphrase is judged before
+/// anything is read.
+///
+/// Blank lines are skipped, and so are lines whose first byte that isn't a separator is `#`. The first refused line
+/// ends the run, and the fault has its number and the cause: a word error, `TooLong` (more than 1,024 bytes), or `Set`
+/// if its share can't join those of the lines before it. If a read fails, the fault says so. The caller keeps
+/// `failures()` below `u64::MAX`.
+pub fn checked_set<R: Read>(passphrase: &[u8], input: &mut Counting<R>) -> Result<ShareSet, Fault>
+    requires { input.old.failures < u64.MAX }
+    ensures checked { OfInput R.remaining input.old input.new
+        (λ input. IsCheckedSet passphrase.now input result) }
+    ensures is_set { IfOk result IsShareSet }
+    ensures read_failures { input.new.failures ≡ input.old.failures + read_failures result }
+    ensures write_failures { write_failures result ≡ 0 }
+    ensures unread { (bad : BadPassphrase)
+        → result ≡ Err (fault_of (Refusal.Passphrase bad)) → input.new ≡ input.old }
+{
+    same_shares_refuse_the_same();
+    one_more_is_added();
+    check_passphrase(passphrase)?;
+    let mut set = ShareSet::new();
+    take_lines(input, &mut set)?;
+    Ok(set)
+}
+
+/// The set of the shares of lines in memory, as `checked_set` gives it of an input that ends after them.
+pub fn checked_set_in(passphrase: &[u8], lines: &[u8]) -> Result<ShareSet, Fault>
+    ensures checked { IsCheckedSet passphrase.now (whole lines.now) result }
+    ensures is_set { IfOk result IsShareSet }
+{
+    check_passphrase(passphrase)?;
+    Ok(set_in(lines)?)
+}
+
+/// The set of the shares of an input, each once, or the first line that is refused, or a failed read. The caller keeps
+/// `failures()` below `u64::MAX`.
+pub fn read_set<R: Read>(input: &mut Counting<R>) -> Result<ShareSet, Stop<LineRefusal>>
+    requires { input.old.failures < u64.MAX }
+    ensures read { OfInput R.remaining input.old input.new (λ input. IsReadAs input result) }
+    ensures is_set { IfOk result IsShareSet }
+    ensures failures { input.new.failures ≡ input.old.failures + stop_failures result }
+{
+    same_shares_refuse_the_same();
+    one_more_is_added();
+    let mut shares = ShareSet::new();
+    take_lines(input, &mut shares)?;
+    Ok(shares)
+}
+
+/// The set of the shares of lines in memory, each once, or the first line that is refused.
+pub fn set_in(bytes: &[u8]) -> Result<ShareSet, Stop<LineRefusal>>
+    ensures read { IsReadAs (whole bytes.now) result }
+    ensures is_set { IfOk result IsShareSet }
+{
+    same_shares_refuse_the_same();
+    one_more_is_added();
+    let mut shares = ShareSet::new();
+    take_lines_of(bytes, &mut shares)?;
+    Ok(shares)
+}

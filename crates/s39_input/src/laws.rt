@@ -1,0 +1,142 @@
+//! Facts about the definitions. Each is the contract of a function that does nothing.
+ghost use Rattle.std.specs.Prelude.{◌≡◌, ◌≤◌, ◌⊎◌, ℕ, length, List, All, Contains, Result, Ok, IfOk, None};
+ghost use Rattle.s39_words.specs.declared.ShareFields.{ShareFields};
+ghost use Rattle.s39_set.specs.Names.{Names, AreNames};
+ghost use Rattle.s39_set.specs.Written.{quorum_text};
+ghost use Rattle.s39_input.specs.Lengths.{longest_names};
+ghost use Rattle.s39_set.specs.ShareSet.{IsShareSet};
+ghost use Rattle.s39_input.specs.declared.fault.LineRefusal.{LineRefusal};
+ghost use Rattle.s39_input.specs.declared.fault.Stop.{Stop};
+ghost use Rattle.s39_input.specs.declared.lines.TheConstants.{MAX_LINE_BYTES};
+ghost use Rattle.s39_input.specs.Device.{Counted};
+ghost use Rattle.s39_input.specs.declared.fault.Fault.{Fault};
+ghost use Rattle.s39_input.specs.Runs.{Runs, Writes};
+ghost use Rattle.s39_input.specs.Show.{IsShowOutput};
+ghost use Rattle.s39_input.specs.Input.{Input, longest_line, whole, lines_of};
+ghost use Rattle.s39_input.specs.Lines.{Holds};
+ghost use Rattle.s39_input.specs.Accepted.{IsReadAs, CheckedSetLaws};
+ghost use Rattle.s39_backup.specs.Plan.{IsPlan};
+ghost use Rattle.s39_backup.specs.Created.{Asked, AreOfBackup};
+ghost use Rattle.s39_input.specs.Create.{IsCreateOutput};
+ghost use Rattle.s39_input.specs.OfBackup.{HoldsMnemonicsOf};
+
+use s39_backup::laws::shares_of_a_backup_agree;
+use s39_kdf::laws::passphrases_are_printable_or_not;
+use s39_set::laws::{
+    one_more_is_added, same_shares_refuse_the_same, sets_are_their_shares, sets_take_shares,
+};
+use s39_words::laws::{every_text_has_a_reading, one_reading, printed_forms};
+use std::io::{Read, Write};
+
+/// The limit of the code is that of the definitions.
+pub fn numbers()
+    ensures line { MAX_LINE_BYTES ≡ longest_line }
+{}
+
+/// An input is read as at most one thing: one set of shares, or one refusal.
+pub fn one_set()
+    ensures { (input : Input) (answer another : Result (List ShareFields) (Stop LineRefusal))
+        → IsReadAs input answer → IsReadAs input another → answer ≡ another }
+{
+    sets_are_their_shares();
+    one_reading();
+}
+
+/// Every input is read as something: a share set, or a refusal.
+pub fn every_input_is_read()
+    ensures { (input : Input)
+        → (answer : Result (List ShareFields) (Stop LineRefusal))
+        × IsReadAs input answer × IfOk answer IsShareSet }
+{
+    every_text_has_a_reading();
+    sets_take_shares();
+    same_shares_refuse_the_same();
+    one_more_is_added();
+}
+
+/// If an input is accepted, it is read as a share set.
+pub fn accepted_inputs_are_share_sets()
+    ensures { (input : Input) (set : List ShareFields) → IsReadAs input (Ok set) → IsShareSet set }
+{
+    every_input_is_read();
+    one_set();
+}
+
+/// A passphrase and an input give one set, which is a share set, or one fault.
+pub fn one_checked_set()
+    ensures { CheckedSetLaws }
+{
+    passphrases_are_printable_or_not();
+    every_input_is_read();
+    one_set();
+    accepted_inputs_are_share_sets();
+}
+
+/// Mnemonics of a created backup, in any order and with repeats, are read as a set of its shares.
+pub fn mnemonics_are_read_as_their_shares()
+    ensures { (passphrase secret : List ℕ) (input : Input)
+        (mnemonics : HoldsMnemonicsOf passphrase secret input)
+        → (set : List ShareFields) × IsReadAs input (Ok set)
+        × All (Contains mnemonics.shares) set }
+{
+    one_reading();
+    every_input_is_read();
+    shares_of_a_backup_agree();
+}
+
+/// Mnemonics of a created backup, in any order and with repeats, are read as the set of their shares.
+pub fn mnemonics_of_a_backup_are_a_set()
+    ensures { (passphrase secret : List ℕ) (input : Input)
+        → HoldsMnemonicsOf passphrase secret input
+        → (set : List ShareFields) × IsReadAs input (Ok set) × AreOfBackup set passphrase secret }
+{
+    mnemonics_are_read_as_their_shares();
+}
+
+/// What `create` writes for random bytes holds the mnemonics of its backup. So does an input that has some of its
+/// lines, in any order and with repeats, and blank lines and comments.
+pub fn written_mnemonics_are_of_the_backup()
+    ensures all_lines { (asked : Asked) (random text : List ℕ)
+        → IsPlan asked.group_threshold asked.groups → IsCreateOutput asked (whole random) text (Ok tt)
+        → HoldsMnemonicsOf asked.passphrase asked.secret (whole text) }
+    ensures some_lines { (asked : Asked) (random text bytes : List ℕ)
+        → IsPlan asked.group_threshold asked.groups → IsCreateOutput asked (whole random) text (Ok tt)
+        → All (λ line. Holds line None ⊎ Contains (lines_of (whole text)) line) (lines_of (whole bytes))
+        → HoldsMnemonicsOf asked.passphrase asked.secret (whole bytes) }
+{
+    printed_forms();
+}
+
+/// If a run of `show` answers without a read, its answer is right for every input. This holds for all devices.
+pub fn unread_inputs_decide_nothing<R: Read, W: Write>()
+    ensures show { (reader read_to : Counted R) (writer written_to : Counted W)
+        (answer : Result (Unit {0}) Fault)
+        → Runs R.remaining W.contents IsShowOutput reader read_to writer written_to answer
+        → read_to.reads ≡ reader.reads → read_to.failures ≡ reader.failures → (input : Input)
+        → Writes W.contents (IsShowOutput input) writer written_to answer }
+{}
+
+/// Every input has an output of `show`.
+pub fn some_show_output()
+    ensures { (input : Input)
+        → (text : List ℕ) × (answer : Result (Unit {0}) Fault) × IsShowOutput input text answer }
+{
+    every_text_has_a_reading();
+}
+
+/// An input has at most one output of `show`: one text, and one answer.
+pub fn one_show_output()
+    ensures { (input : Input) (text other : List ℕ) (answer another : Result (Unit {0}) Fault)
+        → IsShowOutput input text answer → IsShowOutput input other another
+        → (text ≡ other) × (answer ≡ another) }
+{
+    one_reading();
+}
+
+/// The written form of names that shares can have takes at most 1,215 bytes. The written form of all names takes
+/// exactly that many.
+pub fn names_are_short()
+    ensures most { (names : Names) → AreNames names → length (quorum_text names) ≤ longest_names }
+    ensures reached { (names : Names) × AreNames names
+        × (length (quorum_text names) ≡ longest_names) }
+{}

@@ -1,0 +1,33 @@
+//! What the commands of the program `shamir` have in common: their devices, the lines of an input, the set of its
+//! shares, and how a text is written. Of the commands it has `show`, which takes each line by itself (`run_show`).
+//! `s39_creating`, `s39_drilling` and `s39_reading` have the others.
+//!
+//! `Counting` wraps a reader or a writer, and counts its failed calls. A run that stops early returns a `Fault`: the
+//! refusal, with the line number if a line is refused. `Refusal::cause` gives the number of the refusal and its
+//! details.
+//!
+//! In the examples `rt` is the runtime, or a reference to it.
+#![tactic(auto)]
+
+mod collect;
+mod device;
+mod fault;
+pub mod laws;
+mod lines;
+mod output;
+mod secret_form;
+mod show;
+mod slices;
+
+pub use collect::{checked_set, checked_set_in, read_set, set_in};
+pub use device::Counting;
+pub use fault::{DeviceFailure, Fault, LineRefusal, Refusal, RefusedLine, Stop};
+pub use lines::PIECE;
+pub use output::{LINE_BYTES, Line, WriteFailed, push_field, push_names, push_text, write_text};
+pub use s39_kdf::SecretForm;
+pub use secret_form::push_secret;
+pub use show::run_show;
+pub use slices::{TooShort, Unwritten, WrittenLines, put};
+
+#[cfg(test)]
+mod examples;

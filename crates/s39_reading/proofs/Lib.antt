@@ -1,0 +1,5 @@
+pub mod Texts
+pub mod Runs
+pub mod Exponents
+pub mod Statuses
+pub mod Lengths

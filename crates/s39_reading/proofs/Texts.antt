@@ -1,0 +1,2 @@
+-- The texts that are written.
+pub mod SecretLines

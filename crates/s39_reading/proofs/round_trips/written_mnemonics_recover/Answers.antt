@@ -1,0 +1,21 @@
+use Rattle.s39_input.specs.Input.{whole}
+use Rattle.s39_input.proofs.Sets.WholeTexts.{whole_text_meets}
+use Rattle.s39_reading.proofs.Runs.WholeTexts.{recovers_whole}
+use Rattle.s39_reading.proofs.round_trips.written_mnemonics_recover.Goals as goal
+
+pub returns-clause-all_lines : goal.returns-clause-all_lines
+returns-clause-all_lines c = λ form asked random text plan created.
+    let (output, answer, recovers) = c.some_recover_output.ensures form asked.passphrase (whole text) in
+    let (set, read, gives) =
+    c.created_backups_recover.ensures form asked.passphrase (whole text) output answer recovers asked.secret
+    (c.written_mnemonics_are_of_the_backup.ensures.all_lines asked random text plan created) in
+    let meets =
+    whole_text_meets c.printed_forms.ensures.first c.printed_forms.ensures.letters c.printed_forms.ensures.short c.one_reading.ensures
+    c.whole_backups_meet_the_thresholds.ensures asked random text set plan created read
+    (c.accepted_inputs_are_share_sets.ensures (whole text) set read) in
+    recovers_whole form set meets asked.secret asked.passphrase (whole text) output answer recovers gives
+
+pub returns-clause-some_lines : goal.returns-clause-some_lines
+returns-clause-some_lines c = λ form asked random text bytes output answer plan created lines recovers.
+    c.created_backups_recover.ensures form asked.passphrase (whole bytes) output answer recovers asked.secret
+    (c.written_mnemonics_are_of_the_backup.ensures.some_lines asked random text bytes plan created lines)

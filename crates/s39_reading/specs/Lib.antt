@@ -1,0 +1,5 @@
+pub mod Exponent
+pub mod Recover
+pub mod Slices
+pub mod Lengths
+pub mod Status

@@ -1,0 +1,127 @@
+//! The command `recover`: the secret of the least quorum of an input's shares.
+ghost use Rattle.std.specs.Prelude.{◌≡◌, ◌≢◌, ◌<◌, [], Ok, Err, IfOk, IfErr};
+ghost use Rattle.s39_kdf.specs.declared.limits.BadPassphrase.{BadPassphrase};
+ghost use Rattle.s39_input.specs.Fault.{fault_of};
+ghost use Rattle.s39_input.specs.Input.{whole};
+ghost use Rattle.s39_reading.specs.Recover.{IsRecovered, IsRecoverOutput, secret_line};
+ghost use Rattle.s39_reading.specs.Recover.{RecoversCreated};
+ghost use Rattle.s39_input.specs.Runs.{Runs};
+
+use crate::laws::created_backups_recover;
+use s39_backup::recover_quorum;
+use s39_input::{
+    Counting, DeviceFailure, Fault, Line, Refusal, SecretForm, checked_set, checked_set_in,
+    push_secret, write_text,
+};
+use s39_kdf::Bytes;
+use s39_set::{ShareSet, first};
+use std::io::{Read, Write};
+
+/// Recovers the secret from the first quorum (`s39_set::first`) of the input's shares with the passphrase (SLIP-0039,
+/// "Shamir's secret sharing" and "Encryption of the master secret"). It writes the secret, or its fingerprint, in
+/// lower-case hexadecimal, on one line.
+///
+/// Shares beyond that quorum are accepted, and repeats change nothing. Blank lines and comments are skipped. A comment
+/// starts with `#`, after any spaces, tabs and carriage returns.
+///
+/// The first error that applies is returned, and then nothing is written:
+///
+/// - `Passphrase` if a byte of the passphrase isn't printable ASCII, before anything is read;
+/// - the first refused line, with its number: a word error, `TooLong` if it has more than 1,024 bytes, or `Set` if its
+///   share can't join those of the lines before it;
+/// - `Device(Read)` if a read fails; an unfinished line is then dropped, unless it is too long already;
+/// - `Lack` if the shares have no quorum;
+/// - `DigestMismatch` if a digest of the first quorum doesn't match.
+///
+/// If a write fails or takes no byte, the fault is `Device(Write)`, and a beginning of the line is written. A wrong
+/// passphrase isn't detected: as a rule it gives another secret. The caller keeps both `failures()` below `u64::MAX`.
+///
+/// ```rust
+/// let mut input = Counting::new(
+///     b"duckling enlarge academic academic agency result length solution fridge kidney coal \
+///     piece deal husband erode duke ajar critical decision keyboard\n"
+///         .as_slice(),
+/// );
+/// let mut text = Vec::new(rt.alloc());
+/// let mut output = Counting::new(&mut text);
+/// run_recover(SecretForm::Digits, b"TREZOR", &mut input, &mut output)?;
+/// assert!(rt; text.starts_with(b"bb54aac4b89dc868ba37d9cc21b2cece\n"));
+/// ```
+pub fn run_recover<R: Read, W: Write>(
+    form: SecretForm,
+    passphrase: &[u8],
+    input: &mut Counting<R>,
+    output: &mut Counting<W>,
+) -> Result<(), Fault>
+    requires readable { input.old.failures < u64.MAX }
+    requires writable { output.old.failures < u64.MAX }
+    ensures runs { Runs R.remaining W.contents (IsRecoverOutput form passphrase.now)
+        input.old input.new output.old output.new result }
+    // Of mnemonics of a created backup, with the passphrase of the creation: its secret, or why they have no quorum.
+    ensures created { Runs R.remaining W.contents (RecoversCreated form passphrase.now)
+        input.old input.new output.old output.new result }
+    // Of any devices.
+    ensures untouched { IfErr result (λ fault.
+        fault.refusal ≢ Refusal.Device DeviceFailure.Write → output.new ≡ output.old) }
+    ensures unread { (bad : BadPassphrase)
+        → result ≡ Err (fault_of (Refusal.Passphrase bad)) → input.new ≡ input.old }
+{
+    created_backups_recover();
+    let set = checked_set(passphrase, input)?;
+    let secret = secret_of(&set, passphrase)?;
+    write_text(output, secret_line(form, &secret).as_slice())?;
+    Ok(())
+}
+
+/// Returns the secret that the first quorum (`s39_set::first`) of the lines' shares recovers with the passphrase. It is
+/// the secret whose digits `run_recover` writes for these lines. Blank lines and comments are skipped. A comment starts
+/// with `#`, after any spaces, tabs and carriage returns.
+///
+/// The first error that applies is returned:
+///
+/// - `Passphrase` if a byte of the passphrase isn't printable ASCII;
+/// - the first refused line, with its number: a word error, `TooLong` if it has more than 1,024 bytes, or `Set` if its
+///   share can't join those of the lines before it;
+/// - `Lack` if the shares have no quorum;
+/// - `DigestMismatch` if a digest of the first quorum doesn't match.
+///
+/// A wrong passphrase isn't detected: as a rule it gives another secret.
+///
+/// ```rust
+/// let line =
+///     b"duckling enlarge academic academic agency result length solution fridge kidney coal \
+///     piece deal husband erode duke ajar critical decision keyboard\n";
+/// let secret = recover_secret(b"TREZOR", line)?;
+/// assert!(rt; secret.starts_with(b"\xbb\x54\xaa\xc4\xb8\x9d\xc8\x68"));
+/// let fault = recover_secret(b"TREZOR", b"").err();
+/// assert_eq!(rt; fault.map(|fault| fault.refusal.cause().code), Some(29));
+/// ```
+pub fn recover_secret(passphrase: &[u8], lines: &[u8]) -> Result<Bytes, Fault>
+    ensures secret { IfOk result (λ secret.
+        IsRecoverOutput SecretForm.Digits passphrase.now (whole lines.now)
+        (secret_line SecretForm.Digits secret.items) (Ok tt)) }
+    ensures refused { IfErr result (λ fault.
+        IsRecoverOutput SecretForm.Digits passphrase.now (whole lines.now) [] (Err fault)) }
+{
+    let set = checked_set_in(passphrase, lines)?;
+    secret_of(&set, passphrase)
+}
+
+/// The secret that the least quorum of a set recovers.
+fn secret_of(set: &ShareSet, passphrase: &[u8]) -> Result<Bytes, Fault>
+    ensures secret { IfOk result (λ secret. IsRecovered passphrase.now set.now (Ok secret.items)) }
+    ensures refused { IfErr result (λ fault. IsRecovered passphrase.now set.now (Err fault)) }
+{
+    let quorum = first(set)?;
+    Ok(recover_quorum(set, &quorum, passphrase)?)
+}
+
+/// The line of a secret.
+fn secret_line(form: SecretForm, secret: &Bytes) -> Line
+    ensures { result.items ≡ secret_line form secret.now.items }
+{
+    let mut line = Line::new();
+    push_secret(&mut line, form, secret);
+    line.push(b'\n');
+    line
+}

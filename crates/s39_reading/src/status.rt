@@ -1,0 +1,209 @@
+//! The command `status`: what is at hand of each group, and whether it is enough.
+ghost use Rattle.std.specs.Prelude.{◌≡◌, ◌≢◌, ◌+◌, ◌<◌, ◌≤◌, ◌++◌, [], Ok, Err, IfOk, IfErr, length, drop};
+ghost use Rattle.std.specs.Fmt.{decimal};
+ghost use Rattle.s39_set.specs.Names.{most_groups};
+ghost use Rattle.s39_set.specs.Status.{group_status_of};
+ghost use Rattle.s39_input.specs.Input.{whole};
+ghost use Rattle.s39_input.specs.Output.{WritesText};
+ghost use Rattle.s39_input.specs.Runs.{Runs};
+ghost use Rattle.s39_input.specs.Slices.{IsInFront};
+ghost use Rattle.s39_reading.specs.Slices.{PutsStatus};
+ghost use Rattle.s39_reading.specs.Status.{IsStatusOutput, first_line, group_line, group_text, status_text};
+
+use s39_input::{
+    Counting, DeviceFailure, Fault, Line, Refusal, TooShort, Unwritten, WriteFailed, push_field,
+    push_names, put, read_set, set_in, write_text,
+};
+use s39_set::{GroupStatus, MAX_GROUPS, SetLack, ShareSet, Status, group_status_of, status_of};
+use std::io::{Read, Write};
+
+/// Writes which members of each group are at hand, and how many groups are complete. It needs no passphrase. The first
+/// line is `groups C of R`: `C` groups have at least their member threshold of shares, and `R` is the group threshold.
+///
+/// A line `group G members N of T NAMES` follows for each group of which a share is at hand, in ascending order. `N`
+/// members are at hand, `T` is the member threshold, and `NAMES` are their names in ascending order, joined by plus
+/// signs. Repeats count once. Blank lines and comments are skipped. A comment starts with `#`, after any spaces, tabs
+/// and carriage returns.
+///
+/// The function returns the numbers of the first line. There are enough shares if and only if `C` is at least `R`. The
+/// first error that applies is returned instead, and then nothing is written:
+///
+/// - the first refused line, with its number: a word error, `TooLong` if it has more than 1,024 bytes, or `Set` if its
+///   share can't join those of the lines before it;
+/// - `Device(Read)` if a read fails; an unfinished line is then dropped, unless it is too long already;
+/// - `Lack` if there are no shares.
+///
+/// If a write fails or takes no byte, the fault is `Device(Write)`, and a beginning of the lines is written. The caller
+/// keeps both `failures()` below `u64::MAX`.
+///
+/// ```rust
+/// let mut input = Counting::new(
+///     b"academic aluminum beard leader chest elite grant group club deploy increase divorce \
+///     puny cylinder romp frequent crush ruler erode bucket\n"
+///         .as_slice(),
+/// );
+/// let mut text = Vec::new(rt.alloc());
+/// let status = run_status(&mut input, &mut Counting::new(&mut text))?;
+/// assert!(rt; !status.is_enough());
+/// let lines = b"groups 1 of 2\ngroup 1 members 1 of 1 1.0\n";
+/// assert_eq!(rt; text.as_slice(), lines.as_slice());
+/// ```
+pub fn run_status<R: Read, W: Write>(
+    input: &mut Counting<R>,
+    output: &mut Counting<W>,
+) -> Result<Status, Fault>
+    requires readable { input.old.failures < u64.MAX }
+    requires writable { output.old.failures < u64.MAX }
+    ensures runs { Runs R.remaining W.contents IsStatusOutput
+        input.old input.new output.old output.new result }
+    // Of any devices.
+    ensures untouched { IfErr result (λ fault.
+        fault.refusal ≢ Refusal.Device DeviceFailure.Write → output.new ≡ output.old) }
+{
+    let set = read_set(input)?;
+    let Some(status) = status_of(&set) else {
+        return Err(Fault::from(SetLack::NoShares));
+    };
+    write_status(output, &set, status)?;
+    Ok(status)
+}
+
+/// What `status_lines` put into a slice.
+#[derive(Clone, Copy, Debug, PartialEq, Eq)]
+pub struct WrittenStatus {
+    /// The length of its text in bytes.
+    pub written: usize,
+    /// The numbers of its first line.
+    pub status: Status,
+}
+
+/// Puts the text that `run_status` writes for these lines at the front of `text`. It returns the length of that text in
+/// bytes, and the numbers of its first line. The bytes of `text` after it are unchanged.
+///
+/// The first error that applies is returned, and then `text` is unchanged: the first refused line with its number,
+/// `Lack` if there are no shares, or `TooShort`, with the number of bytes needed, if the text doesn't fit.
+///
+/// ```rust
+/// let line =
+///     b"academic aluminum beard leader chest elite grant group club deploy increase divorce \
+///     puny cylinder romp frequent crush ruler erode bucket\n";
+/// let mut text = [0; 100];
+/// let answer = status_lines(line, &mut text)?;
+/// assert_eq!(rt; (answer.written, answer.status.is_enough()), (41, false));
+/// assert!(rt; text.starts_with(b"groups 1 of 2\ngroup 1 members 1 of 1 1.0\n"));
+/// ```
+pub fn status_lines(lines: &[u8], text: &mut [u8]) -> Result<WrittenStatus, Unwritten>
+    ensures { PutsStatus (IsStatusOutput (whole lines.now)) text.old text.new result }
+{
+    let (set, status) = status_in(lines)?;
+    let written = put_status(&set, status, text)?;
+    Ok(WrittenStatus { written, status })
+}
+
+/// The set of the shares of lines in memory, and its status.
+fn status_in(lines: &[u8]) -> Result<(ShareSet, Status), Fault>
+    ensures found { IfOk result (λ found.
+        IsStatusOutput (whole lines.now) (status_text found.0 found.1) (Ok found.1)) }
+    ensures refused { IfErr result (λ fault. IsStatusOutput (whole lines.now) [] (Err fault)) }
+{
+    let set = set_in(lines)?;
+    let Some(status) = status_of(&set) else {
+        return Err(Fault::from(SetLack::NoShares));
+    };
+    Ok((set, status))
+}
+
+/// Puts the first line and the lines of the groups at the front of a slice, if they fit.
+fn put_status(set: &ShareSet, status: Status, text: &mut [u8]) -> Result<usize, TooShort>
+    ensures put { IfOk result (λ written. IsInFront (status_text set.now status) text.old text.new
+        × (written ≡ length (status_text set.now status))) }
+    ensures short { IfErr result (λ short. (short.needed ≡ length (status_text set.now status))
+        × (length text.old < length (status_text set.now status)) × (text.new ≡ text.old)) }
+{
+    let needed = length_of(set, status);
+    if text.len() < needed {
+        return Err(TooShort { needed });
+    }
+    copy_status(set, status, text);
+    Ok(needed)
+}
+
+/// How many bytes the first line and the lines of the groups have.
+fn length_of(set: &ShareSet, status: Status) -> usize
+    ensures { result ≡ length (status_text set.now status) }
+{
+    let mut needed = first_line(status).len();
+    for group in 0..MAX_GROUPS {
+        needed += group_text(set, group).len();
+    }
+    needed
+}
+
+/// Puts the first line and the lines of the groups at the front of a slice, in which they fit.
+fn copy_status(set: &ShareSet, status: Status, out: &mut [u8])
+    requires { length (status_text set.now status) ≤ length out.old }
+    ensures { out.new ≡ status_text set.now status
+        ++ drop (length (status_text set.now status)) out.old }
+{
+    let line = first_line(status);
+    put(out, 0, line.as_slice());
+    let mut written = line.len();
+    for group in 0..MAX_GROUPS {
+        let line = group_text(set, group);
+        put(out, written, line.as_slice());
+        written += line.len();
+    }
+}
+
+/// Writes the first line, and the lines of the groups.
+fn write_status<W: Write>(
+    output: &mut Counting<W>,
+    set: &ShareSet,
+    status: Status,
+) -> Result<(), WriteFailed>
+    requires { output.old.failures < u64.MAX }
+    ensures { WritesText W.contents output.old (status_text set.now status) result output.new }
+{
+    write_text(output, first_line(status).as_slice())?;
+    for group in 0..MAX_GROUPS {
+        write_text(output, group_text(set, group).as_slice())?;
+    }
+    Ok(())
+}
+
+/// The first line.
+fn first_line(status: Status) -> Line
+    ensures { result.items ≡ first_line status }
+{
+    let mut line = Line::new();
+    push_field(&mut line, b"groups ", u16::from(status.complete));
+    push_field(&mut line, b" of ", u16::from(status.required));
+    line.push(b'\n');
+    line
+}
+
+/// The line of a group, or nothing if none of its shares is at hand.
+fn group_text(set: &ShareSet, group: u8) -> Line
+    requires { group < most_groups }
+    ensures { result.items ≡ group_text (group_status_of set.now group) }
+{
+    match group_status_of(set, group) {
+        Some(status) => group_line(&status),
+        None => Line::new(),
+    }
+}
+
+/// The line of a group.
+fn group_line(status: &GroupStatus) -> Line
+    ensures { result.items ≡ group_line status.now }
+{
+    let names = status.names.pairs();
+    let mut line = Line::new();
+    push_field(&mut line, b"group ", u16::from(status.group));
+    push_field(&mut line, b" members ", names.len() as u16);
+    push_field(&mut line, b" of ", u16::from(status.threshold));
+    line.push(b' ');
+    push_names(&mut line, names);
+    line.push(b'\n');
+    line
+}

@@ -1,0 +1,11 @@
+pub mod ThreePlaces
+pub mod LostWords
+pub mod Choices
+pub mod Polynomials
+pub mod TextMarks
+pub mod Candidates
+pub mod MarksRead
+pub mod Flags
+pub mod WrongPlaces
+pub mod Wholes
+pub mod ComesBack

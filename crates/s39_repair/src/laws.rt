@@ -1,0 +1,44 @@
+//! Facts about the definitions. Each is the contract of a function that does nothing.
+ghost use Rattle.std.specs.Prelude.{◌≡◌, ◌≢◌, ◌<◌, ◌≤◌, ◌⊎◌, ℕ, suc, List, All, Contains, Ok, Some, Result, length, slice_index};
+ghost use Rattle.s39_words.specs.Layout.{IsIndex, most_words};
+ghost use Rattle.s39_words.specs.Spelling.{Spells};
+ghost use Rattle.s39_words.specs.declared.share.ShareFields.{ShareFields};
+ghost use Rattle.s39_repair.specs.Answer.{most_open, AreWrongWords, Repairs};
+ghost use Rattle.s39_repair.specs.Marks.{open_count, spelling, Fits};
+ghost use Rattle.s39_repair.specs.Sums.{ArePlaces, AgreeElsewhere};
+ghost use Rattle.s39_repair.specs.declared.repair_error.RepairError.{RepairError};
+ghost use Rattle.s39_repair.specs.declared.repaired.Repaired.{Repaired};
+
+/// What was lost comes back: if at most three places of a line are open, a mnemonic that fits is in the answer.
+pub fn lost_words_come_back()
+    ensures { (line mnemonic : List ℕ) (share : ShareFields) (answer : Result Repaired RepairError)
+        → Fits line mnemonic share → open_count line ≤ most_open → Repairs line answer
+        → (repaired : Repaired) × (answer ≡ Ok repaired)
+        × ((share ≡ repaired.first) ⊎ (Some share ≡ repaired.second)) }
+{}
+
+/// Two mnemonics with the same flag that agree but at three places are the same. So if at most three places are open or
+/// misread, no other mnemonic with this flag fits.
+pub fn mnemonics_differ_in_four_places()
+    ensures { (mnemonic other : List ℕ) (share found : ShareFields) (i j k : ℕ) → ArePlaces i j k
+        → AgreeElsewhere mnemonic other i j k → All IsIndex mnemonic → All IsIndex other
+        → Spells (spelling mnemonic) share → Spells (spelling other) found
+        → share.extendable ≡ found.extendable → other ≡ mnemonic }
+{}
+
+/// One wrong word is found: if another word in one place gives a mnemonic, the position of this place is among those of
+/// the wrong words.
+pub fn one_wrong_word_is_named()
+    ensures { (words positions mnemonic : List ℕ) (share : ShareFields) (place : ℕ)
+        → place < length words → length words ≡ length mnemonic → All IsIndex mnemonic
+        → ((p : ℕ) → p ≢ place → slice_index words p ≡ slice_index mnemonic p)
+        → Spells (spelling mnemonic) share → AreWrongWords words positions
+        → Contains positions (suc place) }
+{}
+
+/// At most two positions are named.
+pub fn at_most_two_wrong_words()
+    ensures { (words positions : List ℕ) → All IsIndex words → length words ≤ most_words
+        → ((share : ShareFields) → ¬ Spells (spelling words) share)
+        → AreWrongWords words positions → length positions ≤ 2 }
+{}

@@ -1,9 +1,0 @@
-pub mod Steps
-pub mod Taking
-pub mod Sets
-pub mod Texts
-pub mod Runs
-pub mod Drills
-pub mod Statuses
-pub mod Reissues
-pub mod Lengths

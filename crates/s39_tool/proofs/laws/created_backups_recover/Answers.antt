@@ -1,7 +1,0 @@
-use Rattle.s39_tool.proofs.Runs.Recovering.{recovers_created}
-use Rattle.s39_tool.proofs.laws.created_backups_recover.Goals as goal
-
-pub returns : goal.returns
-returns c = λ form.
-    recovers_created c.quorum_or_lack.ensures form c.accepted_inputs_are_share_sets.ensures (c.one_recover_output.ensures form) c.every_quorum_recovers.ensures
-    c.mnemonics_of_a_backup_are_a_set.ensures

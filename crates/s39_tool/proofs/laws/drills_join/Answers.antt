@@ -1,5 +1,0 @@
-use Rattle.s39_tool.proofs.Drills.OneDrill.{drills_join}
-use Rattle.s39_tool.proofs.laws.drills_join.Goals as goal
-
-pub returns : goal.returns
-returns c = λ form set. drills_join c.listings_join.ensures.parts set

@@ -1,5 +1,0 @@
-use Rattle.s39_tool.proofs.Sets.OneSet.{read_once}
-use Rattle.s39_tool.proofs.laws.one_set.Goals as goal
-
-pub returns : goal.returns
-returns c = read_once c.sets_are_their_shares.ensures c.one_reading.ensures

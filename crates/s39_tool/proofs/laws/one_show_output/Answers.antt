@@ -1,5 +1,0 @@
-use Rattle.s39_tool.proofs.Runs.ShowOutput.{output_once}
-use Rattle.s39_tool.proofs.laws.one_show_output.Goals as goal
-
-pub returns : goal.returns
-returns c = output_once c.one_reading.ensures

@@ -1,9 +1,0 @@
-use Rattle.s39_tool.specs.Recover.{WritesSecret}
-use Rattle.s39_tool.proofs.Sets.Checked.{output_some}
-use Rattle.s39_tool.proofs.Runs.Recovering.{some_secret}
-use Rattle.s39_tool.proofs.laws.some_recover_output.Goals as goal
-
-pub returns : goal.returns
-returns c = λ form passphrase input.
-    output_some c.one_checked_set.ensures (WritesSecret form passphrase) passphrase input
-    (some_secret c.quorum_or_lack.ensures form c.every_quorum_has_an_outcome.ensures passphrase)

@@ -1,5 +1,0 @@
-use Rattle.s39_tool.proofs.Runs.ShowOutput.{some_output}
-use Rattle.s39_tool.proofs.laws.some_show_output.Goals as goal
-
-pub returns : goal.returns
-returns c = some_output c.every_text_has_a_reading.ensures

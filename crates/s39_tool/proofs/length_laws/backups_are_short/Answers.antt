@@ -1,5 +1,0 @@
-use Rattle.s39_tool.proofs.Lengths.Backups.{backup_short}
-use Rattle.s39_tool.proofs.length_laws.backups_are_short.Goals as goal
-
-pub returns : goal.returns
-returns c = backup_short c.printed_forms.ensures.short
