@@ -2,8 +2,8 @@
  * shamir.h: SLIP-0039 backups of a master secret, for C and C++.
  *
  * The library creates backups, reads mnemonics, recovers secrets and runs drills. It also reports whether mnemonics are enough
- * for a recovery, and computes lost mnemonics and fingerprints of secrets. docs/LIBRARY.md introduces it with examples, and the
- * manual page shamir(3) is a reference.
+ * for a recovery, computes lost mnemonics and fingerprints of secrets, and lists words of the word list. docs/LIBRARY.md
+ * introduces it with examples, and the manual page shamir(3) is a reference.
  *
  * A backup consists of mnemonics, which are lines of words. A mnemonic spells a share, which has fields and a value: the bytes
  * that a recovery combines. shamir_parse gives both. Each mnemonic is a member of a group. Groups and members are numbered from
@@ -43,8 +43,12 @@
 #include <stddef.h>
 #include <stdint.h>
 
-/* The version of this header. shamir_version gives the version of the library. */
+/*
+ * The version of this header, as a text and as a number. shamir_version gives the version of the library. The number is
+ * 1000000 * A + 1000 * B + C for the version A.B.C, so a later version has a greater number.
+ */
 #define SHAMIR_VERSION "1.0.0"
+#define SHAMIR_VERSION_NUMBER 1000000
 
 #ifdef __cplusplus
 extern "C" {
@@ -79,6 +83,13 @@ extern "C" {
 /* An output buffer of this length is enough for every call of shamir_drill. */
 #define SHAMIR_LISTING_BYTES_ENOUGH 2700
 
+/* The maximum length of the output of shamir_words: that of all 1,024 words, with a line feed after each. */
+#define SHAMIR_WORDS_BYTES_MAX 7231
+
+/* The forms in which a listing of shamir_drill tells secrets: their digits, or their fingerprints. */
+#define SHAMIR_FORM_DIGITS 0
+#define SHAMIR_FORM_FINGERPRINTS 1
+
 /* The maximum length of the output of shamir_text. */
 #define SHAMIR_TEXT_BYTES_MAX 64
 
@@ -88,58 +99,65 @@ extern "C" {
 /* The maximum number of bytes of stack that a call uses. It is measured, not proved. */
 #define SHAMIR_STACK_BYTES 524288
 
-/* If the code is SHAMIR_DIGEST_MISMATCH, first is the group whose digest doesn't match, or this number for the group shares. */
+/* If the code is SHAMIR_E_DIGEST_MISMATCH, first is the group whose digest doesn't match, or this number for the group shares. */
 #define SHAMIR_OF_GROUPS 16
 
-/* These attributes let a compiler warn if an answer is ignored, or if a pointer to a struct is NULL. */
+/*
+ * These attributes let a compiler warn if an answer is ignored, or if a pointer to a struct is NULL. GCC warns of an ignored
+ * answer even if the call is cast to void. If you mean to ignore an answer, assign it to a variable, and cast that variable to
+ * void. The answer of shamir_text can be ignored without a warning, also with a cast to void (SHAMIR_CALL_IGNORABLE).
+ */
 #if defined(__GNUC__)
 #define SHAMIR_CALL __attribute__((visibility("default"), warn_unused_result))
+#define SHAMIR_CALL_IGNORABLE __attribute__((visibility("default")))
 #define SHAMIR_STRUCT(position) __attribute__((nonnull(position)))
 #else
 #define SHAMIR_CALL
+#define SHAMIR_CALL_IGNORABLE
 #define SHAMIR_STRUCT(position)
 #endif
 
 /*
  * The codes of an answer. A call that refuses gives the code of the first cause that applies. The command shamir uses the
  * same numbers, except 1 to 3, which only the library gives. Each comment says what the fields "first" and "second" of such
- * a refusal are. A field that it doesn't mention is 0. Groups and members are numbered from 0.
+ * a refusal are. A field that it doesn't mention is 0. Groups and members are numbered from 0. A later library of the same name
+ * may give further codes, so treat any other code as a refusal too.
  */
 typedef enum shamir_code {
-    SHAMIR_DONE = 0,                    /* the call succeeded */
-    SHAMIR_TOO_SHORT = 1,               /* the output buffer is too short; first: the number of bytes needed */
-    SHAMIR_OUT_OF_RANGE = 2,            /* a number is out of range */
-    SHAMIR_HIGH_EXPONENT = 3,           /* the exponent of the mnemonics is above max_exponent; first: this exponent */
-    SHAMIR_UNKNOWN_WORD = 11,           /* a word isn't in the word list; first: which word of the line it is, from 1 */
-    SHAMIR_WORD_COUNT = 12,             /* a mnemonic can't have this number of words; first: the number of words */
-    SHAMIR_BAD_CHECKSUM = 13,           /* the checksum is wrong */
-    SHAMIR_BAD_PADDING = 14,            /* a padding bit isn't 0 */
-    SHAMIR_GROUP_THRESHOLD = 15,        /* the group threshold is above the group count */
-    SHAMIR_OTHER_IDENTIFIER = 21,       /* the identifier differs from that of earlier lines */
-    SHAMIR_OTHER_EXTENDABLE = 22,       /* the extendable flag differs from that of earlier lines */
-    SHAMIR_OTHER_EXPONENT = 23,         /* the iteration exponent differs from that of earlier lines */
-    SHAMIR_OTHER_GROUP_THRESHOLD = 24,  /* the group threshold differs from that of earlier lines */
-    SHAMIR_OTHER_GROUP_COUNT = 25,      /* the group count differs from that of earlier lines */
-    SHAMIR_OTHER_LENGTH = 26,           /* the length of the value differs from that of earlier lines */
-    SHAMIR_OTHER_MEMBER_THRESHOLD = 27, /* the group has another member threshold in earlier lines; first: the group */
-    SHAMIR_CONFLICTING_SHARE = 28,      /* this name has another value in an earlier line; first: the group, second: the member */
-    SHAMIR_NO_SHARES = 29,              /* no line holds a mnemonic */
-    SHAMIR_INCOMPLETE = 30,             /* too few groups are complete; first: how many are, second: the group threshold */
-    SHAMIR_BAD_PLAN = 31,               /* the text isn't a plan */
-    SHAMIR_PLAN_GROUPS = 32,            /* the plan has more than 16 groups, or fewer than its group threshold */
-    SHAMIR_PLAN_MEMBERS = 33,           /* a group has more than 16 members, or fewer than its threshold; first: the group */
-    SHAMIR_ONE_OF_MANY = 34,            /* a group has several members and the member threshold 1; first: the group */
-    SHAMIR_PASSPHRASE = 41,             /* a byte of the passphrase isn't printable ASCII; first: which byte it is, from 1 */
-    SHAMIR_SECRET_LENGTH = 42,          /* a secret can't have this number of bytes; first: the number of bytes */
-    SHAMIR_RANDOM_LENGTH = 43,          /* the number of random bytes is wrong; first: the number of bytes needed */
-    SHAMIR_DIGEST_MISMATCH = 51,        /* a digest doesn't match; first: the group, or SHAMIR_OF_GROUPS for the group shares */
-    SHAMIR_BAD_CURSOR = 61,             /* the cursor isn't a list of names */
-    SHAMIR_NOT_A_QUORUM = 62,           /* the cursor doesn't name a quorum of these mnemonics */
-    SHAMIR_BAD_NAMES = 63,              /* the text isn't a list of names */
-    SHAMIR_NOT_IN_PLAN = 64,            /* a name isn't in the plan; first: the group, second: the member */
-    SHAMIR_OTHER_PLAN = 65,             /* a mnemonic can't belong to a backup of this plan */
-    SHAMIR_UNDETERMINED = 66,           /* a mnemonic isn't determined; first: 256 * group + member, second: see shamir_reissue */
-    SHAMIR_LINE_TOO_LONG = 71           /* a line has more than SHAMIR_LINE_BYTES_MAX bytes */
+    SHAMIR_DONE = 0,                      /* the call succeeded */
+    SHAMIR_E_TOO_SHORT = 1,               /* the output buffer is too short; first: the number of bytes needed */
+    SHAMIR_E_OUT_OF_RANGE = 2,            /* a number is out of range */
+    SHAMIR_E_HIGH_EXPONENT = 3,           /* the exponent of the mnemonics is above max_exponent; first: this exponent */
+    SHAMIR_E_UNKNOWN_WORD = 11,           /* a word isn't in the word list; first: which word of the line it is, from 1 */
+    SHAMIR_E_WORD_COUNT = 12,             /* a mnemonic can't have this number of words; first: the number of words */
+    SHAMIR_E_BAD_CHECKSUM = 13,           /* the checksum is wrong */
+    SHAMIR_E_BAD_PADDING = 14,            /* a padding bit isn't 0 */
+    SHAMIR_E_GROUP_THRESHOLD = 15,        /* the group threshold is above the group count */
+    SHAMIR_E_OTHER_IDENTIFIER = 21,       /* the identifier differs from that of earlier lines */
+    SHAMIR_E_OTHER_EXTENDABLE = 22,       /* the extendable flag differs from that of earlier lines */
+    SHAMIR_E_OTHER_EXPONENT = 23,         /* the iteration exponent differs from that of earlier lines */
+    SHAMIR_E_OTHER_GROUP_THRESHOLD = 24,  /* the group threshold differs from that of earlier lines */
+    SHAMIR_E_OTHER_GROUP_COUNT = 25,      /* the group count differs from that of earlier lines */
+    SHAMIR_E_OTHER_LENGTH = 26,           /* the length of the value differs from that of earlier lines */
+    SHAMIR_E_OTHER_MEMBER_THRESHOLD = 27, /* the group has another member threshold in earlier lines; first: the group */
+    SHAMIR_E_CONFLICTING_SHARE = 28,      /* this name has another value in an earlier line; first: the group, second: the member */
+    SHAMIR_E_NO_SHARES = 29,              /* no line holds a mnemonic */
+    SHAMIR_E_INCOMPLETE = 30,             /* too few groups are complete; first: how many are, second: the group threshold */
+    SHAMIR_E_BAD_PLAN = 31,               /* the text isn't a plan */
+    SHAMIR_E_PLAN_GROUPS = 32,            /* the plan has more than 16 groups, or fewer than its group threshold */
+    SHAMIR_E_PLAN_MEMBERS = 33,           /* a group has more than 16 members, or fewer than its threshold; first: the group */
+    SHAMIR_E_ONE_OF_MANY = 34,            /* a group has several members and the member threshold 1; first: the group */
+    SHAMIR_E_PASSPHRASE = 41,             /* a byte of the passphrase isn't printable ASCII; first: which byte it is, from 1 */
+    SHAMIR_E_SECRET_LENGTH = 42,          /* a secret can't have this number of bytes; first: the number of bytes */
+    SHAMIR_E_RANDOM_LENGTH = 43,          /* the number of random bytes is wrong; first: the number of bytes needed */
+    SHAMIR_E_DIGEST_MISMATCH = 51,        /* a digest doesn't match; first: the group, or SHAMIR_OF_GROUPS for the group shares */
+    SHAMIR_E_BAD_CURSOR = 61,             /* the cursor isn't a list of names */
+    SHAMIR_E_NOT_A_QUORUM = 62,           /* the cursor doesn't name a quorum of these mnemonics */
+    SHAMIR_E_BAD_NAMES = 63,              /* the text isn't a list of names */
+    SHAMIR_E_NOT_IN_PLAN = 64,            /* a name isn't in the plan; first: the group, second: the member */
+    SHAMIR_E_OTHER_PLAN = 65,             /* a mnemonic can't belong to a backup of this plan */
+    SHAMIR_E_UNDETERMINED = 66,           /* a mnemonic isn't determined; first: 256 * group + member, second: see shamir_reissue */
+    SHAMIR_E_LINE_TOO_LONG = 71           /* a line has more than SHAMIR_LINE_BYTES_MAX bytes */
 } shamir_code;
 
 /*
@@ -147,7 +165,8 @@ typedef enum shamir_code {
  *
  * line is the number of the refused line, counted from 1, for the codes 11 to 28 and 71 of calls that take lines. Otherwise
  * it is 0. Only shamir_drill sets the field "mismatches"; in answers of other calls this field is 0. first and second are the
- * details of a refusal, or results of shamir_random_needed and shamir_status. Otherwise they are 0.
+ * details of a refusal. After success, first is a result of shamir_random_needed, shamir_create, shamir_drill and shamir_status,
+ * and second is one of shamir_drill and shamir_status. Otherwise they are 0.
  */
 typedef struct shamir_answer {
     uint32_t code;       /* a shamir_code: SHAMIR_DONE, or the cause of the refusal */
@@ -198,7 +217,8 @@ shamir_answer shamir_parse(const char *line, size_t line_bytes, shamir_share *sh
  *
  * secret_bytes is the length of the master secret.
  *
- * The call refuses with the first of these that applies: 31 to 34, 42.
+ * The call refuses with the first of these that applies: 31 to 34, 42. The groups of a plan are judged one after the other, so
+ * the first group that can't be in a plan is refused: 2/1of3,5of2 with 34 for group 0, and not with 33 for group 1.
  *
  *     shamir_answer answer = shamir_random_needed("2of3", 4, 16);
  *     size_t random_bytes = (size_t)answer.first;
@@ -218,6 +238,17 @@ shamir_answer shamir_random_needed(const char *plan, size_t plan_bytes, size_t s
  *               them
  * mnemonics     the output: the mnemonics in the order of groups and members, with a line feed after each; an output buffer
  *               of SHAMIR_MNEMONICS_BYTES_MAX bytes is always enough
+ *
+ * After success, the field first of the answer is the number of mnemonics.
+ *
+ * Set the extendable flag of a new backup, as the example does. A later backup of the same secret, with the same passphrase and
+ * exponent and this flag, then gives the same secret as the first with every other passphrase too. Leave the flag out only if a
+ * wallet that has to read the backup doesn't know it, because the flag came into the standard later than the rest. For that
+ * reason, the command shamir leaves it out unless it is asked for.
+ *
+ * With a passphrase, give a new backup the exponent 1, as the standard's reference implementation does, or a greater one. The
+ * exponent slows down only guesses of the passphrase, so without one, as in the example, 0 is enough. The command takes 0 by
+ * default. Each step doubles the time of a guess, and of each recovery too, which takes longest in a hardware wallet.
  *
  * The call takes 10,000 * 2^exponent iterations of PBKDF2, and twice as many for a secret of more than 64 bytes. If mnemonics
  * is too short, the call refuses with 1 only after these iterations, and first is the length of all mnemonics.
@@ -244,10 +275,10 @@ shamir_answer shamir_create(
  * SHAMIR_SECRET_BYTES_MAX. A wrong passphrase isn't detected: it gives another secret.
  *
  * The exponent of the mnemonics determines how long the call takes: 10,000 * 2^exponent iterations of PBKDF2, and twice as
- * many for a secret of more than 64 bytes. With the exponent 15 these take minutes. The call refuses with 3 if no line is
- * refused, the mnemonics have a quorum, and their exponent is above max_exponent. This refusal comes before any iteration.
- * SHAMIR_EXPONENT_MAX or a greater number allows every exponent. If secret is too short, the call refuses with 1 only after
- * the iterations.
+ * many for a secret of more than 64 bytes. With the exponent 15 these take minutes. If no line is refused, the mnemonics have
+ * a quorum, and their exponent is above max_exponent, the call refuses with 3 before any iteration, whatever else it could
+ * refuse. SHAMIR_EXPONENT_MAX or a greater number allows every exponent. If secret is too short, the call refuses with 1 only
+ * after the iterations.
  *
  * The call refuses with the first of these that applies: 3, 41, the code of the first refused line (11 to 28, 71), 29, 30,
  * 51, 1.
@@ -267,9 +298,14 @@ shamir_answer shamir_recover(
  * call starts with the first quorum. If it names a quorum, such as 0.0+0.2+1.0, the call starts with the next one. The call
  * lists at most limit quorums, and limit is 1 or more.
  *
+ * The parameter "form" says how a line tells the secret that its quorum recovers. For SHAMIR_FORM_DIGITS, the line has the secret
+ * itself. For SHAMIR_FORM_FINGERPRINTS, it has the fingerprint of the secret, as shamir_fingerprint gives it, and the call writes
+ * no secret.
+ *
  * The listing goes to the start of text, in the format of the command drill. It has a line for each quorum, and a last line:
  *
- *     NAMES SECRET                        the quorum recovers this secret, in lower-case hexadecimal digits
+ *     NAMES SECRET                        the quorum recovers this secret, in lower-case hexadecimal digits; or SECRET is its
+ *                                         fingerprint
  *     NAMES digest mismatch in group G    G is the lowest group whose digest doesn't match
  *     NAMES digest mismatch of groups     the digest of the group shares doesn't match
  *     end                                 this last line says that no quorum is left
@@ -277,8 +313,10 @@ shamir_answer shamir_recover(
  *
  * A line feed ends every line. NAMES are the names of a quorum in ascending order, joined by plus signs. In the last line they
  * are those of the last quorum listed. Names are ordered by their group, and then by their member, as numbers: 0.2 comes before
- * 0.10. Quorums come in ascending order: they are compared by their first names, then by their second names, and so on. The
- * field "mismatches" of the answer is the number of listed quorums with a digest mismatch. A digest mismatch is no refusal here.
+ * 0.10. Quorums come in ascending order: they are compared by their first names, then by their second names, and so on.
+ *
+ * After success, the field first of the answer is the number of listed quorums, and second is the offset of the last line in
+ * text. The field "mismatches" is the number of listed quorums with a digest mismatch. A digest mismatch is no refusal here.
  *
  * The call stops at the limit. It also stops before the first quorum whose line, with the last line after it, doesn't fit
  * into text. A loop that passes the cursor in each last line to the next call lists every quorum exactly once. Copy the cursor
@@ -294,16 +332,17 @@ shamir_answer shamir_recover(
  * drill of a large backup takes many times as long if each call lists only one quorum. If text is too short for one quorum, the
  * call refuses with 1 only after the iterations.
  *
- * The call refuses with the first of these that applies: 3 (as for shamir_recover), 2 (a limit of 0), 61, 41, the code of the
- * first refused line (11 to 28, 71), 29, 30, 62, 1.
+ * The call refuses with the first of these that applies: 3 (as for shamir_recover), 2 (a limit of 0, or a form above 1), 61, 41,
+ * the code of the first refused line (11 to 28, 71), 29, 30, 62, 1.
  *
  *     shamir_answer answer = shamir_drill(
- *         lines, lines_bytes, "TREZOR", 6, SHAMIR_EXPONENT_MAX, after, after_bytes, 1000, text, sizeof text);
+ *         lines, lines_bytes, "TREZOR", 6, SHAMIR_EXPONENT_MAX, after, after_bytes, 1000, SHAMIR_FORM_FINGERPRINTS, text, sizeof text);
+ *     const char *last_line = text + answer.second;
  */
 SHAMIR_CALL
 shamir_answer shamir_drill(
     const char *lines, size_t lines_bytes, const char *passphrase, size_t passphrase_bytes, uint32_t max_exponent, const char *after,
-    size_t after_bytes, uint32_t limit, char *text, size_t text_bytes);
+    size_t after_bytes, uint32_t limit, uint32_t form, char *text, size_t text_bytes);
 
 /*
  * Reports how many members of each group are among mnemonics, and whether the mnemonics are enough for a recovery.
@@ -380,6 +419,23 @@ SHAMIR_CALL
 shamir_answer shamir_fingerprint(const uint8_t *secret, size_t secret_bytes, char *text, size_t text_bytes);
 
 /*
+ * Lists the words of the word list that begin with some letters, such as those that somebody has typed so far.
+ *
+ * The words come in the order of the list, with a line feed after each. Upper-case letters count as lower-case ones. No word
+ * begins with any other byte. If there are no letters, the call gives all 1,024 words. If no word begins with the letters, it
+ * writes nothing, and the code is still SHAMIR_DONE.
+ *
+ * The words go to the start of text. SHAMIR_WORDS_BYTES_MAX bytes are always enough.
+ *
+ * The only refusal is 1.
+ *
+ *     char text[SHAMIR_WORDS_BYTES_MAX];
+ *     shamir_answer answer = shamir_words("em", 2, text, sizeof text);
+ */
+SHAMIR_CALL
+shamir_answer shamir_words(const char *letters, size_t letters_bytes, char *text, size_t text_bytes);
+
+/*
  * Gives the text of an answer, without its code and its line. For the same refusal, the command shamir prints the same text.
  *
  * The call writes the text of the answer to the start of the output buffer. SHAMIR_TEXT_BYTES_MAX bytes are always enough. The
@@ -393,7 +449,7 @@ shamir_answer shamir_fingerprint(const uint8_t *secret, size_t secret_bytes, cha
  *     shamir_answer told = shamir_text(&answer, text, sizeof text);
  *     printf("%.*s\n", (int)told.written, text);
  */
-SHAMIR_CALL SHAMIR_STRUCT(1)
+SHAMIR_CALL_IGNORABLE SHAMIR_STRUCT(1)
 shamir_answer shamir_text(const shamir_answer *answer, char *text, size_t text_bytes);
 
 /*

@@ -125,6 +125,7 @@ typedef struct drill_example {
     uint32_t max_exponent;
     const char *after;
     uint32_t limit;
+    uint32_t form;
     size_t room;
     wanted answer;
     uint32_t mismatches;
@@ -143,6 +144,12 @@ typedef struct fingerprint_example {
     const char *text;
 } fingerprint_example;
 
+typedef struct words_example {
+    const char *letters;
+    wanted answer;
+    const char *text;
+} words_example;
+
 typedef struct reissue_example {
     const char *plan;
     const char *names;
@@ -152,6 +159,7 @@ typedef struct reissue_example {
 } reissue_example;
 
 #define DONE {0, 0, 0, 0, "done"}
+#define DONE_WITH(first, second) {0, 0, first, second, "done"}
 /* The vector of two mnemonics has the exponent 2. */
 #define HIGH {3, 0, 2, 0, "exponent 2 above the maximum"}
 #define NO_SHARE {65535, 255, 255, 255, 255, 255, 255, 255}
@@ -176,14 +184,17 @@ static const number_example number_examples[] = {
     {FIVE_PLAN, 32, {0, 0, 58, 0, "done"}},
     {FIVE_PLAN, 15, {42, 0, 15, 0, "secret of 15 bytes"}},
     {"2/2of2,1of2", 15, {34, 0, 1, 0, "one of many in plan group 1"}},
+    /* The groups are judged one after the other. Group 1 alone would be refused with 33. */
+    {"2/1of3,5of2", 16, {34, 0, 0, 0, "one of many in plan group 0"}},
+    {"2/3of3,5of2", 16, {33, 0, 1, 0, "bad number of members in plan group 1"}},
     {NULL, 15, {31, 0, 0, 0, "bad plan"}}
 };
 
 static const create_example create_examples[] = {
-    {"1of1", SECRET, KEY, 0, "1f09", DONE, {ONE}},
-    {"2of3", TWO_SECRET, KEY, 2, "64359164e7a006aadd75179d6d5c", DONE, {TWO_0, TWO_1, TWO_2}},
-    {FIVE_PLAN, SECRET, KEY, 0, FIVE_RANDOM, DONE, {FIVE}},
-    {"1of1", "3972a9318cf16a33ee9b0564c5a0bd0b", NULL, 0, "1f09", DONE, {ONE}},
+    {"1of1", SECRET, KEY, 0, "1f09", DONE_WITH(1, 0), {ONE}},
+    {"2of3", TWO_SECRET, KEY, 2, "64359164e7a006aadd75179d6d5c", DONE_WITH(3, 0), {TWO_0, TWO_1, TWO_2}},
+    {FIVE_PLAN, SECRET, KEY, 0, FIVE_RANDOM, DONE_WITH(5, 0), {FIVE}},
+    {"1of1", "3972a9318cf16a33ee9b0564c5a0bd0b", NULL, 0, "1f09", DONE_WITH(1, 0), {ONE}},
     {NULL, NULL, "a\x07", 16, NULL, {2, 0, 0, 0, "number out of range"}, {NULL}},
     {NULL, NULL, "a\x07", 0, NULL, {31, 0, 0, 0, "bad plan"}, {NULL}},
     {FIVE_PLAN, NULL, "a\x07", 0, NULL, {41, 0, 2, 0, "passphrase byte 2 not printable"}, {NULL}},
@@ -210,34 +221,45 @@ static const recover_example recover_examples[] = {
 };
 
 #define LISTED(names) names " " SECRET "\n"
+/* A line with the fingerprint of this secret. */
+#define TOLD(names) names " df41d8fe\n"
 #define FIRST_PART LISTED("0.0+0.1+1.0") LISTED("0.0+0.1+2.0") LISTED("0.0+0.2+1.0") LISTED("0.0+0.2+2.0") "more after 0.0+0.2+2.0\n"
 #define LAST_PART LISTED("0.1+0.2+1.0") LISTED("0.1+0.2+2.0") LISTED("1.0+2.0") "end\n"
 
 /* In a listing of the five, a line of a quorum of three has 45 bytes. The last line has 23 bytes, unless it is "end". */
 static const drill_example drill_examples[] = {
-    {{ONE}, KEY, 0, NULL, 9, 41, DONE, 0, LISTED("0.0") "end\n"},
-    {{TWO_0, TWO_2}, KEY, 2, "", 9, 45, DONE, 0, "0.0+0.2 " TWO_SECRET "\nend\n"},
-    {{TWO_0, TWO_2}, KEY, 1, "", 9, 45, HIGH, 0, ""},
-    {{TWO_0, TWO_2}, "a\x07", 0, "0.1+", 0, 0, HIGH, 0, ""},
-    {{FIVE}, KEY, SHAMIR_EXPONENT_MAX, NULL, 4, 203, DONE, 0, FIRST_PART},
-    {{FIVE}, KEY, SHAMIR_EXPONENT_MAX, NULL, 9, 247, DONE, 0, FIRST_PART},
-    {{FIVE}, KEY, SHAMIR_EXPONENT_MAX, "0.0+0.2+2.0", 9, 135, DONE, 0, LAST_PART},
-    {{FIVE}, KEY, SHAMIR_EXPONENT_MAX, "0.1+0.2+2.0", 9, 45, DONE, 0, LISTED("1.0+2.0") "end\n"},
-    {{FIVE}, KEY, SHAMIR_EXPONENT_MAX, "1.0+2.0", 1, 4, DONE, 0, "end\n"},
-    {{UNEVEN_0, UNEVEN_1}, NULL, 0, NULL, 1, 39, DONE, 1, "0.0+0.1 digest mismatch in group 0\nend\n"},
-    {{UNEVEN_GROUP_0, UNEVEN_GROUP_1}, "", 0, "", 1, ROOM_BYTES, DONE, 1, "0.0+1.0 digest mismatch of groups\nend\n"},
-    {{FIVE}, KEY, SHAMIR_EXPONENT_MAX, NULL, 9, 67, {1, 0, 68, 0, "buffer too short: 68 bytes needed"}, 0, ""},
-    {{FIVE}, KEY, SHAMIR_EXPONENT_MAX, "0.0+0.2+2.0", 9, 0, {1, 0, 68, 0, "buffer too short: 68 bytes needed"}, 0, ""},
-    {{FIVE}, KEY, SHAMIR_EXPONENT_MAX, "1.0+2.0", 9, 3, {1, 0, 4, 0, "buffer too short: 4 bytes needed"}, 0, ""},
-    {{UNEVEN_0, UNEVEN_1}, NULL, 0, NULL, 9, 38, {1, 0, 39, 0, "buffer too short: 39 bytes needed"}, 0, ""},
-    {{ONE}, KEY, 0, NULL, 9, 40, {1, 0, 41, 0, "buffer too short: 41 bytes needed"}, 0, ""},
-    {{ONE_WRONG}, KEY, 0, NULL, 9, ROOM_BYTES, {13, 1, 0, 0, "bad checksum"}, 0, ""},
-    {{NULL}, "a\x07", 0, "0.1+", 0, ROOM_BYTES, {2, 0, 0, 0, "number out of range"}, 0, ""},
-    {{NULL}, "a\x07", 0, "0.1+", 1, ROOM_BYTES, {61, 0, 0, 0, "bad cursor"}, 0, ""},
-    {{NULL}, "a\x07", 0, "0.1", 1, ROOM_BYTES, {41, 0, 2, 0, "passphrase byte 2 not printable"}, 0, ""},
-    {{NULL}, NULL, 0, "0.1", 1, ROOM_BYTES, {29, 0, 0, 0, "no shares"}, 0, ""},
-    {{TWO_2}, NULL, 0, "0.1", 1, ROOM_BYTES, {30, 0, 0, 1, "incomplete: 0 of 1 groups"}, 0, ""},
-    {{FIVE}, NULL, SHAMIR_EXPONENT_MAX, "0.1", 1, ROOM_BYTES, {62, 0, 0, 0, "cursor is no quorum"}, 0, ""}
+    {{ONE}, KEY, 0, NULL, 9, SHAMIR_FORM_DIGITS, 41, DONE_WITH(1, 37), 0, LISTED("0.0") "end\n"},
+    {{TWO_0, TWO_2}, KEY, 2, "", 9, SHAMIR_FORM_DIGITS, 45, DONE_WITH(1, 41), 0, "0.0+0.2 " TWO_SECRET "\nend\n"},
+    {{TWO_0, TWO_2}, KEY, 1, "", 9, SHAMIR_FORM_DIGITS, 45, HIGH, 0, ""},
+    {{TWO_0, TWO_2}, "a\x07", 0, "0.1+", 0, SHAMIR_FORM_DIGITS, 0, HIGH, 0, ""},
+    {{FIVE}, KEY, SHAMIR_EXPONENT_MAX, NULL, 4, SHAMIR_FORM_DIGITS, 203, DONE_WITH(4, 180), 0, FIRST_PART},
+    {{FIVE}, KEY, SHAMIR_EXPONENT_MAX, NULL, 9, SHAMIR_FORM_DIGITS, 247, DONE_WITH(4, 180), 0, FIRST_PART},
+    {{FIVE}, KEY, SHAMIR_EXPONENT_MAX, "0.0+0.2+2.0", 9, SHAMIR_FORM_DIGITS, 135, DONE_WITH(3, 131), 0, LAST_PART},
+    {{FIVE}, KEY, SHAMIR_EXPONENT_MAX, "0.1+0.2+2.0", 9, SHAMIR_FORM_DIGITS, 45, DONE_WITH(1, 41), 0, LISTED("1.0+2.0") "end\n"},
+    {{FIVE}, KEY, SHAMIR_EXPONENT_MAX, "1.0+2.0", 1, SHAMIR_FORM_DIGITS, 4, DONE_WITH(0, 0), 0, "end\n"},
+    {{UNEVEN_0, UNEVEN_1}, NULL, 0, NULL, 1, SHAMIR_FORM_DIGITS, 39, DONE_WITH(1, 35), 1, "0.0+0.1 digest mismatch in group 0\nend\n"},
+    {{UNEVEN_GROUP_0, UNEVEN_GROUP_1}, "", 0, "", 1, SHAMIR_FORM_DIGITS, ROOM_BYTES, DONE_WITH(1, 34), 1, "0.0+1.0 digest mismatch of groups\nend\n"},
+    {{FIVE}, KEY, SHAMIR_EXPONENT_MAX, "0.0+0.2+2.0", 9, SHAMIR_FORM_FINGERPRINTS, 65, DONE_WITH(3, 59), 0,
+     TOLD("0.1+0.2+1.0") TOLD("0.1+0.2+2.0") TOLD("1.0+2.0") "end\n"},
+    {{FIVE}, KEY, SHAMIR_EXPONENT_MAX, "0.0+0.2+2.0", 9, SHAMIR_FORM_FINGERPRINTS, 64, DONE_WITH(1, 21), 0,
+     TOLD("0.1+0.2+1.0") "more after 0.1+0.2+1.0\n"},
+    {{UNEVEN_0, UNEVEN_1}, NULL, 0, NULL, 1, SHAMIR_FORM_FINGERPRINTS, 39, DONE_WITH(1, 35), 1, "0.0+0.1 digest mismatch in group 0\nend\n"},
+    {{FIVE}, KEY, SHAMIR_EXPONENT_MAX, NULL, 9, SHAMIR_FORM_FINGERPRINTS, 43, {1, 0, 44, 0, "buffer too short: 44 bytes needed"}, 0, ""},
+    {{NULL}, "a\x07", 0, "0.1+", 1, 2, ROOM_BYTES, {2, 0, 0, 0, "number out of range"}, 0, ""},
+    {{NULL}, "a\x07", 0, "0.1+", 0, UINT32_MAX, ROOM_BYTES, {2, 0, 0, 0, "number out of range"}, 0, ""},
+    {{NULL}, "a\x07", 0, "0.1+", 1, SHAMIR_FORM_FINGERPRINTS, ROOM_BYTES, {61, 0, 0, 0, "bad cursor"}, 0, ""},
+    {{FIVE}, KEY, SHAMIR_EXPONENT_MAX, NULL, 9, SHAMIR_FORM_DIGITS, 67, {1, 0, 68, 0, "buffer too short: 68 bytes needed"}, 0, ""},
+    {{FIVE}, KEY, SHAMIR_EXPONENT_MAX, "0.0+0.2+2.0", 9, SHAMIR_FORM_DIGITS, 0, {1, 0, 68, 0, "buffer too short: 68 bytes needed"}, 0, ""},
+    {{FIVE}, KEY, SHAMIR_EXPONENT_MAX, "1.0+2.0", 9, SHAMIR_FORM_DIGITS, 3, {1, 0, 4, 0, "buffer too short: 4 bytes needed"}, 0, ""},
+    {{UNEVEN_0, UNEVEN_1}, NULL, 0, NULL, 9, SHAMIR_FORM_DIGITS, 38, {1, 0, 39, 0, "buffer too short: 39 bytes needed"}, 0, ""},
+    {{ONE}, KEY, 0, NULL, 9, SHAMIR_FORM_DIGITS, 40, {1, 0, 41, 0, "buffer too short: 41 bytes needed"}, 0, ""},
+    {{ONE_WRONG}, KEY, 0, NULL, 9, SHAMIR_FORM_DIGITS, ROOM_BYTES, {13, 1, 0, 0, "bad checksum"}, 0, ""},
+    {{NULL}, "a\x07", 0, "0.1+", 0, SHAMIR_FORM_DIGITS, ROOM_BYTES, {2, 0, 0, 0, "number out of range"}, 0, ""},
+    {{NULL}, "a\x07", 0, "0.1+", 1, SHAMIR_FORM_DIGITS, ROOM_BYTES, {61, 0, 0, 0, "bad cursor"}, 0, ""},
+    {{NULL}, "a\x07", 0, "0.1", 1, SHAMIR_FORM_DIGITS, ROOM_BYTES, {41, 0, 2, 0, "passphrase byte 2 not printable"}, 0, ""},
+    {{NULL}, NULL, 0, "0.1", 1, SHAMIR_FORM_DIGITS, ROOM_BYTES, {29, 0, 0, 0, "no shares"}, 0, ""},
+    {{TWO_2}, NULL, 0, "0.1", 1, SHAMIR_FORM_DIGITS, ROOM_BYTES, {30, 0, 0, 1, "incomplete: 0 of 1 groups"}, 0, ""},
+    {{FIVE}, NULL, SHAMIR_EXPONENT_MAX, "0.1", 1, SHAMIR_FORM_DIGITS, ROOM_BYTES, {62, 0, 0, 0, "cursor is no quorum"}, 0, ""}
 };
 
 /* In the answers, first is the number of complete groups, and second is the group threshold. */
@@ -281,6 +303,19 @@ static const fingerprint_example fingerprint_examples[] = {
     {SECRET "0a", {42, 0, 17, 0, "secret of 17 bytes"}, ""},
     {"", {42, 0, 0, 0, "secret of 0 bytes"}, ""},
     {NULL, {42, 0, 0, 0, "secret of 0 bytes"}, ""}
+};
+
+/* The words are those of the standard's list. */
+static const words_example words_examples[] = {
+    {"em", DONE, "email\nemerald\nemission\nemperor\nemphasis\nemployer\nempty\n"},
+    {"EMer", DONE, "emerald\n"},
+    {"zero", DONE, "zero\n"},
+    {"zeros", DONE, ""},
+    {"zero ", DONE, ""},
+    {"\xc3\xa9", DONE, ""},
+    {"em\n", DONE, ""},
+    {"", {1, 0, SHAMIR_WORDS_BYTES_MAX, 0, "buffer too short: 7231 bytes needed"}, ""},
+    {NULL, {1, 0, SHAMIR_WORDS_BYTES_MAX, 0, "buffer too short: 7231 bytes needed"}, ""}
 };
 
 /* The name of the export and the number of the example in its table, from 0, for messages. Then the number of differences. */
@@ -363,7 +398,7 @@ static shamir_answer answer_of(const wanted *wanted, uint64_t written, uint32_t 
 
 static shamir_answer too_short(uint64_t needed)
 {
-    wanted short_of = {SHAMIR_TOO_SHORT, 0, 0, 0, NULL};
+    wanted short_of = {SHAMIR_E_TOO_SHORT, 0, 0, 0, NULL};
 
     short_of.first = needed;
     return answer_of(&short_of, 0, 0);
@@ -516,8 +551,8 @@ static void check_drill(const drill_example *example)
     slice after = slice_of(example->after);
     slice text = slice_of(example->text);
     shamir_answer found = shamir_drill(
-        lines.bytes, lines.length, key.bytes, key.length, example->max_exponent, after.bytes, after.length, example->limit, fresh(example->room),
-        example->room);
+        lines.bytes, lines.length, key.bytes, key.length, example->max_exponent, after.bytes, after.length, example->limit, example->form,
+        fresh(example->room), example->room);
 
     compare(found, answer_of(&example->answer, text.length, example->mismatches), text);
     check_text(found, example->answer.told);
@@ -585,6 +620,22 @@ static void check_fingerprint(const fingerprint_example *example)
     }
 }
 
+static void check_words(const words_example *example)
+{
+    slice letters = slice_of(example->letters);
+    slice text = slice_of(example->text);
+    slice nothing = {NULL, 0};
+    size_t bytes = example->answer.code == SHAMIR_DONE ? text.length : ROOM_BYTES;
+    shamir_answer found = shamir_words(letters.bytes, letters.length, fresh(bytes), bytes);
+
+    compare(found, answer_of(&example->answer, text.length, 0), text);
+    check_text(found, example->answer.told);
+    if (text.length > 0) {
+        compare(shamir_words(letters.bytes, letters.length, fresh(bytes), bytes - 1), too_short(bytes), nothing);
+        compare(shamir_words(letters.bytes, letters.length, fresh(0), 0), too_short(bytes), nothing);
+    }
+}
+
 /* Checks that the library gives the header's version into a buffer of exactly its length, and refuses a shorter one. */
 static void check_version(void)
 {
@@ -622,6 +673,7 @@ int main(void)
     CHECK_EACH("shamir_status", status_examples, check_status)
     CHECK_EACH("shamir_reissue", reissue_examples, check_reissue)
     CHECK_EACH("shamir_fingerprint", fingerprint_examples, check_fingerprint)
+    CHECK_EACH("shamir_words", words_examples, check_words)
     check_version();
     check_unknown();
     return differences != 0;

@@ -18,10 +18,13 @@ the encrypted secret. A digest is four bytes by which the library usually detect
 
 Each function passes its arguments to the library, and raises `Refusal` if the library refuses them. A text is a str,
 which is encoded as UTF-8, or an object with the buffer protocol. Secrets and random bytes are objects with the buffer
-protocol. Anything else raises TypeError, and a number that doesn't fit the C type raises OverflowError.
+protocol. Anything else raises TypeError. A str with a lone surrogate, which UTF-8 can't encode, raises ValueError, and
+so does an object whose memory is no longer there, such as a released memoryview or a closed mmap. A number that doesn't
+fit the C type raises OverflowError. No exception holds a secret, a passphrase or a word of a mnemonic.
 
 The module loads the library that the environment variable SHAMIR_LIBRARY names. Without the variable it loads
-libshamir.so in the folder of this package, where `make lib` puts it, or else the system's libshamir.so.1.
+libshamir.so in the folder of this package, where `make lib` puts it, or else the system's libshamir.so.1. If the
+library isn't there, lacks a call, or has another first version number than the package, it raises ImportError.
 
 Calls share no data, so any number of threads can make calls at once. A call uses at most 512 KiB of stack. A call in a
 thread with a smaller `threading.stack_size` can crash the program; 1,048,576 is enough for every call. Neither the
@@ -37,10 +40,10 @@ import operator
 import os
 import pathlib
 from dataclasses import dataclass, field
-from typing import Any, Callable, Iterable, Iterator, List, Optional, Tuple, Union, cast
+from typing import Any, Callable, Generator, Iterable, List, Optional, Tuple, Union, cast
 
 __all__ = ["Code", "Data", "EXPONENT_MAX", "GroupStatus", "Lines", "OF_GROUPS", "Outcome", "Refusal", "Share", "Status", "Text"]
-__all__ += ["create", "drill", "fingerprint", "library_version", "parse", "random_needed", "recover", "reissue", "status"]
+__all__ += ["create", "drill", "fingerprint", "library_version", "parse", "random_needed", "recover", "reissue", "status", "words"]
 
 __version__ = "1.0.0"
 
@@ -56,6 +59,7 @@ SECRET_BYTES_MAX = 128
 MNEMONICS_BYTES_MAX = 253440
 STATUS_BYTES_MAX = 1638
 FINGERPRINT_BYTES_MAX = 8
+WORDS_BYTES_MAX = 7231
 TEXT_BYTES_MAX = 64
 
 # The maximum iteration exponent.
@@ -65,13 +69,17 @@ EXPONENT_MAX = 15
 # shares, to which the members of the groups combine.
 OF_GROUPS = 16
 
+# The forms in which a drill tells secrets: their digits, or their fingerprints.
+FORM_DIGITS = 0
+FORM_FINGERPRINTS = 1
+
 DRILL_ROOM = 1 << 16
 LIMIT_MAX = (1 << 32) - 1
 MORE = b"more after "
 
 
 class Code(enum.IntEnum):
-    """The codes of an answer. Their names are those of shamir.h, without SHAMIR_.
+    """The codes of an answer. Their names are those of shamir.h, without SHAMIR_ or SHAMIR_E_.
 
     shamir.h says what each code means, and `Refusal.text` says it in words.
     """
@@ -151,9 +159,19 @@ def _loaded() -> ctypes.CDLL:
     beside = pathlib.Path(__file__).parent / "libshamir.so"
     name = os.environ.get("SHAMIR_LIBRARY") or (str(beside) if beside.exists() else "libshamir.so.1")
     try:
-        return _declared(ctypes.CDLL(name))
+        library = _declared(ctypes.CDLL(name))
     except (OSError, AttributeError) as error:
         raise ImportError(f"the library of this package isn't there, or is another one: {error}", name=__name__) from error
+    version = _version_of(library)
+    if version.partition(".")[0] != __version__.partition(".")[0]:
+        raise ImportError(f"{name} has version {version}, and this package needs version {__version__.partition('.')[0]}", name=__name__)
+    return library
+
+
+def _version_of(library: ctypes.CDLL) -> str:
+    buffer = ctypes.create_string_buffer(TEXT_BYTES_MAX)
+    written = library.shamir_version(buffer, TEXT_BYTES_MAX).written
+    return buffer.raw[:written].decode("ascii", "replace")
 
 
 def _declared(library: ctypes.CDLL) -> ctypes.CDLL:
@@ -163,10 +181,11 @@ def _declared(library: ctypes.CDLL) -> ctypes.CDLL:
         ("shamir_random_needed", _SLICE + [ctypes.c_size_t]),
         ("shamir_create", _SLICE * 3 + [ctypes.c_uint32] * 2 + _SLICE + _ROOM),
         ("shamir_recover", _SLICE * 2 + [ctypes.c_uint32] + _ROOM),
-        ("shamir_drill", _SLICE * 2 + [ctypes.c_uint32] + _SLICE + [ctypes.c_uint32] + _ROOM),
+        ("shamir_drill", _SLICE * 2 + [ctypes.c_uint32] + _SLICE + [ctypes.c_uint32] * 2 + _ROOM),
         ("shamir_status", _SLICE + _ROOM),
         ("shamir_reissue", _SLICE * 3 + _ROOM),
         ("shamir_fingerprint", _SLICE + _ROOM),
+        ("shamir_words", _SLICE + _ROOM),
         ("shamir_text", [ctypes.POINTER(_Answer)] + _ROOM),
         ("shamir_version", _ROOM),
     ]:
@@ -181,12 +200,13 @@ _library = _loaded()
 class Refusal(Exception):
     """The library refuses the arguments of a call.
 
-    `code` is the cause, and `text` says it in words. `line` is the number of the refused line, counted from 1, or None.
-    `details` are two numbers, and shamir.h says for each code what they mean. For Code.INCOMPLETE they are the number
-    of complete groups and the group threshold.
+    `code` is the cause, and `text` says it in words. The code is a member of `Code`, or an int if a later library gives a
+    code that this version of the package doesn't know. `line` is the number of the refused line, counted from 1, or
+    None. `details` are two numbers, and shamir.h says for each code what they mean. For Code.INCOMPLETE they are the
+    number of complete groups and the group threshold.
     """
 
-    def __init__(self, code: Code, line: Optional[int], details: Tuple[int, int], text: str):
+    def __init__(self, code: Union[Code, int], line: Optional[int], details: Tuple[int, int], text: str):
         super().__init__(code, line, details, text)
         self.code, self.line, self.details, self.text = code, line, details, text
 
@@ -217,14 +237,17 @@ class Share:
 class Outcome:
     """What one quorum of a drill recovers.
 
-    `names` are the names of its mnemonics, such as `0.0+0.2+1.0`, and `secret` is what it recovers. If a digest doesn't
-    match, `secret` is None, and `mismatch` is the lowest group whose digest doesn't match, or OF_GROUPS for the
-    digest of the group shares. Otherwise `mismatch` is None. The repr leaves the secret out.
+    `names` are the names of its mnemonics, such as `0.0+0.2+1.0`, and `secret` is what it recovers. In a drill that is
+    asked for fingerprints, `fingerprint` is the fingerprint of the secret, and `secret` is None. In any other drill
+    `fingerprint` is None. If a digest doesn't match, both are None, and `mismatch` is the lowest group whose digest doesn't
+    match, or OF_GROUPS for the digest of the group shares. Otherwise `mismatch` is None. The repr leaves out the secret
+    and the fingerprint.
     """
 
     names: str
     secret: Optional[bytes] = field(repr=False)
     mismatch: Optional[int] = None
+    fingerprint: Optional[str] = field(default=None, repr=False)
 
 
 @dataclass(frozen=True)
@@ -253,13 +276,25 @@ class Status:
 def _data(data: Data) -> bytes:
     """Return the bytes that the object really holds, even if a subclass reports another length.
 
-    Raise TypeError if the object lacks the buffer protocol.
+    Raise TypeError if the object lacks the buffer protocol, and ValueError if its memory is no longer there.
     """
     return memoryview(data).tobytes()
 
 
 def _bytes(text: Text) -> bytes:
-    return str.encode(text) if isinstance(text, str) else _data(text)
+    return _encoded(text) if isinstance(text, str) else _data(text)
+
+
+def _encoded(text: str) -> bytes:
+    """Return a str in UTF-8, or raise ValueError if a lone surrogate is in it.
+
+    A strict `str.encode` would raise a UnicodeEncodeError, which holds the text. Here nothing raises one, so none is the context
+    of the ValueError either.
+    """
+    data = str.encode(text, "utf-8", "surrogatepass")
+    if data != str.encode(text, "utf-8", "ignore"):
+        raise ValueError("a text has a lone surrogate, which UTF-8 can't encode")
+    return data
 
 
 def _slice(data: bytes) -> Tuple[bytes, int]:
@@ -270,7 +305,8 @@ def _number(number: int, kind: Any) -> int:
     """Return the number, or raise OverflowError if it doesn't fit this C type. ctypes would truncate it silently."""
     whole, bits = operator.index(number), 8 * ctypes.sizeof(kind)
     if not 0 <= whole < 1 << bits:
-        raise OverflowError(f"{whole} isn't a number of {bits} bits")
+        # The number itself can have so many digits that Python refuses to print them.
+        raise OverflowError(f"a number isn't from 0 to 2**{bits} - 1")
     return whole
 
 
@@ -280,19 +316,28 @@ def _flag(flag: bool) -> int:
     return int(flag)
 
 
+def _code(number: int) -> Union[Code, int]:
+    """Return the member of `Code` with this number, or the number itself if there is none."""
+    return next((code for code in Code if code == number), number)
+
+
 def _checked(answer: _Answer) -> _Answer:
     if answer.code:
         room = ctypes.create_string_buffer(TEXT_BYTES_MAX)
         written = _library.shamir_text(ctypes.byref(answer), room, TEXT_BYTES_MAX).written
-        raise Refusal(Code(answer.code), answer.line or None, (answer.first, answer.second), room.raw[:written].decode())
+        raise Refusal(_code(answer.code), answer.line or None, (answer.first, answer.second), room.raw[:written].decode())
     return answer
 
 
-def _filled(call: _Call, room: int) -> bytes:
-    """Return what a call writes into a buffer of this length."""
+def _answered(call: _Call, room: int) -> Tuple[bytes, _Answer]:
+    """Return what a call writes into a buffer of this length, and its answer."""
     buffer = ctypes.create_string_buffer(room)
-    written = _checked(call(buffer, room)).written
-    return ctypes.string_at(buffer, written)
+    answer = _checked(call(buffer, room))
+    return ctypes.string_at(buffer, answer.written), answer
+
+
+def _filled(call: _Call, room: int) -> bytes:
+    return _answered(call, room)[0]
 
 
 def _line(number: int, text: Text) -> bytes:
@@ -362,6 +407,10 @@ def create(
     `exponent` is the iteration exponent, 0 to 15. The call takes 10,000 * 2^exponent iterations of PBKDF2, and twice as
     many for a secret of more than 64 bytes.
 
+    Set the extendable flag of a new backup, unless a wallet that has to read it doesn't know the flag. With a passphrase,
+    give a new backup an exponent of 1 or more. The defaults are those of the command `shamir`: older wallets don't know the
+    flag, and without a passphrase the exponent protects nothing.
+
     `random` has exactly as many bytes as `random_needed` gives. They must be unpredictable, and no other backup may use
     them. If `random` is None, they come from `os.urandom`.
 
@@ -400,7 +449,9 @@ def recover(lines: Lines, *, passphrase: Text = b"", max_exponent: int = EXPONEN
     return _filled(lambda out, room: _library.shamir_recover(*given, out, room), SECRET_BYTES_MAX)
 
 
-def drill(lines: Lines, *, passphrase: Text = b"", after: Optional[Text] = None, max_exponent: int = EXPONENT_MAX) -> Iterator[Outcome]:
+def drill(
+    lines: Lines, *, passphrase: Text = b"", after: Optional[Text] = None, max_exponent: int = EXPONENT_MAX, fingerprints: bool = False
+) -> Generator[Outcome, None, None]:
     """Yield what each quorum of mnemonics recovers, in ascending order of their names.
 
     >>> for outcome in shamir.drill(mnemonics, passphrase="TREZOR"):
@@ -413,6 +464,9 @@ def drill(lines: Lines, *, passphrase: Text = b"", after: Optional[Text] = None,
     quorum. If it names a quorum, the drill starts with the next one. An empty `after` is refused (61). The library
     computes the outcomes in parts. Each part has as many outcomes as fit into 64 KiB of output.
 
+    With `fingerprints=True`, each outcome has the fingerprint of the secret in place of the secret, and no secret leaves the
+    library. So a check of mnemonics needs no copy of the secret.
+
     A digest mismatch is no refusal here. The generator looks at its arguments only at the first `next`, which then
     raises any refusal.
 
@@ -420,27 +474,30 @@ def drill(lines: Lines, *, passphrase: Text = b"", after: Optional[Text] = None,
     """
     data = _joined(lines)
     options = _slice(_bytes(passphrase)) + (_number(max_exponent, ctypes.c_uint32),)
+    form = FORM_FINGERPRINTS if _flag(fingerprints) else FORM_DIGITS
     # For the library an empty cursor is the start. An empty `after` isn't a cursor here: a plus sign, which the library
     # refuses as a cursor, takes its place.
     cursor = b"" if after is None else _bytes(after) or b"+"
     while True:
-        given = _slice(data) + options + _slice(cursor) + (LIMIT_MAX,)
-        text = _filled(lambda out, room: _library.shamir_drill(*given, out, room), DRILL_ROOM)
-        *listed, last = text.splitlines()
-        yield from map(_outcome, listed)
+        given = _slice(data) + options + _slice(cursor) + (LIMIT_MAX, form)
+        text, answer = _answered(lambda out, room: _library.shamir_drill(*given, out, room), DRILL_ROOM)
+        # The answer says where the last line begins.
+        listed, last = text[: answer.second], text[answer.second :].rstrip(b"\n")
+        yield from (_outcome(line, fingerprints) for line in listed.splitlines())
         if not last.startswith(MORE):
             return
         cursor = last[len(MORE) :]
 
 
-def _outcome(line: bytes) -> Outcome:
+def _outcome(line: bytes, fingerprints: bool) -> Outcome:
     """Read a line of a drill.
 
-    After the names it has the digits of the secret, or several words, the last of which is a group or `groups`.
+    After the names it has the digits of the secret or its fingerprint, or several words, the last of which is a group or
+    `groups`.
     """
     names, *found = line.decode().split(" ")
     if len(found) == 1:
-        return Outcome(names, bytes.fromhex(found[0]))
+        return Outcome(names, None, fingerprint=found[0]) if fingerprints else Outcome(names, bytes.fromhex(found[0]))
     return Outcome(names, None, OF_GROUPS if found[-1] == "groups" else int(found[-1]))
 
 
@@ -500,3 +557,16 @@ def fingerprint(secret: Data) -> str:
     """
     given = _slice(_data(secret))
     return _filled(lambda out, room: _library.shamir_fingerprint(*given, out, room), FINGERPRINT_BYTES_MAX).decode()
+
+
+def words(letters: Text) -> List[str]:
+    """Return the words of the word list that begin with these letters, in the order of the list.
+
+    >>> shamir.words("aca")
+    ['academic']
+
+    Upper-case letters count as lower-case ones. No word begins with any other character. Without letters, all 1,024 words are
+    returned.
+    """
+    given = _slice(_bytes(letters))
+    return _filled(lambda out, room: _library.shamir_words(*given, out, room), WORDS_BYTES_MAX).decode().splitlines()

@@ -8,13 +8,18 @@ one.
 
 The module decrypts nothing. It counts the quorums from the fields of the mnemonics: their groups, members and
 thresholds.
+
+The exit status is 0 if all lines were printed. It is 1 if the mnemonics or N are refused, 2 if the words of the command
+are wrong, and 3 if the input can't be read or the output can't be written. With each status except 0, a line on
+standard error says why.
 """
 import argparse
+import errno
 import math
-import signal
+import os
 import sys
 from dataclasses import dataclass
-from typing import Iterator, List, Tuple
+from typing import Iterator, List, NoReturn, Optional, TextIO, Tuple
 
 import shamir
 
@@ -108,7 +113,7 @@ def check(text: bytes, shares: List[shamir.Share]) -> None:
     """
     alone = any((share.group_index, share.member_threshold) == (0, 1) for share in shares)
     try:
-        next(shamir.drill(text, after="0.0+0.1" if alone else "0.0"))
+        next(shamir.drill(text, after="0.0+0.1" if alone else "0.0", fingerprints=True))
     except shamir.Refusal as refusal:
         if refusal.code != shamir.Code.NOT_A_QUORUM:
             raise
@@ -145,18 +150,50 @@ def options(whole: Quorums, count: int, parts: int) -> Iterator[str]:
         begin = end
 
 
+def opened(stream: Optional[TextIO]) -> TextIO:
+    """Return a standard stream. Python has None for one that was closed before it started: then raise OSError."""
+    if stream is None:
+        raise OSError(errno.EBADF, os.strerror(errno.EBADF))
+    return stream
+
+
+def read_input() -> bytes:
+    try:
+        return opened(sys.stdin).buffer.read()
+    except OSError as error:
+        fail(3, f"the input can't be read: {error.strerror or error}")
+
+
+def print_lines(lines: Iterator[str]) -> None:
+    # Python tries once more at its end to write what sys.stdout still holds, and prints a traceback if that fails too. So the
+    # lines go to another stream over the same output.
+    try:
+        with open(opened(sys.stdout).fileno(), "w", encoding="ascii", closefd=False) as output:
+            for line in lines:
+                print(line, file=output)
+    except OSError as error:
+        fail(3, f"the output can't be written: {error.strerror or error}")
+
+
+def fail(status: int, why: str) -> NoReturn:
+    """Print one line on standard error, if it is open, and exit."""
+    if sys.stderr is not None:
+        print(f"shamir.cuts: {why}", file=sys.stderr)
+    sys.exit(status)
+
+
 def main() -> None:
-    signal.signal(signal.SIGPIPE, signal.SIG_DFL)
     parser = argparse.ArgumentParser(prog="python3 -m shamir.cuts", description="Prints the options of N drills that together list what one drill would list.")
     parser.add_argument("parts", metavar="N", type=int, help="how many drills, 1 or more")
     parts = parser.parse_args().parts
     if parts < 1:
         parser.error("N is 1 or more")
+    text = read_input()
     try:
-        for line in cuts(quorums(sys.stdin.buffer.read()), parts):
-            print(line)
+        lines = cuts(quorums(text), parts)
     except (shamir.Refusal, ValueError) as refused:
-        sys.exit(f"shamir.cuts: {refused}")
+        fail(1, str(refused))
+    print_lines(lines)
 
 
 if __name__ == "__main__":

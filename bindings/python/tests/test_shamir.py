@@ -1,7 +1,10 @@
 """Tests the binding with worked examples. Run these tests with `python3 -m unittest discover -s bindings/python/tests`."""
 import array
 import ctypes
+import hashlib
 import hmac
+import inspect
+import itertools
 import mmap
 import os
 import pathlib
@@ -9,6 +12,7 @@ import re
 import subprocess
 import sys
 import threading
+import traceback
 import unittest
 from unittest import mock
 
@@ -130,6 +134,8 @@ class WorkedExamples(unittest.TestCase):
         self.refused(42, None, (15, 0), shamir.create, PLAN, bytes(15), random=b"")
         self.refused(41, None, (2, 0), shamir.create, PLAN, SECRET, passphrase="a\x07", random=b"")
         self.refused(34, None, (1, 0), shamir.create, "2/2of2,1of2", SECRET)
+        self.refused(34, None, (0, 0), shamir.create, "2/1of3,5of2", SECRET)
+        self.refused(33, None, (1, 0), shamir.random_needed, "2/3of3,5of2", 16)
         self.refused(31, None, (0, 0), shamir.random_needed, "1of1\xff", 16)
         self.refused(2, None, (0, 0), shamir.create, PLAN, SECRET, exponent=16, random=b"")
 
@@ -153,6 +159,67 @@ class WorkedExamples(unittest.TestCase):
                 self.assertEqual(list(shamir.drill(FIVE, passphrase="TREZOR")), listed)
         self.refused(62, None, (0, 0), list, shamir.drill(FIVE, after="0.1"))
         self.refused(61, None, (0, 0), list, shamir.drill(FIVE, after="0.1+"))
+
+    def test_fingerprints(self):
+        """A drill that is asked for fingerprints gives these in place of the secrets, in one part or in several."""
+        names = ["0.0+0.1+1.0", "0.0+0.1+2.0", "0.0+0.2+1.0", "0.0+0.2+2.0", "0.1+0.2+1.0", "0.1+0.2+2.0", "1.0+2.0"]
+        listed = [shamir.Outcome(it, None, None, "df41d8fe") for it in names]
+        for room in [44, 65, 100, 1 << 16]:
+            with mock.patch.object(shamir, "DRILL_ROOM", room):
+                self.assertEqual(list(shamir.drill(FIVE, passphrase="TREZOR", fingerprints=True)), listed)
+        self.assertEqual(list(shamir.drill(FIVE, passphrase="TREZOR", after=names[4], fingerprints=True)), listed[5:])
+        self.assertEqual(list(shamir.drill(MISMATCHED, fingerprints=True)), list(shamir.drill(MISMATCHED)))
+        self.assertEqual(list(shamir.drill(FIVE, passphrase="TREZOR", fingerprints=False))[0], shamir.Outcome(names[0], SECRET))
+        self.assertEqual(repr(listed[6]), "Outcome(names='1.0+2.0', mismatch=None)")
+        for flag in (1, "yes", None):
+            self.assertRaises(TypeError, next, shamir.drill(FIVE, fingerprints=flag))
+
+    def test_no_secret_leaves(self):
+        """A drill that is asked for fingerprints, and the check of the cuts, ask the library for no digits of a secret."""
+        from shamir import cuts
+
+        with mock.patch.object(shamir._library, "shamir_drill", wraps=shamir._library.shamir_drill) as calls:
+            list(shamir.drill(FIVE, passphrase="TREZOR", fingerprints=True))
+            cuts.quorums("\n".join(FIVE).encode())
+        self.assertEqual({call.args[8] for call in calls.call_args_list}, {1})
+
+    def test_forms(self):
+        """A drill refuses a form that it doesn't have as it refuses a limit of 0. Its answer counts the quorums, and says where the
+        last line begins."""
+        text, room = "\n".join(FIVE).encode(), ctypes.create_string_buffer(1024)
+        drill = shamir._library.shamir_drill
+        for limit, form in [(1, 2), (0, 0), (0, 2), (1, 2**32 - 1)]:
+            answer = drill(text, len(text), b"a\x07", 2, 15, b"0.1+", 4, limit, form, room, 1024)
+            self.assertEqual((answer.code, answer.first, answer.second, room.raw), (2, 0, 0, bytes(1024)))
+        for form, line in [(0, 45), (1, 21)]:
+            for limit, last in [(1, b"more after 0.0+0.1+1.0\n"), (4, b"more after 0.0+0.2+2.0\n"), (9, b"end\n")]:
+                answer = drill(text, len(text), b"TREZOR", 6, 15, None, 0, limit, form, room, 1024)
+                count = min(limit, 7)
+                offset = count * line - (4 if count == 7 else 0)
+                self.assertEqual((answer.code, answer.first, answer.second), (0, count, offset))
+                self.assertEqual(room.raw[offset : answer.written], last)
+
+    def test_count_of_a_backup(self):
+        """The answer of a creation is the number of mnemonics."""
+        room = ctypes.create_string_buffer(shamir.MNEMONICS_BYTES_MAX)
+        for plan, count in [(b"1of1", 1), (PLAN.encode(), 5), (b"16/" + b",".join([b"16of16"] * 16), 256)]:
+            random = bytes(shamir.random_needed(plan, 16))
+            answer = shamir._library.shamir_create(plan, len(plan), SECRET, 16, b"", 0, 0, 0, random, len(random), room, len(room))
+            self.assertEqual((answer.code, answer.first, answer.second), (0, count, 0))
+
+    def test_words(self):
+        """The digest is that of the word list that SLIP-0039 publishes."""
+        whole = shamir.words("")
+        digest = hashlib.sha256("".join(word + "\n" for word in whole).encode()).hexdigest()
+        self.assertEqual((len(whole), digest), (1024, "bcc4555340332d169718aed8bf31dd9d5248cb7da6e5d355140ef4f1e601eec3"))
+        self.assertEqual(shamir.words("em"), ["email", "emerald", "emission", "emperor", "emphasis", "employer", "empty"])
+        for letters in ["academic", "ACAD", b"acad", bytearray(b"aCa"), OddText("aca")]:
+            self.assertEqual(shamir.words(letters), ["academic"])
+        for letters in ["academics", "em ", " em", "em\n", "em\0", "x", "e-", "\xe9", "0"]:
+            self.assertEqual(shamir.words(letters), [])
+        for letters in ["z", "a", "ne", "tra"]:
+            self.assertEqual(shamir.words(letters), [word for word in whole if word.startswith(letters)])
+        self.assertRaises(TypeError, shamir.words, None)
 
     def test_mismatches(self):
         self.refused(51, None, (0, 0), shamir.recover, MISMATCHED)
@@ -240,7 +307,10 @@ class WorkedExamples(unittest.TestCase):
             (41, lambda *room: library.shamir_status(one, len(one), *room)),
             (144, lambda *room: library.shamir_reissue(PLAN.encode(), 16, b"0.1", 3, text, len(text), *room)),
             (8, lambda *room: library.shamir_fingerprint(SECRET, 16, *room)),
-            (68, lambda *room: library.shamir_drill(text, len(text), *key, 0, None, 0, 1, *room)),
+            (68, lambda *room: library.shamir_drill(text, len(text), *key, 0, None, 0, 1, 0, *room)),
+            (44, lambda *room: library.shamir_drill(text, len(text), *key, 0, None, 0, 1, 1, *room)),
+            (shamir.WORDS_BYTES_MAX, lambda *room: library.shamir_words(None, 0, *room)),
+            (9, lambda *room: library.shamir_words(b"aca", 3, *room)),
             (5, library.shamir_version),
             (14, lambda *room: library.shamir_text(shamir._Answer(code=11, first=2), *room)),
         ]
@@ -276,6 +346,87 @@ class WorkedExamples(unittest.TestCase):
         self.assertRaises(TypeError, shamir.create, "1of1", SECRET, exponent=1.0)
         flags = [shamir.parse(shamir.create("1of1", SECRET, extendable=flag)[0]).extendable for flag in (False, True)]
         self.assertEqual(flags, [False, True])
+
+    def test_long_numbers(self):
+        """A number that is too long to be printed raises an OverflowError too, and the message doesn't have the number."""
+        for number in (10**5000, -(10**5000), 2**64 + 987654321):
+            for call in [
+                lambda: shamir.create("1of1", SECRET, exponent=number),
+                lambda: shamir.random_needed("1of1", number),
+                lambda: shamir.recover(ONE, max_exponent=number),
+                lambda: next(shamir.drill(ONE, max_exponent=number)),
+            ]:
+                with self.assertRaisesRegex(OverflowError, r"^a number isn't from 0 to 2\*\*(32|64) - 1$"):
+                    call()
+
+    def test_released(self):
+        """A buffer whose memory is no longer there raises a ValueError."""
+        released, closed = memoryview(SECRET), mmap.mmap(-1, 16)
+        released.release()
+        closed.close()
+        for gone in (released, closed):
+            for call in [
+                lambda: shamir.fingerprint(gone),
+                lambda: shamir.create("1of1", gone),
+                lambda: shamir.create("1of1", SECRET, random=gone),
+                lambda: shamir.recover(ONE, passphrase=gone),
+                lambda: shamir.recover(gone),
+                lambda: shamir.recover([ONE, gone]),
+                lambda: shamir.parse(gone),
+                lambda: next(shamir.drill(ONE, after=gone)),
+            ]:
+                self.assertRaises(ValueError, call)
+
+    def test_surrogates(self):
+        """A text with a lone surrogate raises a ValueError. Neither this error nor its context or its cause has the text."""
+        for bad in ["hunter2\udc80", "\ud800 hunter2", OddText("hunter2\udfff")]:
+            for call in [
+                lambda: shamir.create("2of3", SECRET, passphrase=bad),
+                lambda: shamir.create(bad, SECRET),
+                lambda: shamir.random_needed(bad, 16),
+                lambda: shamir.parse(bad),
+                lambda: shamir.recover(bad),
+                lambda: shamir.recover([ONE, bad]),
+                lambda: shamir.recover(ONE, passphrase=bad),
+                lambda: next(shamir.drill(bad)),
+                lambda: next(shamir.drill(ONE, passphrase=bad)),
+                lambda: next(shamir.drill(ONE, after=bad)),
+                lambda: shamir.words(bad),
+                lambda: shamir.status(bad),
+                lambda: shamir.status([bad]),
+                lambda: shamir.reissue(bad, "0.0", FIVE),
+                lambda: shamir.reissue(PLAN, bad, FIVE),
+                lambda: shamir.reissue(PLAN, "0.0", [bad]),
+            ]:
+                with self.assertRaises(ValueError) as raised:
+                    call()
+                self.assertIs(type(raised.exception), ValueError)
+                self.assertEqual((raised.exception.__context__, raised.exception.__cause__), (None, None))
+                self.assertNotIn("hunter2", repr(raised.exception) + "".join(traceback.format_exception_only(ValueError, raised.exception)))
+        self.assertEqual(shamir.recover(ONE, passphrase="TREZOR"), SECRET)
+        self.refused(41, None, (1, 0), shamir.recover, ONE, passphrase="\U0001f511")
+
+    def test_unknown_code(self):
+        """A code that this version doesn't know stays a Refusal. Its code is an int then."""
+        known, unknown = shamir.Code.BAD_CHECKSUM, max(shamir.Code) + 1
+        for code in (known, unknown):
+            answer = shamir._Answer(code=code, line=2, first=3, second=4)
+            with mock.patch.object(shamir._library, "shamir_recover", return_value=answer):
+                with self.assertRaises(shamir.Refusal) as raised:
+                    shamir.recover(ONE)
+            refusal = raised.exception
+            self.assertEqual((refusal.code, refusal.line, refusal.details), (code, 2, (3, 4)))
+            self.assertEqual(isinstance(refusal.code, shamir.Code), code is known)
+        self.assertEqual(str(refusal), f"line 2: {unknown} unknown answer")
+
+    def test_generator(self):
+        """A drill is a generator, and its annotation says so."""
+        drill = shamir.drill(FIVE, passphrase="TREZOR")
+        self.assertTrue(inspect.isgenerator(drill))
+        self.assertEqual(len(list(itertools.islice(drill, 2))), 2)
+        drill.close()
+        self.assertEqual(list(drill), [])
+        self.assertEqual(inspect.signature(shamir.drill).return_annotation, "Generator[Outcome, None, None]")
 
     def test_types(self):
         """A text is a str or a buffer, and a secret is a buffer. Anything else raises TypeError."""
@@ -374,7 +525,7 @@ class WorkedExamples(unittest.TestCase):
 
     @unittest.skipUnless(HEADER.exists(), "the header isn't here")
     def test_codes(self):
-        found = dict(re.findall(r"^    SHAMIR_(\w+) = (\d+)\b", HEADER.read_text(), re.MULTILINE))
+        found = dict(re.findall(r"^    SHAMIR_(?:E_)?(\w+) = (\d+)\b", HEADER.read_text(), re.MULTILINE))
         self.assertEqual({code.name: str(code.value) for code in shamir.Code}, found)
 
     def test_no_library(self):
@@ -411,7 +562,8 @@ class WorkedExamples(unittest.TestCase):
     @unittest.skipUnless(HEADER.exists(), "the header isn't here")
     def test_sizes(self):
         sizes = dict(re.findall(r"^#define SHAMIR_(\w+) (\d+)$", HEADER.read_text(), re.MULTILINE))
-        for name in ["SECRET_BYTES_MAX", "MNEMONICS_BYTES_MAX", "STATUS_BYTES_MAX", "FINGERPRINT_BYTES_MAX", "TEXT_BYTES_MAX", "EXPONENT_MAX"]:
+        names = ["SECRET_BYTES_MAX", "MNEMONICS_BYTES_MAX", "STATUS_BYTES_MAX", "FINGERPRINT_BYTES_MAX", "WORDS_BYTES_MAX", "TEXT_BYTES_MAX"]
+        for name in [*names, "EXPONENT_MAX", "FORM_DIGITS", "FORM_FINGERPRINTS"]:
             self.assertEqual(getattr(shamir, name), int(sizes[name]))
         self.assertEqual(ctypes.sizeof(shamir._Answer), 40)
 
@@ -421,7 +573,9 @@ class WorkedExamples(unittest.TestCase):
         self.assertEqual(library.shamir_version(None, 0).first, 5)
         self.assertEqual(library.shamir_random_needed(None, 0, 16).code, 31)
         self.assertEqual(library.shamir_parse(None, 0, shamir._Share(), None, 0).code, 12)
-        self.assertEqual(library.shamir_drill(None, 0, None, 0, 0, None, 0, 1, None, 0).code, 29)
+        self.assertEqual(library.shamir_drill(None, 0, None, 0, 0, None, 0, 1, 0, None, 0).code, 29)
+        self.assertEqual(library.shamir_words(None, 0, None, 0).first, shamir.WORDS_BYTES_MAX)
+        self.assertEqual(library.shamir_words(b"x", 1, None, 0).code, 0)
         self.assertEqual(library.shamir_status(None, 0, None, 0).code, 29)
         self.assertEqual(library.shamir_reissue(None, 0, None, 0, None, 0, None, 0).code, 31)
         self.assertEqual(library.shamir_reissue(b"2of2", 4, None, 0, None, 0, None, 0).code, 63)

@@ -3,3 +3,4 @@ mod OneAnswer
 mod OneReissue
 mod MostExponents
 mod Rooms
+mod WordLines

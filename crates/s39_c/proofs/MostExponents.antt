@@ -1,7 +1,7 @@
 -- Of calls that refuse an exponent above a most: what they give is one thing where what else they give is.
 use Rattle.std.proofs.Common.{◌≡◌, ℕ, ◌≤◌, List, sym, ap, ◌∙◌, inl, inr, arith}
-use Rattle.s39_tool.specs.Exponent.{HasExponent}
-use Rattle.s39_tool.specs.Input.{Input, whole}
+use Rattle.s39_reading.specs.Exponent.{HasExponent}
+use Rattle.s39_input.specs.Input.{Input, whole}
 use Rattle.s39_c.specs.declared.answer.ShamirAnswer.{ShamirAnswer}
 use Rattle.s39_c.specs.Answers.{high_exponent}
 use Rattle.s39_c.specs.Exponents.{UpTo}

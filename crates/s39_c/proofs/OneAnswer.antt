@@ -1,5 +1,5 @@
 -- What calls give of the same things, and of what was in memory, is one answer and one memory.
-use Rattle.std.proofs.Common.{◌≡◌, ◌≢◌, ℕ, ◌<◌, ◌^◌, Bool, true, List, [], ◌∷◌, ◌++◌, length, drop, length-append, refl, sym, ap, ap₂, subst, ◌∙◌, inl, inr}
+use Rattle.std.proofs.Common.{◌≡◌, ◌≢◌, ◌⊎◌, ℕ, ◌<◌, ◌≤◌, ◌^◌, Bool, true, List, [], ◌∷◌, ◌++◌, length, drop, length-append, refl, sym, ap, ap₂, subst, ◌∙◌, inl, inr}
 use Rattle.std.proofs.Common.{arith}
 use Rattle.std.proofs.Common.{Option, Some, None, Result, Ok, Err}
 use Rattle.std.proofs.Math.Bridge.{le_prop}
@@ -21,33 +21,38 @@ use Rattle.s39_backup.specs.declared.plan.Members.{Members}
 use Rattle.s39_backup.specs.declared.plan_error.PlanError.{PlanError}
 use Rattle.s39_backup.specs.Plan.{IsPlanReading}
 use Rattle.s39_backup.specs.Created.{random_needed, Asked}
-use Rattle.s39_tool.specs.declared.fault.Fault.{Fault}
-use Rattle.s39_tool.specs.declared.listing.Listing.{Listing}
-use Rattle.s39_tool.specs.declared.slices.Unwritten.{Unwritten}
-use Rattle.s39_tool.specs.declared.slices.Unwritten.TheVariants.{Refused, TooShort as SliceTooShort}
-use Rattle.s39_tool.specs.declared.secret_form.SecretForm.TheVariants.{Digits}
-use Rattle.s39_tool.specs.Input.{Input, whole}
-use Rattle.s39_tool.specs.Create.{IsCreateOutput}
-use Rattle.s39_tool.specs.Drill.{IsDrillOutput}
-use Rattle.s39_tool.specs.Recover.{secret_line, IsRecoverOutput}
-use Rattle.s39_tool.specs.Slices.{Lists}
-use Rattle.s39_tool.proofs.Texts.SecretLines.{same_secret, same_size}
+use Rattle.s39_input.specs.declared.fault.Fault.{Fault}
+use Rattle.s39_drilling.specs.declared.listing.Listing.{Listing}
+use Rattle.s39_input.specs.declared.slices.Unwritten.{Unwritten}
+use Rattle.s39_input.specs.declared.slices.Unwritten.TheVariants.{Refused, TooShort as SliceTooShort}
+use Rattle.s39_kdf.specs.declared.secret_form.SecretForm.{SecretForm}
+use Rattle.s39_kdf.specs.declared.secret_form.SecretForm.TheVariants.{Digits}
+use Rattle.s39_input.specs.Input.{Input, lines_in, whole}
+use Rattle.s39_input.specs.Create.{IsCreateOutput}
+use Rattle.s39_drilling.specs.Drill.{IsDrillOutput}
+use Rattle.s39_reading.specs.Recover.{secret_line, IsRecoverOutput}
+use Rattle.s39_drilling.specs.Slices.{Lists}
+use Rattle.s39_reading.proofs.Texts.SecretLines.{same_secret, same_size}
 use Rattle.s39_c.specs.declared.answer.ShamirAnswer.{ShamirAnswer}
 use Rattle.s39_c.specs.declared.parsing.ShamirShare.{ShamirShare}
-use Rattle.s39_c.specs.Answers.{Gives, number, too_short, plan_refused, word_refused, refused, unwritten, listed}
+use Rattle.s39_c.specs.Answers.{GivesAs, Gives, done, created, number, too_short, plan_refused, word_refused, refused, unwritten, listed}
 use Rattle.s39_c.specs.Parsing.{HasHeader, GivesShare}
 use Rattle.s39_c.specs.Creating.{Wanted, Asks, GivesMnemonics, GivesBackup, GivesNumber}
 use Rattle.s39_c.specs.Recovering.{GivesSecret}
-use Rattle.s39_c.specs.Drilling.{GivesListing, IsCursor, GivesDrill}
+use Rattle.s39_c.specs.Drilling.{form_of, GivesListing, IsCursor, GivesDrillAfter, GivesDrill}
 use Rattle.s39_c.specs.Fingerprinting.{GivesFingerprint}
 
 -- the same bytes are given in one way
+pub gives_as_once : (success : ShamirAnswer) (bytes old new other : List ℕ) (answer another : ShamirAnswer) → GivesAs success bytes old new answer
+    → GivesAs success bytes old other another → (new ≡ other) × (answer ≡ another)
+gives_as_once success bytes old new other answer another (inl (fits, is, says)) (inl (also, same, too)) = (is ∙ sym same, says ∙ sym too)
+gives_as_once success bytes old new other answer another (inl (fits, is, says)) (inr (long, same, too)) = absurd (omega (arith, fits, long))
+gives_as_once success bytes old new other answer another (inr (long, is, says)) (inl (fits, same, too)) = absurd (omega (arith, fits, long))
+gives_as_once success bytes old new other answer another (inr (long, is, says)) (inr (also, same, too)) = (is ∙ sym same, says ∙ sym too)
+
 pub gives_once : (bytes old new other : List ℕ) (answer another : ShamirAnswer) → Gives bytes old new answer → Gives bytes old other another
     → (new ≡ other) × (answer ≡ another)
-gives_once bytes old new other answer another (inl (fits, is, says)) (inl (also, same, too)) = (is ∙ sym same, says ∙ sym too)
-gives_once bytes old new other answer another (inl (fits, is, says)) (inr (long, same, too)) = absurd (omega (arith, fits, long))
-gives_once bytes old new other answer another (inr (long, is, says)) (inl (fits, same, too)) = absurd (omega (arith, fits, long))
-gives_once bytes old new other answer another (inr (long, is, says)) (inr (also, same, too)) = (is ∙ sym same, says ∙ sym too)
+gives_once bytes = gives_as_once (done (length bytes)) bytes
 
 -- a fingerprint is given in one way
 pub fingerprint_once : (secret old new other : List ℕ) (answer another : ShamirAnswer) → GivesFingerprint secret old new answer
@@ -176,7 +181,8 @@ module _ (one_plan_reading : (text : List ℕ) (reading other : Result (ℕ × L
         → GivesMnemonics asked random old other another → (new ≡ other) × (answer ≡ another)
     mnemonics_once asked random old new other answer another (inl (text, output, gives)) (inl (text', output', gives')) =
         let same : text' ≡ text = (one_create_output asked (whole random) text' text (Ok tt) (Ok tt) output' output).0 in
-        gives_once text old new other answer another gives (subst (λ (t : List ℕ). Gives t old other another) same gives')
+        gives_as_once (created (length text) (lines_in text)) text old new other answer another gives
+        (subst (λ (t : List ℕ). GivesAs (created (length t) (lines_in t)) t old other another) same gives')
     mnemonics_once asked random old new other answer another (inl (text, output, gives)) (inr (fault, output', is, says)) =
         let same = (one_create_output asked (whole random) text [] (Ok tt) (Err fault) output output').1 in
         absurd (cc)
@@ -265,31 +271,31 @@ no_empty_form (name ∷ next ∷ names) is =
 
 -- the answer for what is put into a slice, or isn't
 abbrev answer_of : Result Listing Unwritten → ShamirAnswer
-answer_of (Ok listing) = listed listing.written listing.mismatches
+answer_of (Ok listing) = listed listing
 answer_of (Err cause) = unwritten cause
 
-module _ (one_listing_in_a_slice : (passphrase : List ℕ) (after : Option Names) (limit : ℕ) (input : Input) (old new other : List ℕ)
+module _ (one_listing_in_a_slice : (form : SecretForm) (passphrase : List ℕ) (after : Option Names) (limit : ℕ) (input : Input) (old new other : List ℕ)
     (answer another : Result Listing Unwritten)
-    → Lists (λ n. IsDrillOutput Digits passphrase after n input) limit old new answer
-    → Lists (λ n. IsDrillOutput Digits passphrase after n input) limit old other another → (new ≡ other) × (answer ≡ another))
+    → Lists (λ n. IsDrillOutput form passphrase after n input) limit old new answer
+    → Lists (λ n. IsDrillOutput form passphrase after n input) limit old other another → (new ≡ other) × (answer ≡ another))
     (written_once : (text : List ℕ) (names others : Names) → IsWrittenForm text names → IsWrittenForm text others → names ≡ others)
     (passphrase lines : List ℕ) where
   -- what is put into a slice, and the answer for it
-  puts : (after : Option Names) (limit : ℕ) (old new : List ℕ) (answer : ShamirAnswer)
-      → GivesListing (λ n. IsDrillOutput Digits passphrase after n (whole lines)) limit old new answer
-      → (result : Result Listing Unwritten) × Lists (λ n. IsDrillOutput Digits passphrase after n (whole lines)) limit old new result
+  puts : (form : SecretForm) (after : Option Names) (limit : ℕ) (old new : List ℕ) (answer : ShamirAnswer)
+      → GivesListing (λ n. IsDrillOutput form passphrase after n (whole lines)) limit old new answer
+      → (result : Result Listing Unwritten) × Lists (λ n. IsDrillOutput form passphrase after n (whole lines)) limit old new result
       × (answer ≡ answer_of result)
-  puts after limit old new answer (inl (listing, fits, says)) = (Ok listing, fits, says)
-  puts after limit old new answer (inr (inl (short, is_short, is, says))) = (Err (SliceTooShort short), (is_short, is), says)
-  puts after limit old new answer (inr (inr (fault, output, is, says))) = (Err (Refused fault), (output, is), says)
+  puts form after limit old new answer (inl (listing, fits, says)) = (Ok listing, fits, says)
+  puts form after limit old new answer (inr (inl (short, is_short, is, says))) = (Err (SliceTooShort short), (is_short, is), says)
+  puts form after limit old new answer (inr (inr (fault, output, is, says))) = (Err (Refused fault), (output, is), says)
 
-  listing_once : (after : Option Names) (limit : ℕ) (old new other : List ℕ) (answer another : ShamirAnswer)
-      → GivesListing (λ n. IsDrillOutput Digits passphrase after n (whole lines)) limit old new answer
-      → GivesListing (λ n. IsDrillOutput Digits passphrase after n (whole lines)) limit old other another → (new ≡ other) × (answer ≡ another)
-  listing_once after limit old new other answer another is also =
-      let (result, lists, says) = puts after limit old new answer is in
-      let (result', lists', says') = puts after limit old other another also in
-      let same = one_listing_in_a_slice passphrase after limit (whole lines) old new other result result' lists lists' in
+  listing_once : (form : SecretForm) (after : Option Names) (limit : ℕ) (old new other : List ℕ) (answer another : ShamirAnswer)
+      → GivesListing (λ n. IsDrillOutput form passphrase after n (whole lines)) limit old new answer
+      → GivesListing (λ n. IsDrillOutput form passphrase after n (whole lines)) limit old other another → (new ≡ other) × (answer ≡ another)
+  listing_once form after limit old new other answer another is also =
+      let (result, lists, says) = puts form after limit old new answer is in
+      let (result', lists', says') = puts form after limit old other another also in
+      let same = one_listing_in_a_slice form passphrase after limit (whole lines) old new other result result' lists lists' in
       (same.0, says ∙ ap answer_of same.1 ∙ sym says')
 
   -- a text writes one list of names, or none
@@ -304,21 +310,38 @@ module _ (one_listing_in_a_slice : (passphrase : List ℕ) (after : Option Names
   no_form cursor None is some none = some is
   no_form cursor (Some names) is some none = none names is
 
-  pub drill_once : (cursor : List ℕ) (limit : ℕ) (old new other : List ℕ) (answer another : ShamirAnswer)
-      → GivesDrill (λ names n. IsDrillOutput Digits passphrase names n (whole lines)) cursor limit old new answer
-      → GivesDrill (λ names n. IsDrillOutput Digits passphrase names n (whole lines)) cursor limit old other another → (new ≡ other) × (answer ≡ another)
-  drill_once cursor limit old new other answer another (inl (zero, is, says)) (inl (zero', is', says')) = (is ∙ sym is', says ∙ sym says')
-  drill_once cursor limit old new other answer another (inl (zero, is, says)) (inr (inl some)) = absurd (omega (arith, zero, some.0))
-  drill_once cursor limit old new other answer another (inl (zero, is, says)) (inr (inr some)) = absurd (omega (arith, zero, some.0))
-  drill_once cursor limit old new other answer another (inr (inl some)) (inl (zero, is, says)) = absurd (omega (arith, zero, some.0))
-  drill_once cursor limit old new other answer another (inr (inr some)) (inl (zero, is, says)) = absurd (omega (arith, zero, some.0))
-  drill_once cursor limit old new other answer another (inr (inl (some, full, none, is, says))) (inr (inl (some', full', none', is', says'))) =
-      (is ∙ sym is', says ∙ sym says')
-  drill_once cursor limit old new other answer another (inr (inl (some, full, none, is, says))) (inr (inr (some', after, is_cursor, gives))) =
+  after_once : (form : SecretForm) (cursor : List ℕ) (limit : ℕ) (old new other : List ℕ) (answer another : ShamirAnswer)
+      → GivesDrillAfter (λ names n. IsDrillOutput form passphrase names n (whole lines)) cursor limit old new answer
+      → GivesDrillAfter (λ names n. IsDrillOutput form passphrase names n (whole lines)) cursor limit old other another
+      → (new ≡ other) × (answer ≡ another)
+  after_once form cursor limit old new other answer another (inl (full, none, is, says)) (inl (full', none', is', says')) = (is ∙ sym is', says ∙ sym says')
+  after_once form cursor limit old new other answer another (inl (full, none, is, says)) (inr (after, is_cursor, gives)) =
       absurd (no_form cursor after is_cursor full none)
-  drill_once cursor limit old new other answer another (inr (inr (some', after, is_cursor, gives))) (inr (inl (some, full, none, is, says))) =
+  after_once form cursor limit old new other answer another (inr (after, is_cursor, gives)) (inl (full, none, is, says)) =
       absurd (no_form cursor after is_cursor full none)
-  drill_once cursor limit old new other answer another (inr (inr (some, after, is_cursor, gives))) (inr (inr (some', after', is_cursor', gives'))) =
-      listing_once after limit old new other answer another gives
-      (subst (λ (a : Option Names). GivesListing (λ n. IsDrillOutput Digits passphrase a n (whole lines)) limit old other another)
+  after_once form cursor limit old new other answer another (inr (after, is_cursor, gives)) (inr (after', is_cursor', gives')) =
+      listing_once form after limit old new other answer another gives
+      (subst (λ (a : Option Names). GivesListing (λ n. IsDrillOutput form passphrase a n (whole lines)) limit old other another)
       (cursor_once cursor after' after is_cursor' is_cursor) gives')
+
+  -- a limit and a number are refused, or they aren't
+  in_range : (limit number : ℕ) (form : SecretForm) → (limit ≡ 0) ⊎ (form_of number ≡ None) → 1 ≤ limit → form_of number ≡ Some form → ⊥
+  in_range limit number form (inl zero) some is = omega (arith, zero, some)
+  in_range limit number form (inr none) some is = let differ : None ≡ Some form = sym none ∙ is in cc
+
+  same_form : (number : ℕ) (form other : SecretForm) → form_of number ≡ Some form → form_of number ≡ Some other → form ≡ other
+  same_form number form other is also = let same : Some form ≡ Some other = sym is ∙ also in cc
+
+  pub drill_once : (cursor : List ℕ) (limit number : ℕ) (old new other : List ℕ) (answer another : ShamirAnswer)
+      → GivesDrill (λ form names n. IsDrillOutput form passphrase names n (whole lines)) cursor limit number old new answer
+      → GivesDrill (λ form names n. IsDrillOutput form passphrase names n (whole lines)) cursor limit number old other another
+      → (new ≡ other) × (answer ≡ another)
+  drill_once cursor limit number old new other answer another (inl (none, is, says)) (inl (none', is', says')) = (is ∙ sym is', says ∙ sym says')
+  drill_once cursor limit number old new other answer another (inl (none, is, says)) (inr (some, form, is_form, gives)) =
+      absurd (in_range limit number form none some is_form)
+  drill_once cursor limit number old new other answer another (inr (some, form, is_form, gives)) (inl (none, is, says)) =
+      absurd (in_range limit number form none some is_form)
+  drill_once cursor limit number old new other answer another (inr (some, form, is_form, gives)) (inr (some', form', is_form', gives')) =
+      after_once form cursor limit old new other answer another gives
+      (subst (λ (f : SecretForm). GivesDrillAfter (λ names n. IsDrillOutput f passphrase names n (whole lines)) cursor limit old other another)
+      (same_form number form' form is_form' is_form) gives')

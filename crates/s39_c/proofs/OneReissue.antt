@@ -7,10 +7,10 @@ use Rattle.s39_set.specs.declared.status.Status.{Status}
 use Rattle.s39_backup.specs.declared.plan.Members.{Members}
 use Rattle.s39_backup.specs.declared.plan_error.PlanError.{PlanError}
 use Rattle.s39_backup.specs.Plan.{IsPlan, IsPlanReading}
-use Rattle.s39_tool.specs.declared.fault.Fault.{Fault}
-use Rattle.s39_tool.specs.Input.{Input, whole}
-use Rattle.s39_tool.specs.Reissue.{IsReissueOutput}
-use Rattle.s39_tool.specs.Status.{IsStatusOutput}
+use Rattle.s39_input.specs.declared.fault.Fault.{Fault}
+use Rattle.s39_input.specs.Input.{Input, whole}
+use Rattle.s39_creating.specs.Reissue.{IsReissueOutput}
+use Rattle.s39_reading.specs.Status.{IsStatusOutput}
 use Rattle.s39_c.specs.declared.answer.ShamirAnswer.{ShamirAnswer}
 use Rattle.s39_c.specs.Answers.{Gives, GivesOutput, counted, too_short, plan_refused, refused}
 use Rattle.s39_c.specs.Reissuing.{GivesNamed, GivesReissued}

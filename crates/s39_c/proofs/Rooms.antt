@@ -27,26 +27,28 @@ use Rattle.s39_backup.specs.declared.plan_error.PlanError.TheVariants.{BadPlan}
 use Rattle.s39_backup.specs.Created.{Asked}
 use Rattle.s39_backup.specs.Plan.{plan_cause_of}
 use Rattle.s39_backup.specs.RecoverError.{mismatch_cause_of}
-use Rattle.s39_tool.specs.declared.secret_form.SecretForm.TheVariants.{Digits}
-use Rattle.s39_tool.specs.declared.drill.Done.{Done}
-use Rattle.s39_tool.specs.declared.fault.DeviceFailure.{DeviceFailure}
-use Rattle.s39_tool.specs.declared.fault.DeviceFailure.TheVariants.{Read}
-use Rattle.s39_tool.specs.declared.fault.Fault.{Fault}
-use Rattle.s39_tool.specs.declared.fault.LineRefusal.{LineRefusal}
-use Rattle.s39_tool.specs.declared.fault.LineRefusal.TheVariants.{Word, Set}
-use Rattle.s39_tool.specs.declared.fault.Refusal.{Refusal}
-use Rattle.s39_tool.specs.declared.fault.Refusal.TheVariants.{Line, Lack, DigestMismatch, Device}
-use Rattle.s39_tool.specs.Create.{IsCreateOutput}
-use Rattle.s39_tool.specs.Drill.{IsDrillOutput}
-use Rattle.s39_tool.specs.Fault.{cause_of, line_cause_of, device_cause_of}
-use Rattle.s39_tool.specs.Input.{Input, whole}
-use Rattle.s39_tool.specs.Lengths.{longest_listing, longest_backup, longest_status}
-use Rattle.s39_tool.specs.Reissue.{IsReissueOutput}
-use Rattle.s39_tool.specs.Status.{IsStatusOutput}
+use Rattle.s39_kdf.specs.declared.secret_form.SecretForm.{SecretForm}
+use Rattle.s39_drilling.specs.declared.drill.Done.{Done}
+use Rattle.s39_input.specs.declared.fault.DeviceFailure.{DeviceFailure}
+use Rattle.s39_input.specs.declared.fault.DeviceFailure.TheVariants.{Read}
+use Rattle.s39_input.specs.declared.fault.Fault.{Fault}
+use Rattle.s39_input.specs.declared.fault.LineRefusal.{LineRefusal}
+use Rattle.s39_input.specs.declared.fault.LineRefusal.TheVariants.{Word, Set}
+use Rattle.s39_input.specs.declared.fault.Refusal.{Refusal}
+use Rattle.s39_input.specs.declared.fault.Refusal.TheVariants.{Line, Lack, DigestMismatch, Device}
+use Rattle.s39_input.specs.Create.{IsCreateOutput}
+use Rattle.s39_drilling.specs.Drill.{IsDrillOutput}
+use Rattle.s39_input.specs.Fault.{cause_of, line_cause_of, device_cause_of}
+use Rattle.s39_input.specs.Input.{Input, whole}
+use Rattle.s39_drilling.specs.Lengths.{longest_listing}
+use Rattle.s39_creating.specs.Lengths.{longest_backup}
+use Rattle.s39_reading.specs.Lengths.{longest_status}
+use Rattle.s39_creating.specs.Reissue.{IsReissueOutput}
+use Rattle.s39_reading.specs.Status.{IsStatusOutput}
 use Rattle.s39_c.specs.declared.answer.ShamirAnswer.{ShamirAnswer}
-use Rattle.s39_c.specs.Answers.{too_short, refusal, refused}
+use Rattle.s39_c.specs.Answers.{Gives, too_short, refusal, refused}
 use Rattle.s39_c.specs.Creating.{Wanted, GivesMnemonics, GivesBackup}
-use Rattle.s39_c.specs.Drilling.{GivesListing, GivesDrill}
+use Rattle.s39_c.specs.Drilling.{GivesListing, GivesDrillAfter, GivesDrill}
 use Rattle.s39_c.specs.Exponents.{UpTo}
 use Rattle.s39_c.specs.Fingerprinting.{GivesFingerprint}
 use Rattle.s39_c.specs.Reissuing.{GivesNamed, GivesReissued}
@@ -104,24 +106,30 @@ module _ (needed : ℕ) where
 
 -- ---- the calls
 
-module _ (short : (passphrase : List ℕ) (after : Option Names) (input : Input) (text : List ℕ) (answer : Result Done Fault)
-    → IsDrillOutput Digits passphrase after 1 input text answer → length text ≤ longest_listing)
-    (passphrase lines cursor : List ℕ) (limit : ℕ) (old new : List ℕ) (needed : ℕ) where
-  listing_fits : (after : Option Names) → GivesListing (λ n. IsDrillOutput Digits passphrase after n (whole lines)) limit old new (too_short needed)
-      → length old < longest_listing
-  listing_fits after (inl (listing, lists, says)) = let code : 0 ≡ 1 = no_other needed _ says in absurd (omega (arith, code))
-  listing_fits after (inr (inl (found, (text, mismatches, output, needs, less), same, says))) =
-      omega (arith, less, short passphrase after (whole lines) text (Ok (record { mismatches = mismatches })) output)
-  listing_fits after (inr (inr (fault, output, same, says))) = absurd (no_fault needed fault says)
+module _ (short : (form : SecretForm) (passphrase : List ℕ) (after : Option Names) (input : Input) (text : List ℕ) (answer : Result Done Fault)
+    → IsDrillOutput form passphrase after 1 input text answer → length text ≤ longest_listing)
+    (passphrase lines cursor : List ℕ) (limit number : ℕ) (old new : List ℕ) (needed : ℕ) where
+  listing_fits : (form : SecretForm) (after : Option Names)
+      → GivesListing (λ n. IsDrillOutput form passphrase after n (whole lines)) limit old new (too_short needed) → length old < longest_listing
+  listing_fits form after (inl (listing, lists, says)) = let code : 0 ≡ 1 = no_other needed _ says in absurd (omega (arith, code))
+  listing_fits form after (inr (inl (found, (text, mismatches, output, needs, less), same, says))) =
+      omega (arith, less, short form passphrase after (whole lines) text (Ok (record { mismatches = mismatches })) output)
+  listing_fits form after (inr (inr (fault, output, same, says))) = absurd (no_fault needed fault says)
 
-  drill_fits : GivesDrill (λ names n. IsDrillOutput Digits passphrase names n (whole lines)) cursor limit old new (too_short needed)
+  after_fits : (form : SecretForm)
+      → GivesDrillAfter (λ names n. IsDrillOutput form passphrase names n (whole lines)) cursor limit old new (too_short needed)
+      → length old < longest_listing
+  after_fits form (inl (given, no_names, same, says)) = let code : 61 ≡ 1 = no_other needed _ says in absurd (omega (arith, code))
+  after_fits form (inr (after, is, lists)) = listing_fits form after lists
+
+  drill_fits : GivesDrill (λ form names n. IsDrillOutput form passphrase names n (whole lines)) cursor limit number old new (too_short needed)
       → length old < longest_listing
   drill_fits (inl (none, same, says)) = let code : 2 ≡ 1 = no_other needed _ says in absurd (omega (arith, code))
-  drill_fits (inr (inl (some, given, no_names, same, says))) = let code : 61 ≡ 1 = no_other needed _ says in absurd (omega (arith, code))
-  drill_fits (inr (inr (some, after, is, lists))) = listing_fits after lists
+  drill_fits (inr (some, form, is, gives)) = after_fits form gives
 
   pub drill_up_to_fits : (most : ℕ) → UpTo most lines old new (too_short needed)
-      (GivesDrill (λ names n. IsDrillOutput Digits passphrase names n (whole lines)) cursor limit old new (too_short needed)) → length old < longest_listing
+      (GivesDrill (λ form names n. IsDrillOutput form passphrase names n (whole lines)) cursor limit number old new (too_short needed))
+      → length old < longest_listing
   drill_up_to_fits most (inl (exponent, has, high, same, says)) = let code : 3 ≡ 1 = no_other needed _ says in absurd (omega (arith, code))
   drill_up_to_fits most (inr (low, gives)) = drill_fits gives
 
@@ -136,6 +144,12 @@ module _ (short : (asked : Asked) (input : Input) (text : List ℕ) → IsCreate
   backup_fits wanted (inl (high, same, says)) = let code : 2 ≡ 1 = no_other needed _ says in absurd (omega (arith, code))
   backup_fits wanted (inr (inl (low, error, reads, same, says))) = absurd (no_refusal needed (plan_cause_of error) 0 (above-plan error) says)
   backup_fits wanted (inr (inr (low, asked, asks, gives))) = mnemonics_fit asked gives
+
+-- ---- bytes
+
+pub gives_short : (bytes old new : List ℕ) (needed : ℕ) → Gives bytes old new (too_short needed) → length old < length bytes
+gives_short bytes old new needed (inl (fits, is, says)) = let code : 0 ≡ 1 = no_other needed _ says in absurd (omega (arith, code))
+gives_short bytes old new needed (inr (less, same, says)) = less
 
 -- ---- a fingerprint
 

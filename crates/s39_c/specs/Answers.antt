@@ -9,10 +9,11 @@ use Rattle.s39_set.specs.Causes.{cursor_cause, names_cause}
 use Rattle.s39_set.specs.declared.status.Status.{Status}
 use Rattle.s39_backup.specs.declared.plan_error.PlanError.{PlanError}
 use Rattle.s39_backup.specs.Plan.{plan_cause_of}
-use Rattle.s39_tool.specs.declared.fault.Fault.{Fault}
-use Rattle.s39_tool.specs.declared.slices.Unwritten.{Unwritten}
-use Rattle.s39_tool.specs.declared.slices.Unwritten.TheVariants.{Refused, TooShort}
-use Rattle.s39_tool.specs.Fault.{cause_of}
+use Rattle.s39_input.specs.declared.fault.Fault.{Fault}
+use Rattle.s39_drilling.specs.declared.listing.Listing.{Listing}
+use Rattle.s39_input.specs.declared.slices.Unwritten.{Unwritten}
+use Rattle.s39_input.specs.declared.slices.Unwritten.TheVariants.{Refused, TooShort}
+use Rattle.s39_input.specs.Fault.{cause_of}
 use Rattle.s39_c.specs.declared.answer.ShamirAnswer.{ShamirAnswer}
 
 -- nothing is refused, and n bytes are written
@@ -67,9 +68,14 @@ names_refused = refusal names_cause 0
 abbrev pub counted : ℕ → Status → ShamirAnswer
 counted n status = record { code = 0; mismatches = 0; line = 0; first = status.complete; second = status.required; written = n }
 
--- nothing is refused; the numbers are those of the bytes written, and of the quorums in them that are refused for a digest
-abbrev pub listed : ℕ → ℕ → ShamirAnswer
-listed n mismatches = record { code = 0; mismatches = mismatches; line = 0; first = 0; second = 0; written = n }
+-- nothing is refused; the numbers are those of the quorums listed, of the bytes before the last line, of the bytes written, and
+-- of the quorums that are refused for a digest
+abbrev pub listed : Listing → ShamirAnswer
+listed listing = record { code = 0; mismatches = listing.mismatches; line = 0; first = listing.listed; second = listing.last; written = listing.written }
+
+-- nothing is refused; the numbers are those of the bytes written, and of the mnemonics in them
+abbrev pub created : ℕ → ℕ → ShamirAnswer
+created n mnemonics = record { code = 0; mismatches = 0; line = 0; first = mnemonics; second = 0; written = n }
 
 -- a run is refused
 abbrev pub refused : Fault → ShamirAnswer
@@ -80,14 +86,24 @@ abbrev pub unwritten : Unwritten → ShamirAnswer
 unwritten (Refused fault) = refused fault
 unwritten (TooShort short) = too_short short.needed
 
--- These bytes are at the front of a slice, and the rest of it is unchanged. Or they don't fit, and all of it is unchanged.
-abbrev pub Gives : List ℕ → List ℕ → List ℕ → ShamirAnswer → Type 0
-Gives bytes old new answer =
-    ((length bytes ≤ length old) × (new ≡ bytes ++ drop (length bytes) old) × (answer ≡ done (length bytes)))
+-- These bytes are at the front of a slice, the rest of it is unchanged, and this is the answer. Or they don't fit, and all of it is
+-- unchanged.
+abbrev pub GivesAs : ShamirAnswer → List ℕ → List ℕ → List ℕ → ShamirAnswer → Type 0
+GivesAs success bytes old new answer =
+    ((length bytes ≤ length old) × (new ≡ bytes ++ drop (length bytes) old) × (answer ≡ success))
     ⊎ ((length old < length bytes) × (new ≡ old) × (answer ≡ too_short (length bytes)))
 
--- What a command with these outputs writes, or the refusal that it answers, and then the slice is as it was.
-abbrev pub GivesOutput : (List ℕ → Result (Unit {0}) Fault → Type 0) → List ℕ → List ℕ → ShamirAnswer → Type 0
-GivesOutput IsOutput old new answer =
-    ((text : List ℕ) × IsOutput text (Ok tt) × Gives text old new answer)
+-- the same, where the answer says how many bytes they are
+abbrev pub Gives : List ℕ → List ℕ → List ℕ → ShamirAnswer → Type 0
+Gives bytes old new answer = GivesAs (done (length bytes)) bytes old new answer
+
+-- What a command with these outputs writes, with this answer for each text, or the refusal that it answers, and then the slice is
+-- as it was.
+abbrev pub GivesOutputAs : (List ℕ → ShamirAnswer) → (List ℕ → Result (Unit {0}) Fault → Type 0) → List ℕ → List ℕ → ShamirAnswer → Type 0
+GivesOutputAs success IsOutput old new answer =
+    ((text : List ℕ) × IsOutput text (Ok tt) × GivesAs (success text) text old new answer)
     ⊎ ((fault : Fault) × IsOutput [] (Err fault) × (new ≡ old) × (answer ≡ refused fault))
+
+-- the same, where the answer says how many bytes the text has
+abbrev pub GivesOutput : (List ℕ → Result (Unit {0}) Fault → Type 0) → List ℕ → List ℕ → ShamirAnswer → Type 0
+GivesOutput IsOutput old new answer = GivesOutputAs (λ text. done (length text)) IsOutput old new answer

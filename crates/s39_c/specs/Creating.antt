@@ -1,19 +1,20 @@
 -- What `shamir_create` and `shamir_random_needed` give.
-use Rattle.std.specs.Prelude.{◌≡◌, ◌≢◌, ◌⊎◌, ℕ, ◌<◌, ◌≤◌, ◌^◌, List, true, ◌↔◌, Ok, Err}
+use Rattle.std.specs.Prelude.{◌≡◌, ◌≢◌, ◌⊎◌, ℕ, ◌<◌, ◌≤◌, ◌^◌, List, length, true, ◌↔◌, Ok, Err}
 use Rattle.s39_kdf.specs.Limits.{exponent_bits, IsSecretLength}
 use Rattle.s39_backup.specs.declared.plan.Members.{Members}
 use Rattle.s39_backup.specs.declared.plan_error.PlanError.{PlanError}
 use Rattle.s39_backup.specs.Plan.{IsPlanReading}
 use Rattle.s39_backup.specs.Created.{random_needed, Asked}
-use Rattle.s39_tool.specs.Input.{whole}
-use Rattle.s39_tool.specs.Create.{IsCreateOutput}
+use Rattle.s39_input.specs.Input.{lines_in, whole}
+use Rattle.s39_input.specs.Create.{IsCreateOutput}
 use Rattle.s39_c.specs.declared.answer.ShamirAnswer.{ShamirAnswer}
-use Rattle.s39_c.specs.Answers.{GivesOutput, number, out_of_range, plan_refused, length_refused}
+use Rattle.s39_c.specs.Answers.{GivesOutputAs, created, number, out_of_range, plan_refused, length_refused}
 
--- The mnemonics that the command `create` writes for these random bytes, or the refusal that it answers, and then the
--- slice is as it was.
+-- The mnemonics that the command `create` writes for these random bytes, with their number in the answer; or the refusal that
+-- it answers, and then the slice is as it was.
 abbrev pub GivesMnemonics : Asked → List ℕ → List ℕ → List ℕ → ShamirAnswer → Type 0
-GivesMnemonics asked random old new answer = GivesOutput (IsCreateOutput asked (whole random)) old new answer
+GivesMnemonics asked random old new answer =
+    GivesOutputAs (λ text. created (length text) (lines_in text)) (IsCreateOutput asked (whole random)) old new answer
 
 -- what a call is given
 pub record Wanted : Type 0 where

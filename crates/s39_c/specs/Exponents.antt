@@ -1,7 +1,7 @@
 -- What a call gives that refuses an exponent above a most.
 use Rattle.std.specs.Prelude.{◌≡◌, ◌⊎◌, ℕ, ◌<◌, ◌≤◌, List}
-use Rattle.s39_tool.specs.Exponent.{HasExponent}
-use Rattle.s39_tool.specs.Input.{whole}
+use Rattle.s39_reading.specs.Exponent.{HasExponent}
+use Rattle.s39_input.specs.Input.{whole}
 use Rattle.s39_c.specs.declared.answer.ShamirAnswer.{ShamirAnswer}
 use Rattle.s39_c.specs.Answers.{high_exponent}
 

@@ -9,3 +9,4 @@ pub mod Reissuing
 pub mod Status
 pub mod Telling
 pub mod Version
+pub mod Words

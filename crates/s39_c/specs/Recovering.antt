@@ -1,8 +1,8 @@
 -- What `shamir_recover` gives.
 use Rattle.std.specs.Prelude.{◌≡◌, ◌⊎◌, ℕ, List, [], Result, Ok, Err}
-use Rattle.s39_tool.specs.declared.fault.Fault.{Fault}
-use Rattle.s39_tool.specs.declared.secret_form.SecretForm.TheVariants.{Digits}
-use Rattle.s39_tool.specs.Recover.{secret_line}
+use Rattle.s39_input.specs.declared.fault.Fault.{Fault}
+use Rattle.s39_kdf.specs.declared.secret_form.SecretForm.TheVariants.{Digits}
+use Rattle.s39_reading.specs.Recover.{secret_line}
 use Rattle.s39_c.specs.declared.answer.ShamirAnswer.{ShamirAnswer}
 use Rattle.s39_c.specs.Answers.{Gives, refused}
 

@@ -5,7 +5,7 @@ use Rattle.s39_set.specs.Written.{IsWrittenForm}
 use Rattle.s39_backup.specs.declared.plan.Members.{Members}
 use Rattle.s39_backup.specs.declared.plan_error.PlanError.{PlanError}
 use Rattle.s39_backup.specs.Plan.{IsPlanReading}
-use Rattle.s39_tool.specs.declared.fault.Fault.{Fault}
+use Rattle.s39_input.specs.declared.fault.Fault.{Fault}
 use Rattle.s39_c.specs.declared.answer.ShamirAnswer.{ShamirAnswer}
 use Rattle.s39_c.specs.Answers.{GivesOutput, plan_refused, names_refused}
 

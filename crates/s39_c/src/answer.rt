@@ -1,11 +1,13 @@
 //! The answer of a call.
 ghost use Rattle.std.specs.Prelude.{◌≡◌, ℕ};
-ghost use Rattle.s39_c.specs.Answers.{done, number, counted, too_short, out_of_range, high_exponent, refusal, plan_refused, cursor_refused, names_refused, word_refused, refused};
+ghost use Rattle.s39_c.specs.Answers.{done, number, counted, created, listed, too_short, out_of_range, high_exponent, refusal, plan_refused, cursor_refused, names_refused, word_refused, refused};
 
 use s39_backup::PlanError;
+use s39_drilling::Listing;
+use s39_input::{Fault, Unwritten, WrittenLines};
+use s39_reading::WrittenStatus;
 use s39_refusal::Cause;
 use s39_set::{BadCursor, BadNames};
-use s39_tool::{Fault, Unwritten, WrittenStatus};
 use s39_words::WordError;
 
 /// The code of an output buffer that is too short.
@@ -20,7 +22,7 @@ pub(crate) const HIGH_EXPONENT: u8 = 3;
 /// The answer of a call: its code, the details of a refusal, and the number of bytes that the call wrote.
 ///
 /// ```c
-/// size_t missing = answer.code == SHAMIR_TOO_SHORT ? (size_t)answer.first - sizeof text : 0;
+/// size_t missing = answer.code == SHAMIR_E_TOO_SHORT ? (size_t)answer.first - sizeof text : 0;
 /// ```
 #[repr(C)]
 #[derive(Clone, Copy, Debug, PartialEq, Eq)]
@@ -32,11 +34,12 @@ pub struct ShamirAnswer {
     /// The number of the refused line, counted from 1, if a call that takes lines refuses one. Otherwise it is 0.
     pub line: u64,
     /// The first detail of a refusal: a position, a number or a group. In a digest mismatch, 16 stands for the digest
-    /// of the group shares. After success, `shamir_random_needed` gives its result here, and `shamir_status` the number
-    /// of complete groups. Otherwise it is 0.
+    /// of the group shares. After success, `shamir_random_needed` gives its result here, `shamir_create` the number of
+    /// mnemonics, `shamir_drill` the number of listed quorums, and `shamir_status` the number of complete groups.
+    /// Otherwise it is 0.
     pub first: u64,
-    /// The second detail of a refusal. After success, `shamir_status` gives the group threshold here. It is 0
-    /// otherwise.
+    /// The second detail of a refusal. After success, `shamir_drill` gives the offset of the last line in its output
+    /// here, in bytes, and `shamir_status` the group threshold. It is 0 otherwise.
     pub second: u64,
     /// The number of bytes that the call wrote. It is 0 on refusal.
     pub written: u64,
@@ -85,6 +88,28 @@ impl ShamirAnswer {
         ShamirAnswer {
             first: count as u64,
             ..ShamirAnswer::done(0)
+        }
+    }
+
+    /// The answer of a call that wrote mnemonics, one in each line.
+    pub(crate) fn created(put: WrittenLines) -> ShamirAnswer
+        ensures { result ≡ created put.written put.lines }
+    {
+        ShamirAnswer {
+            first: put.lines as u64,
+            ..ShamirAnswer::done(put.written)
+        }
+    }
+
+    /// The answer of a call that wrote a listing.
+    pub(crate) fn listed(listing: Listing) -> ShamirAnswer
+        ensures { result ≡ listed listing }
+    {
+        ShamirAnswer {
+            mismatches: listing.mismatches,
+            first: u64::from(listing.listed),
+            second: listing.last as u64,
+            ..ShamirAnswer::done(listing.written)
         }
     }
 

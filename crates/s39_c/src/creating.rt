@@ -4,8 +4,10 @@ ghost use Rattle.s39_kdf.specs.Limits.{exponent_bits};
 ghost use Rattle.s39_c.specs.Creating.{GivesMnemonics, GivesBackup, GivesNumber};
 
 use crate::answer::ShamirAnswer;
+use s39_backup::{Options, Plan};
+use s39_creating::create_lines;
+use s39_input::Fault;
 use s39_kdf::{MAX_EXPONENT, check_secret_length};
-use s39_tool::{Fault, Options, Plan, create_lines};
 
 /// Gives the number of random bytes that a backup takes, in `first` of the answer. `plan` is the text of the plan, and
 /// `secret_bytes` is the length of the master secret, in bytes.
@@ -30,7 +32,8 @@ pub extern "C" fn shamir_random_needed(plan: &[u8], secret_bytes: usize) -> Sham
 }
 
 /// Creates a backup of a master secret. The mnemonics go to the start of `mnemonics`, in the order of groups and
-/// members, and a line feed follows each. `written` is their length in bytes; the bytes after them are unchanged.
+/// members, and a line feed follows each. `written` is their length in bytes, and `first` is their number. The bytes
+/// after them are unchanged.
 ///
 /// `plan` is the text of the plan. `passphrase` may be empty. `exponent` is the iteration exponent, 0 to 15. The
 /// extendable flag is set if `extendable` isn't 0. `random` has exactly as many bytes as `shamir_random_needed` says.
@@ -106,7 +109,7 @@ fn create_by(
     }) random.now mnemonics.old mnemonics.new result }
 {
     match create_lines(plan, secret, passphrase, options, random, mnemonics) {
-        Ok(written) => ShamirAnswer::done(written),
+        Ok(put) => ShamirAnswer::created(put),
         Err(cause) => ShamirAnswer::from(cause),
     }
 }

@@ -1,38 +1,42 @@
 //! The call that drills.
 ghost use Rattle.std.specs.Option.{option_copied};
-ghost use Rattle.std.specs.Prelude.{◌≤◌};
-ghost use Rattle.s39_tool.specs.declared.secret_form.SecretForm.TheVariants.{Digits};
-ghost use Rattle.s39_tool.specs.Drill.{IsDrillOutput, DrillsCreated};
-ghost use Rattle.s39_tool.specs.Input.{whole};
-ghost use Rattle.s39_c.specs.Drilling.{GivesListing, GivesDrill};
+ghost use Rattle.std.specs.Prelude.{◌≡◌, ◌≤◌};
+ghost use Rattle.s39_drilling.specs.Drill.{IsDrillOutput, DrillsCreated};
+ghost use Rattle.s39_input.specs.Input.{whole};
+ghost use Rattle.s39_c.specs.Drilling.{form_of, GivesListing, GivesDrillAfter, GivesDrill};
 ghost use Rattle.s39_c.specs.Exponents.{UpTo};
 
 use crate::answer::ShamirAnswer;
 use crate::exponent::exponent_above;
+use s39_drilling::drill_lines;
+use s39_drilling::laws::created_backups_drill;
+use s39_input::SecretForm;
 use s39_set::{Quorum, parse_quorum};
-use s39_tool::drill_lines;
-use s39_tool::laws::created_backups_drill;
 
 /// Lists what each quorum recovers, in the format of the command `drill`. A quorum is a minimal set of mnemonics that
 /// meets the thresholds. The call lists the quorums that come after the one that `after` names, or all if `after` is
 /// empty.
 ///
+/// If `form` is 0, a line has the digits of the secret that its quorum recovers. If it is 1, the line has the
+/// fingerprint of that secret instead, and no secret is written.
+///
 /// The listing goes to the start of `text`; `written` is its length in bytes, and the bytes after it are unchanged. It
 /// has at most `limit` quorums. It ends sooner if the line of the next quorum, with the last line after it, doesn't
-/// fit. The last line is `end`, or `more after` and the names for the next call. `mismatches` is the number of listed
-/// quorums with a digest mismatch.
+/// fit. The last line is `end`, or `more after` and the names for the next call. `first` is the number of listed
+/// quorums, and `second` is the offset of the last line in `text`. `mismatches` is the number of listed quorums with a
+/// digest mismatch.
 ///
 /// The call refuses with the first of these that applies, and `text` is then unchanged:
 ///
 /// - 3, if no line is refused, the mnemonics have a quorum, and their exponent is above `max_exponent`; the call then
 ///   derives no key;
-/// - 2 (a limit of 0), 61 (`after` isn't a list of names), 41 (the passphrase);
+/// - 2 (a limit of 0, or a form above 1), 61 (`after` isn't a list of names), 41 (the passphrase);
 /// - the code of the first refused line (11 to 28, 71), then 29, 30, 62 (the names aren't those of a quorum);
 /// - 1, if `text` is too short for one quorum, or for `end` if no quorum is left.
 ///
 /// ```c
 /// shamir_answer answer = shamir_drill(lines, lines_bytes, "", 0, SHAMIR_EXPONENT_MAX, after, after_bytes, 1000,
-///                                     text, sizeof text);
+///                                     SHAMIR_FORM_FINGERPRINTS, text, sizeof text);
 /// ```
 #[unsafe(no_mangle)]
 pub extern "C" fn shamir_drill(
@@ -41,45 +45,86 @@ pub extern "C" fn shamir_drill(
     max_exponent: u32,
     after: &[u8],
     limit: u32,
+    form: u32,
     text: &mut [u8],
 ) -> ShamirAnswer
     ensures drills { UpTo max_exponent lines.now text.old text.new result
-        (GivesDrill (λ names n. IsDrillOutput Digits passphrase.now names n (whole lines.now))
-        after.now limit text.old text.new result) }
-    // For mnemonics of a created backup and its passphrase, the call lists their quorums and no others, each with the secret.
-    // Or the refusal says that they have no quorum, or that the cursor doesn't name one.
+        (GivesDrill (λ kind names n. IsDrillOutput kind passphrase.now names n (whole lines.now))
+        after.now limit form text.old text.new result) }
+    // For mnemonics of a created backup and its passphrase, the call lists their quorums and no others, each with the secret
+    // in this form. Or the refusal says that they have no quorum, or that the cursor doesn't name one.
     ensures complete { UpTo max_exponent lines.now text.old text.new result
-        (GivesDrill (λ names n. DrillsCreated Digits passphrase.now names n (whole lines.now))
-        after.now limit text.old text.new result) }
+        (GivesDrill (λ kind names n. DrillsCreated kind passphrase.now names n (whole lines.now))
+        after.now limit form text.old text.new result) }
 {
     match exponent_above(max_exponent, lines) {
         Some(exponent) => ShamirAnswer::high_exponent(exponent),
-        None => drill(lines, passphrase, after, limit, text),
+        None => drill(lines, passphrase, after, limit, form, text),
+    }
+}
+
+/// The form of secrets that a number stands for, if it stands for one.
+fn form_of(number: u32) -> Option<SecretForm>
+    ensures { result ≡ form_of number }
+{
+    match number {
+        0 => Some(SecretForm::Digits),
+        1 => Some(SecretForm::Fingerprint),
+        _ => None,
     }
 }
 
 /// Drills lines with any exponent.
-fn drill(lines: &[u8], passphrase: &[u8], after: &[u8], limit: u32, text: &mut [u8]) -> ShamirAnswer
-    ensures drills { GivesDrill (λ names n. IsDrillOutput Digits passphrase.now names n (whole lines.now))
-        after.now limit text.old text.new result }
-    ensures complete { GivesDrill (λ names n. DrillsCreated Digits passphrase.now names n (whole lines.now))
-        after.now limit text.old text.new result }
+fn drill(
+    lines: &[u8],
+    passphrase: &[u8],
+    after: &[u8],
+    limit: u32,
+    form: u32,
+    text: &mut [u8],
+) -> ShamirAnswer
+    ensures drills { GivesDrill (λ kind names n. IsDrillOutput kind passphrase.now names n (whole lines.now))
+        after.now limit form text.old text.new result }
+    ensures complete { GivesDrill (λ kind names n. DrillsCreated kind passphrase.now names n (whole lines.now))
+        after.now limit form text.old text.new result }
 {
-    created_backups_drill();
     if limit == 0 {
         return ShamirAnswer::out_of_range();
     }
+    match form_of(form) {
+        Some(kind) => drill_after(kind, passphrase, after, limit, lines, text),
+        None => ShamirAnswer::out_of_range(),
+    }
+}
+
+/// Drills lines from the quorum on that comes after the one of a cursor, or from the first one on.
+fn drill_after(
+    form: SecretForm,
+    passphrase: &[u8],
+    after: &[u8],
+    limit: u32,
+    lines: &[u8],
+    text: &mut [u8],
+) -> ShamirAnswer
+    requires { 1 ≤ limit }
+    ensures drills { GivesDrillAfter (λ names n. IsDrillOutput form passphrase.now names n (whole lines.now))
+        after.now limit text.old text.new result }
+    ensures complete { GivesDrillAfter (λ names n. DrillsCreated form passphrase.now names n (whole lines.now))
+        after.now limit text.old text.new result }
+{
+    created_backups_drill();
     if after.is_empty() {
-        return give_listing(passphrase, None, limit, lines, text);
+        return give_listing(form, passphrase, None, limit, lines, text);
     }
     match parse_quorum(after) {
-        Ok(quorum) => give_listing(passphrase, Some(&quorum), limit, lines, text),
+        Ok(quorum) => give_listing(form, passphrase, Some(&quorum), limit, lines, text),
         Err(error) => ShamirAnswer::from(error),
     }
 }
 
 /// Writes the listing of the quorums after a given one, or of all quorums, up to the first line that doesn't fit.
 fn give_listing(
+    form: SecretForm,
     passphrase: &[u8],
     after: Option<&Quorum>,
     limit: u32,
@@ -88,14 +133,11 @@ fn give_listing(
 ) -> ShamirAnswer
     requires { 1 ≤ limit }
     ensures { GivesListing
-        (λ n. IsDrillOutput Digits passphrase.now (option_copied after.entry) n (whole lines.now))
+        (λ n. IsDrillOutput form passphrase.now (option_copied after.entry) n (whole lines.now))
         limit text.old text.new result }
 {
-    match drill_lines(passphrase, after, limit, lines, text) {
-        Ok(listing) => ShamirAnswer {
-            mismatches: listing.mismatches,
-            ..ShamirAnswer::done(listing.written)
-        },
+    match drill_lines(form, passphrase, after, limit, lines, text) {
+        Ok(listing) => ShamirAnswer::listed(listing),
         Err(cause) => ShamirAnswer::from(cause),
     }
 }

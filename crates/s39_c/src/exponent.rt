@@ -1,10 +1,10 @@
 //! The check of mnemonics against the caller's maximum for the iteration exponent.
 ghost use Rattle.std.specs.Prelude.{◌≡◌, ℕ, ◌<◌, ◌≤◌, None, IfSome};
-ghost use Rattle.s39_tool.specs.Exponent.{HasExponent};
-ghost use Rattle.s39_tool.specs.Input.{whole};
+ghost use Rattle.s39_reading.specs.Exponent.{HasExponent};
+ghost use Rattle.s39_input.specs.Input.{whole};
 
-use s39_tool::exponent_in;
-use s39_tool::laws::one_exponent;
+use s39_reading::exponent_in;
+use s39_reading::laws::one_exponent;
 
 /// The iteration exponent of the mnemonics in `lines`, if they have a quorum and it is above the maximum `most`. It is
 /// `None` also if a line is refused.

@@ -41,11 +41,11 @@ fn recovers_up_to_the_most_exponent(rt: HostRuntime) {
 #[test]
 fn drills_up_to_the_most_exponent(rt: HostRuntime) {
     let mut text = [7; 45];
-    let refused = shamir_drill(TWO, b"a\x07", 1, b"0.1+", 0, &mut text);
+    let refused = shamir_drill(TWO, b"a\x07", 1, b"0.1+", 0, 2, &mut text);
     assert_eq!(rt; refused, answer(3, 2, 0, 0));
     assert_eq!(rt; text, [7; 45]);
-    let done = shamir_drill(TWO, b"TREZOR", 2, b"", 1, &mut text);
-    assert_eq!(rt; done, answer(0, 0, 0, 45));
+    let done = shamir_drill(TWO, b"TREZOR", 2, b"", 1, 0, &mut text);
+    assert_eq!(rt; done, answer(0, 1, 41, 45));
     assert_eq!(rt; text, *b"0.0+0.2 b43ceb7e57a0ea8766221624d01b0864\nend\n");
 }
 

@@ -2,7 +2,7 @@
 use super::*;
 
 /// An answer with this code, this first detail, and this number of bytes written.
-const fn answer(code: u32, first: u64, written: u64) -> ShamirAnswer {
+const fn answer_of(code: u32, first: u64, written: u64) -> ShamirAnswer {
     ShamirAnswer {
         code,
         mismatches: 0,
@@ -31,16 +31,16 @@ fn gives_fingerprints(rt: HostRuntime) {
     for (secret, digits) in cases {
         let mut text = [7; 9];
         let short = shamir_fingerprint(secret, &mut text[..7]);
-        assert_eq!(rt; short, answer(1, 8, 0));
+        assert_eq!(rt; short, answer_of(1, 8, 0));
         let none = shamir_fingerprint(secret, &mut []);
-        assert_eq!(rt; none, answer(1, 8, 0));
+        assert_eq!(rt; none, answer_of(1, 8, 0));
         assert_eq!(rt; text, [7; 9]);
         let given = shamir_fingerprint(secret, &mut text);
-        assert_eq!(rt; given, answer(0, 0, 8));
+        assert_eq!(rt; given, answer_of(0, 0, 8));
         assert!(rt; text.starts_with(digits));
         assert_eq!(rt; text[8], 7);
         let just = shamir_fingerprint(secret, &mut text[..8]);
-        assert_eq!(rt; just, answer(0, 0, 8));
+        assert_eq!(rt; just, answer_of(0, 0, 8));
     }
 }
 
@@ -50,9 +50,32 @@ fn refuses_the_length_of_a_secret(rt: HostRuntime) {
     for length in [0, 14, 15, 17, 127, 129, 130] {
         let mut text = [7; 8];
         let refused = shamir_fingerprint(&bytes[..length], &mut text);
-        assert_eq!(rt; refused, answer(42, length as u64, 0));
+        assert_eq!(rt; refused, answer_of(42, length as u64, 0));
         assert_eq!(rt; text, [7; 8]);
         let short = shamir_fingerprint(&bytes[..length], &mut text[..7]);
-        assert_eq!(rt; short, answer(42, length as u64, 0));
+        assert_eq!(rt; short, answer_of(42, length as u64, 0));
     }
+}
+
+#[test]
+fn drills_with_fingerprints(rt: HostRuntime) {
+    let lines =
+        b"academic aluminum acrobat leaf buyer drink heat negative damage union purchase photo inmate training amazing yield bucket wrote mule cluster\n\
+        academic aluminum acrobat lily august piece column laser headset unusual blimp nuclear sweater criminal credit eyebrow trouble silent axis skin\n\
+        academic aluminum beard leader chest elite grant group club deploy increase divorce puny cylinder romp frequent crush ruler erode bucket\n\
+        academic aluminum ceramic leader cylinder decorate mobile devote echo finger program firm starting dwarf grumpy harvest enforce raisin sprinkle phantom\n";
+    let listing = b"0.0+0.1+1.0 df41d8fe\n0.0+0.1+2.0 df41d8fe\n1.0+2.0 df41d8fe\nend\n";
+    let mut text = [7; 66];
+    let answer = shamir_drill(lines, b"TREZOR", 0, b"", 1000, 1, &mut text);
+    let done = ShamirAnswer {
+        second: 59,
+        ..answer_of(0, 3, 63)
+    };
+    assert_eq!(rt; answer, done);
+    assert!(rt; text.starts_with(listing));
+    assert_eq!(rt; text[63], 7);
+    let mut narrow = [7; 43];
+    let answer = shamir_drill(lines, b"TREZOR", 0, b"", 1000, 1, &mut narrow);
+    assert_eq!(rt; answer, answer_of(1, 44, 0));
+    assert_eq!(rt; narrow, [7; 43]);
 }

@@ -7,8 +7,8 @@ ghost use Rattle.s39_c.specs.Fingerprinting.{GivesFingerprint};
 use crate::answer::ShamirAnswer;
 use crate::lengths::FINGERPRINT_BYTES_MAX;
 use crate::memory::give;
+use s39_input::Fault;
 use s39_kdf::{check_secret_length, fingerprint};
-use s39_tool::Fault;
 
 /// Computes the fingerprint of a master secret, by which its owner can recognise the secret without seeing it. The
 /// fingerprint is the first four bytes of the HMAC-SHA256 of the secret with the key `shamir fingerprint`, in eight

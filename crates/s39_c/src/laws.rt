@@ -4,12 +4,12 @@
 //! afterwards. A `max_exponent` of 15 or more refuses nothing.
 ghost use Rattle.std.specs.Prelude.{◌≡◌, ℕ, ◌≤◌, List};
 ghost use Rattle.s39_kdf.specs.Bytes.{AreBytes};
-ghost use Rattle.s39_tool.specs.declared.secret_form.SecretForm.TheVariants.{Digits};
-ghost use Rattle.s39_tool.specs.Drill.{IsDrillOutput};
-ghost use Rattle.s39_tool.specs.Input.{whole};
-ghost use Rattle.s39_tool.specs.Recover.{IsRecoverOutput};
-ghost use Rattle.s39_tool.specs.Reissue.{IsReissueOutput};
-ghost use Rattle.s39_tool.specs.Status.{IsStatusOutput};
+ghost use Rattle.s39_kdf.specs.declared.secret_form.SecretForm.TheVariants.{Digits};
+ghost use Rattle.s39_drilling.specs.Drill.{IsDrillOutput};
+ghost use Rattle.s39_input.specs.Input.{whole};
+ghost use Rattle.s39_reading.specs.Recover.{IsRecoverOutput};
+ghost use Rattle.s39_creating.specs.Reissue.{IsReissueOutput};
+ghost use Rattle.s39_reading.specs.Status.{IsStatusOutput};
 ghost use Rattle.s39_c.specs.declared.answer.ShamirAnswer.{ShamirAnswer as Answer};
 ghost use Rattle.s39_c.specs.declared.parsing.ShamirShare.{ShamirShare as Header};
 ghost use Rattle.s39_c.specs.Creating.{Wanted, GivesBackup, GivesNumber};
@@ -20,13 +20,15 @@ ghost use Rattle.s39_c.specs.Parsing.{GivesShare};
 ghost use Rattle.s39_c.specs.Recovering.{GivesSecret};
 ghost use Rattle.s39_c.specs.Reissuing.{GivesReissued};
 ghost use Rattle.s39_c.specs.Status.{GivesStatus};
+ghost use Rattle.s39_c.specs.Words.{GivesWords};
 
 use s39_backup::laws::one_plan_reading;
-use s39_set::laws::written_forms;
-use s39_tool::laws::{
-    every_exponent_is_at_most_15, one_create_output, one_exponent, one_listing_in_a_slice,
-    one_recover_output, one_reissue_output, one_status_output,
+use s39_creating::laws::{one_create_output, one_reissue_output};
+use s39_drilling::laws::one_listing_in_a_slice;
+use s39_reading::laws::{
+    every_exponent_is_at_most_15, one_exponent, one_recover_output, one_status_output,
 };
+use s39_set::laws::written_forms;
 use s39_words::laws::one_reading;
 
 /// A line determines the fields, the buffer of the value and the answer of `shamir_parse`.
@@ -64,6 +66,13 @@ pub fn one_fingerprint()
         → (new ≡ other) × (answer ≡ another) }
 {}
 
+/// Letters determine the buffer and the answer of `shamir_words`.
+pub fn one_list_of_words()
+    ensures { (letters old new other : List ℕ) (answer another : Answer)
+        → GivesWords letters old new answer → GivesWords letters old other another
+        → (new ≡ other) × (answer ≡ another) }
+{}
+
 /// Lines, passphrase and maximum exponent determine the buffer of the secret and the answer of `shamir_recover`.
 pub fn one_secret()
     ensures { (most : ℕ) (passphrase lines old new other : List ℕ) (answer another : Answer)
@@ -78,15 +87,17 @@ pub fn one_secret()
     one_recover_output();
 }
 
-/// Lines, passphrase, maximum exponent, cursor and limit determine the buffer of the listing and the answer of
-/// `shamir_drill`.
+/// Lines, passphrase, maximum exponent, cursor, limit and the number of the form determine the buffer of the listing and
+/// the answer of `shamir_drill`.
 pub fn one_drill()
-    ensures { (most : ℕ) (passphrase lines cursor : List ℕ) (limit : ℕ) (old new other : List ℕ)
+    ensures { (most : ℕ) (passphrase lines cursor : List ℕ) (limit number : ℕ) (old new other : List ℕ)
         (answer another : Answer)
         → UpTo most lines old new answer
-        (GivesDrill (λ names n. IsDrillOutput Digits passphrase names n (whole lines)) cursor limit old new answer)
+        (GivesDrill (λ form names n. IsDrillOutput form passphrase names n (whole lines))
+        cursor limit number old new answer)
         → UpTo most lines old other another
-        (GivesDrill (λ names n. IsDrillOutput Digits passphrase names n (whole lines)) cursor limit old other another)
+        (GivesDrill (λ form names n. IsDrillOutput form passphrase names n (whole lines))
+        cursor limit number old other another)
         → (new ≡ other) × (answer ≡ another) }
 {
     one_exponent();
@@ -124,11 +135,13 @@ pub fn a_most_of_15_refuses_nothing()
         → UpTo most lines old new answer
         (GivesSecret (IsRecoverOutput Digits passphrase (whole lines)) old new answer)
         → GivesSecret (IsRecoverOutput Digits passphrase (whole lines)) old new answer }
-    ensures drills { (most : ℕ) (passphrase lines cursor : List ℕ) (limit : ℕ) (old new : List ℕ)
+    ensures drills { (most : ℕ) (passphrase lines cursor : List ℕ) (limit number : ℕ) (old new : List ℕ)
         (answer : Answer) → 15 ≤ most
         → UpTo most lines old new answer
-        (GivesDrill (λ names n. IsDrillOutput Digits passphrase names n (whole lines)) cursor limit old new answer)
-        → GivesDrill (λ names n. IsDrillOutput Digits passphrase names n (whole lines)) cursor limit old new answer }
+        (GivesDrill (λ form names n. IsDrillOutput form passphrase names n (whole lines))
+        cursor limit number old new answer)
+        → GivesDrill (λ form names n. IsDrillOutput form passphrase names n (whole lines))
+        cursor limit number old new answer }
 {
     every_exponent_is_at_most_15();
 }

@@ -1,16 +1,18 @@
 //! The buffer lengths that the header names, in bytes, and facts about them. Each fact is the contract of a function
 //! that has no effect.
-ghost use Rattle.std.specs.Prelude.{◌≡◌, ◌*◌, ◌<◌, ◌≤◌, ℕ, List, length};
+ghost use Rattle.std.specs.Prelude.{◌≡◌, ◌*◌, ◌<◌, ◌≤◌, ℕ, List, [], length};
 ghost use Rattle.s39_kdf.specs.Fingerprint.{fingerprint_length};
 ghost use Rattle.s39_set.specs.Names.{Names};
 ghost use Rattle.s39_set.specs.Written.{IsWrittenForm};
-ghost use Rattle.s39_tool.specs.declared.secret_form.SecretForm.TheVariants.{Digits};
-ghost use Rattle.s39_tool.specs.Drill.{IsDrillOutput};
-ghost use Rattle.s39_tool.specs.Input.{whole};
-ghost use Rattle.s39_tool.specs.Lengths.{longest_names, longest_listing, longest_backup, longest_status};
-ghost use Rattle.s39_tool.specs.Reissue.{IsReissueOutput};
-ghost use Rattle.s39_tool.specs.Status.{IsStatusOutput};
-ghost use Rattle.s39_c.specs.declared.lengths.TheConstants.{NAMES_BYTES_MAX, LISTING_BYTES_ENOUGH, MNEMONICS_BYTES_MAX, STATUS_BYTES_MAX, FINGERPRINT_BYTES_MAX};
+ghost use Rattle.s39_drilling.specs.Drill.{IsDrillOutput};
+ghost use Rattle.s39_input.specs.Input.{whole};
+ghost use Rattle.s39_input.specs.Lengths.{longest_names};
+ghost use Rattle.s39_drilling.specs.Lengths.{longest_listing};
+ghost use Rattle.s39_creating.specs.Lengths.{longest_backup};
+ghost use Rattle.s39_reading.specs.Lengths.{longest_status};
+ghost use Rattle.s39_creating.specs.Reissue.{IsReissueOutput};
+ghost use Rattle.s39_reading.specs.Status.{IsStatusOutput};
+ghost use Rattle.s39_c.specs.declared.lengths.TheConstants.{NAMES_BYTES_MAX, LISTING_BYTES_ENOUGH, MNEMONICS_BYTES_MAX, STATUS_BYTES_MAX, FINGERPRINT_BYTES_MAX, WORDS_BYTES_MAX};
 ghost use Rattle.s39_c.specs.Answers.{too_short};
 ghost use Rattle.s39_c.specs.Creating.{Wanted, GivesBackup};
 ghost use Rattle.s39_c.specs.Drilling.{GivesDrill};
@@ -18,11 +20,12 @@ ghost use Rattle.s39_c.specs.Exponents.{UpTo};
 ghost use Rattle.s39_c.specs.Fingerprinting.{GivesFingerprint};
 ghost use Rattle.s39_c.specs.Reissuing.{GivesReissued};
 ghost use Rattle.s39_c.specs.Status.{GivesStatus};
+ghost use Rattle.s39_c.specs.Words.{longest_words, words_text, GivesWords};
 
-use s39_tool::laws::{
-    backups_are_short, first_lines_are_short, names_are_short, reissues_are_short,
-    statuses_are_short,
-};
+use s39_creating::laws::{backups_are_short, reissues_are_short};
+use s39_drilling::laws::first_lines_are_short;
+use s39_input::laws::names_are_short;
+use s39_reading::laws::statuses_are_short;
 
 /// The maximum length of a list of names, such as the names of a quorum.
 pub const NAMES_BYTES_MAX: usize = 1_215;
@@ -39,6 +42,9 @@ pub const FINGERPRINT_BYTES_MAX: usize = 8;
 /// The maximum length of a status.
 pub const STATUS_BYTES_MAX: usize = 1_638;
 
+/// The maximum length of a list of words, which is the length of all words, each with its line feed.
+pub const WORDS_BYTES_MAX: usize = 7_231;
+
 /// The constants equal the numbers of the definitions.
 pub fn lengths()
     ensures names { NAMES_BYTES_MAX ≡ longest_names }
@@ -46,6 +52,7 @@ pub fn lengths()
     ensures mnemonics { MNEMONICS_BYTES_MAX ≡ longest_backup }
     ensures fingerprint { FINGERPRINT_BYTES_MAX ≡ 2 * fingerprint_length }
     ensures status { STATUS_BYTES_MAX ≡ longest_status }
+    ensures words { WORDS_BYTES_MAX ≡ longest_words }
 {}
 
 /// A list of names, as a listing has it and as a drill takes it, is no longer than the maximum.
@@ -58,10 +65,10 @@ pub fn names_fit()
 
 /// If a drill refuses a buffer as too short, the buffer is shorter than `LISTING_BYTES_ENOUGH`.
 pub fn listings_fit()
-    ensures { (most : ℕ) (passphrase lines cursor : List ℕ) (limit : ℕ) (old new : List ℕ)
+    ensures { (most : ℕ) (passphrase lines cursor : List ℕ) (limit number : ℕ) (old new : List ℕ)
         (needed : ℕ) → UpTo most lines old new (too_short needed)
-        (GivesDrill (λ names n. IsDrillOutput Digits passphrase names n (whole lines)) cursor limit old new
-        (too_short needed))
+        (GivesDrill (λ form names n. IsDrillOutput form passphrase names n (whole lines))
+        cursor limit number old new (too_short needed))
         → length old < LISTING_BYTES_ENOUGH }
 {
     first_lines_are_short();
@@ -102,3 +109,11 @@ pub fn reissues_fit()
 {
     reissues_are_short();
 }
+
+/// If a buffer is refused as too short for words, it is shorter than `WORDS_BYTES_MAX`. The list of
+/// all words, which no letters give, has exactly that length.
+pub fn words_fit()
+    ensures most { (letters old new : List ℕ) (needed : ℕ)
+        → GivesWords letters old new (too_short needed) → length old < WORDS_BYTES_MAX }
+    ensures reached { length (words_text []) ≡ WORDS_BYTES_MAX }
+{}

@@ -19,6 +19,7 @@ mod reissuing;
 mod status;
 mod telling;
 mod version;
+mod words;
 
 pub use answer::ShamirAnswer;
 pub use creating::{shamir_create, shamir_random_needed};
@@ -30,6 +31,7 @@ pub use reissuing::shamir_reissue;
 pub use status::shamir_status;
 pub use telling::shamir_text;
 pub use version::shamir_version;
+pub use words::shamir_words;
 
 #[cfg(test)]
 mod exponent_tests;
@@ -41,3 +43,5 @@ mod reissue_tests;
 mod telling_tests;
 #[cfg(test)]
 mod tests;
+#[cfg(test)]
+mod words_tests;

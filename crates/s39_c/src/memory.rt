@@ -2,7 +2,7 @@
 ghost use Rattle.s39_c.specs.Answers.{Gives};
 
 use crate::answer::ShamirAnswer;
-use s39_tool::put;
+use s39_input::put;
 
 /// Writes bytes to the start of an output buffer if they fit, and refuses the buffer otherwise.
 pub(crate) fn give(bytes: &[u8], out: &mut [u8]) -> ShamirAnswer

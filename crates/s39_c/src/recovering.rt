@@ -1,16 +1,16 @@
 //! The call that recovers a secret.
-ghost use Rattle.s39_tool.specs.declared.secret_form.SecretForm.TheVariants.{Digits};
-ghost use Rattle.s39_tool.specs.Input.{whole};
-ghost use Rattle.s39_tool.specs.OfBackup.{RecoversCreated};
-ghost use Rattle.s39_tool.specs.Recover.{IsRecoverOutput};
+ghost use Rattle.s39_kdf.specs.declared.secret_form.SecretForm.TheVariants.{Digits};
+ghost use Rattle.s39_input.specs.Input.{whole};
+ghost use Rattle.s39_reading.specs.Recover.{RecoversCreated};
+ghost use Rattle.s39_reading.specs.Recover.{IsRecoverOutput};
 ghost use Rattle.s39_c.specs.Exponents.{UpTo};
 ghost use Rattle.s39_c.specs.Recovering.{GivesSecret};
 
 use crate::answer::ShamirAnswer;
 use crate::exponent::exponent_above;
 use crate::memory::give;
-use s39_tool::laws::created_backups_recover;
-use s39_tool::recover_secret;
+use s39_reading::laws::created_backups_recover;
+use s39_reading::recover_secret;
 
 /// Recovers the master secret from the mnemonics in `lines`, with a passphrase. The call takes the first quorum in the
 /// order of a drill; a quorum is a minimal set of mnemonics that meets the thresholds. The secret goes to the start of

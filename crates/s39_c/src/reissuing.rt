@@ -1,12 +1,13 @@
 //! The call that computes lost mnemonics from others of their backup.
-ghost use Rattle.s39_tool.specs.Input.{whole};
-ghost use Rattle.s39_tool.specs.Reissue.{IsReissueOutput, ReissuesCreated};
+ghost use Rattle.s39_input.specs.Input.{whole};
+ghost use Rattle.s39_creating.specs.Reissue.{IsReissueOutput, ReissuesCreated};
 ghost use Rattle.s39_c.specs.Answers.{GivesOutput};
 ghost use Rattle.s39_c.specs.Reissuing.{GivesNamed, GivesReissued};
 
 use crate::answer::ShamirAnswer;
+use s39_backup::Plan;
+use s39_creating::reissue_lines;
 use s39_set::{Quorum, parse_names};
-use s39_tool::{Plan, reissue_lines};
 
 /// Computes mnemonics of a backup from those in `lines`. `plan` is the text of the plan of the backup, or of that plan
 /// with more members in some groups; the added members are new members of this backup. `names` lists the names of the
@@ -71,7 +72,7 @@ fn reissue(plan: &Plan, names: &Quorum, lines: &[u8], mnemonics: &mut [u8]) -> S
         mnemonics.old mnemonics.new result }
 {
     match reissue_lines(plan, names, lines, mnemonics) {
-        Ok(written) => ShamirAnswer::done(written),
+        Ok(put) => ShamirAnswer::done(put.written),
         Err(cause) => ShamirAnswer::from(cause),
     }
 }

@@ -1,10 +1,10 @@
 //! The call that tells whether mnemonics are enough for a recovery.
-ghost use Rattle.s39_tool.specs.Input.{whole};
-ghost use Rattle.s39_tool.specs.Status.{IsStatusOutput};
+ghost use Rattle.s39_input.specs.Input.{whole};
+ghost use Rattle.s39_reading.specs.Status.{IsStatusOutput};
 ghost use Rattle.s39_c.specs.Status.{GivesStatus};
 
 use crate::answer::ShamirAnswer;
-use s39_tool::status_lines;
+use s39_reading::status_lines;
 
 /// Tells how many members of each group are among the mnemonics in `lines`, in the format of the command `status`. The
 /// text goes to the start of `text`; `written` is its length in bytes, and the bytes after it are unchanged. The call

@@ -82,20 +82,21 @@ fn creates_vectors(rt: HostRuntime) {
         b"shadow pistol academic acid actress prayer class unknown daughter sweater depict flip twice unkind craft early superior advocate guest smoking\nshadow pistol academic agency acid license obtain preach firefly permit flavor library learn tension flea unusual nylon terminal exercise become\nshadow pistol academic always adequate wildlife fancy gross oasis cylinder mustang wrist rescue view short owner flip making coding armed\n";
     let one =
         b"duckling enlarge academic academic agency result length solution fridge kidney coal piece deal husband erode duke ajar critical decision keyboard\n";
-    let cases: [(&[u8], [u8; 16], u32, &[u8], &[u8]); 2] = [
-        (b"1of1", SECRET, 0, b"\x1f\x09", one),
+    let cases: [(&[u8], [u8; 16], u32, &[u8], &[u8], u64); 2] = [
+        (b"1of1", SECRET, 0, b"\x1f\x09", one, 1),
         (
             b"2of3",
             *b"\xb4\x3c\xeb\x7e\x57\xa0\xea\x87\x66\x22\x16\x24\xd0\x1b\x08\x64",
             2,
             b"\x64\x35\x91\x64\xe7\xa0\x06\xaa\xdd\x75\x17\x9d\x6d\x5c",
             two_needed,
+            3,
         ),
     ];
-    for (plan, secret, exponent, random, mnemonics) in cases {
+    for (plan, secret, exponent, random, mnemonics, count) in cases {
         let mut text = [7; 500];
         let answer = shamir_create(plan, &secret, b"TREZOR", exponent, 0, random, &mut text);
-        assert_eq!(rt; answer, written(mnemonics.len()));
+        assert_eq!(rt; answer, counted(count, 0, mnemonics.len()));
         assert!(rt; text.starts_with(mnemonics));
         assert_eq!(rt; text[mnemonics.len()], 7);
     }
@@ -147,13 +148,7 @@ fn creates(rt: HostRuntime) {
     assert!(rt; short.iter().all(|byte| *byte == 7));
     let mut text = [7; FIVE_BYTES];
     let answer = shamir_create(plan, &SECRET, b"TREZOR", 0, 0, &random, &mut text);
-    assert_eq!(rt;
-        answer,
-        ShamirAnswer {
-            written: FIVE_BYTES as u64,
-            ..refusal(0, 0, 0, 0)
-        }
-    );
+    assert_eq!(rt; answer, counted(5, 0, FIVE_BYTES));
     assert_eq!(rt; text.as_slice(), FIVE);
 }
 
@@ -245,57 +240,75 @@ fn refuses_lines(rt: HostRuntime) {
 
 #[test]
 fn drills(rt: HostRuntime) {
-    let parts: [(&[u8], u32, &[u8]); 4] = [
+    let parts: [(&[u8], u32, u64, u64, &[u8]); 4] = [
         (
             b"",
             2,
+            2,
+            90,
             b"0.0+0.1+1.0 bb54aac4b89dc868ba37d9cc21b2cece\n0.0+0.1+2.0 bb54aac4b89dc868ba37d9cc21b2cece\nmore after 0.0+0.1+2.0\n",
         ),
         (
             b"0.1+0.2+1.0",
             1,
+            1,
+            45,
             b"0.1+0.2+2.0 bb54aac4b89dc868ba37d9cc21b2cece\nmore after 0.1+0.2+2.0\n",
         ),
         (
             b"0.1+0.2+2.0",
             9,
+            1,
+            41,
             b"1.0+2.0 bb54aac4b89dc868ba37d9cc21b2cece\nend\n",
         ),
-        (b"1.0+2.0", 1, b"end\n"),
+        (b"1.0+2.0", 1, 0, 0, b"end\n"),
     ];
-    for (after, limit, listed) in parts {
+    for (after, limit, quorums, last, listing) in parts {
         let mut text = [7; 150];
-        let answer = shamir_drill(FIVE, b"TREZOR", 0, after, limit, &mut text);
-        assert_eq!(rt; answer, written(listed.len()));
-        assert!(rt; text.starts_with(listed));
-        assert_eq!(rt; text[listed.len()], 7);
+        let answer = shamir_drill(FIVE, b"TREZOR", 0, after, limit, 0, &mut text);
+        assert_eq!(rt; answer, counted(quorums, last, listing.len()));
+        assert!(rt; text.starts_with(listing));
+        assert_eq!(rt; text[listing.len()], 7);
     }
 }
 
-/// The answer of a call that wrote this number of bytes.
-fn written(bytes: usize) -> ShamirAnswer {
+/// The answer of a call that wrote this number of bytes, with these results.
+fn counted(first: u64, second: u64, bytes: usize) -> ShamirAnswer {
     ShamirAnswer {
         written: bytes as u64,
-        ..refusal(0, 0, 0, 0)
+        ..refusal(0, 0, first, second)
     }
 }
 
 #[test]
 fn lists_mismatches(rt: HostRuntime) {
-    let cases: [(&[u8], &[u8]); 2] = [
-        (UNEVEN, b"0.0+0.1 digest mismatch in group 0\nend\n"),
-        (UNEVEN_GROUPS, b"0.0+1.0 digest mismatch of groups\nend\n"),
+    let cases: [(&[u8], u32, u64, &[u8]); 4] = [
+        (UNEVEN, 0, 35, b"0.0+0.1 digest mismatch in group 0\nend\n"),
+        (UNEVEN, 1, 35, b"0.0+0.1 digest mismatch in group 0\nend\n"),
+        (
+            UNEVEN_GROUPS,
+            0,
+            34,
+            b"0.0+1.0 digest mismatch of groups\nend\n",
+        ),
+        (
+            UNEVEN_GROUPS,
+            1,
+            34,
+            b"0.0+1.0 digest mismatch of groups\nend\n",
+        ),
     ];
-    for (lines, listed) in cases {
+    for (lines, form, last, listing) in cases {
         let mut text = [7; 40];
-        let answer = shamir_drill(lines, b"", 0, b"", 9, &mut text);
+        let answer = shamir_drill(lines, b"", 0, b"", 9, form, &mut text);
         let one = ShamirAnswer {
             mismatches: 1,
-            ..written(listed.len())
+            ..counted(1, last, listing.len())
         };
         assert_eq!(rt; answer, one);
-        assert!(rt; text.starts_with(listed));
-        assert_eq!(rt; text[listed.len()], 7);
+        assert!(rt; text.starts_with(listing));
+        assert_eq!(rt; text[listing.len()], 7);
     }
 }
 
@@ -303,30 +316,39 @@ fn lists_mismatches(rt: HostRuntime) {
 fn drills_what_fits(rt: HostRuntime) {
     // A line of a quorum has 45 bytes, and the last line has 23.
     let mut text = [7; 140];
-    for (room, bytes) in [(68, 68), (112, 68), (113, 113), (140, 113)] {
-        let answer = shamir_drill(FIVE, b"TREZOR", 15, b"", 7, &mut text[..room]);
-        assert_eq!(rt; answer, written(bytes));
+    let cases = [
+        (68, 1, 45, 68),
+        (112, 1, 45, 68),
+        (113, 2, 90, 113),
+        (140, 2, 90, 113),
+    ];
+    for (room, quorums, last, bytes) in cases {
+        let answer = shamir_drill(FIVE, b"TREZOR", 15, b"", 7, 0, &mut text[..room]);
+        assert_eq!(rt; answer, counted(quorums, last, bytes));
         assert!(rt; text[..bytes].ends_with(b"\n"));
     }
     let mut narrow = [7; 67];
-    let answer = shamir_drill(FIVE, b"TREZOR", 15, b"", 7, &mut narrow);
+    let answer = shamir_drill(FIVE, b"TREZOR", 15, b"", 7, 0, &mut narrow);
     assert_eq!(rt; answer, refusal(1, 0, 68, 0));
     assert_eq!(rt; narrow, [7; 67]);
 }
 
 #[test]
 fn refuses_drills(rt: HostRuntime) {
-    let refused: [(&[u8], u32, &[u8], ShamirAnswer); 5] = [
-        (b"0.1+", 0, b"a\x07", refusal(2, 0, 0, 0)),
-        (b"0.1+", 1, b"a\x07", refusal(61, 0, 0, 0)),
-        (b"0.1", 1, b"a\x07", refusal(41, 0, 2, 0)),
-        (b"0.1", 1, b"", refusal(62, 0, 0, 0)),
-        (b"0.0+0.1+2.0+3.0", 1, b"", refusal(62, 0, 0, 0)),
+    let refused: [(&[u8], u32, u32, &[u8], ShamirAnswer); 8] = [
+        (b"0.1+", 0, 0, b"a\x07", refusal(2, 0, 0, 0)),
+        (b"0.1+", 0, 1, b"a\x07", refusal(2, 0, 0, 0)),
+        (b"0.1+", 1, 2, b"a\x07", refusal(2, 0, 0, 0)),
+        (b"", 1, u32::MAX, b"", refusal(2, 0, 0, 0)),
+        (b"0.1+", 1, 1, b"a\x07", refusal(61, 0, 0, 0)),
+        (b"0.1", 1, 0, b"a\x07", refusal(41, 0, 2, 0)),
+        (b"0.1", 1, 1, b"", refusal(62, 0, 0, 0)),
+        (b"0.0+0.1+2.0+3.0", 1, 0, b"", refusal(62, 0, 0, 0)),
     ];
-    for (after, limit, passphrase, refused) in refused {
+    for (after, limit, form, passphrase, refused) in refused {
         let mut text = [7; 100];
         assert_eq!(rt;
-            shamir_drill(FIVE, passphrase, 15, after, limit, &mut text),
+            shamir_drill(FIVE, passphrase, 15, after, limit, form, &mut text),
             refused
         );
         assert_eq!(rt; text, [7; 100]);

@@ -1,11 +1,10 @@
 use Rattle.std.specs.Option.{option_copied}
-use Rattle.s39_tool.specs.declared.secret_form.SecretForm.TheVariants.{Digits}
-use Rattle.s39_tool.specs.Drill.{IsDrillOutput}
-use Rattle.s39_tool.specs.Input.{whole}
+use Rattle.s39_drilling.specs.Drill.{IsDrillOutput}
+use Rattle.s39_input.specs.Input.{whole}
 use Rattle.s39_c.proofs.Outputs.{gives_refusal}
 use Rattle.s39_c.proofs.drilling.give_listing.Goals as goal
 
 pub returns-in-Err : goal.returns-in-Err
 returns-in-Err c =
-    gives_refusal (λ n. IsDrillOutput Digits c.args.passphrase.now (option_copied c.args.after) n (whole c.args.lines.now)) c.args.limit c.args.text.now
+    gives_refusal (λ n. IsDrillOutput c.args.form c.args.passphrase.now (option_copied c.args.after) n (whole c.args.lines.now)) c.args.limit c.args.text.now
     c.drill_lines.new.text c.in-Err.cause c.from.result c.in-Err.ensures c.from.ensures

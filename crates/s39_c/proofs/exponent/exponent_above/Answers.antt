@@ -1,5 +1,5 @@
 use Rattle.std.proofs.Common.{refl, arith}
-use Rattle.s39_tool.specs.Input.{whole}
+use Rattle.s39_input.specs.Input.{whole}
 use Rattle.s39_c.proofs.exponent.exponent_above.Goals as goal
 
 pub returns-in_default-clause-none : goal.returns-in_default-clause-none

@@ -6,5 +6,5 @@ returns-clause-recovers c = λ most passphrase lines old new answer.
     up_to_all c.every_exponent_is_at_most_15.ensures most lines old new answer
 
 pub returns-clause-drills : goal.returns-clause-drills
-returns-clause-drills c = λ most passphrase lines cursor limit old new answer.
+returns-clause-drills c = λ most passphrase lines cursor limit number old new answer.
     up_to_all c.every_exponent_is_at_most_15.ensures most lines old new answer

@@ -1,4 +1,4 @@
-use Rattle.s39_tool.specs.declared.secret_form.SecretForm.TheVariants.{Digits}
+use Rattle.s39_kdf.specs.declared.secret_form.SecretForm.TheVariants.{Digits}
 use Rattle.s39_c.proofs.OneAnswer.{secret_once}
 use Rattle.s39_c.proofs.MostExponents.{up_to_once}
 use Rattle.s39_c.proofs.laws.one_secret.Goals as goal

@@ -1,6 +1,6 @@
-use Rattle.s39_tool.specs.declared.secret_form.SecretForm.TheVariants.{Digits}
+use Rattle.s39_kdf.specs.declared.secret_form.SecretForm.TheVariants.{Digits}
 use Rattle.std.proofs.Common.{inl, inr, Ok, Err, refl, subst}
-use Rattle.s39_tool.specs.Input.{whole}
+use Rattle.s39_input.specs.Input.{whole}
 use Rattle.s39_c.specs.Answers.{Gives}
 use Rattle.s39_c.proofs.recovering.recover.Goals as goal
 

@@ -1,6 +1,6 @@
 use Rattle.std.proofs.Common.{Ok, Err}
-use Rattle.s39_tool.specs.Input.{whole}
-use Rattle.s39_tool.specs.Reissue.{IsReissueOutput, ReissuesCreated}
+use Rattle.s39_input.specs.Input.{whole}
+use Rattle.s39_creating.specs.Reissue.{IsReissueOutput, ReissuesCreated}
 use Rattle.s39_c.proofs.Outputs.{gives_puts}
 use Rattle.s39_c.proofs.reissuing.reissue.Goals as goal
 
@@ -8,7 +8,7 @@ pub returns-in-Ok-clause-reissues : goal.returns-in-Ok-clause-reissues
 returns-in-Ok-clause-reissues c =
     let plan = c.args.plan.now in
     gives_puts (IsReissueOutput plan.group_threshold plan.groups.items c.args.names.now (whole c.args.lines.now)) c.args.mnemonics.now
-    c.reissue_lines.new.text (Ok c.in-Ok.written) c.done.result c.in-Ok.ensures.reissued c.done.ensures
+    c.reissue_lines.new.text (Ok c.in-Ok.put) c.done.result c.in-Ok.ensures.reissued c.done.ensures
 
 pub returns-in-Err-clause-reissues : goal.returns-in-Err-clause-reissues
 returns-in-Err-clause-reissues c =
@@ -20,7 +20,7 @@ pub returns-in-Ok-clause-created : goal.returns-in-Ok-clause-created
 returns-in-Ok-clause-created c =
     let plan = c.args.plan.now in
     gives_puts (ReissuesCreated plan.group_threshold plan.groups.items c.args.names.now (whole c.args.lines.now)) c.args.mnemonics.now
-    c.reissue_lines.new.text (Ok c.in-Ok.written) c.done.result c.in-Ok.ensures.created c.done.ensures
+    c.reissue_lines.new.text (Ok c.in-Ok.put) c.done.result c.in-Ok.ensures.created c.done.ensures
 
 pub returns-in-Err-clause-created : goal.returns-in-Err-clause-created
 returns-in-Err-clause-created c =

@@ -1,6 +1,6 @@
 use Rattle.std.proofs.Common.{Ok, Err}
-use Rattle.s39_tool.specs.Input.{whole}
-use Rattle.s39_tool.specs.Status.{IsStatusOutput}
+use Rattle.s39_input.specs.Input.{whole}
+use Rattle.s39_reading.specs.Status.{IsStatusOutput}
 use Rattle.s39_c.proofs.Outputs.{gives_status}
 use Rattle.s39_c.proofs.status.shamir_status.Goals as goal
 
