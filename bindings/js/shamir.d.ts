@@ -1,0 +1,194 @@
+/**
+ * Compiles the module of the engine, and returns the engine.
+ *
+ *     const shamir = await load(await readFile("shamir32.wasm"));
+ *
+ * It takes both forms of the module. The form with 32-bit memory runs in every host that has BigInt.
+ * @param {BufferSource | WebAssembly.Module} module The bytes of the module, or the compiled module.
+ * @returns {Promise<Engine>}
+ */
+export function load(module: BufferSource | WebAssembly.Module): Promise<Engine>;
+/** The greatest iteration exponent. */
+export const EXPONENT_MAX: 15;
+/** The engine. `load` gives one. */
+export class Engine {
+    /** @param {WebAssembly.Module} module */
+    constructor(module: WebAssembly.Module);
+    /**
+     * Returns the version of the engine.
+     * @returns {string}
+     */
+    version(): string;
+    /**
+     * Reads one mnemonic, which is a line without its line feed, and returns its fields and its value.
+     *
+     *     shamir.parse(mnemonics[2]).memberIndex; // 2
+     *
+     * Throws a `Refusal` with one of the codes 11 to 15.
+     * @param {Text} mnemonic
+     * @returns {Share}
+     */
+    parse(mnemonic: Text): Share;
+    /**
+     * Returns how many random bytes `create` takes for a plan and a secret of `secretBytes` bytes.
+     *
+     *     shamir.randomNeeded("2of3", 16); // 14
+     *
+     * Throws a `Refusal` with one of the codes 31 to 34, or 42.
+     * @param {Text} plan
+     * @param {number} secretBytes
+     * @returns {number}
+     */
+    randomNeeded(plan: Text, secretBytes: number): number;
+    /**
+     * Creates a backup of a secret, and returns its mnemonics in the order of groups and members.
+     *
+     *     const mnemonics = shamir.create("2of3", secret, { passphrase: "TREZOR" });
+     *
+     * `plan` is TofN for one group, or GT/T1ofN1,T2ofN2,.. for up to 16 groups. GT is the group threshold, each T is the member
+     * threshold of a group, and each N is its number of members. Each number is from 1 to 16. T may be 1 only if N is 1.
+     * `secret` has an even number of bytes, 16 to 128. Random bytes must be unpredictable, and no other backup may use them.
+     *
+     * The call takes 10,000 * 2^exponent iterations of PBKDF2, and twice as many for a secret of more than 64 bytes.
+     *
+     * Throws a `Refusal` with one of the codes 2, 31 to 34, or 41 to 43.
+     * @param {Text} plan
+     * @param {Uint8Array} secret
+     * @param {CreateOptions} [options]
+     * @returns {string[]}
+     */
+    create(plan: Text, secret: Uint8Array, options?: import("./types.js").CreateOptions | undefined): string[];
+    /**
+     * Creates a backup as `create` does, and returns the bytes of each mnemonic. The caller can clear them.
+     * @param {Text} plan
+     * @param {Uint8Array} secret
+     * @param {CreateOptions} [options]
+     * @returns {Uint8Array[]}
+     */
+    createBytes(plan: Text, secret: Uint8Array, options?: import("./types.js").CreateOptions | undefined): Uint8Array[];
+    /**
+     * Recovers the secret from the first quorum of mnemonics, in the order of `drill`, and tries no mnemonics beyond it.
+     *
+     *     const secret = shamir.recover(mnemonics.slice(1), { passphrase: "TREZOR" });
+     *
+     * Each line is a mnemonic, or a comment, or blank. A comment starts with #, after any spaces, tabs and carriage returns. A
+     * line has at most 1,024 bytes without its line feed, even if it is a comment. A wrong passphrase isn't detected: it gives
+     * another secret.
+     *
+     * The exponent of the mnemonics determines how long the call takes: 10,000 * 2^exponent iterations of PBKDF2, and twice as
+     * many for a secret of more than 64 bytes. If no line is refused and the mnemonics have a quorum, an exponent above
+     * `maxExponent` is refused before any iteration (3).
+     *
+     * Throws a `Refusal` with one of the codes 3, 11 to 30, 41, 51 or 71.
+     * @param {Lines} lines
+     * @param {RecoverOptions} [options]
+     * @returns {Uint8Array}
+     */
+    recover(lines: Lines, options?: import("./types.js").RecoverOptions | undefined): Uint8Array;
+    /**
+     * Returns an iterator over what each quorum of mnemonics recovers, in ascending order of their names.
+     *
+     *     for (const outcome of shamir.drill(mnemonics, { passphrase: "TREZOR", fingerprints: true })) {
+     *       console.log(outcome.names, outcome.fingerprint ?? `digest mismatch in ${outcome.mismatch}`);
+     *     }
+     *
+     * `lines`, `passphrase` and `maxExponent` are as for `recover`. An empty `after` is refused (61). A digest mismatch is no
+     * refusal here. The engine computes the outcomes in parts, which grow while they take less than a tenth of a second.
+     *
+     * The arguments are copied at once. The copies are cleared when the iterator ends or its `return` is called; a `for` loop
+     * that is left early calls it. The engine gets the arguments at the first `next`, which then throws any refusal.
+     *
+     * Throws a `Refusal` with one of the codes 3, 11 to 30, 41, 61, 62 or 71.
+     * @param {Lines} lines
+     * @param {DrillOptions} [options]
+     * @returns {Generator<Outcome, void, void>}
+     */
+    drill(lines: Lines, options?: import("./types.js").DrillOptions | undefined): Generator<Outcome, void, void>;
+    /**
+     * Returns how many members of each group are among mnemonics, and whether the mnemonics are enough for `recover`.
+     *
+     *     shamir.status(mnemonics.slice(1)).enough; // true
+     *
+     * `lines` is as for `recover`. A repeated mnemonic counts once. The call needs no passphrase, and decrypts nothing. If the
+     * mnemonics have no quorum, the call throws no `Refusal` for that.
+     *
+     * Throws a `Refusal` with one of the codes 11 to 29 or 71.
+     * @param {Lines} lines
+     * @returns {Status}
+     */
+    status(lines: Lines): Status;
+    /**
+     * Computes lost mnemonics of a backup from other mnemonics of it, and returns them in the order of `names`.
+     *
+     *     const [lost] = shamir.reissue("2of3", "0.0", mnemonics.slice(1)); // mnemonics[0]
+     *
+     * `plan` is the text of the plan of the backup, or of that plan with more members in some groups. The added members are new
+     * members of this backup. `names` are the names of the wanted mnemonics, each once and in ascending order, joined by plus
+     * signs, such as `0.1+2.0`. `lines` is as for `recover`. The call needs no passphrase, and decrypts nothing.
+     *
+     * This call is for mnemonics that were destroyed. If somebody else may have a lost mnemonic, create a new backup. If that
+     * person may have a quorum, use a new secret too.
+     *
+     * Throws a `Refusal` with one of the codes 11 to 29, 31 to 34, 51, 63 to 66 or 71.
+     * @param {Text} plan
+     * @param {Text} names
+     * @param {Lines} lines
+     * @returns {string[]}
+     */
+    reissue(plan: Text, names: Text, lines: Lines): string[];
+    /**
+     * Computes lost mnemonics as `reissue` does, and returns the bytes of each. The caller can clear them.
+     * @param {Text} plan
+     * @param {Text} names
+     * @param {Lines} lines
+     * @returns {Uint8Array[]}
+     */
+    reissueBytes(plan: Text, names: Text, lines: Lines): Uint8Array[];
+    /**
+     * Returns the fingerprint of a secret, by which its owner can recognise the secret without seeing it.
+     *
+     *     shamir.fingerprint(Uint8Array.from({ length: 16 }, (_, i) => i)); // "2282bae5"
+     *
+     * It is the first four bytes of the HMAC-SHA256 of the secret with the key `shamir fingerprint`, in eight lower-case
+     * hexadecimal digits. Whoever has it can test guesses of the secret with it.
+     *
+     * Throws a `Refusal` with the code 42.
+     * @param {Uint8Array} secret
+     * @returns {string}
+     */
+    fingerprint(secret: Uint8Array): string;
+    /**
+     * Returns the words of the word list that begin with these letters, in the order of the list. Capital letters count as small
+     * ones. If there are no letters, these are all 1,024 words.
+     *
+     *     shamir.words("aca"); // ["academic"]
+     *
+     * @param {Text} letters
+     * @returns {string[]}
+     */
+    words(letters: Text): string[];
+    /**
+     * Returns the text of a refusal, as its field `text` has it, from its code and its details.
+     *
+     *     shamir.text({ code: Code.UNKNOWN_WORD, details: [3, 0] }); // "unknown word 3"
+     *
+     * If no call of the engine gives this code, the text is "unknown answer".
+     * @param {{ readonly code: number, readonly details: readonly [number, number] }} refusal
+     * @returns {string}
+     */
+    text(refusal: {
+        readonly code: number;
+        readonly details: readonly [number, number];
+    }): string;
+    #private;
+}
+export type CreateOptions = import("./types.js").CreateOptions;
+export type DrillOptions = import("./types.js").DrillOptions;
+export type GroupStatus = import("./types.js").GroupStatus;
+export type Lines = import("./types.js").Lines;
+export type Outcome = import("./types.js").Outcome;
+export type RecoverOptions = import("./types.js").RecoverOptions;
+export type Share = import("./types.js").Share;
+export type Status = import("./types.js").Status;
+export type Text = import("./types.js").Text;
+export { Code, OF_GROUPS, Refusal } from "./refusal.js";

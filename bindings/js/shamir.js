@@ -1,0 +1,399 @@
+/**
+ * SLIP-0039 backups of a master secret, by the engine of `shamir` compiled to WebAssembly.
+ *
+ *     import { readFile } from "node:fs/promises";
+ *     import { load } from "./shamir.js";
+ *
+ *     const shamir = await load(await readFile("shamir32.wasm"));
+ *     const secret = crypto.getRandomValues(new Uint8Array(16));
+ *     const mnemonics = shamir.create("2of3", secret, { passphrase: "TREZOR" });
+ *     const recovered = shamir.recover(mnemonics.slice(1), { passphrase: "TREZOR" }); // the bytes of the secret
+ *
+ * A backup consists of mnemonics, which are lines of words. Each mnemonic is a member of a group. Groups and members are
+ * numbered from 0, and the name of a mnemonic has both numbers: 0.2 is member 2 of group 0. Names are ordered by group, and
+ * then by member, as numbers: 0.2 comes before 0.10.
+ *
+ * A group is complete if the number of its members at hand is at least its member threshold. Mnemonics are enough if the
+ * number of complete groups is at least the group threshold. A quorum is a minimal set of mnemonics that is enough.
+ *
+ * Each method passes its arguments to the engine, and throws a `Refusal` if the engine refuses them. A text is a string, which
+ * is encoded as UTF-8, or a Uint8Array. A secret and random bytes are a Uint8Array. Another type throws a TypeError. A number
+ * out of range, a string that UTF-8 can't encode, and a line feed inside a line of a list throw a RangeError.
+ *
+ * Arguments are copied into the memory of the module. After each call, also after a refusal, everything that the call may have
+ * written there is cleared, and so are the copies of the arguments. If a call traps, the whole memory is cleared, and the next
+ * call uses a new instance of the module. JavaScript can't clear strings. So if no secret may stay in memory, pass texts as
+ * Uint8Array, use `createBytes` and `reissueBytes`, and clear these arrays after use.
+ */
+import { ANSWER_BYTES, Calls, Room, Struct } from "./calls.js";
+import { Copies, copied, flag, known, wholeNumber, withCopies } from "./copies.js";
+import { FIRST_ROOM, decoded, groupStatus, linesOf, nextRoom, outcome, taken } from "./outputs.js";
+import { Code, Refusal } from "./refusal.js";
+
+export { Code, OF_GROUPS, Refusal } from "./refusal.js";
+
+/** The greatest iteration exponent. */
+export const EXPONENT_MAX = 15;
+
+/** @typedef {import("./types.js").CreateOptions} CreateOptions */
+/** @typedef {import("./types.js").DrillOptions} DrillOptions */
+/** @typedef {import("./types.js").GroupStatus} GroupStatus */
+/** @typedef {import("./types.js").Lines} Lines */
+/** @typedef {import("./types.js").Outcome} Outcome */
+/** @typedef {import("./types.js").RecoverOptions} RecoverOptions */
+/** @typedef {import("./types.js").Share} Share */
+/** @typedef {import("./types.js").Status} Status */
+/** @typedef {import("./types.js").Text} Text */
+
+// An output of this length is enough for each call. The names are those of shamir.h.
+const SECRET_BYTES_MAX = 128;
+const MNEMONICS_BYTES_MAX = 253440;
+const STATUS_BYTES_MAX = 1638;
+const FINGERPRINT_BYTES_MAX = 8;
+const TEXT_BYTES_MAX = 64;
+const WORDS_BYTES_MAX = 7231;
+const FORM_DIGITS = 0;
+const FORM_FINGERPRINTS = 1;
+
+const SHARE_BYTES = 10;
+const NUMBER_MAX = 2 ** 32 - 1;
+const MORE = "more after ";
+
+/** The engine. `load` gives one. */
+export class Engine {
+  #calls;
+
+  /** @param {WebAssembly.Module} module */
+  constructor(module) {
+    this.#calls = new Calls(module);
+  }
+
+  /**
+   * Returns the version of the engine.
+   * @returns {string}
+   */
+  version() {
+    return decoded(this.#output("shamir_version", [], TEXT_BYTES_MAX));
+  }
+
+  /**
+   * Reads one mnemonic, which is a line without its line feed, and returns its fields and its value.
+   *
+   *     shamir.parse(mnemonics[2]).memberIndex; // 2
+   *
+   * Throws a `Refusal` with one of the codes 11 to 15.
+   * @param {Text} mnemonic
+   * @returns {Share}
+   */
+  parse(mnemonic) {
+    return withCopies((own) => {
+      const fields = new Struct(new Uint8Array(SHARE_BYTES));
+      const value = this.#output("shamir_parse", [own.text(mnemonic, "the mnemonic"), fields], SECRET_BYTES_MAX);
+      const [low, high, extendable, exponent, groupIndex, groupThreshold, groupCount, memberIndex, memberThreshold] = fields.bytes;
+      const id = low + 256 * high;
+      return { id, extendable: extendable > 0, exponent, groupIndex, groupThreshold, groupCount, memberIndex, memberThreshold, value };
+    });
+  }
+
+  /**
+   * Returns how many random bytes `create` takes for a plan and a secret of `secretBytes` bytes.
+   *
+   *     shamir.randomNeeded("2of3", 16); // 14
+   *
+   * Throws a `Refusal` with one of the codes 31 to 34, or 42.
+   * @param {Text} plan
+   * @param {number} secretBytes
+   * @returns {number}
+   */
+  randomNeeded(plan, secretBytes) {
+    const length = BigInt(wholeNumber(secretBytes, "secretBytes", Number.MAX_SAFE_INTEGER));
+    return withCopies((own) => this.#checked("shamir_random_needed", [own.text(plan, "the plan"), length]).first);
+  }
+
+  /**
+   * Creates a backup of a secret, and returns its mnemonics in the order of groups and members.
+   *
+   *     const mnemonics = shamir.create("2of3", secret, { passphrase: "TREZOR" });
+   *
+   * `plan` is TofN for one group, or GT/T1ofN1,T2ofN2,.. for up to 16 groups. GT is the group threshold, each T is the member
+   * threshold of a group, and each N is its number of members. Each number is from 1 to 16. T may be 1 only if N is 1.
+   * `secret` has an even number of bytes, 16 to 128. Random bytes must be unpredictable, and no other backup may use them.
+   *
+   * The call takes 10,000 * 2^exponent iterations of PBKDF2, and twice as many for a secret of more than 64 bytes.
+   *
+   * Throws a `Refusal` with one of the codes 2, 31 to 34, or 41 to 43.
+   * @param {Text} plan
+   * @param {Uint8Array} secret
+   * @param {CreateOptions} [options]
+   * @returns {string[]}
+   */
+  create(plan, secret, options = {}) {
+    return this.createBytes(plan, secret, options).map(taken);
+  }
+
+  /**
+   * Creates a backup as `create` does, and returns the bytes of each mnemonic. The caller can clear them.
+   * @param {Text} plan
+   * @param {Uint8Array} secret
+   * @param {CreateOptions} [options]
+   * @returns {Uint8Array[]}
+   */
+  createBytes(plan, secret, options = {}) {
+    const { passphrase = "", exponent = 0, extendable = false, random } = known(options, ["passphrase", "exponent", "extendable", "random"]);
+    const numbers = [wholeNumber(exponent, "the exponent", NUMBER_MAX), Number(flag(extendable, "extendable"))];
+    return withCopies((own) => {
+      const given = [own.text(plan, "the plan"), own.data(secret, "the secret"), own.text(passphrase, "the passphrase")];
+      const bytes = random === undefined ? this.#drawn(own, given[0], given[1].length) : own.data(random, "random");
+      return this.#lines("shamir_create", [...given, ...numbers, bytes], MNEMONICS_BYTES_MAX);
+    });
+  }
+
+  /**
+   * Recovers the secret from the first quorum of mnemonics, in the order of `drill`, and tries no mnemonics beyond it.
+   *
+   *     const secret = shamir.recover(mnemonics.slice(1), { passphrase: "TREZOR" });
+   *
+   * Each line is a mnemonic, or a comment, or blank. A comment starts with #, after any spaces, tabs and carriage returns. A
+   * line has at most 1,024 bytes without its line feed, even if it is a comment. A wrong passphrase isn't detected: it gives
+   * another secret.
+   *
+   * The exponent of the mnemonics determines how long the call takes: 10,000 * 2^exponent iterations of PBKDF2, and twice as
+   * many for a secret of more than 64 bytes. If no line is refused and the mnemonics have a quorum, an exponent above
+   * `maxExponent` is refused before any iteration (3).
+   *
+   * Throws a `Refusal` with one of the codes 3, 11 to 30, 41, 51 or 71.
+   * @param {Lines} lines
+   * @param {RecoverOptions} [options]
+   * @returns {Uint8Array}
+   */
+  recover(lines, options = {}) {
+    const { passphrase = "", maxExponent = EXPONENT_MAX } = known(options, ["passphrase", "maxExponent"]);
+    const most = wholeNumber(maxExponent, "maxExponent", NUMBER_MAX);
+    return withCopies((own) => {
+      const given = [own.lines(lines), own.text(passphrase, "the passphrase"), most];
+      return this.#output("shamir_recover", given, SECRET_BYTES_MAX);
+    });
+  }
+
+  /**
+   * Returns an iterator over what each quorum of mnemonics recovers, in ascending order of their names.
+   *
+   *     for (const outcome of shamir.drill(mnemonics, { passphrase: "TREZOR", fingerprints: true })) {
+   *       console.log(outcome.names, outcome.fingerprint ?? `digest mismatch in ${outcome.mismatch}`);
+   *     }
+   *
+   * `lines`, `passphrase` and `maxExponent` are as for `recover`. An empty `after` is refused (61). A digest mismatch is no
+   * refusal here. The engine computes the outcomes in parts, which grow while they take less than a tenth of a second.
+   *
+   * The arguments are copied at once. The copies are cleared when the iterator ends or its `return` is called; a `for` loop
+   * that is left early calls it. The engine gets the arguments at the first `next`, which then throws any refusal.
+   *
+   * Throws a `Refusal` with one of the codes 3, 11 to 30, 41, 61, 62 or 71.
+   * @param {Lines} lines
+   * @param {DrillOptions} [options]
+   * @returns {Generator<Outcome, void, void>}
+   */
+  drill(lines, options = {}) {
+    const names = /** @type {(keyof DrillOptions)[]} */ (["passphrase", "maxExponent", "after", "fingerprints"]);
+    const { passphrase = "", maxExponent = EXPONENT_MAX, after, fingerprints = false } = known(options, names);
+    const most = wholeNumber(maxExponent, "maxExponent", NUMBER_MAX);
+    const form = flag(fingerprints, "fingerprints") ? FORM_FINGERPRINTS : FORM_DIGITS;
+    const own = new Copies();
+    try {
+      const given = [own.lines(lines), own.text(passphrase, "the passphrase"), most];
+      const cursor = own.text(after === undefined ? "" : after, "after");
+      // For the engine an empty cursor is the start. An empty `after` isn't: a plus sign, which the engine refuses, takes its place.
+      const outcomes = this.#outcomes(own, given, after === undefined || cursor.length > 0 ? cursor : own.text("+", "after"), form);
+      outcomes.next();
+      return /** @type {Generator<Outcome, void, void>} */ (outcomes);
+    } catch (error) {
+      own.clear();
+      throw error;
+    }
+  }
+
+  /**
+   * Returns how many members of each group are among mnemonics, and whether the mnemonics are enough for `recover`.
+   *
+   *     shamir.status(mnemonics.slice(1)).enough; // true
+   *
+   * `lines` is as for `recover`. A repeated mnemonic counts once. The call needs no passphrase, and decrypts nothing. If the
+   * mnemonics have no quorum, the call throws no `Refusal` for that.
+   *
+   * Throws a `Refusal` with one of the codes 11 to 29 or 71.
+   * @param {Lines} lines
+   * @returns {Status}
+   */
+  status(lines) {
+    return withCopies((own) => {
+      const { output, first, second } = this.#checked("shamir_status", [own.lines(lines), new Room(STATUS_BYTES_MAX)]);
+      return { complete: first, required: second, enough: first >= second, groups: linesOf(output).slice(1).map(groupStatus) };
+    });
+  }
+
+  /**
+   * Computes lost mnemonics of a backup from other mnemonics of it, and returns them in the order of `names`.
+   *
+   *     const [lost] = shamir.reissue("2of3", "0.0", mnemonics.slice(1)); // mnemonics[0]
+   *
+   * `plan` is the text of the plan of the backup, or of that plan with more members in some groups. The added members are new
+   * members of this backup. `names` are the names of the wanted mnemonics, each once and in ascending order, joined by plus
+   * signs, such as `0.1+2.0`. `lines` is as for `recover`. The call needs no passphrase, and decrypts nothing.
+   *
+   * This call is for mnemonics that were destroyed. If somebody else may have a lost mnemonic, create a new backup. If that
+   * person may have a quorum, use a new secret too.
+   *
+   * Throws a `Refusal` with one of the codes 11 to 29, 31 to 34, 51, 63 to 66 or 71.
+   * @param {Text} plan
+   * @param {Text} names
+   * @param {Lines} lines
+   * @returns {string[]}
+   */
+  reissue(plan, names, lines) {
+    return this.reissueBytes(plan, names, lines).map(taken);
+  }
+
+  /**
+   * Computes lost mnemonics as `reissue` does, and returns the bytes of each. The caller can clear them.
+   * @param {Text} plan
+   * @param {Text} names
+   * @param {Lines} lines
+   * @returns {Uint8Array[]}
+   */
+  reissueBytes(plan, names, lines) {
+    return withCopies((own) => {
+      const given = [own.text(plan, "the plan"), own.text(names, "the names"), own.lines(lines)];
+      return this.#lines("shamir_reissue", given, MNEMONICS_BYTES_MAX);
+    });
+  }
+
+  /**
+   * Returns the fingerprint of a secret, by which its owner can recognise the secret without seeing it.
+   *
+   *     shamir.fingerprint(Uint8Array.from({ length: 16 }, (_, i) => i)); // "2282bae5"
+   *
+   * It is the first four bytes of the HMAC-SHA256 of the secret with the key `shamir fingerprint`, in eight lower-case
+   * hexadecimal digits. Whoever has it can test guesses of the secret with it.
+   *
+   * Throws a `Refusal` with the code 42.
+   * @param {Uint8Array} secret
+   * @returns {string}
+   */
+  fingerprint(secret) {
+    return withCopies((own) => decoded(this.#output("shamir_fingerprint", [own.data(secret, "the secret")], FINGERPRINT_BYTES_MAX)));
+  }
+
+  /**
+   * Returns the words of the word list that begin with these letters, in the order of the list. Capital letters count as small
+   * ones. If there are no letters, these are all 1,024 words.
+   *
+   *     shamir.words("aca"); // ["academic"]
+   *
+   * @param {Text} letters
+   * @returns {string[]}
+   */
+  words(letters) {
+    return withCopies((own) => this.#lines("shamir_words", [own.text(letters, "the letters")], WORDS_BYTES_MAX).map(taken));
+  }
+
+  /**
+   * Returns the text of a refusal, as its field `text` has it, from its code and its details.
+   *
+   *     shamir.text({ code: Code.UNKNOWN_WORD, details: [3, 0] }); // "unknown word 3"
+   *
+   * If no call of the engine gives this code, the text is "unknown answer".
+   * @param {{ readonly code: number, readonly details: readonly [number, number] }} refusal
+   * @returns {string}
+   */
+  text(refusal) {
+    const { code, details: [first, second] } = refusal;
+    const view = new DataView(new ArrayBuffer(ANSWER_BYTES));
+    view.setUint32(0, wholeNumber(code, "the code", NUMBER_MAX), true);
+    view.setBigUint64(16, BigInt(wholeNumber(first, "the first detail", Number.MAX_SAFE_INTEGER)), true);
+    view.setBigUint64(24, BigInt(wholeNumber(second, "the second detail", Number.MAX_SAFE_INTEGER)), true);
+    return decoded(this.#calls.run("shamir_text", [new Struct(new Uint8Array(view.buffer)), new Room(TEXT_BYTES_MAX)]).output);
+  }
+
+  /**
+   * Returns as many random bytes as a backup takes, or none if the engine refuses the plan or the length.
+   * @param {Copies} own
+   * @param {Uint8Array} plan
+   * @param {number} secretBytes
+   */
+  #drawn(own, plan, secretBytes) {
+    const { code, first } = this.#calls.run("shamir_random_needed", [plan, BigInt(secretBytes)]);
+    if (!globalThis.crypto?.getRandomValues) throw new Error("crypto.getRandomValues isn't there, so the random bytes must be given");
+    return crypto.getRandomValues(own.keep(new Uint8Array(new ArrayBuffer(code === Code.DONE ? first : 0))));
+  }
+
+  /**
+   * Yields undefined, and then the outcomes. Once the generator has yielded, leaving it clears the copies.
+   * @param {Copies} own
+   * @param {import("./calls.js").Part[]} given
+   * @param {Uint8Array} cursor
+   * @param {number} form
+   * @returns {Generator<Outcome | undefined, void, void>}
+   */
+  *#outcomes(own, given, cursor, form) {
+    try {
+      yield undefined;
+      let room = FIRST_ROOM;
+      for (let last = MORE; last.startsWith(MORE); cursor = own.text(last.slice(MORE.length), "the cursor")) {
+        const start = Date.now();
+        const { output, second } = this.#checked("shamir_drill", [...given, cursor, NUMBER_MAX, form, new Room(room)]);
+        room = nextRoom(room, Date.now() - start);
+        own.keep(output);
+        for (const line of linesOf(output.subarray(0, second))) yield outcome(line, form === FORM_FINGERPRINTS);
+        last = decoded(output.subarray(second, -1));
+        own.release(output);
+      }
+    } finally {
+      own.clear();
+    }
+  }
+
+  /**
+   * Returns the lines that a call writes.
+   * @param {string} name
+   * @param {import("./calls.js").Part[]} given
+   * @param {number} room
+   */
+  #lines(name, given, room) {
+    return withCopies((own) => linesOf(own.keep(this.#output(name, given, room))).map(copied));
+  }
+
+  /**
+   * Returns what a call writes into an output of this length.
+   * @param {string} name
+   * @param {import("./calls.js").Part[]} given
+   * @param {number} room
+   */
+  #output(name, given, room) {
+    return this.#checked(name, [...given, new Room(room)]).output;
+  }
+
+  /**
+   * @param {string} name
+   * @param {import("./calls.js").Part[]} parts
+   * @returns {import("./calls.js").Answer}
+   */
+  #checked(name, parts) {
+    const answer = this.#calls.run(name, parts);
+    const { code, line, first, second } = answer;
+    if (code === Code.DONE) return answer;
+    throw new Refusal(code, line || null, [first, second], this.text({ code, details: [first, second] }));
+  }
+}
+
+/**
+ * Compiles the module of the engine, and returns the engine.
+ *
+ *     const shamir = await load(await readFile("shamir32.wasm"));
+ *
+ * It takes both forms of the module. The form with 32-bit memory runs in every host that has BigInt.
+ * @param {BufferSource | WebAssembly.Module} module The bytes of the module, or the compiled module.
+ * @returns {Promise<Engine>}
+ */
+export async function load(module) {
+  return new Engine(module instanceof WebAssembly.Module ? module : await WebAssembly.compile(module));
+}

@@ -1,0 +1,163 @@
+/** Worked examples of each call. The same as those of the Python package. */
+import assert from "node:assert/strict";
+import { createHmac } from "node:crypto";
+import test from "node:test";
+import { load, OF_GROUPS } from "../shamir.js";
+import * as given from "./given.js";
+import { FIVE, FIVE_QUORUMS, MISMATCHED, MISMATCHED_GROUPS, ONE, PLAN, SECRET, TWO, TWO_SECRET } from "./given.js";
+import { bytesOf, counting, file, ofHex, shamir } from "./given.js";
+
+const KEY = { passphrase: "TREZOR" };
+
+test("parse", () => {
+  const value = ofHex("11bc609d21747c49ba78c0701293e417");
+  const fields = { id: 7945, extendable: false, exponent: 0, groupIndex: 0, groupThreshold: 1, groupCount: 1, memberIndex: 0, memberThreshold: 1 };
+  assert.deepEqual(shamir.parse(ONE), { ...fields, value });
+  assert.deepEqual(shamir.parse(`\t${ONE.toUpperCase().replaceAll(" ", " \t ")}\r`), { ...fields, value });
+  const fifth = { ...shamir.parse(FIVE[4]), value: null };
+  assert.deepEqual(fifth, { ...fields, id: 1, groupIndex: 2, groupThreshold: 2, groupCount: 3, value: null });
+  assert.equal(shamir.parse(TWO[0]).memberIndex, 2);
+  assert.equal(shamir.parse(TWO[0]).exponent, 2);
+});
+
+test("create", () => {
+  assert.equal(shamir.randomNeeded(PLAN, 16), 26);
+  assert.deepEqual(shamir.create(PLAN, SECRET, { ...KEY, random: counting(26) }), FIVE);
+  assert.deepEqual(shamir.createBytes(PLAN, SECRET, { ...KEY, random: counting(26) }), FIVE.map(bytesOf));
+  assert.deepEqual(shamir.create("1of1", SECRET, { ...KEY, random: ofHex("1f09") }), [ONE]);
+  // With these random bytes, 2of3 gives the two mnemonics of TWO in reverse order, and one between them.
+  const random = ofHex("64359164e7a006aadd75179d6d5c");
+  const [first, , third] = shamir.create("2of3", TWO_SECRET, { ...KEY, exponent: 2, random });
+  assert.deepEqual([third, first], TWO);
+  assert.deepEqual(shamir.recover(shamir.create("10of16", counting(128)).slice(6)), counting(128));
+  const flags = [false, true].map((extendable) => shamir.parse(shamir.create("1of1", SECRET, { extendable })[0]).extendable);
+  assert.deepEqual(flags, [false, true]);
+});
+
+test("the greatest backup", () => {
+  const lines = shamir.create(`16/${Array(16).fill("16of16").join(",")}`, counting(128));
+  assert.equal(lines.length, 256);
+  assert.deepEqual(shamir.recover(lines), counting(128));
+});
+
+test("random bytes are drawn anew for each backup", () => {
+  const made = [1, 2, 3].map(() => shamir.create("2of3", SECRET).join("\n"));
+  assert.equal(new Set(made).size, 3);
+});
+
+test("recover", () => {
+  assert.deepEqual(shamir.recover(ONE, KEY), SECRET);
+  assert.deepEqual(shamir.recover(TWO, KEY), TWO_SECRET);
+  assert.deepEqual(shamir.recover(FIVE.slice(3), KEY), SECRET);
+  assert.notDeepEqual(shamir.recover(FIVE), SECRET);
+});
+
+test("texts, lists and bytes are the same lines", () => {
+  const ended = FIVE.map((line) => `${line}\n`);
+  const forms = [FIVE.join("\n"), ended.join(""), bytesOf(FIVE.join("\n")), ended, FIVE.map(bytesOf), new Set(FIVE), FIVE.values()];
+  for (const lines of [...forms, ["", "# a note\n", ...FIVE, "\n"]]) {
+    assert.deepEqual(shamir.recover(lines, { passphrase: bytesOf("TREZOR") }), SECRET);
+  }
+});
+
+test("drill", () => {
+  const outcomes = FIVE_QUORUMS.map((names) => ({ names, secret: SECRET, fingerprint: null, mismatch: null }));
+  assert.deepEqual([...shamir.drill(FIVE, KEY)], outcomes);
+  assert.deepEqual([...shamir.drill(FIVE.slice().reverse(), { ...KEY, after: FIVE_QUORUMS[4] })], outcomes.slice(5));
+  assert.deepEqual([...shamir.drill(FIVE, { ...KEY, after: bytesOf(FIVE_QUORUMS[6]) })], []);
+  const fingerprints = FIVE_QUORUMS.map((names) => ({ names, secret: null, fingerprint: "df41d8fe", mismatch: null }));
+  assert.deepEqual([...shamir.drill(FIVE, { ...KEY, fingerprints: true })], fingerprints);
+});
+
+test("drill, digests that don't match", () => {
+  for (const fingerprints of [false, true]) {
+    const [one, two] = [MISMATCHED, MISMATCHED_GROUPS].map((lines) => [...shamir.drill(lines, { fingerprints })]);
+    assert.deepEqual(one, [{ names: "0.0+0.1", secret: null, fingerprint: null, mismatch: 0 }]);
+    assert.deepEqual(two, [{ names: "0.0+1.0", secret: null, fingerprint: null, mismatch: OF_GROUPS }]);
+  }
+});
+
+test("drill, in several parts", () => {
+  const lines = shamir.create("6of12", counting(32));
+  const all = [...shamir.drill(lines)];
+  // There are 924 sets of 6 of 12 members.
+  assert.equal(all.length, 924);
+  assert.equal(new Set(all.map(({ names }) => names)).size, 924);
+  for (const { secret } of all) assert.deepEqual(secret, counting(32));
+  assert.deepEqual([...shamir.drill(lines, { after: all[899].names })], all.slice(900));
+  // The parts have different lengths if each of them takes long.
+  const { now } = Date;
+  let time = 0;
+  Date.now = () => (time += 1000);
+  try {
+    assert.deepEqual([...shamir.drill(lines)], all);
+  } finally {
+    Date.now = now;
+  }
+  assert.ok(time > 20000);
+});
+
+test("drill copies its arguments at once", () => {
+  const [lines, passphrase, after] = [bytesOf(FIVE.join("\n")), bytesOf("TREZOR"), bytesOf(FIVE_QUORUMS[5])];
+  const drill = shamir.drill(lines, { passphrase, after });
+  for (const bytes of [lines, passphrase, after]) bytes.fill(0);
+  assert.deepEqual([...drill].map(({ names, secret }) => [names, secret]), [[FIVE_QUORUMS[6], SECRET]]);
+});
+
+test("status", () => {
+  const group = { group: 0, threshold: 2, names: ["0.0", "0.2"] };
+  const found = shamir.status([FIVE[4], FIVE[2], FIVE[0], FIVE[2]]);
+  assert.deepEqual(found, { complete: 2, required: 2, enough: true, groups: [group, { group: 2, threshold: 1, names: ["2.0"] }] });
+  const few = { complete: 0, required: 1, enough: false, groups: [{ group: 0, threshold: 2, names: ["0.2"] }] };
+  assert.deepEqual(shamir.status(TWO.slice(0, 1)), few);
+});
+
+test("reissue", () => {
+  const five = (...indices) => indices.map((index) => FIVE[index]);
+  for (const [held, names, wanted] of [
+    [five(0, 2), "0.1", five(1)],
+    [five(2, 3, 4), "0.0+0.1", five(0, 1)],
+    [five(3, 1, 0), "2.0", five(4)],
+    [five(0), "0.0", five(0)],
+    [FIVE, "0.0+0.1+0.2+1.0+2.0", FIVE],
+  ]) {
+    assert.deepEqual(shamir.reissue(PLAN, names, held), wanted);
+    assert.deepEqual(shamir.reissueBytes(bytesOf(PLAN), bytesOf(names), held), wanted.map(bytesOf));
+  }
+  assert.deepEqual(shamir.reissue("2/2of4,1of1,1of1", "0.3", FIVE.slice(0, 2)), [given.FOURTH]);
+});
+
+test("fingerprint", () => {
+  assert.equal(shamir.fingerprint(SECRET), "df41d8fe");
+  for (const secret of [new Uint8Array(16), counting(32), new Uint8Array(18).fill(255), new Uint8Array(128)]) {
+    assert.equal(shamir.fingerprint(secret), createHmac("sha256", "shamir fingerprint").update(secret).digest("hex").slice(0, 8));
+  }
+});
+
+test("words", () => {
+  const source = file("crates/s39_words/src/word_list.rt").toString();
+  const list = Array.from(source.matchAll(/\*b"([a-z ]{8})"/g), ([, word]) => word.trim());
+  assert.equal(list.length, 1024);
+  assert.deepEqual(shamir.words(""), list);
+  for (const letters of ["a", "aca", "academic", "academics", "em", "Em", "EM", "zero", "x", "q", "é", "a b", " ", "z"]) {
+    assert.deepEqual(shamir.words(letters), list.filter((word) => word.startsWith(letters.toLowerCase())));
+    assert.deepEqual(shamir.words(bytesOf(letters)), shamir.words(letters));
+  }
+});
+
+test("version", () => {
+  const [, version] = /^VERSION = (.*)$/m.exec(file("Makefile").toString());
+  assert.equal(shamir.version(), version);
+  assert.equal(JSON.parse(file("bindings/js/package.json").toString()).version, version);
+});
+
+test("load takes bytes and a compiled module", async () => {
+  const bytes = file(process.env.SHAMIR_MODULE ?? "shamir32.wasm");
+  for (const from of [bytes, new Uint8Array(bytes).buffer, await WebAssembly.compile(bytes)]) {
+    assert.equal((await load(from)).version(), shamir.version());
+  }
+  await assert.rejects(load(bytes.subarray(0, 1000)), WebAssembly.CompileError);
+  await assert.rejects(load(counting(0)), WebAssembly.CompileError);
+  // This module is empty.
+  await assert.rejects(load(Uint8Array.from([0, 97, 115, 109, 1, 0, 0, 0])), /^TypeError: this module isn't the engine/);
+});

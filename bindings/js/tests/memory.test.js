@@ -1,0 +1,195 @@
+/** Nothing of a call stays in the memory of the module: not after a result, a refusal, a trap or a drill that is left early. */
+import assert from "node:assert/strict";
+import test from "node:test";
+import { Refusal } from "../shamir.js";
+import { FIVE, FIVE_QUORUMS, Instance, MISMATCHED, ONE, PLAN, SECRET, TWO } from "./given.js";
+import { bytesOf, counting, file, hex, instances, module, refused, shamir } from "./given.js";
+
+const [{ exports }] = instances;
+const FRESH = memoryOf(new Instance(module));
+const HEAP = Number(exports.__heap_base.value);
+const STACK_BYTES = 1048576;
+const GROUPS = Array(16).fill("16of16").join(",");
+
+/** A copy of the whole memory of an instance. */
+function memoryOf(instance) {
+  return new Uint8Array(instance.exports.memory.buffer.slice(0));
+}
+
+/** Checks that the memory is as in a new instance, and zero in the room that it grew by. */
+function assertClear(instance = instances.at(-1)) {
+  const memory = memoryOf(instance);
+  assert.equal(Buffer.compare(memory.subarray(0, FRESH.length), FRESH), 0);
+  assert.ok(memory.subarray(FRESH.length).every((byte) => byte === 0));
+}
+
+/** Calls with results and with refusals, each of which reads or writes something secret. */
+const CALLS = {
+  parse: () => shamir.parse(ONE),
+  "parse, refused": () => shamir.parse(`${ONE} academic`),
+  create: () => shamir.create(PLAN, SECRET, { passphrase: "TREZOR", extendable: true }),
+  "create, refused": () => shamir.create(PLAN, SECRET, { passphrase: "TREZOR", random: counting(25) }),
+  "create, bytes": () => shamir.createBytes("16of16", counting(128)),
+  recover: () => shamir.recover(FIVE, { passphrase: "TREZOR" }),
+  "recover, refused": () => shamir.recover(MISMATCHED),
+  "recover, refused passphrase": () => shamir.recover(FIVE, { passphrase: "TREZOR\x07" }),
+  drill: () => [...shamir.drill(FIVE, { passphrase: "TREZOR" })],
+  "drill, fingerprints": () => [...shamir.drill(FIVE, { passphrase: "TREZOR", fingerprints: true })],
+  "drill, refused": () => [...shamir.drill(FIVE, { after: "0.1" })],
+  status: () => shamir.status(FIVE),
+  "status, refused": () => shamir.status([...FIVE, ONE]),
+  reissue: () => shamir.reissue(PLAN, "0.0+0.1", FIVE.slice(2)),
+  "reissue, refused": () => shamir.reissue(PLAN, "0.0", FIVE.slice(3)),
+  fingerprint: () => shamir.fingerprint(SECRET),
+  "fingerprint, refused": () => shamir.fingerprint(counting(17)),
+  words: () => shamir.words("ac"),
+  version: () => shamir.version(),
+  "many lines": () => shamir.recover(`${`# ${"a note ".repeat(100)}\n`.repeat(10000)}${ONE}`),
+};
+
+test("the stack is the lowest part of the memory, and the constants are above it", () => {
+  assert.ok(FRESH.subarray(0, STACK_BYTES).every((byte) => byte === 0));
+  assert.ok(HEAP > STACK_BYTES && FRESH.subarray(STACK_BYTES, HEAP).some((byte) => byte !== 0));
+  assert.ok(FRESH.subarray(HEAP).every((byte) => byte === 0));
+});
+
+for (const [name, call] of Object.entries(CALLS)) {
+  test(name, () => {
+    try {
+      call();
+      assert.ok(!name.includes("refused"));
+    } catch (error) {
+      assert.ok(error instanceof Refusal && name.includes("refused"), `${error}`);
+    }
+    assertClear();
+  });
+}
+
+test("a call without clearing leaves something", () => {
+  const fresh = new Instance(module);
+  const memory = new Uint8Array(fresh.exports.memory.buffer);
+  memory.set(SECRET, HEAP + 64);
+  fresh.exports.shamir_fingerprint(BigInt(HEAP), BigInt(HEAP + 64), 16n, BigInt(HEAP + 128), 8n);
+  assert.equal(new TextDecoder().decode(memory.subarray(HEAP + 128, HEAP + 136)), "df41d8fe");
+  assert.ok(memory.subarray(0, STACK_BYTES).some((byte) => byte !== 0));
+  assert.throws(() => assertClear(fresh));
+});
+
+test("the whole stack is cleared, and all of the output's room", () => {
+  const { exports } = instances.at(-1);
+  const { shamir_text } = exports;
+  exports.shamir_text = (answer, refusal, text, length) => {
+    const memory = new Uint8Array(exports.memory.buffer);
+    memory.fill(255, 0, STACK_BYTES);
+    shamir_text(answer, refusal, text, length);
+    memory.fill(255, Number(text), Number(text + length));
+  };
+  shamir.text({ code: 11, details: [1, 0] });
+  exports.shamir_text = shamir_text;
+  assertClear();
+});
+
+test("between two outcomes of a drill, and after a drill that is left early", () => {
+  for (const { secret } of shamir.drill(FIVE, { passphrase: "TREZOR" })) {
+    assert.deepEqual(secret, SECRET);
+    assertClear();
+    break;
+  }
+  assertClear();
+});
+
+test("the greatest calls use no more of the stack than the header names", () => {
+  const { fill } = Uint8Array.prototype;
+  let least = STACK_BYTES;
+  Uint8Array.prototype.fill = function (...given) {
+    if (given[2] === STACK_BYTES) least = Math.min(least, this.findIndex((byte) => byte !== 0));
+    return fill.apply(this, given);
+  };
+  try {
+    const [all, most, lost] = [`16/${GROUPS}`, `16/15of16,${GROUPS.slice(7)}`, `15/${GROUPS}`].map((plan) => shamir.create(plan, counting(128)));
+    assert.deepEqual(shamir.recover(all), counting(128));
+    assert.equal([...shamir.drill(most)].length, 16);
+    assert.deepEqual(shamir.reissue(`15/${GROUPS}`, "0.0", lost.slice(1)), lost.slice(0, 1));
+    assert.equal(shamir.status(all).complete, 16);
+  } finally {
+    Uint8Array.prototype.fill = fill;
+  }
+  const [, limit] = /^#define SHAMIR_STACK_BYTES (\d+)$/m.exec(file("include/shamir.h").toString());
+  assert.ok(least > STACK_BYTES - Number(limit) && least < STACK_BYTES);
+  assert.ok(Number(limit) < STACK_BYTES);
+});
+
+/** The arrays of bytes that a function clears with `fill`. */
+function cleared(run) {
+  const found = [];
+  const { fill } = Uint8Array.prototype;
+  Uint8Array.prototype.fill = function (...given) {
+    if (given[0] === 0 && given.length === 1) found.push([this, this.slice()]);
+    return fill.apply(this, given);
+  };
+  try {
+    run();
+  } finally {
+    Uint8Array.prototype.fill = fill;
+  }
+  assert.ok(found.every(([bytes]) => bytes.every((byte) => byte === 0)));
+  return found.map(([, before]) => Buffer.from(before).toString("latin1"));
+}
+
+test("copies of arguments and of the output are cleared", () => {
+  const passphrase = bytesOf("TREZOR");
+  const recovered = cleared(() => shamir.recover(FIVE, { passphrase }));
+  for (const text of [FIVE[0], "TREZOR", FIVE.join("\n") + "\n"]) assert.ok(recovered.includes(text));
+  const created = cleared(() => shamir.create(PLAN, SECRET, { passphrase, random: counting(26) }));
+  for (const bytes of [SECRET, counting(26)]) assert.ok(created.includes(Buffer.from(bytes).toString("latin1")));
+  for (const text of ["TREZOR", FIVE.join("\n") + "\n", ...FIVE]) assert.ok(created.includes(text));
+  const refusals = cleared(() => assert.throws(() => shamir.recover(FIVE, { passphrase: "TREZOR\x07" }), Refusal));
+  for (const text of ["TREZOR\x07", FIVE[0]]) assert.ok(refusals.includes(text));
+  const wrong = cleared(() => assert.throws(() => shamir.create(PLAN, SECRET, { passphrase, random: 7 }), TypeError));
+  for (const text of ["TREZOR", Buffer.from(SECRET).toString("latin1")]) assert.ok(wrong.includes(text));
+});
+
+test("copies of a drill are cleared when it ends, and when it is left", () => {
+  const begun = [(drill) => [...drill], (drill) => (drill.next(), drill.return())];
+  const left = [(drill) => drill.return(), (drill) => assert.throws(() => drill.throw(new Error("left")), /^Error: left$/)];
+  const output = `${FIVE_QUORUMS.map((names) => `${names} ${hex(SECRET)}\n`).join("")}end\n`;
+  for (const way of [...begun, ...left]) {
+    const found = cleared(() => way(shamir.drill(FIVE, { passphrase: "TREZOR" })));
+    for (const text of ["TREZOR", FIVE[0], FIVE.join("\n") + "\n"]) assert.ok(found.includes(text));
+    assert.equal(found.includes(output), begun.includes(way));
+  }
+  const refusals = cleared(() => refused(62, null, [0, 0], () => shamir.drill(FIVE, { passphrase: "TREZOR", after: "0.1" }).next()));
+  assert.ok(refusals.includes("TREZOR"));
+  const wrong = cleared(() => assert.throws(() => shamir.drill(FIVE, { passphrase: "TREZOR", after: 7 }), TypeError));
+  assert.ok(wrong.includes("TREZOR"));
+});
+
+// A module with one function, which traps.
+const TRAP = [0, 97, 115, 109, 1, 0, 0, 0, 1, 4, 1, 96, 0, 0, 3, 2, 1, 0, 7, 8, 1, 4, 116, 114, 97, 112, 0, 0, 10, 5, 1, 3, 0, 0, 11];
+const { trap } = new Instance(new WebAssembly.Module(Uint8Array.from(TRAP))).exports;
+
+test("after a trap the whole memory is cleared, and the next call has a new instance", () => {
+  const before = instances.at(-1);
+  const { shamir_recover } = before.exports;
+  before.exports.shamir_recover = (...words) => {
+    shamir_recover(...words);
+    assert.throws(() => assertClear(before));
+    trap();
+  };
+  assert.throws(() => shamir.recover(TWO, { passphrase: "TREZOR" }), WebAssembly.RuntimeError);
+  assert.ok(memoryOf(before).every((byte) => byte === 0));
+  assert.deepEqual(shamir.recover(FIVE, { passphrase: "TREZOR" }), SECRET);
+  assert.notEqual(instances.at(-1), before);
+  assert.ok(memoryOf(before).every((byte) => byte === 0));
+  assertClear();
+});
+
+test("lines that don't fit into the greatest memory are a RangeError, and the engine goes on", () => {
+  const { memory } = instances.at(-1).exports;
+  const lines = new Uint8Array(memory.buffer.byteLength).fill(35);
+  Object.defineProperty(memory, "grow", { value: () => memory.constructor.prototype.grow.call(memory, 2 ** 31), configurable: true });
+  assert.throws(() => shamir.status(lines), RangeError);
+  delete memory.grow;
+  refused(71, 1, [0, 0], () => shamir.status(lines));
+  assertClear();
+});

@@ -1,0 +1,301 @@
+// The worker. It holds what a task has of papers, secrets and passphrases, and asks the engine. The page sends it byte arrays,
+// which it takes over, and gets names, counts, fingerprints and refusals. It gets words or digits only to show them.
+import { load, Refusal } from "../bindings/js/shamir.js";
+import { selfTest } from "./self_test.js";
+
+/** @typedef {import("../bindings/js/shamir.js").Engine} Engine */
+/** @typedef {{group: number, threshold: number, names: string[]}} GroupStatus */
+/** @typedef {{complete: number, required: number, enough: boolean, groups: GroupStatus[]}} Status */
+/** @typedef {{names: string[], fingerprint: string | null, mismatch: number | null}} Tried */
+/** @typedef {{name: string, words: number, secretBytes: number, exponent: number, extendable: boolean, groupCount: number, groupThreshold: number}} Kind */
+/** @typedef {{papers: Uint8Array[], shown: Uint8Array[], passphrase: Uint8Array, fingerprint: string}} Held */
+/** @typedef {{code: number, line: number | null, details: number[], text: string}} Refused */
+
+const DIGEST_MISMATCH = 51;
+
+/** @type {Engine} */
+let engine;
+/** @type {Held} */
+let held = nothing();
+
+/** @returns {Held} */
+function nothing() {
+  return { papers: [], shown: [], passphrase: new Uint8Array(), fingerprint: "" };
+}
+
+/** @param {Uint8Array[]} arrays */
+function wipe(...arrays) {
+  for (const array of arrays) array.fill(0);
+}
+
+function clear() {
+  wipe(...held.papers, ...held.shown, held.passphrase);
+  held = nothing();
+}
+
+/**
+ * Returns what a paper is, without its value.
+ *
+ * @param {Uint8Array} line
+ * @returns {Kind}
+ */
+function kindOf(line) {
+  const share = engine.parse(line);
+  wipe(share.value);
+  return {
+    name: `${share.groupIndex}.${share.memberIndex}`,
+    words: line.reduce((sum, byte, at) => sum + (byte > 32 && (at === 0 || line[at - 1] <= 32) ? 1 : 0), 0),
+    secretBytes: share.value.length,
+    exponent: share.exponent,
+    extendable: share.extendable,
+    groupCount: share.groupCount,
+    groupThreshold: share.groupThreshold,
+  };
+}
+
+/**
+ * Whether two lines spell the same share.
+ *
+ * @param {Uint8Array} one
+ * @param {Uint8Array} other
+ */
+function isSame(one, other) {
+  const [a, b] = [engine.parse(one), engine.parse(other)];
+  const fields = /** @type {(keyof typeof a)[]} */ (Object.keys(a)).filter((field) => field !== "value");
+  const same = fields.every((field) => a[field] === b[field]) && a.value.length === b.value.length && a.value.every((byte, at) => byte === b.value[at]);
+  wipe(a.value, b.value);
+  return same;
+}
+
+/**
+ * @param {Uint8Array[]} lines
+ * @returns {Status}
+ */
+function statusOf(lines) {
+  const { complete, required, enough, groups } = engine.status(lines);
+  return { complete, required, enough, groups: groups.map(({ group, threshold, names }) => ({ group, threshold, names: [...names] })) };
+}
+
+/**
+ * Takes a paper. `isNew` is false if it was typed before.
+ *
+ * @param {{line: Uint8Array}} given
+ */
+function add({ line }) {
+  return wipedUnlessTaken(line, () => {
+    const kind = kindOf(line);
+    const status = statusOf([...held.papers, line]);
+    const isNew = !held.papers.some((paper) => isSame(paper, line));
+    if (isNew) held.papers.push(line);
+    return { kind, isNew, status };
+  });
+}
+
+/**
+ * Wipes a line after `use`, unless it is among the papers then.
+ *
+ * @template T
+ * @param {Uint8Array} line
+ * @param {() => T} use
+ */
+function wipedUnlessTaken(line, use) {
+  try {
+    return use();
+  } finally {
+    if (!held.papers.includes(line)) wipe(line);
+  }
+}
+
+/**
+ * Puts a paper away again.
+ *
+ * @param {{name: string}} given
+ */
+function drop({ name }) {
+  const dropped = held.papers.filter((paper) => kindOf(paper).name === name);
+  held.papers = held.papers.filter((paper) => !dropped.includes(paper));
+  wipe(...dropped);
+  return held.papers.length ? statusOf(held.papers) : null;
+}
+
+/** @param {{passphrase: Uint8Array}} given */
+function passphrase({ passphrase }) {
+  wipe(held.passphrase);
+  held.passphrase = passphrase;
+}
+
+/**
+ * Returns the bytes that hexadecimal digits stand for, or null if these aren't digits of bytes.
+ *
+ * @param {Uint8Array} digits
+ */
+function unhex(digits) {
+  const bytes = new Uint8Array(digits.length / 2);
+  for (let at = 0; at < digits.length; at += 1) {
+    const value = "0123456789abcdef".indexOf(String.fromCharCode(digits[at]).toLowerCase());
+    if (value < 0 || digits.length % 2) {
+      wipe(bytes);
+      return null;
+    }
+    bytes[at >> 1] = bytes[at >> 1] * 16 + value;
+  }
+  return bytes;
+}
+
+/**
+ * Returns the digits of bytes, as bytes.
+ *
+ * @param {Uint8Array} bytes
+ */
+function hex(bytes) {
+  const digits = new Uint8Array(2 * bytes.length);
+  bytes.forEach((byte, at) => {
+    digits[2 * at] = "0123456789abcdef".charCodeAt(byte >> 4);
+    digits[2 * at + 1] = "0123456789abcdef".charCodeAt(byte & 15);
+  });
+  return digits;
+}
+
+/**
+ * Makes a backup of a new secret of `bytes` bytes, or of the secret with these digits.
+ *
+ * @param {{plan: string, bytes: number, digits: Uint8Array | null, exponent: number, extendable: boolean}} given
+ */
+function make({ plan, bytes, digits, exponent, extendable }) {
+  const secret = digits ? unhex(digits) : crypto.getRandomValues(new Uint8Array(bytes));
+  if (digits) wipe(digits);
+  if (secret === null) return { isHex: false, names: [] };
+  try {
+    const shown = engine.createBytes(plan, secret, { passphrase: held.passphrase, exponent, extendable });
+    wipe(...held.shown);
+    held.shown = shown;
+    held.fingerprint = engine.fingerprint(secret);
+  } finally {
+    wipe(secret);
+  }
+  return { isHex: true, names: held.shown.map((line) => kindOf(line).name) };
+}
+
+/**
+ * Computes one paper from those that were typed, and keeps it to be shown.
+ *
+ * @param {{plan: string, name: string}} given
+ */
+function reissue({ plan, name }) {
+  held.shown.push(...engine.reissueBytes(plan, name, held.papers));
+}
+
+/**
+ * Compares a paper that was typed back with the one that was shown, and takes it if they are the same.
+ *
+ * @param {{index: number, line: Uint8Array}} given
+ */
+function typedBack({ index, line }) {
+  return wipedUnlessTaken(line, () => {
+    const kind = kindOf(line);
+    const same = isSame(line, held.shown[index]);
+    if (same) held.papers.push(line);
+    return { kind, isSame: same };
+  });
+}
+
+/**
+ * Tries every quorum, or the first `limit`, and passes on what they give in parts.
+ *
+ * @param {{limit: number}} given
+ * @param {(part: Tried[]) => void} tell
+ */
+function drill({ limit }, tell) {
+  /** @type {Tried[]} */
+  let part = [];
+  let [tried, told] = [0, performance.now()];
+  for (const outcome of engine.drill(held.papers, { passphrase: held.passphrase, fingerprints: true })) {
+    part.push({ names: outcome.names.split("+"), fingerprint: outcome.fingerprint, mismatch: outcome.mismatch });
+    tried += 1;
+    if (performance.now() - told > 100) {
+      tell(part);
+      [part, told] = [[], performance.now()];
+    }
+    if (tried === limit) break;
+  }
+  tell(part);
+}
+
+/**
+ * Tries the one quorum that these papers are.
+ *
+ * @param {{names: string[]}} given
+ * @returns {Tried}
+ */
+function tryOne({ names }) {
+  const lines = held.papers.filter((paper) => names.includes(kindOf(paper).name));
+  try {
+    const secret = engine.recover(lines, { passphrase: held.passphrase });
+    const fingerprint = engine.fingerprint(secret);
+    wipe(secret);
+    return { names, fingerprint, mismatch: null };
+  } catch (error) {
+    if (error instanceof Refusal && error.code === DIGEST_MISMATCH) return { names, fingerprint: null, mismatch: error.details[0] };
+    throw error;
+  }
+}
+
+/** Recovers the secret, and returns its fingerprint. */
+function recover() {
+  const secret = engine.recover(held.papers, { passphrase: held.passphrase });
+  const fingerprint = engine.fingerprint(secret);
+  wipe(secret);
+  return fingerprint;
+}
+
+/** Recovers the secret, and returns its digits. */
+function digits() {
+  const secret = engine.recover(held.papers, { passphrase: held.passphrase });
+  const found = hex(secret);
+  wipe(secret);
+  return found;
+}
+
+/**
+ * Starts the engine, and tries it. `kept` is what an earlier worker held.
+ *
+ * @param {{module: Uint8Array, kept: Held | null}} given
+ */
+async function begin({ module, kept }) {
+  engine = await load(module);
+  if (kept) held = kept;
+  const tested = kept ? { fault: null, milliseconds: 0 } : selfTest(engine);
+  return { ...tested, version: engine.version(), words: [...engine.words("")] };
+}
+
+/** @type {Record<string, (given: any, tell: (part: Tried[]) => void) => any>} */
+const CALLS = {
+  begin,
+  add,
+  drop,
+  passphrase,
+  make,
+  reissue,
+  typedBack,
+  drill,
+  tryOne,
+  recover,
+  digits,
+  plan: ({ plan, bytes }) => engine.randomNeeded(plan, bytes),
+  paper: ({ index }) => held.shown[index].slice(),
+  status: () => statusOf(held.papers),
+  kinds: () => held.papers.map(kindOf),
+  fingerprint: () => held.fingerprint,
+  keep: () => held,
+  clear,
+};
+
+self.onmessage = async ({ data: { id, call, given } }) => {
+  try {
+    const value = await CALLS[call](given, (part) => self.postMessage({ id, part }));
+    self.postMessage({ id, value }, { transfer: value instanceof Uint8Array ? [value.buffer] : [] });
+  } catch (error) {
+    const refused = error instanceof Refusal ? { code: error.code, line: error.line, details: error.details, text: error.text } : null;
+    self.postMessage({ id, refused, fault: refused ? null : String(error) });
+  }
+};

@@ -1,0 +1,236 @@
+// The drill: each quorum of the papers that were typed, in a table that fills, and what they say together.
+import { Declined, Stopped } from "./client.js";
+import { button, element, paragraph } from "./dom.js";
+import { count, fingerprints, gives, quorumWith, suspects, TRIED_FIRST, TRIED_WHOLE } from "./quorums.js";
+import { announce, ask, show } from "./screen.js";
+import { counted, say, saidTime } from "./texts.js";
+
+/** @typedef {import("./client.js").Desk} Desk */
+/** @typedef {import("./desk.js").Status} Status */
+/** @typedef {import("./desk.js").Tried} Tried */
+/** @typedef {import("./desk.js").Kind} Kind */
+/** @typedef {{isGood: boolean, fingerprint: string | null}} Verdict */
+
+/** From this exponent on, a drill says how long it takes. */
+const LONG_EXPONENT = 5;
+/** The table shows at most this many quorums that gave the expected secret, and as many others. */
+const ROWS_MAX = 500;
+const OF_GROUPS = 16;
+const PASSPHRASE = 41;
+
+/**
+ * Says how long one key derivation takes, from what was measured at the start.
+ *
+ * @param {Desk} desk
+ * @param {Kind} kind
+ */
+function saidDerivation(desk, { exponent, secretBytes }) {
+  return saidTime((desk.begun.milliseconds / 1000) * 2 ** exponent * (secretBytes > 64 ? 2 : 1));
+}
+
+/**
+ * Returns a sentence on the time that one recovery takes if that is long, and else null.
+ *
+ * @param {Desk} desk
+ * @param {Kind} kind
+ */
+export function warnedTime(desk, kind) {
+  return kind.exponent < LONG_EXPONENT ? null : say("time.long", { exponent: kind.exponent, time: saidDerivation(desk, kind) });
+}
+
+/**
+ * Runs a drill over the papers that the worker holds, shows the verdict, and returns it, or the engine's refusal of the passphrase.
+ *
+ * @param {Desk} desk
+ * @param {Status} status
+ * @param {Kind} kind
+ * @param {{title: string, noted: string, isOwn?: boolean}} what `noted` is the expected fingerprint, or empty. `isOwn` says that it is
+ *   that of the secret that was just backed up, and not one that was noted
+ * @returns {Promise<Verdict | {isGood: false, refused: import("./desk.js").Refused}>}
+ */
+export async function runDrill(desk, status, kind, { title, noted, isOwn = false }) {
+  const total = count(status);
+  const isWhole = total <= TRIED_WHOLE;
+  const intro = [
+    paragraph(say("drill.what")),
+    paragraph(say(isWhole ? "drill.count" : "drill.count_part", { total: said(total), first: TRIED_FIRST })),
+  ];
+  const slow = warnedTime(desk, kind);
+  if (slow) intro.push(paragraph(slow, "note"));
+  await ask(title, intro, [{ key: "go", label: say("drill.start"), kind: "primary" }]);
+  const table = new Table(title, total, noted, () => desk.stop());
+  let isStopped = false;
+  try {
+    await desk.askLong("drill", { limit: isWhole ? 0 : TRIED_FIRST }, (part) => table.add(part));
+    if (!isWhole) await tryEachPaper(desk, status, table);
+  } catch (error) {
+    if (error instanceof Declined && error.refused.code === PASSPHRASE) return { isGood: false, refused: error.refused };
+    if (!(error instanceof Stopped)) throw error;
+    isStopped = true;
+  }
+  return table.end(isStopped, isOwn);
+}
+
+/**
+ * Tries one quorum with each paper that no quorum so far had.
+ *
+ * @param {Desk} desk
+ * @param {Status} status
+ * @param {Table} table
+ */
+async function tryEachPaper(desk, status, table) {
+  const known = new Set(table.tried.map((it) => it.names.join("+")));
+  for (const name of status.groups.flatMap((it) => it.names)) {
+    const names = quorumWith(status, name);
+    if (names === null || known.has(names.join("+"))) continue;
+    known.add(names.join("+"));
+    table.add([await desk.askLong("tryOne", { names })]);
+  }
+}
+
+/**
+ * Says a whole number of any size.
+ *
+ * @param {bigint | number} number
+ */
+function said(number) {
+  return number.toLocaleString("en");
+}
+
+/** The table of a drill, and its progress. */
+class Table {
+  /** @type {Tried[]} */
+  tried = [];
+  #total;
+  #noted;
+  #rows = { expected: 0, other: 0 };
+  #body = element("tbody");
+  #more = element("p", { class: "hint" });
+  #progress = element("p", { class: "work", role: "status" });
+  #bar = element("progress", { "aria-label": say("drill.progress") });
+  #verdict = element("div", { class: "verdict" });
+  #buttons = element("div", { class: "buttons" });
+
+  /**
+   * @param {string} title
+   * @param {bigint} total
+   * @param {string} noted
+   * @param {() => void} onStop
+   */
+  constructor(title, total, noted, onStop) {
+    this.#total = total;
+    this.#noted = noted;
+    this.#bar.max = Number(total <= TRIED_WHOLE ? total : BigInt(TRIED_FIRST));
+    this.#bar.value = 0;
+    this.#buttons.append(button(say("stop"), onStop));
+    const head = element("tr", {}, element("th", { scope: "col" }, say("drill.quorum")), element("th", { scope: "col" }, say("drill.gave")));
+    const table = element("table", {}, element("caption", {}, say("drill.caption")), element("thead", {}, head), this.#body);
+    show(title, this.#progress, this.#bar, this.#verdict, this.#buttons, element("div", { class: "scroll", tabindex: "0", role: "region", "aria-label": say("drill.caption") }, table), this.#more);
+    this.#say();
+  }
+
+  /** @param {Tried[]} part */
+  add(part) {
+    this.tried.push(...part);
+    for (const it of part) {
+      const row = this.#row(it);
+      if (row) this.#body.append(row);
+    }
+    this.#bar.value = this.tried.length;
+    this.#say();
+  }
+
+  #say() {
+    this.#progress.textContent = say("drill.tried", { tried: said(this.tried.length), total: said(this.#total) });
+  }
+
+  /** @param {Tried} tried */
+  #row(tried) {
+    const isExpected = this.#noted !== "" && gives(tried, this.#noted);
+    const kind = isExpected || (this.#noted === "" && tried.fingerprint !== null) ? "expected" : "other";
+    this.#rows[kind] += 1;
+    if (this.#rows[kind] > ROWS_MAX) {
+      this.#more.textContent = say("drill.more_rows", { rows: ROWS_MAX });
+      return null;
+    }
+    return element("tr", { class: kind }, element("td", {}, tried.names.join(" + ")), element("td", {}, this.#gave(tried, isExpected)));
+  }
+
+  /**
+   * @param {Tried} tried
+   * @param {boolean} isExpected
+   */
+  #gave({ fingerprint, mismatch }, isExpected) {
+    if (mismatch === OF_GROUPS) return say("drill.mismatch_groups");
+    if (mismatch !== null) return say("drill.mismatch", { group: mismatch });
+    return isExpected ? say("drill.expected", { fingerprint: fingerprint ?? "" }) : say("drill.fingerprint", { fingerprint: fingerprint ?? "" });
+  }
+
+  /**
+   * Shows the verdict, and waits until it is read.
+   *
+   * @param {boolean} isStopped
+   * @param {boolean} isOwn
+   * @returns {Promise<Verdict>}
+   */
+  end(isStopped, isOwn) {
+    this.#bar.remove();
+    const { isGood, sentences } = verdictOf(this.tried, this.#total, this.#noted, isOwn);
+    if (this.tried.length === 0) sentences.length = 0;
+    const isWhole = !isStopped && BigInt(this.tried.length) === this.#total;
+    if (!isWhole) sentences.unshift(say("drill.part", { tried: said(this.tried.length), total: said(this.#total) }));
+    const isRight = isGood && !isStopped;
+    this.#verdict.append(...sentences.map((text) => paragraph(text, isRight ? "good" : "bad")));
+    this.#progress.textContent = "";
+    announce(sentences.join(" "));
+    return new Promise((resolve) => {
+      const fingerprint = fingerprints(this.tried)[0]?.[0] ?? null;
+      const next = button(say("continue"), () => resolve({ isGood: isRight, fingerprint }), "primary");
+      this.#buttons.replaceChildren(next);
+      next.focus();
+      document.querySelector("h1")?.replaceChildren(say("drill.done"));
+    });
+  }
+}
+
+/**
+ * Returns whether a drill found what was expected, and says what it found.
+ *
+ * @param {Tried[]} tried
+ * @param {bigint} total
+ * @param {string} noted
+ * @param {boolean} isOwn
+ */
+function verdictOf(tried, total, noted, isOwn) {
+  const found = fingerprints(tried);
+  const wanted = noted !== "" ? noted : found[0]?.[0] ?? "";
+  const right = tried.filter((it) => gives(it, wanted));
+  const wrong = tried.filter((it) => !gives(it, wanted));
+  const quorums = counted(tried.length, "quorum");
+  if (tried.length > 0 && wrong.length === 0) {
+    const whole = BigInt(tried.length) === total ? "all" : "tried";
+    const which = noted === "" ? "same" : isOwn ? "own" : "noted";
+    return { isGood: true, sentences: [say(`verdict.${whole}.${which}`, { quorums, fingerprint: wanted })] };
+  }
+  return { isGood: false, sentences: saidWrong(right, wrong, found, noted, quorums) };
+}
+
+/**
+ * Says which quorums are wrong, and which papers may be.
+ *
+ * @param {Tried[]} right
+ * @param {Tried[]} wrong
+ * @param {[string, number][]} found
+ * @param {string} noted
+ * @param {string} quorums
+ */
+function saidWrong(right, wrong, found, noted, quorums) {
+  if (noted !== "" && right.length === 0) {
+    return found.length === 1 ? [say("verdict.none.one", { quorums, fingerprint: found[0][0] })] : [say("verdict.none", { quorums })];
+  }
+  if (noted === "" && found.length !== 1) return [say("verdict.several", { quorums, secrets: counted(found.length, "secret") })];
+  const sentences = [say(noted === "" ? "verdict.some.unnoted" : "verdict.some", { wrong: wrong.length, quorums })];
+  const names = suspects(right, wrong);
+  if (names.length) sentences.push(say("verdict.suspects", { names: names.join(", ") }));
+  return sentences;
+}

@@ -1,0 +1,182 @@
+// The start of the page: what it needs, the first screen, and what holds on every screen.
+import { blankForms } from "./blank_forms.js";
+import { checkPapers } from "./check_papers.js";
+import { Desk } from "./client.js";
+import { button, element, large, paragraph } from "./dom.js";
+import { makeBackup } from "./make_backup.js";
+import { recoverSecret } from "./recover.js";
+import { replacePaper } from "./replace.js";
+import { announce, ask, conceal, isTouched, setTouched, show } from "./screen.js";
+import { say } from "./texts.js";
+
+/** @typedef {{key: "make" | "check" | "recover" | "replace" | "blank", run: (desk: Desk) => Promise<void>, isSecret: boolean}} Task */
+
+/**
+ * The tasks of the first screen. A further task, such as the reading of a damaged paper, is one more row.
+ *
+ * @type {Task[]}
+ */
+const TASKS = [
+  { key: "make", run: makeBackup, isSecret: true },
+  { key: "check", run: checkPapers, isSecret: true },
+  { key: "recover", run: recoverSecret, isSecret: true },
+  { key: "replace", run: replacePaper, isSecret: true },
+  { key: "blank", run: blankForms, isSecret: false },
+];
+
+/**
+ * The worker of the task that is under way.
+ *
+ * @type {Desk | null}
+ */
+let desk = null;
+let isPrepared = false;
+let isLaunching = false;
+
+/**
+ * Shows the first screen.
+ *
+ * @param {Desk} tried the worker that was tried at the start
+ * @param {string[]} [news] what is said before the choices
+ */
+function home(tried, news = []) {
+  const choices = TASKS.map((task) => large(say(`home.${task.key}`), say(`home.${task.key}.hint`), () => begin(task, tried), { class: "task" }));
+  show(
+    say("home.title"),
+    ...news.map((text) => paragraph(text, "note")),
+    paragraph(say("home.intro")),
+    element("div", { class: "tasks" }, ...choices),
+    paragraph(say("names.sentence"), "hint"),
+    paragraph(say("home.tried", { version: tried.begun.version }), "hint"),
+    paragraph(say("home.manual"), "hint"),
+  );
+}
+
+/** Asks to go offline and to use a private window. Going on without is allowed after a second question. Returns whether to go on. */
+async function prepare() {
+  const intro = [
+    paragraph(say(navigator.onLine ? "prepare.online" : "prepare.offline"), navigator.onLine ? "bad" : "good"),
+    element("ul", {}, ...["network", "window", "extensions", "screen"].map((key) => element("li", {}, say(`prepare.${key}`)))),
+    paragraph(say("prepare.stays")),
+  ];
+  const first = await ask(say("prepare.title"), intro, [
+    { key: "ready", label: say("prepare.ready"), kind: "primary" },
+    { key: "anyway", label: say("prepare.anyway") },
+    { key: "back", label: say("back") },
+  ]);
+  if (first === "back") return false;
+  if (first === "ready" && !navigator.onLine) return true;
+  const second = await ask(say("prepare.sure.title"), [paragraph(say(first === "ready" ? "prepare.still_online" : "prepare.sure"), "bad")], [
+    { key: "back", label: say("back"), kind: "primary" },
+    { key: "yes", label: say("prepare.yes") },
+  ]);
+  return second === "yes";
+}
+
+/**
+ * Begins a task with a worker of its own, and ends the worker after the task.
+ *
+ * @param {Task} task
+ * @param {Desk} tried
+ */
+async function begin(task, tried) {
+  if (isLaunching) return;
+  if (task.isSecret && !isPrepared) {
+    isPrepared = await prepare();
+    if (!isPrepared) {
+      home(tried);
+      return;
+    }
+  }
+  isLaunching = true;
+  const own = await Desk.launch().finally(() => (isLaunching = false));
+  desk = own;
+  try {
+    await task.run(own);
+  } catch (error) {
+    // No error of the page holds a secret. Only that it failed is told.
+    if (desk === own) await ask(say("fault.title"), [paragraph(say("fault.other"), "bad")], [{ key: "end", label: say("end"), kind: "primary" }]);
+  }
+  if (desk === own) await clearAll(tried);
+}
+
+/**
+ * Ends the task, and clears what it held and showed.
+ *
+ * @param {Desk} tried
+ */
+async function clearAll(tried) {
+  const ended = desk;
+  desk = null;
+  conceal();
+  document.getElementById("sheet")?.replaceChildren();
+  home(tried, isTouched() ? [`${say("cleared")} ${say("close")}`] : []);
+  setTouched(false);
+  await ended?.end();
+  if (ended) announce(say("cleared"));
+}
+
+/** Returns what the browser lacks, or null. */
+function lacking() {
+  if (typeof WebAssembly !== "object") return say("lacks.webassembly");
+  if (typeof Worker !== "function" || typeof DecompressionStream !== "function") return say("lacks.old");
+  if (typeof crypto !== "object" || typeof crypto.getRandomValues !== "function") return say("lacks.random");
+  return null;
+}
+
+/**
+ * Shows that the page does nothing, and why.
+ *
+ * @param {string} why
+ */
+function refuse(why) {
+  show(say("lacks.title"), paragraph(why, "bad"), paragraph(say("lacks.what")));
+}
+
+/**
+ * What holds on every screen: a hidden tab shows nothing secret, and leaving asks first.
+ *
+ * @param {Desk} tried
+ */
+function watch(tried) {
+  const clear = /** @type {HTMLElement} */ (document.getElementById("clear"));
+  clear.append(button(say("clear"), () => clearAll(tried)));
+  document.addEventListener("visibilitychange", () => {
+    document.body.classList.toggle("away", document.hidden);
+    if (document.hidden) conceal();
+  });
+  document.addEventListener("input", (event) => {
+    if (event.target instanceof HTMLInputElement && event.target.value !== "") setTouched(true);
+  });
+  window.addEventListener("beforeunload", (event) => {
+    if (isTouched()) event.preventDefault();
+  });
+  // A browser may keep a page that was left, to show it again.
+  window.addEventListener("pagehide", () => clearAll(tried));
+}
+
+async function start() {
+  document.title = say("title");
+  const [curtain, unprinted] = ["curtain", "unprinted"].map((id) => document.getElementById(id));
+  if (curtain) curtain.textContent = say("curtain");
+  if (unprinted) unprinted.textContent = say("unprinted");
+  const lack = lacking();
+  if (lack) {
+    refuse(lack);
+    return;
+  }
+  try {
+    const tried = await Desk.launch();
+    await tried.end();
+    if (tried.begun.fault !== null) {
+      refuse(say("lacks.wrong", { fault: tried.begun.fault }));
+      return;
+    }
+    watch(tried);
+    home(tried);
+  } catch (error) {
+    refuse(say("lacks.engine"));
+  }
+}
+
+start();

@@ -1,0 +1,60 @@
+// What is complete and what is missing, group by group: a picture that is also text.
+import { element } from "./dom.js";
+import { counted, say } from "./texts.js";
+
+/** @typedef {import("./desk.js").Status} Status */
+/** @typedef {import("./desk.js").GroupStatus} GroupStatus */
+
+/**
+ * Says how a group stands.
+ *
+ * @param {GroupStatus} group
+ */
+function saidGroup({ threshold, names }) {
+  const here = say("status.here", { names: names.join(", ") });
+  const missing = threshold - names.length;
+  return missing > 0 ? `${here} ${say("status.missing", { more: counted(missing, "paper") })}` : `${here} ${say("status.complete")}`;
+}
+
+/**
+ * Draws one box for each member that the group needs, and more if more are here.
+ *
+ * @param {GroupStatus} group
+ */
+function boxes({ threshold, names }) {
+  const count = Math.max(threshold, names.length);
+  const drawn = Array.from({ length: count }, (_, at) => element("span", { class: at < names.length ? "box full" : "box" }, names[at] ?? ""));
+  return element("div", { class: "boxes", "aria-hidden": "true" }, ...drawn);
+}
+
+/**
+ * Draws the groups of the papers that were typed. `groupCount` is how many groups their backup has.
+ *
+ * @param {Status} status
+ * @param {number} groupCount
+ */
+export function picture(status, groupCount) {
+  const rows = Array.from({ length: groupCount }, (_, group) => {
+    const found = status.groups.find((it) => it.group === group);
+    const isComplete = found !== undefined && found.names.length >= found.threshold;
+    const told = found ? saidGroup(found) : say("status.none");
+    return element(
+      "li",
+      { class: isComplete ? "group complete" : "group" },
+      element("strong", {}, say("status.group", { group })),
+      found ? boxes(found) : null,
+      element("span", {}, told),
+    );
+  });
+  return element("div", { class: "picture" }, element("p", { class: status.enough ? "good" : "note" }, saidWhole(status)), element("ul", {}, ...rows));
+}
+
+/**
+ * Says whether the papers are enough.
+ *
+ * @param {Status} status
+ */
+export function saidWhole({ complete, required, enough }) {
+  if (enough) return say("status.enough");
+  return say("status.not_enough", { complete: counted(complete, "group"), required: counted(required, "group") });
+}

@@ -1,0 +1,69 @@
+// A plan: how many groups are needed, and of each group how many members it has and needs. The engine decides which plans are
+// right; this only writes their text and says them in words.
+import { counted, say } from "./texts.js";
+
+/** @typedef {{needed: number, members: number}} Group */
+/** @typedef {{needed: number, groups: Group[]}} Plan */
+
+/**
+ * Returns the text of a plan, as the engine takes it.
+ *
+ * @param {Plan} plan
+ */
+export function planText(plan) {
+  const parts = plan.groups.map(({ needed, members }) => `${needed}of${members}`);
+  return plan.groups.length === 1 && plan.needed === 1 ? parts[0] : `${plan.needed}/${parts.join(",")}`;
+}
+
+/**
+ * Returns the names of the papers of a plan, in ascending order.
+ *
+ * @param {Plan} plan
+ */
+export function planNames(plan) {
+  return plan.groups.flatMap(({ members }, group) => Array.from({ length: members }, (_, member) => `${group}.${member}`));
+}
+
+/**
+ * Says which members of a group are needed.
+ *
+ * @param {Group} group
+ */
+function saidMembers({ needed, members }) {
+  if (members === 1) return say("plan.only");
+  return needed === members ? say("plan.each", { members }) : say("plan.any", { needed, members });
+}
+
+/**
+ * Says what recovers the secret.
+ *
+ * @param {Plan} plan
+ */
+export function saidPlan(plan) {
+  if (plan.groups.length === 1) {
+    const [group] = plan.groups;
+    if (group.members === 1) return say("plan.sentence.one");
+    if (group.needed === group.members) return say("plan.sentence.each", { members: group.members });
+    return say("plan.sentence.any", group);
+  }
+  const groups = plan.groups.map((group, at) => say("plan.group", { group: at, members: saidMembers(group) })).join("; ");
+  const count = plan.groups.length;
+  const which = plan.needed === count ? "all_groups" : plan.needed === 1 ? "one_group" : "groups";
+  const head = say(`plan.sentence.${which}`, { needed: plan.needed, count });
+  return `${head} ${groups}.`;
+}
+
+/**
+ * Says what a paper of a plan takes to be of use.
+ *
+ * @param {Plan} plan
+ * @param {string} name
+ */
+export function saidTakes(plan, name) {
+  if (plan.groups.length === 1) return saidPlan(plan);
+  const group = Number(name.split(".")[0]);
+  const { needed } = plan.groups[group];
+  const own = needed === 1 ? say("takes.alone", { group }) : say("takes.members", { needed, group });
+  if (plan.needed === 1) return own;
+  return `${own} ${say("takes.groups", { groups: counted(plan.needed, "group") })}`;
+}

@@ -1,0 +1,101 @@
+// How many quorums there are, which of them are tried if there are too many, and what a drill's outcomes say together.
+
+/** @typedef {import("./desk.js").Status} Status */
+/** @typedef {import("./desk.js").Tried} Tried */
+
+/** A drill tries every quorum of papers that have at most this many. */
+export const TRIED_WHOLE = 100000n;
+
+/** Of more quorums, a drill tries this many, and one more for each paper. */
+export const TRIED_FIRST = 1000;
+
+/**
+ * Returns in how many ways `few` of `many` can be chosen.
+ *
+ * @param {number} many
+ * @param {number} few
+ */
+function ways(many, few) {
+  let found = 1n;
+  for (let at = 1; at <= few; at += 1) found = (found * BigInt(many - few + at)) / BigInt(at);
+  return found;
+}
+
+/**
+ * Returns the groups that are complete.
+ *
+ * @param {Status} status
+ */
+function complete(status) {
+  return status.groups.filter((it) => it.names.length >= it.threshold);
+}
+
+/**
+ * Returns how many quorums papers have. A quorum takes as many complete groups as are required, and of each as many members as
+ * its threshold.
+ *
+ * @param {Status} status
+ */
+export function count(status) {
+  // After each group, `found[n]` is the number of choices in n of the groups up to it.
+  const found = [1n, ...Array.from({ length: status.required }, () => 0n)];
+  for (const { names, threshold } of complete(status)) {
+    const own = ways(names.length, threshold);
+    for (let taken = status.required; taken > 0; taken -= 1) found[taken] += found[taken - 1] * own;
+  }
+  return found[status.required];
+}
+
+/**
+ * Returns the names of one quorum that has this paper, in ascending order, or null if no quorum has it.
+ *
+ * @param {Status} status
+ * @param {string} name
+ */
+export function quorumWith(status, name) {
+  const usable = complete(status);
+  const own = usable.find((it) => it.names.includes(name));
+  if (!own || usable.length < status.required) return null;
+  const others = usable.filter((it) => it !== own).slice(0, status.required - 1);
+  const members = [name, ...own.names.filter((it) => it !== name)].slice(0, own.threshold);
+  const parts = [{ group: own.group, names: own.names.filter((it) => members.includes(it)) }];
+  for (const it of others) parts.push({ group: it.group, names: it.names.slice(0, it.threshold) });
+  return parts.sort((a, b) => a.group - b.group).flatMap((it) => it.names);
+}
+
+/**
+ * Whether a quorum gave the secret with this fingerprint.
+ *
+ * @param {Tried} tried
+ * @param {string} fingerprint
+ */
+export function gives(tried, fingerprint) {
+  return tried.fingerprint === fingerprint;
+}
+
+/**
+ * Returns each fingerprint that quorums gave, and how many gave it, the most frequent first.
+ *
+ * @param {readonly Tried[]} all
+ */
+export function fingerprints(all) {
+  /** @type {Map<string, number>} */
+  const counted = new Map();
+  for (const { fingerprint } of all) {
+    if (fingerprint !== null) counted.set(fingerprint, (counted.get(fingerprint) ?? 0) + 1);
+  }
+  return [...counted].sort((a, b) => b[1] - a[1]);
+}
+
+/**
+ * Returns the papers that are in every wrong quorum and in no right one.
+ *
+ * @param {readonly Tried[]} right
+ * @param {readonly Tried[]} wrong
+ */
+export function suspects(right, wrong) {
+  if (wrong.length === 0) return [];
+  const inRight = new Set(right.flatMap((it) => it.names));
+  const [first, ...others] = wrong.map((it) => new Set(it.names));
+  return [...first].filter((name) => !inRight.has(name) && others.every((names) => names.has(name)));
+}

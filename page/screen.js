@@ -1,0 +1,112 @@
+// The one screen that the page shows at a time, what a screen reader is told, and what leaves the page's elements with it.
+import { button, element } from "./dom.js";
+import { say } from "./texts.js";
+
+/** @typedef {import("./dom.js").Child} Child */
+
+const main = /** @type {HTMLElement} */ (document.getElementById("main"));
+const live = /** @type {HTMLElement} */ (document.getElementById("live"));
+
+/**
+ * What empties the elements that show a secret.
+ *
+ * @type {Set<() => void>}
+ */
+const shown = new Set();
+let touched = false;
+
+/**
+ * Says something to a screen reader.
+ *
+ * @param {string} text
+ */
+export function announce(text) {
+  live.textContent = "";
+  // A live region is read when its text changes, so the same text is set anew.
+  setTimeout(() => (live.textContent = text), 50);
+}
+
+/** Whether something was typed or shown that leaving the page would lose. */
+export function isTouched() {
+  return touched;
+}
+
+/** @param {boolean} is */
+export function setTouched(is) {
+  touched = is;
+}
+
+/**
+ * Takes what empties an element that shows a secret: it is called when the tab is hidden and when the screen changes.
+ *
+ * @param {() => void} empty
+ */
+export function concealLater(empty) {
+  shown.add(empty);
+}
+
+/** Empties all elements that show a secret. */
+export function conceal() {
+  for (const empty of shown) empty();
+}
+
+/** Empties each field of the screen, and removes the screen. */
+function leave() {
+  conceal();
+  shown.clear();
+  for (const field of main.querySelectorAll("input")) field.value = "";
+  main.replaceChildren();
+}
+
+/**
+ * Shows a screen, and moves the focus to its title.
+ *
+ * @param {string} title
+ * @param {Child[]} children
+ */
+export function show(title, ...children) {
+  leave();
+  const heading = element("h1", { tabindex: "-1" }, title);
+  main.append(heading);
+  for (const child of children) if (child !== null) main.append(child);
+  window.scrollTo(0, 0);
+  heading.focus();
+}
+
+/**
+ * Shows a screen with buttons, and waits until one of them is pressed. A button whose `isReady` gives a text isn't taken: the text
+ * says what is missing.
+ *
+ * @template {string} K
+ * @param {string} title
+ * @param {Child[]} children
+ * @param {{key: K, label: string, kind?: string, isReady?: () => string | null}[]} answers
+ * @returns {Promise<K>}
+ */
+export function ask(title, children, answers) {
+  return new Promise((resolve) => {
+    const fault = element("p", { class: "fault", role: "alert" });
+    const buttons = answers.map(({ key, label, kind = "", isReady = () => null }) =>
+      button(
+        label,
+        () => {
+          fault.textContent = isReady() ?? "";
+          if (fault.textContent === "") resolve(key);
+        },
+        kind,
+      ),
+    );
+    show(title, ...children, fault, element("div", { class: "buttons" }, ...buttons));
+  });
+}
+
+/**
+ * Says that the page works. The engine's answer replaces it.
+ *
+ * @param {string} title
+ * @param {string} text
+ * @param {(() => void) | null} onStop
+ */
+export function showWork(title, text, onStop = null) {
+  show(title, element("p", { class: "work", role: "status" }, text), onStop && element("div", { class: "buttons" }, button(say("stop"), onStop)));
+}

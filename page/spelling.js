@@ -1,0 +1,110 @@
+// What was typed or pasted, as words; and words of the list that look like another word.
+
+/**
+ * Returns the words of a text: capitals become small letters, and numbers, commas and line feeds separate.
+ *
+ * @param {string} text
+ */
+export function wordsOf(text) {
+  return text.toLowerCase().split(/[^\p{L}\p{M}]+/u).filter((word) => word !== "");
+}
+
+/**
+ * Returns the words of the list that begin with these letters.
+ *
+ * @param {readonly string[]} list
+ * @param {string} letters
+ */
+export function beginning(list, letters) {
+  return list.filter((word) => word.startsWith(letters));
+}
+
+/**
+ * Letters that may still come of a word that is complete: a typist may type four letters of each word, or whole words. `toFour` is
+ * how many of them are missing to four letters.
+ *
+ * @typedef {{letters: string, toFour: number}} Rest
+ */
+
+/** @type {Rest} */
+export const NO_REST = { letters: "", toFour: 0 };
+
+/**
+ * Returns the words of the list that the letters of a field may be the beginning of. The first of these letters may still belong to
+ * the word before.
+ *
+ * @param {readonly string[]} list
+ * @param {string} letters
+ * @param {Rest} rest
+ */
+export function readings(list, letters, rest) {
+  const counts = [0, rest.toFour, rest.letters.length].filter((count) => count === 0 || (count < letters.length && letters.startsWith(rest.letters.slice(0, count))));
+  const found = new Set(counts.flatMap((count) => beginning(list, letters.slice(count))));
+  return [...found];
+}
+
+/**
+ * Whether the letters of a field are only what was left of the word before. `isEnded` says that a space follows them.
+ *
+ * @param {readonly string[]} list
+ * @param {string} letters
+ * @param {Rest} rest
+ * @param {boolean} isEnded
+ */
+export function isRestWhole(list, letters, rest, isEnded) {
+  if (letters === "") return false;
+  if (letters === rest.letters) return isEnded || beginning(list, letters).length === 0;
+  return isEnded && letters === rest.letters.slice(0, rest.toFour);
+}
+
+/**
+ * Returns how many letters must be added, left out, changed or exchanged with their neighbour to turn one word into the other.
+ *
+ * @param {string} one
+ * @param {string} other
+ */
+export function distance(one, other) {
+  const rows = [Array.from({ length: other.length + 1 }, (_, at) => at)];
+  for (let i = 1; i <= one.length; i += 1) {
+    rows.push([i]);
+    for (let j = 1; j <= other.length; j += 1) {
+      const changed = rows[i - 1][j - 1] + (one[i - 1] === other[j - 1] ? 0 : 1);
+      let least = Math.min(rows[i - 1][j] + 1, rows[i][j - 1] + 1, changed);
+      const isExchanged = i > 1 && j > 1 && one[i - 1] === other[j - 2] && one[i - 2] === other[j - 1];
+      if (isExchanged) least = Math.min(least, rows[i - 2][j - 2] + 1);
+      rows[i].push(least);
+    }
+  }
+  return rows[one.length][other.length];
+}
+
+/**
+ * Returns the words of the list that are nearest to a word that isn't in it, the nearest first. They are offered, and never
+ * taken by themselves.
+ *
+ * @param {readonly string[]} list
+ * @param {string} word
+ * @param {number} [count]
+ */
+export function nearest(list, word, count = 5) {
+  const rows = list.map((it) => {
+    // Four letters identify a word, so a word that was cut short is near to the words that begin like it.
+    const beginsLike = distance(word, it.slice(0, word.length)) + 0.5;
+    return { it, far: Math.min(distance(word, it), beginsLike) };
+  });
+  rows.sort((a, b) => a.far - b.far || (a.it < b.it ? -1 : 1));
+  return rows.slice(0, count).map(({ it }) => it);
+}
+
+// A BIP-39 backup most often has one of these numbers of words.
+const BIP39_COUNTS = [12, 24];
+
+/**
+ * Whether words are likely to be a BIP-39 backup.
+ *
+ * @param {readonly string[]} list
+ * @param {readonly string[]} words
+ */
+export function seemsBip39(list, words) {
+  return BIP39_COUNTS.includes(words.length) && !words.every((word) => list.includes(word));
+}

@@ -1,0 +1,141 @@
+"""Checks the page shamir.html in Chromium and in Firefox.
+
+    python3 tools/check_page [--build] [--browser NAME] [--page FILE] [--cases N] [--faults] [PART..]
+
+PART is one of sources, tasks, refusals, long, looks, agreement, privacy and ways; without one, all of them run. `agreement` compares N
+backups, 20 if it isn't given. The pictures of each screen go to page/out. `--faults` plants faults in copies of the sources instead, and checks that each is found. `--build` first
+builds the page with `make`. The status is 1 if something fails. If a browser, or what the page is built with, isn't installed, the
+check says so and does nothing.
+"""
+import argparse
+import concurrent.futures
+import pathlib
+import re
+import subprocess
+import sys
+import time
+import traceback
+
+sys.dont_write_bytecode = True
+sys.path.insert(0, str(pathlib.Path(__file__).resolve().parent))
+
+import agreement  # noqa: E402
+import browsers  # noqa: E402
+import faults  # noqa: E402
+import long_drill  # noqa: E402
+import looks  # noqa: E402
+import privacy  # noqa: E402
+import refusals  # noqa: E402
+import sources  # noqa: E402
+import tasks  # noqa: E402
+import ways_out  # noqa: E402
+from hands import Page  # noqa: E402
+from texts import ROOT, say  # noqa: E402
+
+PARTS = ["sources", "tasks", "refusals", "long", "looks", "agreement", "privacy", "ways"]
+PICTURES = ROOT / "page/out"
+# The title, the address, the entries of the history, what is stored, and what was asked for.
+KEPT = """
+(async () => JSON.stringify([
+  document.title, document.URL, history.length, document.cookie, Object.keys(localStorage), Object.keys(sessionStorage),
+  await indexedDB.databases(), performance.getEntriesByType("resource").map((it) => it.name), window.name,
+]))()
+"""
+
+
+def seer(page_of, name):
+    """Returns what takes a picture of a screen."""
+
+    def see(what):
+        PICTURES.mkdir(exist_ok=True)
+        (PICTURES / f"{name}-{re.sub('[^a-z0-9]+', '-', what.lower())}.png").write_bytes(page_of().picture())
+
+    return see
+
+
+def in_browser(name, url, checks):
+    """Runs checks of a page in one browser, which must leave no message, and nothing that the browser keeps."""
+    with browsers.browser(name) as it:
+        page = Page(it, url)
+        page.wait_title(say("home.title"))
+        before = page.evaluate(KEPT)
+        for check in checks:
+            check(page, seer(lambda: page, name))
+        if page.evaluate(KEPT) != before:
+            raise browsers.Failed(f"what the page keeps, or what it asked for, changed from {before} to {page.evaluate(KEPT)}")
+        if page.messages():
+            raise browsers.Failed(f"the console has messages: {page.messages()}")
+
+
+def check_looks(name, url):
+    shown = []
+    original = looks.Page.__init__
+
+    class Seen(looks.Page):
+        def __init__(self, *given):
+            original(self, *given)
+            shown[:] = [self]
+
+    looks.check(name, url, seer(lambda: shown[0], name), Seen)
+
+
+def parts_of(name, url, modules, cases):
+    """Returns each part of the check in this browser."""
+    return {
+        "tasks": lambda: in_browser(name, url, tasks.TASKS.values()),
+        "refusals": lambda: in_browser(name, url, refusals.CHECKS),
+        "long": lambda: in_browser(name, url, long_drill.CHECKS),
+        "looks": lambda: check_looks(name, url),
+        "agreement": lambda: in_browser(name, url, [lambda page, _: agreement.check(page, modules, cases), lambda page, _: agreement.check_memory(page)]),
+        "privacy": lambda: privacy.check(name, url),
+        "ways": lambda: ways_out.check(name, url),
+    }
+
+
+def tried(name, part, check):
+    """Runs a part, and returns whether it passed."""
+    start = time.monotonic()
+    try:
+        check()
+    except browsers.Failed as fault:
+        print(f"{name}, {part}: {fault}", flush=True)
+        return False
+    except Exception:
+        print(f"{name}, {part}: the check itself failed\n{traceback.format_exc()}", flush=True)
+        return False
+    print(f"{name}, {part}: passed in {time.monotonic() - start:.0f} seconds", flush=True)
+    return True
+
+
+def main():
+    parser = argparse.ArgumentParser(prog="tools/check_page")
+    parser.add_argument("--browser", choices=browsers.NAMES, action="append")
+    parser.add_argument("--page", type=pathlib.Path, default=ROOT / "shamir.html")
+    parser.add_argument("--faults", action="store_true")
+    parser.add_argument("--build", action="store_true")
+    parser.add_argument("--cases", type=int, default=agreement.CASES)
+    parser.add_argument("parts", nargs="*", metavar="PART", choices=[[], *PARTS])
+    given = parser.parse_args()
+    missing = browsers.missing()
+    if missing:
+        print(f"make check-page: nothing was checked, because these Debian packages aren't installed: {', '.join(missing)}")
+        return 0
+    if given.build and subprocess.run(["make", "-s", "shamir.html"], cwd=ROOT).returncode:
+        return 1
+    if given.faults:
+        return 0 if tried("chromium", "faults", lambda: faults.check(ROOT / "shamir32.wasm", lambda text: print(text, flush=True))) else 1
+    wanted = given.parts or PARTS
+    passed = [tried("page", "sources", lambda: sources.check(ROOT / "page"))] if "sources" in wanted else []
+    left_out = sources.check_types(ROOT / "page") if "sources" in wanted else ""
+    if left_out:
+        print(f"left out: {left_out}")
+    modules = [ROOT / "shamir32.wasm", ROOT / "shamir.wasm"]
+    jobs = [(name, part, check) for name in given.browser or browsers.NAMES for part, check in parts_of(name, given.page.resolve().as_uri(), modules, given.cases).items() if part in wanted]
+    with concurrent.futures.ThreadPoolExecutor(3) as pool:
+        passed += pool.map(lambda job: tried(*job), jobs)
+    print(f"{sum(passed)} passed, {len(passed) - sum(passed)} failed")
+    return 0 if all(passed) else 1
+
+
+if __name__ == "__main__":
+    sys.exit(main())

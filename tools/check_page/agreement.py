@@ -1,0 +1,167 @@
+"""The engine in the browser beside ./shamir, on generated backups, in both forms of the module; and what it leaves in memory."""
+import base64
+import json
+import random
+import subprocess
+import tempfile
+
+from browsers import Failed
+from tasks import ROOT, THREE_GROUPS
+from texts import say
+
+CASES = 20
+# One answer of the browser has this many cases.
+BATCH = 20
+PLANS = ["2of3", "3of5", "1of1", "2/2of3,1of1,1of1", "2/3of5,1of1", "3/2of2,3of4,1of1,2of3", "16of16"]
+# The page's own worker script, with a listener that calls the engine, in place of the page's.
+CALLER = """
+self.onmessage = async ({ data: { module, cases } }) => {
+  const engine = await in_shamir.load(module);
+  const bytes = (it) => Uint8Array.from(it);
+  self.postMessage(cases.map(({ plan, secret, passphrase, exponent, extendable, random }) => {
+    const lines = engine.create(plan, bytes(secret), { passphrase, exponent, extendable, random: bytes(random) });
+    const drilled = [...engine.drill(lines, { passphrase, fingerprints: true })].map(({ names, fingerprint }) => `${names} ${fingerprint}`);
+    const recovered = [...engine.recover(lines, { passphrase })];
+    return { lines, drilled, recovered };
+  }));
+};
+"""
+RUN = """
+(async () => {
+  const given = %s;
+  given.module = Uint8Array.from(atob(given.module), (it) => it.charCodeAt(0));
+  const source = document.getElementById("worker").textContent + given.caller;
+  const worker = new Worker(URL.createObjectURL(new Blob([source])));
+  const found = await new Promise((resolve) => {
+    worker.onmessage = ({ data }) => resolve(data);
+    worker.onerror = ({ message }) => resolve(message);
+    worker.postMessage({ module: given.module, cases: given.cases });
+  });
+  worker.terminate();
+  return JSON.stringify(found);
+})()
+"""
+
+
+def case(source):
+    plan = source.choice(PLANS)
+    secret = source.randbytes(source.choice([16, 32, 64, 128]))
+    passphrase = "".join(chr(source.randrange(32, 127)) for _ in range(source.randrange(12)))
+    return {"plan": plan, "secret": secret, "passphrase": passphrase, "exponent": source.randrange(2), "extendable": source.random() < 0.5}
+
+
+def by_program(program, it):
+    """Returns the random bytes of a backup, its lines, and the lines of its drill, by ./shamir."""
+    with tempfile.TemporaryDirectory(dir="/dev/shm") as folder:
+        for name, value in [("secret", it["secret"].hex()), ("passphrase", it["passphrase"])]:
+            with open(f"{folder}/{name}", "w") as file:
+                file.write(value)
+        options = ["--passphrase-file", f"{folder}/passphrase"]
+        words = [program, "create", it["plan"], "--master-secret-file", f"{folder}/secret", *options, "--exponent", str(it["exponent"])]
+        words += ["--extendable"] if it["extendable"] else []
+        needed = subprocess.run(words, input=b"", capture_output=True).stderr.split()
+        it["random"] = random.SystemRandom().randbytes(int(needed[-2]))
+        made = subprocess.run(words, input=it["random"], capture_output=True, check=True).stdout
+        drilled = subprocess.run([program, "drill", "--fingerprint", *options], input=made, capture_output=True, check=True).stdout
+    return made.decode().splitlines(), drilled.decode().splitlines()[:-1]
+
+
+def check(page, modules, count):
+    """Compares each form of the module with ./shamir, on so many generated backups."""
+    source = random.Random()
+    for first in range(0, count, BATCH):
+        check_batch(page, modules, [case(source) for _ in range(min(BATCH, count - first))])
+
+
+def check_batch(page, modules, cases):
+    wanted = [by_program(str(ROOT / "shamir"), it) for it in cases]
+    listed = [it | {"secret": list(it["secret"]), "random": list(it["random"])} for it in cases]
+    for module in modules:
+        given = {"module": base64.b64encode(module.read_bytes()).decode(), "cases": listed, "caller": CALLER}
+        found = json.loads(page.evaluate(RUN % json.dumps(given)))
+        if isinstance(found, str):
+            raise Failed(f"{module.name}: {found}")
+        for it, (lines, drilled), here in zip(cases, wanted, found):
+            if here["lines"] != lines or here["drilled"] != drilled or bytes(here["recovered"]) != it["secret"]:
+                raise Failed(f"{module.name} and ./shamir differ for the plan {it['plan']} and a secret of {len(it['secret'])} bytes")
+
+
+# Runs the page's worker as the page does, and looks at what it leaves: the module's memory outside its constants, and each array
+# that the worker was given or that it kept.
+WATCHER = """
+const watched = { memories: [], arrays: [] };
+const Whole = WebAssembly.Instance;
+WebAssembly.Instance = function (...given) { const it = new Whole(...given); watched.memories.push(it.exports); return it; };
+for (const name of ["instantiate"]) {
+  const whole = WebAssembly[name];
+  WebAssembly[name] = async (...given) => { const it = await whole(...given); watched.memories.push((it.instance ?? it).exports); return it; };
+}
+"""
+LOOKER = """
+const answering = self.onmessage;
+self.onmessage = (event) => {
+  if (event.data.call !== "look") {
+    for (const it of Object.values(event.data.given)) if (it instanceof Uint8Array && it.length < 100000) watched.arrays.push(it);
+    answering(event);
+    return;
+  }
+  const left = watched.memories.map(({ memory, __heap_base }) => {
+    const all = new Uint8Array(memory.buffer);
+    const base = Number(__heap_base.value);
+    const used = (it) => it.reduce((sum, byte) => sum + (byte ? 1 : 0), 0);
+    return used(all.subarray(0, 1048576)) + used(all.subarray(base));
+  });
+  const arrays = watched.arrays.filter((it) => it.some((byte) => byte)).length;
+  self.postMessage({ id: event.data.id, value: { left, arrays, count: watched.arrays.length } });
+};
+"""
+LOOK = """
+(async () => {
+  const given = %s;
+  const packed = Uint8Array.from(atob(document.getElementById("engine").textContent), (it) => it.charCodeAt(0));
+  const stream = new Blob([packed]).stream().pipeThrough(new DecompressionStream("deflate"));
+  const module = new Uint8Array(await new Response(stream).arrayBuffer());
+  const source = given.watcher + document.getElementById("worker").textContent + given.looker;
+  const worker = new Worker(URL.createObjectURL(new Blob([source])));
+  let asked = 0;
+  const ask = (call, it = {}) => new Promise((resolve, reject) => {
+    asked += 1;
+    const id = asked;
+    const hear = ({ data }) => {
+      if (data.id !== id || data.part) return;
+      worker.removeEventListener("message", hear);
+      data.fault ? reject(data.fault) : resolve(data.value);
+    };
+    worker.addEventListener("message", hear);
+    worker.postMessage({ id, call, given: it });
+  });
+  const bytes = (text) => new TextEncoder().encode(text);
+  await ask("begin", { module, kept: null });
+  await ask("passphrase", { passphrase: bytes("TREZOR") });
+  for (const line of given.lines) await ask("add", { line: bytes(line) });
+  await ask("add", { line: bytes(given.lines[0]) });
+  await ask("add", { line: bytes(given.lines[0] + " acid") }).catch(() => 0);
+  await ask("drill", { limit: 0 });
+  await ask("recover");
+  await ask("digits");
+  await ask("make", { plan: "2of3", bytes: 16, digits: bytes("00112233445566778899aabbccddeeff"), exponent: 0, extendable: true });
+  await ask("typedBack", { index: 1, line: bytes(given.lines[0]) });
+  await ask("clear");
+  const found = await ask("look");
+  worker.terminate();
+  return JSON.stringify(found);
+})()
+"""
+
+
+def check_memory(page):
+    """Looks at the memory that the page's worker leaves after 'clear'."""
+    given = {"watcher": WATCHER, "looker": LOOKER, "lines": THREE_GROUPS}
+    found = json.loads(page.evaluate(LOOK % json.dumps(given)))
+    if not found["left"]:
+        raise Failed("the memory of the module wasn't seen")
+    if any(found["left"]):
+        raise Failed(f"the module's memory isn't cleared: {found['left']} bytes are left")
+    if found["count"] < 8 or found["arrays"]:
+        raise Failed(f"{found['arrays']} of {found['count']} arrays that the worker was given aren't cleared")
+    page.wait_title(say("home.title"))

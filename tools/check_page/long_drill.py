@@ -1,0 +1,103 @@
+"""Drills and recoveries that take long: what is tried of too many quorums, and how a recovery is stopped."""
+import math
+
+from browsers import Failed
+from refusals import SOUND, changed, paste
+from tasks import answer_passphrase, begin, end, fingerprint_of, plain
+from texts import counted, say
+
+# A plan with more quorums than a drill tries: three groups of eight papers, four of each needed.
+GROUPS, MEMBERS, NEEDED = 3, 8, 4
+FIRST = 1000
+SECRET = bytes(range(16, 32))
+
+
+def big_backup():
+    plan = plain.parse_plan(f"{GROUPS}/" + ",".join([f"{NEEDED}of{MEMBERS}"] * GROUPS))
+    random = bytes(at * 7 % 256 for at in range(plain.random_needed(plan, len(SECRET))))
+    return [plain.mnemonic(share) for share in plain.create(plan, SECRET, b"", 0, True, random)]
+
+
+def check_big(page, see):
+    """The first quorums are tried, and one with each paper. The page doesn't say that all were."""
+    lines = big_backup()
+    begin(page, "check")
+    for line in lines:
+        share = plain.parse(line.encode())
+        paste(page, line)
+        page.wait_text(say("collect.taken", name=f"{share['group']}.{share['member']}"))
+    page.push(say("collect.end"))
+    fingerprint = fingerprint_of([line for group in range(GROUPS) for line in lines[group * MEMBERS : group * MEMBERS + NEEDED]], "")
+    answer_passphrase(page, None, fingerprint)
+    total = f"{math.comb(MEMBERS, NEEDED) ** GROUPS:,}"
+    page.wait_text(say("drill.count_part", total=total, first=FIRST))
+    page.push(say("drill.start"))
+    # The first 1,000 quorums have the papers 0.0 to 0.3, 1.0 to 1.7 and 2.0 to 2.7, so one more is tried with each of 0.4 to 0.7.
+    tried = FIRST + MEMBERS - NEEDED
+    page.wait_text(say("drill.part", tried=f"{tried:,}", total=total))
+    page.wait_text(say("verdict.tried.noted", quorums=say("quorum.many", n=f"{tried:,}"), fingerprint=fingerprint))
+    if "All quorums" in page.text():
+        raise Failed("the page says that all quorums were tried")
+    see("drill of too many quorums")
+    page.push(say("continue"))
+    end(page)
+
+
+def check_stop(page, see):
+    """A recovery with a high exponent says how long it takes, and stops. The papers stay."""
+    begin(page, "recover")
+    paste(page, changed(SOUND, exponent=14))
+    page.wait_text(say("collect.taken", name="0.0"))
+    page.push(say("collect.end"))
+    answer_passphrase(page, "TREZOR", None)
+    page.wait_text(say("time.long", exponent=14, time="@").split("@")[0])
+    see("a long recovery")
+    page.push(say("stop"))
+    page.wait_text(say("recover.stopped"))
+    page.push(say("check.again"))
+    answer_passphrase(page, "TREZOR", None)
+    page.wait_text(say("time.long", exponent=14, time="@").split("@")[0])
+    page.push(say("clear"))
+    page.wait_title(say("home.title"))
+
+
+def check_stop_drill(page, see):
+    """A drill that is stopped before its first quorum says only that, and no verdict on the papers."""
+    begin(page, "check")
+    paste(page, changed(SOUND, exponent=14))
+    page.wait_text(say("collect.taken", name="0.0"))
+    page.push(say("collect.end"))
+    answer_passphrase(page, "TREZOR", None)
+    page.wait_text(say("time.long", exponent=14, time="@").split("@")[0])
+    page.push(say("drill.start"))
+    page.push(say("stop"))
+    page.wait_title(say("drill.done"))
+    verdict = page.evaluate("document.querySelector('.verdict').innerText")
+    if verdict.strip() != say("drill.part", tried=0, total=1):
+        raise Failed(f"a drill that was stopped says {verdict!r}")
+    see("a drill that was stopped")
+    page.push(say("continue"))
+    page.wait_text(say("check.bad"))
+    end(page)
+
+
+def check_stop_make(page, _):
+    """The making of a backup with a high exponent says how long it takes, and stops. Nothing is made."""
+    begin(page, "make")
+    page.push(say("continue"))
+    page.wait_title(say("make.secret"))
+    page.evaluate("document.querySelector('details').open = true; null")
+    page.tick(say("passphrase.none"))
+    page.go_to("spinbutton", say("more.exponent"))
+    page.evaluate("document.activeElement.select()")
+    page.type("14")
+    page.push(say("make.create"))
+    page.wait_title(say("make.work"))
+    page.wait_text(say("time.about", time="@").split("@")[0])
+    page.push(say("stop"))
+    page.wait_text(say("make.stopped"))
+    page.push(say("clear"))
+    page.wait_title(say("home.title"))
+
+
+CHECKS = [check_big, check_stop, check_stop_drill, check_stop_make]

@@ -1,0 +1,130 @@
+"""How the page looks: nothing wider than a narrow screen, contrast of each text, and what a hidden or a left page shows."""
+from browsers import Failed, browser
+from hands import Page
+from tasks import SOUND_PAPER, begin, type_paper
+from texts import say
+
+# The contrast that WCAG 2.2 asks for at level AA: of a text, and of a large one.
+CONTRAST, LARGE_CONTRAST = 4.5, 3
+SIZES = {"wide": (1200, 900, 1), "narrow": (320, 640, 1), "zoomed to 200%": (600, 450, 2)}
+# Returns the texts whose contrast with their background is too low. A background may be half clear.
+LOW = """
+(() => {
+  const parts = (colour) => { const it = colour.match(/[\\d.]+/g).map(Number); return colour.startsWith('color(') ? [it[0] * 255, it[1] * 255, it[2] * 255, it[3] ?? 1] : [it[0], it[1], it[2], it[3] ?? 1]; };
+  const light = ([r, g, b]) => [r, g, b].map((it) => it / 255).map((it) => (it <= 0.04045 ? it / 12.92 : ((it + 0.055) / 1.055) ** 2.4)).reduce((sum, it, at) => sum + it * [0.2126, 0.7152, 0.0722][at], 0);
+  const behind = (it) => { for (let at = it; at; at = at.parentElement) { const found = parts(getComputedStyle(at).backgroundColor); if (found[3] === 1) return found; } return [255, 255, 255, 1]; };
+  const low = [];
+  for (const it of document.querySelectorAll('body *')) {
+    const own = [...it.childNodes].some((node) => node.nodeType === 3 && node.textContent.trim() !== '') || it.tagName === 'INPUT';
+    if (!own || !it.checkVisibility() || it.closest('.unseen') || it.disabled || it.tagName === 'SCRIPT') continue;
+    const style = getComputedStyle(it);
+    const [a, b] = [light(parts(style.color)), light(behind(it))];
+    const ratio = (Math.max(a, b) + 0.05) / (Math.min(a, b) + 0.05);
+    const size = parseFloat(style.fontSize);
+    const isLarge = size >= 24 || (size >= 18.66 && Number(style.fontWeight) >= 700);
+    if (ratio < (isLarge ? %s : %s)) low.push(`${it.tagName} '${it.textContent.slice(0, 30)}' ${ratio.toFixed(2)}`);
+  }
+  return low.slice(0, 5).join('; ');
+})()
+""" % (LARGE_CONTRAST, CONTRAST)
+
+
+def check_screen(page, what, see):
+    for size, (width, height, ratio) in SIZES.items():
+        page.size(width, height, ratio)
+        wide = page.evaluate("document.documentElement.scrollWidth - document.documentElement.clientWidth")
+        if wide > 0:
+            raise Failed(f"{what}, {size}: the screen is {wide} pixels too wide")
+        see(f"{what} {size}")
+    low = page.evaluate(LOW)
+    if low:
+        raise Failed(f"{what}: the contrast is too low: {low}")
+    page.size(1200, 900)
+
+
+def check(name, url, see, opened=Page):
+    for is_dark in (False, True):
+        mode = "dark" if is_dark else "light"
+        with browser(name, is_dark) as it:
+            page = opened(it, url)
+            page.wait_title(say("home.title"))
+            if page.evaluate("matchMedia('(prefers-color-scheme: dark)').matches") != is_dark:
+                raise Failed(f"{name} isn't in its {mode} mode")
+            check_screen(page, f"{mode} first screen", see)
+            unprinted = page.printed()
+            page.push(say("home.check"))
+            page.wait_title(say("prepare.title"))
+            check_screen(page, f"{mode} before you begin", see)
+            page.push(say("prepare.anyway"))
+            page.push(say("prepare.yes"))
+            page.wait_title(say("check.title"))
+            type_paper(page, SOUND_PAPER)
+            page.wait_text(say("collect.taken", name="0.0"))
+            page.fill(say("entry.word", number=1), "acdemic ")
+            page.wait_text(say("entry.unknown", number=1))
+            check_screen(page, f"{mode} papers", see)
+            page.push(say("collect.end"))
+            check_screen(page, f"{mode} passphrase", see)
+            page.push(say("clear"))
+            page.wait_title(say("home.title"))
+            begin(page, "make")
+            page.choose(say("plan.own"))
+            check_screen(page, f"{mode} own plan", see)
+            page.choose(say("plan.two"))
+            page.push(say("continue"))
+            page.wait_title(say("make.secret"))
+            page.tick(say("passphrase.none"))
+            check_screen(page, f"{mode} secret", see)
+            page.push(say("make.create"))
+            page.wait_title(say("paper.title", name="0.0"))
+            check_screen(page, f"{mode} paper", see)
+            check_printed(page, unprinted)
+            check_hidden(page)
+            check_left(page)
+
+
+def check_printed(page, unprinted):
+    """What the browser would print of a screen with a secret is what it would print of the first screen, which has none."""
+    if words_shown(page) == 0 or not unprinted[0]:
+        raise Failed("there is no paper on the screen, or nothing was printed, so nothing is shown")
+    if page.printed() != unprinted or unprinted[1] != 1:
+        raise Failed("something of a paper is printed")
+
+
+def words_shown(page):
+    return page.evaluate("document.querySelectorAll('.paper li').length")
+
+
+def check_left(page):
+    """A page that was left holds nothing, since a browser may keep it to show it again."""
+    begin(page, "check")
+    type_paper(page, SOUND_PAPER)
+    page.wait_text(say("collect.taken", name="0.0"))
+    page.fill(say("entry.word", number=1), "acid ")
+    page.evaluate("window.dispatchEvent(new PageTransitionEvent('pagehide', { persisted: true })); null")
+    page.wait_title(say("home.title"))
+    page.wait_text(say("close"))
+    if page.evaluate("document.querySelectorAll('main input').length"):
+        raise Failed("a page that was left keeps its fields")
+    begin(page, "check")
+    page.push(say("collect.end"))
+    page.wait_text(say("collect.none"))
+    page.push(say("clear"))
+    page.wait_title(say("home.title"))
+
+
+def check_hidden(page):
+    """A hidden tab shows nothing secret, and leaving asks first."""
+    hide = "Object.defineProperty(document, 'hidden', { configurable: true, get: () => %s }); document.dispatchEvent(new Event('visibilitychange')); null"
+    page.evaluate(hide % "true")
+    if page.evaluate("document.querySelectorAll('.paper li').length") or page.evaluate("document.getElementById('main').checkVisibility()"):
+        raise Failed("a hidden tab shows a paper")
+    page.evaluate(hide % "false")
+    if not page.evaluate("(() => { const it = new Event('beforeunload', { cancelable: true }); return !window.dispatchEvent(it) || it.defaultPrevented; })()"):
+        raise Failed("leaving the page doesn't ask")
+    page.push(say("paper.show"))
+    page.wait(lambda: page.evaluate("document.querySelectorAll('.paper li').length") == 20, "the words again")
+    page.push(say("clear"))
+    page.wait_title(say("home.title"))
+    if page.evaluate("document.querySelectorAll('.paper li').length"):
+        raise Failed("a cleared page shows a paper")

@@ -1,0 +1,301 @@
+"""Each refusal that an owner can meet, and what the page says of it."""
+import json
+
+from browsers import Failed
+from tasks import PASSPHRASE, SECRET, THREE_GROUPS, answer_passphrase, begin, end, example, plain, type_paper
+from texts import counted, say
+
+SOUND = example("one-of-one.txt")[0]
+# Published vectors of SLIP-0039.
+BAD_CHECKSUM = SOUND.replace("keyboard", "kidney")
+BAD_PADDING = "duckling enlarge academic academic email result length solution fridge kidney coal piece deal husband erode duke ajar music cargo fitness"
+BIP39 = "legal winner thank year wave sausage worth useful legal winner thank yellow"
+
+
+def changed(line, **fields):
+    """Returns the mnemonic of a share with other fields."""
+    return plain.mnemonic(plain.parse(line.encode()) | fields)
+
+
+def said(number, **values):
+    """Returns what the page says of a refusal, without the engine's own text."""
+    return say(f"refused.{number}", **values)
+
+
+def of_one_paper():
+    """Returns papers that are refused by themselves, or beside the first paper of the example."""
+    first = THREE_GROUPS[0]
+    value = plain.parse(first.encode())["value"]
+    return [
+        ("bad checksum", BAD_CHECKSUM, said(13)),
+        ("bad padding", BAD_PADDING, said(14)),
+        ("too many groups needed", changed(first, group_threshold=16), said(15)),
+        ("another backup", SOUND, said(21)),
+        ("another flag", changed(first, extendable=1), said(22)),
+        ("another exponent", changed(first, exponent=3), said(23)),
+        ("another number of needed groups", changed(first, group_threshold=1), said(24)),
+        ("another number of groups", changed(first, group_count=4), said(25)),
+        ("another length", changed(first, value=value + value), said(26)),
+        ("another number of needed members", changed(first, member=5, member_threshold=3), said(27, first=0)),
+        ("another value", changed(first, value=value[::-1]), said(28, first=0, second=0)),
+    ]
+
+
+def check_papers(page, see):
+    """Papers that are refused stay in their fields, with the reason, until they are typed right."""
+    begin(page, "check")
+    type_paper(page, THREE_GROUPS[0], is_by_four=True)
+    page.wait_text(say("collect.taken", name="0.0"))
+    for what, line, text in of_one_paper():
+        type_paper(page, line, is_by_four=True)
+        page.wait_text(text)
+        if what == "another backup":
+            see("a paper of another backup")
+        page.push(say("entry.empty"))
+    if len(page.text().split(": sound")) != 2:
+        raise Failed("a refused paper was taken")
+    page.push(say("collect.end"))
+    page.wait_text(say("check.sound", papers=counted(1, "paper"), names="0.0"))
+    see("too few papers")
+    end(page)
+
+
+def check_words(page, see):
+    """A word that isn't in the list is marked, and nothing is put in its place. A paper of 21 words, and words of BIP-39."""
+    begin(page, "check")
+    words = SOUND.split()
+    words[2] = "acdemic"
+    type_paper(page, " ".join(words))
+    page.wait_text(say("entry.unknown", number=3))
+    see("an unknown word")
+    if page.evaluate("document.querySelectorAll('.word input')[2].value") != "acdemic":
+        raise Failed(f"a word was put in the place of an unknown one: {page.text()[:700]!r}")
+    page.push(say("entry.read"))
+    page.wait_text(said(11, first=3))
+    page.push("academic")
+    page.wait_text(say("collect.taken", name="0.0"))
+    page.push(say("collect.drop", name="0.0"))
+    page.go_to("spinbutton", say("entry.count"))
+    page.evaluate("document.activeElement.select()")
+    page.type("21")
+    page.go_to("textbox", say("entry.word", number=1))
+    page.type(" ".join(words[:2] + ["academic"] + words[3:] + ["acid"]) + " ")
+    page.wait_text(said(12, first=21))
+    page.push(say("entry.empty"))
+    page.push(say("entry.words", count=20))
+    page.go_to("textbox", say("entry.word", number=3))
+    page.press("Backspace")
+    if not page.has_focus(page.node("textbox", say("entry.word", number=2))):
+        raise Failed("Backspace in an empty field doesn't go back")
+    paste(page, BIP39)
+    page.wait_text(say("entry.bip39", count=12))
+    page.push(say("entry.empty"))
+    numbered = "".join(f"{number}. {word.upper()},\n" for number, word in enumerate(SOUND.split(), 1))
+    paste(page, numbered)
+    page.wait_text(say("collect.taken", name="0.0"))
+    page.push(say("clear"))
+    page.wait_title(say("home.title"))
+
+
+def paste(page, text):
+    """Pastes a text into the first field. The clipboard itself isn't used, since other programs of this machine share it."""
+    page.go_to("textbox", say("entry.word", number=1))
+    script = "{ const event = new Event('paste', { bubbles: true, cancelable: true }); event.clipboardData = { getData: () => " + repr(text) + " };"
+    page.evaluate(script + " document.activeElement.dispatchEvent(event); } null")
+
+
+def check_values(page, see):
+    """Plans, secrets and passphrases that are refused."""
+    begin(page, "make")
+    page.choose(say("plan.own"))
+    for _ in range(2):
+        page.push(f"{say('plan.more')}: {say('plan.needed', group=0)}")
+    page.push(say("continue"))
+    page.wait_text(said(33, first=0))
+    for _ in range(3):
+        page.push(f"{say('plan.fewer')}: {say('plan.needed', group=0)}")
+    page.push(say("continue"))
+    page.wait_text(said(34, first=0))
+    see("a plan that is refused")
+    page.choose(say("plan.two"))
+    page.push(say("continue"))
+    page.wait_title(say("make.secret"))
+    page.push(say("make.create"))
+    page.wait_text(say("passphrase.missing"))
+    page.choose(say("secret.own"))
+    page.push(say("make.create"))
+    page.wait_text(say("secret.missing"))
+    for digits, passphrase, again, text in [
+        (SECRET[:-2], PASSPHRASE, PASSPHRASE, said(42, first=15)),
+        (SECRET[:-1] + "g", PASSPHRASE, PASSPHRASE, say("secret.not_hex")),
+        (SECRET, "pässword", "pässword", said(41, first=2)),
+        (SECRET, PASSPHRASE, "TREZOr", say("passphrase.differ")),
+    ]:
+        page.choose(say("secret.own"))
+        for field, value in [("secret.digits", digits), ("passphrase.label", passphrase), ("passphrase.again", again)]:
+            page.fill(say(field), value)
+        page.push(say("make.create"))
+        page.wait_text(text)
+    page.push(say("clear"))
+    page.wait_title(say("home.title"))
+
+
+def check_mixed(page, see):
+    """A paper of another backup that only the digests find, and a paper that the rest don't determine."""
+    forged = changed(THREE_GROUPS[2], value=plain.parse(THREE_GROUPS[3].encode())["value"])
+    begin(page, "check")
+    for line in [*THREE_GROUPS[:2], forged, *THREE_GROUPS[3:]]:
+        type_paper(page, line, is_by_four=True)
+    page.wait_text(say("collect.taken", name="2.0"))
+    page.push(say("collect.end"))
+    answer_passphrase(page, PASSPHRASE, "df41d8fe")
+    page.push(say("drill.start"))
+    page.wait_text(say("verdict.some", quorums=counted(7, "quorum"), wrong=4))
+    page.wait_text(say("verdict.suspects", names="0.2"))
+    page.wait_text(say("drill.mismatch", group=0))
+    see("drill with a forged paper")
+    page.push(say("continue"))
+    end(page)
+    begin(page, "replace")
+    page.push(say("continue"))
+    type_paper(page, THREE_GROUPS[0], is_by_four=True)
+    page.wait_text(say("collect.taken", name="0.0"))
+    page.push(say("collect.end"))
+    page.fill(say("replace.members", group=0), "3", "spinbutton")
+    for group in (1, 2):
+        page.fill(say("replace.needed", group=group), "1", "spinbutton")
+        page.fill(say("replace.members", group=group), "1", "spinbutton")
+    page.push(say("continue"))
+    page.wait_text(say("replace.untold"))
+    see("papers that the rest don't determine")
+    page.push(say("replace.end"))
+    page.wait_text(say("replace.too_few"))
+    end(page)
+
+
+def check_prepare(page, _):
+    """The question before the first task: a machine that seems online is asked twice, and one that seems offline once."""
+    for is_online in (True, False):
+        page.evaluate(f"Object.defineProperty(navigator, 'onLine', {{ configurable: true, get: () => {str(is_online).lower()} }}); null")
+        page.push(say("home.check"))
+        page.wait_title(say("prepare.title"))
+        page.wait_text(say("prepare.online" if is_online else "prepare.offline"))
+        page.push(say("prepare.ready"))
+        if is_online:
+            page.wait_text(say("prepare.still_online"))
+            page.push(say("back"))
+            page.wait_title(say("home.title"))
+    page.wait_title(say("check.title"))
+    page.push(say("clear"))
+    page.wait_title(say("home.title"))
+
+
+def forged_backups():
+    """Returns papers with one that was forged: beside papers of its group, and in a group of its own."""
+    value = plain.parse(THREE_GROUPS[2].encode())["value"]
+    of_member = [THREE_GROUPS[0], changed(THREE_GROUPS[1], value=value[::-1]), THREE_GROUPS[3]]
+    of_groups = [changed(THREE_GROUPS[3], value=value[::-1]), THREE_GROUPS[4]]
+    return [(of_member, said(51, first=0)), (of_groups, say("refused.51.groups"))]
+
+
+def check_recovery(page, see):
+    """A passphrase that wallets don't take, and papers that don't belong together, in a recovery and in a drill."""
+    for task in ("recover", "check"):
+        for lines, text in forged_backups():
+            begin(page, task)
+            for line in lines:
+                paste(page, line)
+                share = plain.parse(line.encode())
+                page.wait_text(say("collect.taken", name=f"{share['group']}.{share['member']}"))
+            page.push(say("collect.end"))
+            answer_passphrase(page, "p\u00e4ssword", None)
+            if task == "check":
+                page.push(say("drill.start"))
+            page.wait_text(said(41, first=2))
+            answer_passphrase(page, PASSPHRASE, None)
+            if task == "check":
+                page.push(say("drill.start"))
+                page.wait_text(say("drill.mismatch", group=0) if "group 0" in text else say("drill.mismatch_groups"))
+                page.push(say("continue"))
+                page.wait_text(say("check.bad"))
+            else:
+                page.wait_title(say("recover.failed"))
+                page.wait_text(text)
+                see("papers that don't belong together")
+            end(page)
+            see = lambda _: None  # noqa: E731
+
+
+def check_long_line(page, _):
+    """The engine counts the words before it looks at the length of the line (71), so an owner gets the number of words."""
+    begin(page, "check")
+    paste(page, " ".join(["academic"] * 128))
+    page.wait_text(said(12, first=128))
+    page.push(say("clear"))
+    page.wait_title(say("home.title"))
+
+
+def check_plan_of_papers(page, see):
+    """A plan that doesn't fit the papers is asked for again, with the reason. Members that only the owner knows may be wrong too."""
+    begin(page, "replace")
+    page.push(say("continue"))
+    for line in THREE_GROUPS[:3]:
+        paste(page, line)
+        share = plain.parse(line.encode())
+        page.wait_text(say("collect.taken", name=f"{share['group']}.{share['member']}"))
+    page.push(say("collect.end"))
+    for members, text in [("2", said(65)), ("99", say("replace.members.wrong")), ("3", say("replace.which"))]:
+        if members != "3":
+            fill_plan(page, members)
+        else:
+            page.go_to("spinbutton", say("replace.members", group=0))
+            page.evaluate("document.activeElement.select()")
+            page.type(members)
+        page.push(say("continue"))
+        page.wait(lambda: text in page.text() or text == page.title(), f"the text {text!r}")
+        if members == "2":
+            see("a plan that doesn't fit the papers")
+    page.push(say("clear"))
+    page.wait_title(say("home.title"))
+
+
+def fill_plan(page, members):
+    """Types how many members each group has."""
+    page.fill(say("replace.members", group=0), members, "spinbutton")
+    for group in (1, 2):
+        page.fill(say("replace.needed", group=group), "1", "spinbutton")
+        page.fill(say("replace.members", group=group), "1", "spinbutton")
+
+
+# Asks the engine through the page's own worker, and returns what the page says of each answer.
+ASK = """
+(async () => {
+  const desk = await in_client.Desk.launch();
+  const said = [];
+  for (const [call, given] of %s) {
+    if (given.line) given.line = new TextEncoder().encode(given.line);
+    try { await desk.ask(call, given); said.push(""); } catch (error) { said.push(in_refusals.saidError(error)); }
+  }
+  await desk.end();
+  return JSON.stringify(said);
+})()
+"""
+
+
+def check_unreachable(page, _):
+    """Refusals that no key leads to, since the page asks for what is missing before. The page has words for them too."""
+    asked = [
+        ("plan", {"plan": "two of three", "bytes": 16}, said(31)),
+        ("plan", {"plan": "3/1of1,1of1", "bytes": 16}, said(32)),
+        ("plan", {"plan": "1/" + ",".join(["1of1"] * 17), "bytes": 16}, said(32)),
+        ("add", {"line": THREE_GROUPS[0]}, ""),
+        ("recover", {}, said(30, first=0, second=2)),
+        ("reissue", {"plan": "2/2of3,1of1,1of1", "name": "0.9"}, said(64, first=0, second=9)),
+    ]
+    told = json.loads(page.evaluate(ASK % json.dumps([[call, given] for call, given, _ in asked])))
+    for (call, given, text), answer in zip(asked, told):
+        if not answer.startswith(text) or (text == "") != (answer == ""):
+            raise Failed(f"{call} {given}: the page says {answer!r}, and not {text!r}")
+
+
+CHECKS = [check_prepare, check_papers, check_words, check_values, check_mixed, check_recovery, check_long_line, check_plan_of_papers, check_unreachable]

@@ -1,0 +1,84 @@
+"""Reads the sources of the page: what must not stand in them, since no policy of a browser stops it, and the table of texts."""
+import json
+import pathlib
+import re
+import shutil
+import subprocess
+import tempfile
+
+from browsers import Failed
+
+ROOT = pathlib.Path(__file__).resolve().parent.parent.parent
+
+# What lets something out of the page, or keeps it in the browser. A policy doesn't stop all of these.
+FORBIDDEN = [
+    r"RTCPeerConnection", r"\blocation\b", r"\bopen\(", r"\bhref\b", r"\bsrc\b", r"<link", r"<iframe", r"<form", r"<object", r"<embed", r"refresh",
+    r"\bfetch\b", r"XMLHttpRequest", r"WebSocket", r"EventSource", r"WebTransport", r"sendBeacon", r"importScripts", r"\bimport\(", r"\bServiceWorker",
+    r"serviceWorker", r"SharedWorker", r"BroadcastChannel", r"localStorage", r"sessionStorage", r"indexedDB", r"\bcaches\b", r"cookie", r"\bhistory\b",
+    r"clipboard\b", r"execCommand", r"innerHTML", r"outerHTML", r"insertAdjacentHTML", r"document\.write", r"\beval\b", r"\bFunction\(", r"\bconsole\b",
+    r"https?:", r"\bnavigator\.(?!onLine\b)", r"\bnavigation\b", r"\bopener\b", r"\burl\(", r"@import", r"pushState|replaceState", r"\bshow(?:Save|Open|Directory)\w*Picker",
+    r"\bdownload\b", r"preconnect|prefetch|prerender", r"speculationrules", r"\bsubmit\(", r"requestStorage", r"window\.name", r"\bNotification\b", r"createElement\((?!tag\))", r"setTimeout\(\s*[\"'`]",
+]
+# A field is made in one place, with the attributes that keep it out of the profile.
+FIELDS = re.compile(r'element\(\s*"(input|textarea|select|form|a|iframe|img|link|object|embed|script|style)"')
+COMMENT = re.compile(r"(?s:/\*.*?\*/)|^\s*//.*$", re.MULTILINE)
+ATTRIBUTES = ['autocomplete: "off"', 'autocapitalize: "off"', 'spellcheck: "false"', 'translate: "no"']
+KEY = re.compile(r'\bsay\(\s*"([^"]+)"')
+
+
+def modules(page):
+    """Returns the sources that go into the page."""
+    return [*sorted(page.glob("*.js")), *sorted((page.parent / "bindings/js").glob("*.js")), page / "shamir.html", page / "style.css"]
+
+
+def check_forbidden(page):
+    for path in modules(page):
+        text = COMMENT.sub("", path.read_text())
+        for name in FORBIDDEN:
+            found = re.search(name, text)
+            if found and not (path.name == "shamir.html" and found[0] in ("refresh",)):
+                line = text[: found.start()].count("\n") + 1
+                raise Failed(f"{path.name} has {found[0]!r} (line {line} without comments), which could let something out or keep it")
+        fields = FIELDS.findall(text)
+        if fields != (["input"] if path.name == "dom.js" else []):
+            raise Failed(f"{path.name} makes {fields} by itself")
+    if len(re.findall("http-equiv", (page / "shamir.html").read_text())) != 1:
+        raise Failed("shamir.html must have one http-equiv, its policy")
+    if re.search(r"\sname=\"(?!viewport|referrer|color-scheme)", (page / "shamir.html").read_text()):
+        raise Failed("shamir.html names something else than its meta elements")
+    kept = (page / "dom.js").read_text()
+    missing = [it for it in ATTRIBUTES if it not in kept]
+    if missing:
+        raise Failed(f"fields lack {', '.join(missing)}")
+
+
+def check_texts(page):
+    source = (page / "texts.js").read_text()
+    table = json.loads(source[source.index("{\n", source.index("export const TEXTS")) : source.index("\n};") + 2])
+    wanted = {key for path in page.glob("*.js") for key in KEY.findall(path.read_text())}
+    missing = sorted(wanted - set(table))
+    if missing:
+        raise Failed(f"the table of texts lacks {missing}")
+    doubled = re.findall(r'^  "([^"]+)":', source, re.MULTILINE)
+    if len(doubled) != len(set(doubled)):
+        raise Failed("the table of texts has a key twice")
+
+
+def check_types(page):
+    """Returns what was left out, or nothing."""
+    if not shutil.which("tsc"):
+        return "types of page/ (tsc isn't installed)"
+    options = {"checkJs": True, "allowJs": True, "noEmit": True, "strict": True, "target": "es2022", "module": "es2022", "moduleResolution": "node"}
+    options |= {"lib": ["es2022", "dom", "dom.iterable"], "types": []}
+    with tempfile.NamedTemporaryFile("w", suffix=".json") as file:
+        json.dump({"compilerOptions": options, "files": [str(page / name) for name in ("main.js", "desk.js", "types.d.ts")]}, file)
+        file.flush()
+        done = subprocess.run(["tsc", "-p", file.name], capture_output=True, text=True)
+    if done.returncode:
+        raise Failed(f"types: {done.stdout}")
+    return ""
+
+
+def check(page):
+    check_forbidden(page)
+    check_texts(page)

@@ -1,0 +1,256 @@
+"""Each task of the page from its start to its end, by keyboard alone.
+
+The values that the page must show are from outside: from examples/, from tools/plain.py, or from ./shamir.
+"""
+import pathlib
+import sys
+
+from browsers import Failed
+from texts import counted, say
+
+ROOT = pathlib.Path(__file__).resolve().parent.parent.parent
+sys.path.insert(0, str(ROOT / "tools"))
+import plain  # noqa: E402
+
+PASSPHRASE = "TREZOR"
+
+
+def example(name):
+    return [line for line in (ROOT / "examples" / name).read_text().splitlines() if line and not line.startswith("#")]
+
+
+THREE_GROUPS = example("three-groups.txt")
+SECRET = "bb54aac4b89dc868ba37d9cc21b2cece"
+FINGERPRINT = "df41d8fe"
+SOUND_PAPER = example("one-of-one.txt")[0]
+
+
+def fingerprint_of(lines, passphrase):
+    """Returns the fingerprint of the secret of mnemonics, by the plain reading."""
+    return plain.run_recover(passphrase.encode(), "".join(line + "\n" for line in lines).encode(), True)[0].strip()
+
+
+def begin(page, task):
+    """Starts a task from the first screen, and answers the question before it."""
+    page.push(say(f"home.{task}"))
+    if task != "blank" and page.title() == say("home.title"):
+        page.wait(lambda: page.title() != say("home.title"), "the next screen")
+    if page.title() == say("prepare.title"):
+        page.push(say("prepare.anyway"))
+        page.push(say("prepare.yes"))
+    page.wait(lambda: page.title() not in [say("home.title"), say("prepare.title"), say("prepare.sure.title")], "the first screen of the task")
+
+
+def type_paper(page, line, is_by_four=False):
+    """Types a paper's words. Each word is followed by a space, or only its first four letters are typed."""
+    page.go_to("textbox", say("entry.word", number=1))
+    if len(line.split()) != page.evaluate("document.querySelectorAll('.word').length"):
+        page.push(say("entry.words", count=len(line.split())))
+        page.go_to("textbox", say("entry.word", number=1))
+    page.type("".join(f"{word[:4]} " for word in line.split()) if is_by_four else line + " ")
+
+
+def answer_passphrase(page, passphrase, noted):
+    """Answers the questions for the passphrase and for the noted fingerprint. None stands for none."""
+    if passphrase is None:
+        page.tick(say("passphrase.none"))
+    else:
+        page.fill(say("passphrase.label"), passphrase)
+    if noted is None:
+        page.tick(say("noted.none"))
+    else:
+        page.fill(say("noted.label"), noted)
+    page.push(say("continue"))
+
+
+def end(page):
+    page.push(say("end"))
+    page.wait_title(say("home.title"))
+
+
+def read_paper(page):
+    """Returns the words that the page shows."""
+    page.wait(lambda: page.evaluate("document.querySelectorAll('.paper li').length") > 0, "the words of a paper")
+    return page.evaluate("[...document.querySelectorAll('.paper li')].map((it) => it.textContent).join(' ')")
+
+
+def make(page, plan_label, words, passphrase, see, digits=None):
+    """Makes a backup with a proposed plan. Returns its papers, and the fingerprint to note."""
+    begin(page, "make")
+    see("plan")
+    page.choose(plan_label)
+    page.push(say("continue"))
+    page.wait_title(say("make.secret"))
+    if digits is not None:
+        page.choose(say("secret.own"))
+        page.fill(say("secret.digits"), digits)
+    elif words == 33:
+        page.choose(say("secret.new32"))
+    if passphrase is None:
+        page.tick(say("passphrase.none"))
+    else:
+        page.fill(say("passphrase.label"), passphrase)
+        page.fill(say("passphrase.again"), passphrase)
+    see("secret")
+    page.push(say("make.create"))
+    papers = []
+    while True:
+        page.wait(lambda: page.title().startswith("Write down") or page.title() == say("back.begin.title"), "the next paper")
+        if page.title() == say("back.begin.title"):
+            break
+        papers.append(read_paper(page))
+        if len(papers) == 1:
+            see("paper")
+        shown = page.title()
+        page.push(say("paper.written"))
+        page.wait(lambda: page.title() != shown, "the end of a paper")
+    page.push(say("continue"))
+    for number, line in enumerate(papers):
+        name = plain.parse(line.encode())
+        page.wait_title(say("back.title", name=f"{name['group']}.{name['member']}"))
+        if number == 1:
+            page.type(papers[0] + " ")
+            page.wait_text("aren't the words of paper")
+            see("typed another paper back")
+            page.push(say("entry.empty"))
+        type_paper(page, line, is_by_four=number % 2 == 1)
+    page.wait_title(say("make.drill"))
+    page.push(say("drill.start"))
+    page.wait_title(say("drill.done"))
+    see("drill of a new backup")
+    page.push(say("continue"))
+    page.wait_title(say("noted.title"))
+    see("fingerprint")
+    fingerprint = page.evaluate("document.querySelector('.fingerprint').textContent")
+    page.push(say("noted.done"))
+    page.wait_title(say("make.done"))
+    see("backup is made")
+    end(page)
+    return papers, fingerprint
+
+
+def check_make(page, see):
+    """A new secret of 16 bytes in 2of3, one of 32 bytes in groups, and an own secret, each beside the plain reading."""
+    for plan, words, passphrase, digits in [
+        ("two", 20, None, None),
+        ("home", 33, "six words and 'signs' ~", None),
+        ("three", 20, PASSPHRASE, SECRET),
+    ]:
+        papers, fingerprint = make(page, say(f"plan.{plan}"), words, passphrase, see, digits)
+        wanted = {"two": ["2/3"], "home": ["2/3", "1/1", "1/1"], "three": ["3/5"]}[plan]
+        found = {}
+        for share in (plain.parse(line.encode()) for line in papers):
+            found.setdefault(share["group"], []).append(share)
+            if not share["extendable"] or share["exponent"] != 1:
+                raise Failed(f"a new backup has the flag {share['extendable']} and the exponent {share['exponent']}")
+        if [f"{shares[0]['member_threshold']}/{len(shares)}" for shares in found.values()] != wanted:
+            raise Failed(f"the papers of {plan} aren't those of the plan")
+        if any(len(line.split()) != words for line in papers):
+            raise Failed(f"a paper of {plan} hasn't {words} words")
+        if fingerprint_of(papers, passphrase or "") != fingerprint:
+            raise Failed(f"the fingerprint of a new backup is {fingerprint}, and the plain reading differs")
+        if digits is not None and fingerprint != FINGERPRINT:
+            raise Failed("the backup of an own secret has another fingerprint")
+        see = lambda _: None  # noqa: E731
+
+
+def check_papers(page, see):
+    begin(page, "check")
+    see("empty entry")
+    for number, line in enumerate(THREE_GROUPS):
+        type_paper(page, line, is_by_four=number % 2 == 0)
+        share = plain.parse(line.encode())
+        page.wait_text(say("collect.taken", name=f"{share['group']}.{share['member']}"))
+        if number == 1:
+            see("papers so far")
+    page.type(THREE_GROUPS[0] + " ")
+    page.wait_text(say("collect.repeated", name="0.0"))
+    page.push(say("collect.end"))
+    answer_passphrase(page, PASSPHRASE, FINGERPRINT)
+    page.push(say("drill.start"))
+    page.wait_text(say("verdict.all.noted", quorums=counted(7, "quorum"), fingerprint=FINGERPRINT))
+    see("drill")
+    page.push(say("continue"))
+    page.wait_text(say("check.good"))
+    page.push(say("check.again"))
+    answer_passphrase(page, "TREZOr", FINGERPRINT)
+    page.push(say("drill.start"))
+    other = fingerprint_of(THREE_GROUPS, "TREZOr")
+    page.wait_text(say("verdict.none.one", quorums=counted(7, "quorum"), fingerprint=other))
+    see("drill with a wrong passphrase")
+    page.push(say("continue"))
+    page.wait_text(say("check.bad"))
+    end(page)
+
+
+def check_recover(page, see):
+    begin(page, "recover")
+    for line in THREE_GROUPS[:2] + THREE_GROUPS[4:]:
+        type_paper(page, line)
+    page.wait_text(say("status.enough"))
+    page.push(say("collect.end"))
+    see("passphrase")
+    answer_passphrase(page, PASSPHRASE, FINGERPRINT)
+    page.wait_text(say("recover.same", fingerprint=FINGERPRINT))
+    if SECRET[:8] in page.text():
+        raise Failed("the digits show before the button is pressed")
+    page.push(say("digits.show"))
+    page.wait(lambda: SECRET in page.text().replace(" ", ""), "the digits")
+    see("recovered")
+    page.press("Enter")
+    page.wait(lambda: SECRET[:8] not in page.text(), "the end of the digits")
+    end(page)
+
+
+def check_replace(page, see):
+    begin(page, "replace")
+    see("what became of the paper")
+    page.push(say("continue"))
+    for line in THREE_GROUPS[:1] + THREE_GROUPS[3:]:
+        type_paper(page, line)
+    page.wait_text(say("collect.taken", name="2.0"))
+    page.push(say("collect.end"))
+    page.fill(say("replace.members", group=0), "3", "spinbutton")
+    see("plan of the papers")
+    page.push(say("continue"))
+    page.wait_text(say("replace.found", names="0.1, 0.2"))
+    see("missing papers")
+    page.push(say("replace.write", name="0.1"))
+    if read_paper(page) != THREE_GROUPS[1]:
+        raise Failed("the replaced paper isn't the lost one")
+    page.push(say("paper.written"))
+    type_paper(page, THREE_GROUPS[1])
+    page.wait_title(say("replace.which"))
+    page.push(say("replace.end"))
+    answer_passphrase(page, PASSPHRASE, None)
+    page.push(say("drill.start"))
+    page.wait_text(say("verdict.all.same", quorums=counted(3, "quorum"), fingerprint=FINGERPRINT))
+    page.push(say("continue"))
+    end(page)
+    begin(page, "replace")
+    page.choose(say("replace.other"))
+    page.push(say("continue"))
+    page.wait_text(say("replace.new"))
+    end(page)
+
+
+def check_blank(page, see):
+    page.evaluate("window.print = () => { window.printed = true }; null")
+    begin(page, "blank")
+    page.choose(say("plan.home"))
+    page.choose(say("entry.words", count=33))
+    see("blank forms")
+    page.push(say("blank.print"))
+    page.wait(lambda: page.evaluate("window.printed ?? false"), "the printing")
+    names = page.evaluate("[...document.querySelectorAll('.form .name')].map((it) => it.textContent).join(' ')")
+    lines = page.evaluate("[...document.querySelectorAll('.form ol')].map((it) => it.children.length).join(' ')")
+    if page.printed()[1] != 5:
+        raise Failed("the five forms aren't five sheets")
+    if names != "0.0 0.1 0.2 1.0 2.0" or lines != "33 33 33 33 33":
+        raise Failed(f"the forms are {names}, with {lines} lines")
+    end(page)
+    if page.evaluate("document.getElementById('sheet').children.length"):
+        raise Failed("the forms stay after the task")
+
+
+TASKS = {"make": check_make, "check": check_papers, "recover": check_recover, "replace": check_replace, "blank": check_blank}

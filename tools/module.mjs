@@ -1,0 +1,69 @@
+// tools/module runs this with Node. It makes calls of bindings/js, and writes what the command shamir would print.
+//
+//     node tools/module.mjs MODULE.wasm
+//
+// Each line of the input is a command: its kind, its words, its options, and its input in base64. Each line of the output has what
+// the command writes to standard output and to standard error.
+import { readFileSync } from "node:fs";
+import { createInterface } from "node:readline";
+import { load, OF_GROUPS, Refusal } from "../bindings/js/shamir.js";
+
+const shamir = await load(readFileSync(process.argv[2]));
+const hex = (bytes) => Buffer.from(bytes).toString("hex");
+const ended = (lines) => lines.map((line) => `${line}\n`).join("");
+
+const COMMANDS = {
+  show(words, options, data) {
+    const share = shamir.parse(data);
+    return (
+      `identifier ${share.id} extendable ${Number(share.extendable)} exponent ${share.exponent} group ${share.groupIndex} ` +
+      `group-threshold ${share.groupThreshold} group-count ${share.groupCount} member ${share.memberIndex} ` +
+      `member-threshold ${share.memberThreshold} value ${hex(share.value)}\n`
+    );
+  },
+  words([letters]) {
+    return ended(shamir.words(letters));
+  },
+  create([plan], options, random) {
+    const { passphrase, extendable = false, exponent = 0 } = options;
+    const secret = Buffer.from(options["master-secret"], "hex");
+    return ended(shamir.create(plan, secret, { passphrase, extendable, exponent: Number(exponent), random }));
+  },
+  recover(words, { passphrase, fingerprint }, lines) {
+    const secret = shamir.recover(lines, { passphrase });
+    return ended([fingerprint ? shamir.fingerprint(secret) : hex(secret)]);
+  },
+  drill(words, { passphrase, after, limit = Infinity, fingerprint = false }, lines) {
+    const listed = [];
+    for (const outcome of shamir.drill(lines, { passphrase, after, fingerprints: fingerprint })) {
+      if (listed.length >= Number(limit)) return ended([...listed, `more after ${listed.at(-1).split(" ")[0]}`]);
+      listed.push(`${outcome.names} ${outcomeText(outcome)}`);
+    }
+    return ended([...listed, "end"]);
+  },
+  status(words, options, lines) {
+    const { complete, required, enough, groups } = shamir.status(lines);
+    if (enough !== (complete >= required)) throw new Error("enough isn't whether the complete groups are at least the required ones");
+    const rows = groups.map(({ group, threshold, names }) => `group ${group} members ${names.length} of ${threshold} ${names.join("+")}`);
+    return ended([`groups ${complete} of ${required}`, ...rows]);
+  },
+  reissue([plan, names], options, lines) {
+    return ended(shamir.reissue(plan, names, lines));
+  },
+};
+
+function outcomeText({ secret, fingerprint, mismatch }) {
+  if (mismatch !== null) return mismatch === OF_GROUPS ? "digest mismatch of groups" : `digest mismatch in group ${mismatch}`;
+  return fingerprint ?? hex(secret);
+}
+
+function answer({ kind, words, options, data }) {
+  try {
+    return [COMMANDS[kind](words, options, new Uint8Array(Buffer.from(data, "base64"))), ""];
+  } catch (error) {
+    if (!(error instanceof Refusal)) throw error;
+    return ["", `shamir: ${kind === "show" ? "line 1: " : ""}${error.message}\n`];
+  }
+}
+
+for await (const line of createInterface({ input: process.stdin })) console.log(JSON.stringify(answer(JSON.parse(line))));
