@@ -3,10 +3,10 @@
  * SHAMIR_STACK_BYTES bytes, and the pages below it can't be touched. So a call that uses more stack ends the program.
  *
  * It creates backups of the longest secret with sixteen groups, and reads each mnemonic. It recovers, and drills in parts of
- * one quorum. Then it reports a status, computes mnemonics and a fingerprint, and gets the text of each code.
+ * one quorum. Then it reports a status, computes mnemonics and a fingerprint, lists all words, and gets the text of each code.
  *
- * It prints the backups, drills, statuses, mnemonics and the fingerprint as the commands do. tools/library compares them with
- * what the command prints. The number of bytes of the stack that were touched goes to standard error.
+ * It prints the backups, drills, statuses, mnemonics and the fingerprint as the commands do, and then the words. tools/library
+ * compares them with what the command prints, and with the word list. The number of bytes of the stack that were touched goes to standard error.
  */
 #define _DEFAULT_SOURCE
 #include <pthread.h>
@@ -35,6 +35,7 @@ static char cursor[SHAMIR_NAMES_BYTES_MAX];
 static char names[SHAMIR_NAMES_BYTES_MAX + 1];
 static char status[SHAMIR_STATUS_BYTES_MAX];
 static char fingerprint[SHAMIR_FINGERPRINT_BYTES_MAX];
+static char words[SHAMIR_WORDS_BYTES_MAX];
 static char text[SHAMIR_TEXT_BYTES_MAX];
 
 /* Returns the number of bytes written, or ends the program if the call was refused. */
@@ -122,17 +123,23 @@ static void status_and_reissue(void)
 /* Drills a backup in parts of one quorum. Its lines are so long that the buffer holds only one of them, and a last line. */
 static void drill_parts(size_t bytes)
 {
-    static const char more[] = "\nmore after ";
+    static const char more[] = "more after ";
     const size_t more_bytes = sizeof more - 1;
     size_t cursor_bytes = 0;
     size_t written;
     size_t last;
+    shamir_answer answer;
 
     for (;;) {
-        written = done("shamir_drill", shamir_drill(
-            mnemonics, bytes, passphrase, strlen(passphrase), SHAMIR_EXPONENT_MAX, cursor, cursor_bytes, UINT32_MAX, listing, sizeof listing));
+        answer = shamir_drill(
+            mnemonics, bytes, passphrase, strlen(passphrase), SHAMIR_EXPONENT_MAX, cursor, cursor_bytes, UINT32_MAX, SHAMIR_FORM_DIGITS, listing,
+            sizeof listing);
+        written = done("shamir_drill", answer);
         fwrite(listing, 1, written, stdout);
-        for (last = written - 2; listing[last] != '\n'; last--) {
+        last = (size_t)answer.second;
+        if (answer.first != 1) {
+            fprintf(stderr, "a part of %lu quorums\n", (unsigned long)answer.first);
+            exit(1);
         }
         if (memcmp(listing + last, more, more_bytes) != 0) {
             return;
@@ -180,6 +187,7 @@ static void *calls(void *unused)
     status_and_reissue();
     fwrite(fingerprint, 1, done("shamir_fingerprint", shamir_fingerprint(secret, sizeof secret, fingerprint, sizeof fingerprint)), stdout);
     fputc('\n', stdout);
+    fwrite(words, 1, done("shamir_words", shamir_words(NULL, 0, words, sizeof words)), stdout);
     text_of_each();
     done("shamir_version", shamir_version(text, sizeof text));
     return unused;
