@@ -9,9 +9,9 @@ one.
 The module decrypts nothing. It counts the quorums from the fields of the mnemonics: their groups, members and
 thresholds.
 
-The exit status is 0 if all lines were printed. It is 1 if the mnemonics or N are refused, 2 if the words of the command
-are wrong, and 3 if the input can't be read or the output can't be written. With each status except 0, a line on
-standard error says why.
+The exit status is 0 if all lines were printed, or the help with `--help`. It is 1 if the mnemonics or N are refused, 2
+if the words of the command are wrong, and 3 if the input can't be read or the output can't be written. With each status
+except 0, standard error says why if it can be written.
 """
 import argparse
 import errno
@@ -19,7 +19,7 @@ import math
 import os
 import sys
 from dataclasses import dataclass
-from typing import Iterator, List, NoReturn, Optional, TextIO, Tuple
+from typing import Any, Iterator, List, NoReturn, Optional, TextIO, Tuple
 
 import shamir
 
@@ -175,15 +175,34 @@ def print_lines(lines: Iterator[str]) -> None:
         fail(3, f"the output can't be written: {error.strerror or error}")
 
 
+def tell(text: str) -> None:
+    """Write a text to standard error. If that is closed or fails, the exit status has to say enough."""
+    try:
+        with open(opened(sys.stderr).fileno(), "w", encoding="utf-8", errors="backslashreplace", closefd=False) as errors:
+            errors.write(text)
+    except OSError:
+        pass
+
+
 def fail(status: int, why: str) -> NoReturn:
-    """Print one line on standard error, if it is open, and exit."""
-    if sys.stderr is not None:
-        print(f"shamir.cuts: {why}", file=sys.stderr)
+    """Print one line on standard error, if it can be written, and exit."""
+    tell(f"shamir.cuts: {why}\n")
     sys.exit(status)
 
 
+class Parser(argparse.ArgumentParser):
+    """A parser of the command's words. Its status is right even if the help or a message can't be written."""
+
+    def print_help(self, file: Any = None) -> None:
+        print_lines(iter(self.format_help().splitlines()))
+
+    def error(self, message: str) -> NoReturn:
+        tell(f"{self.format_usage()}{self.prog}: error: {message}\n")
+        sys.exit(2)
+
+
 def main() -> None:
-    parser = argparse.ArgumentParser(prog="python3 -m shamir.cuts", description="Prints the options of N drills that together list what one drill would list.")
+    parser = Parser(prog="python3 -m shamir.cuts", description="Prints the options of N drills that together list what one drill would list.")
     parser.add_argument("parts", metavar="N", type=int, help="how many drills, 1 or more")
     parts = parser.parse_args().parts
     if parts < 1:
