@@ -107,6 +107,24 @@ def tried(name, part, check):
     return True
 
 
+def checked(given):
+    """Runs what was asked for, and returns the status."""
+    if given.faults:
+        return 0 if tried("chromium", "faults", lambda: faults.check(ROOT / "shamir32.wasm", lambda text: print(text, flush=True))) else 1
+    wanted = given.parts or PARTS
+    passed = [tried("page", "sources", lambda: sources.check(ROOT / "page"))] if "sources" in wanted else []
+    left_out = sources.check_types(ROOT / "page") if "sources" in wanted else ""
+    if left_out:
+        print(f"left out: {left_out}")
+    modules = [ROOT / "shamir32.wasm", ROOT / "shamir.wasm"]
+    url = given.page.resolve().as_uri()
+    jobs = [(name, part, check) for name in given.browser or browsers.NAMES for part, check in parts_of(name, url, modules, given.cases).items() if part in wanted]
+    with concurrent.futures.ThreadPoolExecutor(3) as pool:
+        passed += pool.map(lambda job: tried(*job), jobs)
+    print(f"{sum(passed)} passed, {len(passed) - sum(passed)} failed")
+    return 0 if all(passed) else 1
+
+
 def main():
     parser = argparse.ArgumentParser(prog="tools/check_page")
     parser.add_argument("--browser", choices=browsers.NAMES, action="append")
@@ -122,19 +140,8 @@ def main():
         return 0
     if given.build and subprocess.run(["make", "-s", "shamir.html"], cwd=ROOT).returncode:
         return 1
-    if given.faults:
-        return 0 if tried("chromium", "faults", lambda: faults.check(ROOT / "shamir32.wasm", lambda text: print(text, flush=True))) else 1
-    wanted = given.parts or PARTS
-    passed = [tried("page", "sources", lambda: sources.check(ROOT / "page"))] if "sources" in wanted else []
-    left_out = sources.check_types(ROOT / "page") if "sources" in wanted else ""
-    if left_out:
-        print(f"left out: {left_out}")
-    modules = [ROOT / "shamir32.wasm", ROOT / "shamir.wasm"]
-    jobs = [(name, part, check) for name in given.browser or browsers.NAMES for part, check in parts_of(name, given.page.resolve().as_uri(), modules, given.cases).items() if part in wanted]
-    with concurrent.futures.ThreadPoolExecutor(3) as pool:
-        passed += pool.map(lambda job: tried(*job), jobs)
-    print(f"{sum(passed)} passed, {len(passed) - sum(passed)} failed")
-    return 0 if all(passed) else 1
+    with browsers.workplace():
+        return checked(given)
 
 
 if __name__ == "__main__":
