@@ -33,6 +33,8 @@ from hands import Page  # noqa: E402
 from texts import ROOT, say  # noqa: E402
 
 PARTS = ["sources", "tasks", "refusals", "long", "looks", "agreement", "privacy", "ways"]
+# The parts that take longest, and how many parts run side by side.
+LONG, AT_ONCE = ["privacy", "refusals", "tasks", "looks"], 4
 PICTURES = ROOT / "page/out"
 # The title, the address, the entries of the history, what is stored, and what was asked for.
 KEPT = """
@@ -119,7 +121,9 @@ def checked(given):
     modules = [ROOT / "shamir32.wasm", ROOT / "shamir.wasm"]
     url = given.page.resolve().as_uri()
     jobs = [(name, part, check) for name in given.browser or browsers.NAMES for part, check in parts_of(name, url, modules, given.cases).items() if part in wanted]
-    with concurrent.futures.ThreadPoolExecutor(3) as pool:
+    # What takes longest begins first. `privacy` mostly waits.
+    jobs.sort(key=lambda job: LONG.index(job[1]) if job[1] in LONG else len(LONG))
+    with concurrent.futures.ThreadPoolExecutor(AT_ONCE) as pool:
         passed += pool.map(lambda job: tried(*job), jobs)
     print(f"{sum(passed)} passed, {len(passed) - sum(passed)} failed")
     return 0 if all(passed) else 1
