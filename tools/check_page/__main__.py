@@ -99,11 +99,11 @@ def tried(name, part, check):
     start = time.monotonic()
     try:
         check()
-    except browsers.Failed as fault:
-        print(f"{name}, {part}: {fault}", flush=True)
-        return False
-    except Exception:
-        print(f"{name}, {part}: the check itself failed\n{traceback.format_exc()}", flush=True)
+    except Exception as fault:
+        why = fault if isinstance(fault, browsers.Failed) else f"the check itself failed\n{traceback.format_exc()}"
+        # In a check that is interrupted, browsers are ended at any step.
+        if not browsers.interrupted.is_set():
+            print(f"{name}, {part}: {why}", flush=True)
         return False
     print(f"{name}, {part}: passed in {time.monotonic() - start:.0f} seconds", flush=True)
     return True
