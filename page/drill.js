@@ -105,6 +105,7 @@ class Table {
   #noted;
   #rows = { expected: 0, other: 0 };
   #body = element("tbody");
+  #scroll = element("div", { class: "scroll", tabindex: "0", role: "region", "aria-label": say("drill.caption") });
   #more = element("p", { class: "hint" });
   #progress = element("p", { class: "work", role: "status" });
   #bar = element("progress", { "aria-label": say("drill.progress") });
@@ -125,7 +126,8 @@ class Table {
     this.#buttons.append(button(say("stop"), onStop));
     const head = element("tr", {}, element("th", { scope: "col" }, say("drill.quorum")), element("th", { scope: "col" }, say("drill.gave")));
     const table = element("table", {}, element("caption", {}, say("drill.caption")), element("thead", {}, head), this.#body);
-    show(title, this.#progress, this.#bar, this.#verdict, this.#buttons, element("div", { class: "scroll", tabindex: "0", role: "region", "aria-label": say("drill.caption") }, table), this.#more);
+    this.#scroll.append(table);
+    show(title, this.#progress, this.#bar, this.#verdict, this.#buttons, this.#scroll, this.#more);
     this.#say();
   }
 
@@ -176,7 +178,10 @@ class Table {
   end(isStopped, isOwn) {
     this.#bar.remove();
     const { isGood, sentences } = verdictOf(this.tried, this.#total, this.#noted, isOwn);
-    if (this.tried.length === 0) sentences.length = 0;
+    if (this.tried.length === 0) {
+      sentences.length = 0;
+      this.#scroll.remove();
+    }
     const isWhole = !isStopped && BigInt(this.tried.length) === this.#total;
     if (!isWhole) sentences.unshift(say("drill.part", { tried: said(this.tried.length), total: said(this.#total) }));
     const isRight = isGood && !isStopped;
@@ -231,6 +236,6 @@ function saidWrong(right, wrong, found, noted, quorums) {
   if (noted === "" && found.length !== 1) return [say("verdict.several", { quorums, secrets: counted(found.length, "secret") })];
   const sentences = [say(noted === "" ? "verdict.some.unnoted" : "verdict.some", { wrong: wrong.length, quorums })];
   const names = suspects(right, wrong);
-  if (names.length) sentences.push(say("verdict.suspects", { names: names.join(", ") }));
+  if (names.length) sentences.push(say(`verdict.suspects.${names.length === 1 ? "one" : "many"}`, { names: names.join(", ") }));
   return sentences;
 }

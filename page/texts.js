@@ -214,7 +214,7 @@ export const TEXTS = {
   "drill.fingerprint": "a secret with the fingerprint {fingerprint}",
   "drill.mismatch": "no secret: the papers of group {group} don't belong together",
   "drill.mismatch_groups": "no secret: the groups don't belong together",
-  "drill.more_rows": "The table shows the first {rows} quorums of each kind. The verdict counts all that were tried.",
+  "drill.more_rows": "The table shows at most {rows} right quorums and {rows} wrong ones. The result above it counts all that were tried.",
   "drill.done": "The result of the drill",
   "drill.part": "{tried} of {total} quorums were tried.",
   "verdict.all.noted": "All quorums give the secret that you noted: {quorums}, fingerprint {fingerprint}.",
@@ -228,7 +228,8 @@ export const TEXTS = {
   "verdict.some": "Of {quorums} that were tried, {wrong} don't give the secret that you noted. The table marks them.",
   "verdict.some.unnoted": "Of {quorums} that were tried, {wrong} give no secret, and all others give one. The table marks them.",
   "verdict.several": "The quorums don't agree: of {quorums} that were tried, those that gave a secret gave {secrets}. So a paper is wrong, or isn't of this backup.",
-  "verdict.suspects": "In every wrong quorum and in no right one: {names}. These papers are likely wrong, or of another backup.",
+  "verdict.suspects.one": "Each wrong quorum has paper {names}, and no right one has it. So this paper is likely wrong, or of another backup.",
+  "verdict.suspects.many": "Each wrong quorum has the papers {names}, and no right one has any of them. So at least one of these papers is likely wrong, or of another backup.",
 
   "check.title": "Check papers",
   "check.intro": "Type the papers that you have at hand, one after the other. You don't need all of them: the page says what is complete and what is missing.",

@@ -33,6 +33,8 @@ from hands import Page  # noqa: E402
 from texts import ROOT, say  # noqa: E402
 
 PARTS = ["sources", "tasks", "refusals", "long", "looks", "agreement", "privacy", "ways"]
+# The parts that take longest, and how many parts run side by side.
+LONG, AT_ONCE = ["privacy", "refusals", "tasks", "looks"], 4
 PICTURES = ROOT / "page/out"
 # The title, the address, the entries of the history, what is stored, and what was asked for.
 KEPT = """
@@ -97,14 +99,34 @@ def tried(name, part, check):
     start = time.monotonic()
     try:
         check()
-    except browsers.Failed as fault:
-        print(f"{name}, {part}: {fault}", flush=True)
-        return False
-    except Exception:
-        print(f"{name}, {part}: the check itself failed\n{traceback.format_exc()}", flush=True)
+    except Exception as fault:
+        why = fault if isinstance(fault, browsers.Failed) else f"the check itself failed\n{traceback.format_exc()}"
+        # In a check that is interrupted, browsers are ended at any step.
+        if not browsers.interrupted.is_set():
+            print(f"{name}, {part}: {why}", flush=True)
         return False
     print(f"{name}, {part}: passed in {time.monotonic() - start:.0f} seconds", flush=True)
     return True
+
+
+def checked(given):
+    """Runs what was asked for, and returns the status."""
+    if given.faults:
+        return 0 if tried("chromium", "faults", lambda: faults.check(ROOT / "shamir32.wasm", lambda text: print(text, flush=True))) else 1
+    wanted = given.parts or PARTS
+    passed = [tried("page", "sources", lambda: sources.check(ROOT / "page"))] if "sources" in wanted else []
+    left_out = sources.check_types(ROOT / "page") if "sources" in wanted else ""
+    if left_out:
+        print(f"left out: {left_out}")
+    modules = [ROOT / "shamir32.wasm", ROOT / "shamir.wasm"]
+    url = given.page.resolve().as_uri()
+    jobs = [(name, part, check) for name in given.browser or browsers.NAMES for part, check in parts_of(name, url, modules, given.cases).items() if part in wanted]
+    # What takes longest begins first. `privacy` mostly waits.
+    jobs.sort(key=lambda job: LONG.index(job[1]) if job[1] in LONG else len(LONG))
+    with concurrent.futures.ThreadPoolExecutor(AT_ONCE) as pool:
+        passed += pool.map(lambda job: tried(*job), jobs)
+    print(f"{sum(passed)} passed, {len(passed) - sum(passed)} failed")
+    return 0 if all(passed) else 1
 
 
 def main():
@@ -122,19 +144,8 @@ def main():
         return 0
     if given.build and subprocess.run(["make", "-s", "shamir.html"], cwd=ROOT).returncode:
         return 1
-    if given.faults:
-        return 0 if tried("chromium", "faults", lambda: faults.check(ROOT / "shamir32.wasm", lambda text: print(text, flush=True))) else 1
-    wanted = given.parts or PARTS
-    passed = [tried("page", "sources", lambda: sources.check(ROOT / "page"))] if "sources" in wanted else []
-    left_out = sources.check_types(ROOT / "page") if "sources" in wanted else ""
-    if left_out:
-        print(f"left out: {left_out}")
-    modules = [ROOT / "shamir32.wasm", ROOT / "shamir.wasm"]
-    jobs = [(name, part, check) for name in given.browser or browsers.NAMES for part, check in parts_of(name, given.page.resolve().as_uri(), modules, given.cases).items() if part in wanted]
-    with concurrent.futures.ThreadPoolExecutor(3) as pool:
-        passed += pool.map(lambda job: tried(*job), jobs)
-    print(f"{sum(passed)} passed, {len(passed) - sum(passed)} failed")
-    return 0 if all(passed) else 1
+    with browsers.workplace():
+        return checked(given)
 
 
 if __name__ == "__main__":

@@ -52,7 +52,7 @@ def case(source):
 
 def by_program(program, it):
     """Returns the random bytes of a backup, its lines, and the lines of its drill, by ./shamir."""
-    with tempfile.TemporaryDirectory(dir="/dev/shm") as folder:
+    with tempfile.TemporaryDirectory() as folder:
         for name, value in [("secret", it["secret"].hex()), ("passphrase", it["passphrase"])]:
             with open(f"{folder}/{name}", "w") as file:
                 file.write(value)

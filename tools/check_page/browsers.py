@@ -1,4 +1,7 @@
-"""Starts Chromium and Firefox, and talks to both by WebDriver BiDi (https://www.w3.org/TR/webdriver-bidi/)."""
+"""Starts Chromium and Firefox, and talks to both by WebDriver BiDi (https://www.w3.org/TR/webdriver-bidi/).
+
+All files of a run lie in one folder, `workplace`. A check that is interrupted ends its browsers and removes that folder.
+"""
 import contextlib
 import json
 import os
@@ -7,7 +10,9 @@ import shutil
 import signal
 import socket
 import subprocess
+import sys
 import tempfile
+import threading
 import time
 import urllib.request
 
@@ -27,6 +32,11 @@ FIREFOX_PREFERENCES = {
     "browser.aboutwelcome.enabled": False,
     "app.update.enabled": False,
 }
+
+
+# The first process of each browser that runs, with the browser's home. It is in a session of its own (setsid) with its number.
+running = {}
+interrupted = threading.Event()
 
 
 class Failed(Exception):
@@ -69,17 +79,14 @@ class Session:
 class Browser:
     """A browser with a profile folder of its own, and its one tab."""
 
-    def __init__(self, name, processes, session, profile):
-        self.name, self.processes, self.session, self.profile = name, processes, session, profile
+    def __init__(self, name, process, session, profile):
+        self.name, self.process, self.session, self.home = name, process, session, profile.parent
         self.session.call("session.subscribe", events=["log.entryAdded", "browsingContext.userPromptOpened"])
         # The focus of the first tab is in the bar of addresses, and that of a new one in the page.
         self.tab = self.session.call("browsingContext.create", type="tab")["context"]
 
     def kill(self):
-        for process in self.processes:
-            with contextlib.suppress(ProcessLookupError):
-                os.killpg(process.pid, signal.SIGKILL)
-            process.wait()
+        end(self.process)
         self.session.socket.close()
 
     def quit(self):
@@ -87,15 +94,75 @@ class Browser:
         with contextlib.suppress(Closed, Failed, OSError):
             self.session.call("browser.close" if self.name == "firefox" else "session.end")
         deadline = time.monotonic() + 15
-        while self.name == "firefox" and self.processes[0].poll() is None and time.monotonic() < deadline:
+        while self.name == "firefox" and self.process.poll() is None and time.monotonic() < deadline:
             time.sleep(0.1)
         time.sleep(0.5)
         self.kill()
 
 
-def started(words, **more):
-    environment = {**os.environ, "MOZ_CRASHREPORTER_DISABLE": "1", **more}
-    return subprocess.Popen(words, stdin=subprocess.DEVNULL, stdout=subprocess.DEVNULL, stderr=subprocess.DEVNULL, start_new_session=True, env=environment)
+def members(process):
+    """Returns the processes of a browser: those of its session, and those that have its home, such as Chromium's crash handler."""
+    found, home = [], running.get(process)
+    for path in pathlib.Path("/proc").glob("[0-9]*/stat"):
+        with contextlib.suppress(OSError):
+            # The name of the program stands in brackets, and may have blanks. The fourth number after it is the session.
+            state, _, _, number = path.read_text().rpartition(")")[2].split()[:4]
+            own = home and f"\0HOME={home}\0".encode() in b"\0" + (path.parent / "environ").read_bytes()
+            if (int(number) == process.pid or own) and state != "Z":
+                found.append(int(path.parent.name))
+    return found
+
+
+def end(process):
+    """Ends a browser and all its processes, at once."""
+    deadline = time.monotonic() + 10
+    while (left := members(process)) and time.monotonic() < deadline:
+        for pid in left:
+            with contextlib.suppress(ProcessLookupError):
+                os.kill(pid, signal.SIGKILL)
+        time.sleep(0.02)
+    process.wait()
+    running.pop(process, None)
+
+
+@contextlib.contextmanager
+def workplace():
+    """Makes the folder in which the browsers and this check keep their files. An interrupted check removes it too."""
+    folder = tempfile.mkdtemp(prefix="shamir-page-")
+    tempfile.tempdir = folder
+
+    def clear():
+        for process in list(running):
+            end(process)
+        shutil.rmtree(folder, ignore_errors=True)
+
+    def stop(number, _):
+        print("\nmake check-page: interrupted", file=sys.stderr, flush=True)
+        interrupted.set()
+        clear()
+        # Another thread may have been starting a browser.
+        time.sleep(0.3)
+        clear()
+        os._exit(128 + number)
+
+    for number in (signal.SIGINT, signal.SIGTERM, signal.SIGHUP):
+        signal.signal(number, stop)
+    try:
+        yield
+    finally:
+        clear()
+        tempfile.tempdir = None
+
+
+def started(words, home):
+    """Starts a browser, whose home and whose other files are in the folder `home`: the user's own may be missing or closed."""
+    if interrupted.is_set():
+        raise Failed("the check is interrupted")
+    own = {"HOME": str(home), "TMPDIR": str(home), "XDG_RUNTIME_DIR": str(home), "MOZ_CRASHREPORTER_DISABLE": "1"}
+    environment = {name: value for name, value in os.environ.items() if not name.startswith("XDG_")} | own
+    process = subprocess.Popen(words, stdin=subprocess.DEVNULL, stdout=subprocess.DEVNULL, stderr=subprocess.DEVNULL, start_new_session=True, env=environment)
+    running[process] = home
+    return process
 
 
 def connected(make):
@@ -112,7 +179,7 @@ def connected(make):
 
 def start_chromium(profile, is_dark):
     port = free_port()
-    driver = started(["chromedriver", f"--port={port}"])
+    driver = started(["chromedriver", f"--port={port}"], profile.parent)
     arguments = ["--headless=new", "--no-sandbox", "--disable-gpu", f"--user-data-dir={profile}", "--window-size=1200,900", "--no-first-run"]
     arguments += ["--force-dark-mode", "--blink-settings=preferredColorScheme=0"] if is_dark else ["--blink-settings=preferredColorScheme=1"]
     options = {"binary": shutil.which("chromium"), "args": arguments}
@@ -123,7 +190,7 @@ def start_chromium(profile, is_dark):
         with urllib.request.urlopen(request, timeout=PATIENCE) as answer:
             return json.load(answer)["value"]["capabilities"]["webSocketUrl"]
 
-    return [driver], Session(connected(session))
+    return driver, lambda: Session(connected(session))
 
 
 def start_firefox(profile, is_dark):
@@ -131,10 +198,14 @@ def start_firefox(profile, is_dark):
     lines = [f'user_pref("{name}", {json.dumps(value)});\n' for name, value in preferences.items()]
     (profile / "user.js").write_text("".join(lines))
     port = free_port()
-    firefox = started(["firefox", "--headless", "--no-remote", "--profile", str(profile), "--remote-debugging-port", str(port)])
-    session = connected(lambda: Session(f"ws://127.0.0.1:{port}/session"))
-    session.call("session.new", capabilities={})
-    return [firefox], session
+    firefox = started(["firefox", "--headless", "--no-remote", "--profile", str(profile), "--remote-debugging-port", str(port)], profile.parent)
+
+    def session():
+        found = connected(lambda: Session(f"ws://127.0.0.1:{port}/session"))
+        found.call("session.new", capabilities={})
+        return found
+
+    return firefox, session
 
 
 @contextlib.contextmanager
@@ -144,8 +215,8 @@ def browser(name, is_dark=False):
         profile = pathlib.Path(folder) / "profile"
         profile.mkdir()
         start = {"chromium": start_chromium, "firefox": start_firefox}[name]
-        it = Browser(name, *start(profile, is_dark), profile)
+        process, session = start(profile, is_dark)
         try:
-            yield it
+            yield Browser(name, process, session(), profile)
         finally:
-            it.kill()
+            end(process)

@@ -1,4 +1,5 @@
 """Faults that are planted in a copy of the sources. Each must make a check fail, or the check is worth nothing."""
+import concurrent.futures
 import pathlib
 import shutil
 import subprocess
@@ -16,6 +17,8 @@ from hands import Page
 from texts import say
 
 ROOT = pathlib.Path(__file__).resolve().parent.parent.parent
+# So many faults are looked for side by side.
+AT_ONCE = 3
 
 
 def build(folder, engine, output):
@@ -93,14 +96,22 @@ def planted(folder, path, old, new, engine):
 
 def check(engine, tell):
     """Plants each fault. Raises Failed if a check doesn't find one."""
-    for what, path, old, new, check_it in FAULTS:
-        with tempfile.TemporaryDirectory() as name:
-            folder = pathlib.Path(name)
-            copied(folder)
-            url = planted(folder, path, old, new, engine)
-            try:
-                check_it(folder, url)
-            except Failed as fault:
-                tell(f"planted: {what}: {str(fault)[:150]}")
-                continue
-            raise Failed(f"the planted fault isn't found: {what}")
+    with concurrent.futures.ThreadPoolExecutor(AT_ONCE) as pool:
+        missed = [it for it in pool.map(lambda fault: missed_fault(fault, engine, tell), FAULTS) if it]
+    if missed:
+        raise Failed(f"these planted faults aren't found: {', '.join(missed)}")
+
+
+def missed_fault(fault, engine, tell):
+    """Plants a fault. Returns its name if its check doesn't find it."""
+    what, path, old, new, check_it = fault
+    with tempfile.TemporaryDirectory() as name:
+        folder = pathlib.Path(name)
+        copied(folder)
+        url = planted(folder, path, old, new, engine)
+        try:
+            check_it(folder, url)
+        except Failed as found:
+            tell(f"planted: {what}: {str(found)[:150]}")
+            return None
+    return what

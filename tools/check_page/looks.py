@@ -35,6 +35,8 @@ def check_screen(page, what, see):
         wide = page.evaluate("document.documentElement.scrollWidth - document.documentElement.clientWidth")
         if wide > 0:
             raise Failed(f"{what}, {size}: the screen is {wide} pixels too wide")
+        # A picture of a screen that scrolls lacks as much of its right edge as the bar takes. So the window gets as high as the page.
+        page.size(width, max(height, page.evaluate("document.documentElement.scrollHeight")), ratio)
         see(f"{what} {size}")
     low = page.evaluate(LOW)
     if low:

@@ -1,4 +1,4 @@
-"""What a browser keeps of what is typed: its profile folder is searched, packed files too.
+"""What a browser keeps of what is typed: its profile folder and its home are searched, packed files too.
 
 A marker is a random word. It is typed into each kind of field of the page, and into a plain field of another page, which is the
 control: if the marker of the control isn't found, the search is worth nothing, and the check fails.
@@ -139,20 +139,20 @@ def check_browser(name, url, control_url, is_quit):
         page.type(plain)
         page.press("Tab")
         deadline = time.monotonic() + WRITING
-        while time.monotonic() < deadline and not search(it.profile, {"the control": plain}):
+        while time.monotonic() < deadline and not search(it.home, {"the control": plain}):
             time.sleep(1)
         time.sleep(LOOKING)
-        found = search(it.profile, markers | {"the control": plain})
+        found = search(it.home, markers | {"the control": plain})
         if is_quit:
             it.quit()
         else:
             it.kill()
-        found |= search(it.profile, markers | {"the control": plain})
+        found |= search(it.home, markers | {"the control": plain})
     how = "quit" if is_quit else "killed"
     if found.pop("the control", None) is None:
         raise Failed(f"{name}, {how}: the search doesn't find what was typed into a plain field, so it shows nothing")
     if found:
-        raise Failed(f"{name}, {how}: the profile folder has what was typed: {found}")
+        raise Failed(f"{name}, {how}: the browser's folders have what was typed: {found}")
 
 
 def check(name, url):

@@ -151,7 +151,7 @@ def check_mixed(page, see):
     answer_passphrase(page, PASSPHRASE, "df41d8fe")
     page.push(say("drill.start"))
     page.wait_text(say("verdict.some", quorums=counted(7, "quorum"), wrong=4))
-    page.wait_text(say("verdict.suspects", names="0.2"))
+    page.wait_text(say("verdict.suspects.one", names="0.2"))
     page.wait_text(say("drill.mismatch", group=0))
     see("drill with a forged paper")
     page.push(say("continue"))
