@@ -34,7 +34,7 @@ listed_below test index has =
     let below = range-below word_list_length among.0 index among.1 in
     subst (λ i. i < word_list_length) among.2 below
 
-chosen_below : (marks : List (List ℕ)) (words : List ℕ) → AreChosen marks words → All IsIndex words
+pub chosen_below : (marks : List (List ℕ)) (words : List ℕ) → AreChosen marks words → All IsIndex words
 chosen_below [] [] all = All-nil IsIndex
 chosen_below [] (w ∷ ws) all = absurd all
 chosen_below (m ∷ ms) [] all = absurd all
@@ -50,13 +50,13 @@ chosen_known (m ∷ ms) (w ∷ ws) all =
     All-cons (λ mark. not (is_known mark) ≡ false) m ms (ap not (lt-ltb 0 (length (choices m)) (some_from_contains (choices m) w all.0)))
     (chosen_known ms ws all.1)
 
-chosen_length : (marks : List (List ℕ)) (words : List ℕ) → AreChosen marks words → length marks ≡ length words
+pub chosen_length : (marks : List (List ℕ)) (words : List ℕ) → AreChosen marks words → length marks ≡ length words
 chosen_length [] [] all = refl
 chosen_length [] (w ∷ ws) all = absurd all
 chosen_length (m ∷ ms) [] all = absurd all
 chosen_length (m ∷ ms) (w ∷ ws) all = ap suc (chosen_length ms ws all.1)
 
-only_one : (xs : List ℕ) (x y : ℕ) → nat_lt 1 (length xs) ≡ false → Contains xs x → Contains xs y → x ≡ y
+pub only_one : (xs : List ℕ) (x y : ℕ) → nat_lt 1 (length xs) ≡ false → Contains xs x → Contains xs y → x ≡ y
 only_one xs x y closed one other =
     let short : length xs ≤ 1 =
     ⊎_elim (λ more. absurd (false≢true (sym closed ∙ lt-ltb 1 (length xs) more))) (λ few. few) (cases_lt 1 (length xs)) in
@@ -64,7 +64,7 @@ only_one xs x y closed one other =
     sym one.2 ∙ get_or_default xs one.0 x y one.1 ∙ ap (λ i. get_or xs i y) same ∙ other.2
 
 -- a line without open places stands for one list of words
-chosen_once : (marks : List (List ℕ)) (vs ws : List ℕ) → count_by is_open marks ≡ 0 → AreChosen marks vs → AreChosen marks ws → vs ≡ ws
+pub chosen_once : (marks : List (List ℕ)) (vs ws : List ℕ) → count_by is_open marks ≡ 0 → AreChosen marks vs → AreChosen marks ws → vs ≡ ws
 chosen_once [] [] [] none p q = refl
 chosen_once [] [] (w ∷ ws) none p q = absurd q
 chosen_once [] (v ∷ vs) ws none p q = absurd p

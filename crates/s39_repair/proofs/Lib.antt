@@ -9,3 +9,4 @@ pub mod Flags
 pub mod WrongPlaces
 pub mod Wholes
 pub mod ComesBack
+pub mod OneAnswer

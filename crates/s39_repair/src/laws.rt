@@ -9,6 +9,12 @@ ghost use Rattle.s39_repair.specs.Sums.{ArePlaces, AgreeElsewhere};
 ghost use Rattle.s39_repair.specs.declared.repair_error.RepairError.{RepairError};
 ghost use Rattle.s39_repair.specs.declared.repaired.Repaired.{Repaired};
 
+/// No line has two answers.
+pub fn one_answer()
+    ensures { (line : List ℕ) (answer other : Result Repaired RepairError)
+        → Repairs line answer → Repairs line other → answer ≡ other }
+{}
+
 /// What was lost comes back: if at most three places of a line are open, a mnemonic that fits is in the answer.
 pub fn lost_words_come_back()
     ensures { (line mnemonic : List ℕ) (share : ShareFields) (answer : Result Repaired RepairError)
