@@ -10,3 +10,4 @@ pub mod WrongPlaces
 pub mod Wholes
 pub mod ComesBack
 pub mod OneAnswer
+pub mod Misread

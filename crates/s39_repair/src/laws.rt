@@ -1,10 +1,10 @@
 //! Facts about the definitions. Each is the contract of a function that does nothing.
-ghost use Rattle.std.specs.Prelude.{◌≡◌, ◌≢◌, ◌<◌, ◌≤◌, ◌⊎◌, ℕ, suc, List, All, Contains, Ok, Some, Result, length, slice_index};
+ghost use Rattle.std.specs.Prelude.{◌≡◌, ◌≢◌, ◌<◌, ◌≤◌, ◌⊎◌, ℕ, suc, false, List, [], All, Contains, Ok, Some, Result, length, slice_index, slice_index_or};
 ghost use Rattle.s39_words.specs.Layout.{IsIndex, most_words};
-ghost use Rattle.s39_words.specs.Spelling.{Spells};
+ghost use Rattle.s39_words.specs.Spelling.{words_of, Spells};
 ghost use Rattle.s39_words.specs.declared.share.ShareFields.{ShareFields};
 ghost use Rattle.s39_repair.specs.Answer.{most_open, AreWrongWords, Repairs};
-ghost use Rattle.s39_repair.specs.Marks.{open_count, spelling, Fits};
+ghost use Rattle.s39_repair.specs.Marks.{is_open, open_count, spelling, Fits};
 ghost use Rattle.s39_repair.specs.Sums.{ArePlaces, AgreeElsewhere};
 ghost use Rattle.s39_repair.specs.declared.repair_error.RepairError.{RepairError};
 ghost use Rattle.s39_repair.specs.declared.repaired.Repaired.{Repaired};
@@ -21,6 +21,21 @@ pub fn lost_words_come_back()
         → Fits line mnemonic share → open_count line ≤ most_open → Repairs line answer
         → (repaired : Repaired) × (answer ≡ Ok repaired)
         × ((share ≡ repaired.first) ⊎ (Some share ≡ repaired.second)) }
+{}
+
+/// One mnemonic fits a line at most, if at most three places are open and the second isn't.
+pub fn one_mnemonic_fits()
+    ensures { (line mnemonic other : List ℕ) (share found : ShareFields) → open_count line ≤ most_open
+        → is_open (slice_index_or (words_of line) 1 []) ≡ false
+        → Fits line mnemonic share → Fits line other found → mnemonic ≡ other }
+{}
+
+/// Two mnemonics fit a line at most, if at most three places are open: of any three that fit, two are the same.
+pub fn two_mnemonics_fit()
+    ensures { (line mnemonic other third : List ℕ) (share found last : ShareFields)
+        → open_count line ≤ most_open
+        → Fits line mnemonic share → Fits line other found → Fits line third last
+        → (mnemonic ≡ other) ⊎ ((mnemonic ≡ third) ⊎ (other ≡ third)) }
 {}
 
 /// Two mnemonics with the same flag that agree but at three places are the same. So if at most three places are open or
