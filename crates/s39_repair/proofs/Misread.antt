@@ -21,7 +21,10 @@ use Rattle.s39_words.proofs.Indices.{indices_same}
 use Rattle.s39_words.proofs.Mnemonics.{spelled_words}
 use Rattle.s39_words.proofs.OneReading.{same_reading}
 use Rattle.s39_words.proofs.WrongWords.{bad_checksum}
-use Rattle.s39_repair.specs.Answer.{most_open}
+use Rattle.s39_repair.specs.declared.repaired.Repaired.{Repaired}
+use Rattle.s39_repair.specs.declared.repair_error.RepairError.{RepairError}
+use Rattle.s39_repair.specs.declared.repair_error.RepairError.TheVariants.{UnknownWord, WordCount, UnreadableWords, NoMnemonic, WrongWord, BadChecksum, BadPadding, GroupThreshold}
+use Rattle.s39_repair.specs.Answer.{most_open, IsWhole, Repairs}
 use Rattle.s39_repair.specs.Marks.{choices, is_open, listed_that, open_count, spelling, stands_for, Fits}
 use Rattle.s39_repair.specs.Misread.{count_of_places, is_doubtful, is_misread, IsMisreadLine}
 use Rattle.s39_repair.proofs.Candidates.{spelled_indices, spelled_parts}
@@ -263,3 +266,72 @@ two_fit_at_most line us vs ws e f g few p q r = by_flags _ e.extendable f.extend
     (λ same. inl (fit_alike line us vs e f few p q same))
     (λ same. inr (inl (fit_alike line us ws e g few p r same)))
     (λ same. inr (inr (fit_alike line vs ws f g few q r same)))
+
+-- ---- a line that is misread
+
+chosen_sure : (marks : List (List ℕ)) (vs ws : List ℕ) (k : ℕ) → AreChosen marks vs → All IsIndex ws → k < length marks → length marks ≡ length ws
+    → is_doubtful (get_or marks k []) (get_or ws k 0) ≡ false → get_or vs k 0 ≡ get_or ws k 0
+chosen_sure [] vs ws k p all below n sure = absurd (omega arith)
+chosen_sure (m ∷ ms) [] ws k p all below n sure = absurd p
+chosen_sure (m ∷ ms) (v ∷ vs) [] k p all below n sure = absurd (omega (arith, n))
+chosen_sure (m ∷ ms) (v ∷ vs) (w ∷ ws) zero p all below n sure = one_choice m v w p.0 (All-head IsIndex w ws all) sure
+chosen_sure (m ∷ ms) (v ∷ vs) (w ∷ ws) (suc k) p all below n sure =
+    chosen_sure ms vs ws k p.1 (All-tail IsIndex w ws all) (omega arith) (omega (arith, n)) sure
+
+module _ (line mnemonic : List ℕ) (share : ShareFields) (m : IsMisreadLine line mnemonic share) where
+  count : IsWordCount (length mnemonic)
+  count = spelled_count mnemonic share m.in_list m.spells
+
+  bad_line : (words : List ℕ) → AreChosen (words_of line) words → Reads (spelling words) (Err words_BadChecksum)
+  bad_line words p =
+      let n : length words ≡ length mnemonic = sym (chosen_length (words_of line) words p) ∙ m.same_count in
+      let two = two_at_least (length mnemonic) count in
+      let second : get_or words 1 0 ≡ get_or mnemonic 1 0 =
+      chosen_sure (words_of line) words mnemonic 1 p m.in_list (omega (arith, m.same_count, two)) m.same_count m.second in
+      bad_spelling words mnemonic share (chosen_below (words_of line) words p) m.in_list m.spells n
+      (same_flags words mnemonic (omega (arith, n, two)) n second)
+      (differences_some (words_of line) words mnemonic p m.some)
+      (omega (arith, differences_few (words_of line) words mnemonic p m.in_list, m.few))
+
+  none_fits : (words : List ℕ) (found : ShareFields) → Fits line words found → ⊥
+  none_fits words found fits = bad_isn't_spelled words found (bad_line words fits.words) fits.spells
+
+  few_open : open_count line ≤ most_open
+  few_open = omega (arith, open_few (words_of line) mnemonic m.same_count, m.few)
+
+  not_padding : (words : List ℕ) → IsWhole line words → Reads (spelling words) (Err words_BadPadding) → ⊥
+  not_padding words whole reads =
+      let one : Err words_BadChecksum ≡ Err words_BadPadding =
+      same_reading (spelling words) (Err words_BadChecksum) (Err words_BadPadding) (bad_line words whole.words_are) reads in
+      cc
+
+  not_threshold : (words : List ℕ) → IsWhole line words → Reads (spelling words) (Err words_GroupThreshold) → ⊥
+  not_threshold words whole reads =
+      let one : Err words_BadChecksum ≡ Err words_GroupThreshold =
+      same_reading (spelling words) (Err words_BadChecksum) (Err words_GroupThreshold) (bad_line words whole.words_are) reads in
+      cc
+
+  pub no_mnemonic : (answer : Result Repaired RepairError) → Repairs line answer → 1 ≤ open_count line → answer ≡ Err NoMnemonic
+  no_mnemonic (Ok repaired) is some = absurd (none_fits is.2.mnemonic repaired.first is.2.first)
+  no_mnemonic (Err (UnknownWord at)) is some = let none : Some is.0 ≡ None = sym is.1 ∙ m.known in absurd cc
+  no_mnemonic (Err (WordCount n)) is some = absurd (is.2 (subst IsWordCount (sym (is.1 ∙ m.same_count)) count))
+  no_mnemonic (Err (UnreadableWords n)) is some = absurd (omega (arith, is.1, is.2, few_open))
+  no_mnemonic (Err NoMnemonic) is some = refl
+  no_mnemonic (Err (WrongWord first second)) is some = let none = is.1.closed in absurd (omega (arith, none, some))
+  no_mnemonic (Err BadChecksum) is some = let none = is.1.closed in absurd (omega (arith, none, some))
+  no_mnemonic (Err BadPadding) is some = let none = is.1.closed in absurd (omega (arith, none, some))
+  no_mnemonic (Err GroupThreshold) is some = let none = is.1.closed in absurd (omega (arith, none, some))
+
+  abbrev IsBad : Result Repaired RepairError → Type 0
+  IsBad answer = (answer ≡ Err BadChecksum) ⊎ ((first : ℕ) × (second : Option ℕ) × (answer ≡ Err (WrongWord first second)))
+
+  pub bad_answer : (answer : Result Repaired RepairError) → Repairs line answer → open_count line ≡ 0 → IsBad answer
+  bad_answer (Ok repaired) is none = absurd (none_fits is.2.mnemonic repaired.first is.2.first)
+  bad_answer (Err (UnknownWord at)) is none = let other : Some is.0 ≡ None = sym is.1 ∙ m.known in absurd cc
+  bad_answer (Err (WordCount n)) is none = absurd (is.2 (subst IsWordCount (sym (is.1 ∙ m.same_count)) count))
+  bad_answer (Err (UnreadableWords n)) is none = absurd (omega (arith, is.1, is.2, few_open))
+  bad_answer (Err NoMnemonic) is none = absurd (omega (arith, is.1, none))
+  bad_answer (Err (WrongWord first second)) is none = inr (first, second, refl)
+  bad_answer (Err BadChecksum) is none = inl refl
+  bad_answer (Err BadPadding) is none = absurd (not_padding is.0 is.1 is.2)
+  bad_answer (Err GroupThreshold) is none = absurd (not_threshold is.0 is.1 is.2)

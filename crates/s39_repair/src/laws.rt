@@ -1,10 +1,11 @@
 //! Facts about the definitions. Each is the contract of a function that does nothing.
-ghost use Rattle.std.specs.Prelude.{◌≡◌, ◌≢◌, ◌<◌, ◌≤◌, ◌⊎◌, ℕ, suc, false, List, [], All, Contains, Ok, Some, Result, length, slice_index, slice_index_or};
+ghost use Rattle.std.specs.Prelude.{◌≡◌, ◌≢◌, ◌<◌, ◌≤◌, ◌⊎◌, ℕ, suc, false, List, [], All, Contains, Ok, Err, Option, Some, Result, length, slice_index, slice_index_or};
 ghost use Rattle.s39_words.specs.Layout.{IsIndex, most_words};
 ghost use Rattle.s39_words.specs.Spelling.{words_of, Spells};
 ghost use Rattle.s39_words.specs.declared.share.ShareFields.{ShareFields};
 ghost use Rattle.s39_repair.specs.Answer.{most_open, AreWrongWords, Repairs};
 ghost use Rattle.s39_repair.specs.Marks.{is_open, open_count, spelling, Fits};
+ghost use Rattle.s39_repair.specs.Misread.{IsMisreadLine};
 ghost use Rattle.s39_repair.specs.Sums.{ArePlaces, AgreeElsewhere};
 ghost use Rattle.s39_repair.specs.declared.repair_error.RepairError.{RepairError};
 ghost use Rattle.s39_repair.specs.declared.repaired.Repaired.{Repaired};
@@ -45,6 +46,18 @@ pub fn mnemonics_differ_in_four_places()
         → AgreeElsewhere mnemonic other i j k → All IsIndex mnemonic → All IsIndex other
         → Spells (spelling mnemonic) share → Spells (spelling other) found
         → share.extendable ≡ found.extendable → other ≡ mnemonic }
+{}
+
+/// Nothing false is written: if a word of a mnemonic is misread, and at most three are misread or open, but not the
+/// second, no mnemonic fits. If no place is open, the checksum is bad.
+pub fn nothing_false_is_written()
+    ensures lost { (line mnemonic : List ℕ) (share : ShareFields) (answer : Result Repaired RepairError)
+        → IsMisreadLine line mnemonic share → Repairs line answer
+        → 1 ≤ open_count line → answer ≡ Err RepairError.NoMnemonic }
+    ensures bad { (line mnemonic : List ℕ) (share : ShareFields) (answer : Result Repaired RepairError)
+        → IsMisreadLine line mnemonic share → Repairs line answer → open_count line ≡ 0
+        → (answer ≡ Err RepairError.BadChecksum)
+        ⊎ ((first : ℕ) × (second : Option ℕ) × (answer ≡ Err (RepairError.WrongWord first second))) }
 {}
 
 /// One wrong word is found: if another word in one place gives a mnemonic, the position of this place is among those of
