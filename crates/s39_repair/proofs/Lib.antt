@@ -11,3 +11,4 @@ pub mod Wholes
 pub mod ComesBack
 pub mod OneAnswer
 pub mod Misread
+pub mod OneWrongWord

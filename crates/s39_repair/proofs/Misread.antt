@@ -189,7 +189,7 @@ pub spelled_flag : (words : List ℕ) (share : ShareFields) → All IsIndex word
 spelled_flag words share all s =
     ap flag_of (spelled_parts words share all s) ∙ flag-is share s.is_share s.checksum s.checksum_words
 
-is_mnemonic : (words : List ℕ) (share : ShareFields) → All IsIndex words → Spells (spelling words) share → IsMnemonic words
+pub is_mnemonic : (words : List ℕ) (share : ShareFields) → All IsIndex words → Spells (spelling words) share → IsMnemonic words
 is_mnemonic words share all s =
     let m = spelled_words (spelling words) share s in
     subst IsMnemonic (indices_same (words_of (spelling words)) m.0 words m.1 (spelled_indices words all)) m.2
@@ -208,7 +208,7 @@ bad_spelling words mnemonic share all all' s n flags some few =
       few = few;
     })
 
-bad_isn't_spelled : (words : List ℕ) (share : ShareFields) → Reads (spelling words) (Err words_BadChecksum) → Spells (spelling words) share → ⊥
+pub bad_isn't_spelled : (words : List ℕ) (share : ShareFields) → Reads (spelling words) (Err words_BadChecksum) → Spells (spelling words) share → ⊥
 bad_isn't_spelled words share bad s =
     let one : Err words_BadChecksum ≡ Ok share = same_reading (spelling words) (Err words_BadChecksum) (Ok share) bad s in
     cc

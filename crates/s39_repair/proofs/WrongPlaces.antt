@@ -125,7 +125,7 @@ one_valid extendable ws vs us i j k ps one other ews evs eus valid valid' =
     ∙ only_words extendable ws i j k (value i j k) (value j i k) (value k i j) us ps other ews eus valid' refl refl refl
 
 -- two wrong words whose mnemonics have the same flag would leave no wrong word
-two_alike : (ws : List ℕ) (a b : ℕ) → All IsIndex ws → length ws ≤ most_words → ((share : ShareFields) → Spells (spelling ws) share → ⊥)
+pub two_alike : (ws : List ℕ) (a b : ℕ) → All IsIndex ws → length ws ≤ most_words → ((share : ShareFields) → Spells (spelling ws) share → ⊥)
     → (p : IsWrongWord ws a) → (q : IsWrongWord ws b) → a < b → p.share.extendable ≡ q.share.extendable → ⊥
 two_alike ws a b ews short bad p q less flag =
     let i = a - 1 in

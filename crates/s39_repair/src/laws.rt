@@ -1,11 +1,14 @@
 //! Facts about the definitions. Each is the contract of a function that does nothing.
-ghost use Rattle.std.specs.Prelude.{◌≡◌, ◌≢◌, ◌<◌, ◌≤◌, ◌⊎◌, ℕ, suc, false, List, [], All, Contains, Ok, Err, Option, Some, Result, length, slice_index, slice_index_or};
+ghost use Rattle.std.specs.Prelude.{◌≡◌, ◌≢◌, ◌<◌, ◌≤◌, ◌⊎◌, ℕ, suc, false, List, [], ◌∷◌, All, Contains, Ok, Err, Option, None, Some, Result, length, slice_index, slice_index_or};
+ghost use Rattle.std.specs.Option.{option_to_list};
 ghost use Rattle.s39_words.specs.Layout.{IsIndex, most_words};
+ghost use Rattle.s39_words.specs.Reading.{flag_of, Reads};
+ghost use Rattle.s39_words.specs.declared.word_error.WordError.{WordError as Cause};
 ghost use Rattle.s39_words.specs.Spelling.{words_of, Spells};
 ghost use Rattle.s39_words.specs.declared.share.ShareFields.{ShareFields};
 ghost use Rattle.s39_repair.specs.Answer.{most_open, AreWrongWords, Repairs};
 ghost use Rattle.s39_repair.specs.Marks.{is_open, open_count, spelling, Fits};
-ghost use Rattle.s39_repair.specs.Misread.{IsMisreadLine};
+ghost use Rattle.s39_repair.specs.Misread.{HasWrongWords, IsMisreadLine};
 ghost use Rattle.s39_repair.specs.Sums.{ArePlaces, AgreeElsewhere};
 ghost use Rattle.s39_repair.specs.declared.repair_error.RepairError.{RepairError};
 ghost use Rattle.s39_repair.specs.declared.repaired.Repaired.{Repaired};
@@ -68,6 +71,36 @@ pub fn one_wrong_word_is_named()
         → ((p : ℕ) → p ≢ place → slice_index words p ≡ slice_index mnemonic p)
         → Spells (spelling mnemonic) share → AreWrongWords words positions
         → Contains positions (suc place) }
+{}
+
+/// If one word is wrong and the checksum is bad, the answer names the position of this word.
+pub fn one_wrong_word_is_found()
+    ensures { (line words mnemonic : List ℕ) (share : ShareFields) (place : ℕ) (answer : Result Repaired RepairError)
+        → HasWrongWords line words mnemonic share place place → Repairs line answer
+        → Reads (spelling words) (Err Cause.BadChecksum)
+        → (first : ℕ) × (second : Option ℕ) × (answer ≡ Err (RepairError.WrongWord first second))
+        × Contains (first ∷ option_to_list second) (suc place) }
+{}
+
+/// If one word is replaced by another one and the flag stays the same, the checksum is bad. If the answer then names two
+/// positions, one of them is 2.
+pub fn one_replaced_word()
+    ensures bad { (line words mnemonic : List ℕ) (share : ShareFields) (place : ℕ)
+        → HasWrongWords line words mnemonic share place place
+        → slice_index words place ≢ slice_index mnemonic place → flag_of words ≡ flag_of mnemonic
+        → Reads (spelling words) (Err Cause.BadChecksum) }
+    ensures two { (line : List ℕ) (first second : ℕ)
+        → Repairs line (Err (RepairError.WrongWord first (Some second))) → (first ≡ 2) ⊎ (second ≡ 2) }
+{}
+
+/// If two words are replaced by others and the flag stays the same, the answer names no position but 2.
+pub fn two_replaced_words()
+    ensures { (line words mnemonic : List ℕ) (share : ShareFields) (place other : ℕ) (answer : Result Repaired RepairError)
+        → HasWrongWords line words mnemonic share place other → place ≢ other
+        → slice_index words place ≢ slice_index mnemonic place
+        → slice_index words other ≢ slice_index mnemonic other → flag_of words ≡ flag_of mnemonic
+        → Repairs line answer
+        → (answer ≡ Err RepairError.BadChecksum) ⊎ (answer ≡ Err (RepairError.WrongWord 2 None)) }
 {}
 
 /// At most two positions are named.
