@@ -1,18 +1,17 @@
 -- Mnemonics that fit one line, or that a line was to say.
-use Rattle.std.proofs.Common.{◌≡◌, ◌≢◌, ℕ, zero, suc, ◌+◌, ◌<◌, ◌≤◌, ◌⊎◌, inl, inr, Bool, true, false, cond, List, [], ◌∷◌, ◌++◌, length, get_or, Option, Some, None, Result, Ok, Err}
+use Rattle.std.proofs.Common.{◌≡◌, ◌≢◌, ℕ, zero, suc, ◌+◌, ◌<◌, ◌≤◌, ◌⊎◌, inl, inr, Bool, true, false, cond, List, [], ◌∷◌, length, get_or, Option, Some, None, Result, Ok, Err}
 use Rattle.std.proofs.Common.{refl, sym, ap, ap₂, subst, ◌∙◌, ⊎_elim, arith}
-use Rattle.std.specs.Prelude.{All, Contains, count_by, filter, not, ◌==◌, ◌||◌, if◌then◌else◌}
+use Rattle.std.specs.Prelude.{All, Contains, count_by, not, ◌==◌, ◌||◌}
 use Rattle.std.specs.List.{range_with_len}
 use Rattle.std.proofs.lemmas.Bool.{eqb-true, eq-eqb, false≢true, false_from_ne_true}
 use Rattle.std.proofs.lemmas.List.Elements.{All-head, All-tail}
 use Rattle.std.proofs.lemmas.List.Sums.{sum_by-cons}
 use Rattle.s39_lists.proofs.Ranges.{Contains-range}
 use Rattle.s39_lists.proofs.Sublists.{of_filter, Contains-filter}
-use Rattle.s39_words.specs.Layout.{IsIndex, word_list_length, most_words}
-use Rattle.s39_words.specs.Mistyping.{count_of_differences, IsMnemonic, IsMistyped}
+use Rattle.s39_words.specs.Layout.{IsIndex, word_list_length}
+use Rattle.s39_words.specs.Mistyping.{count_of_differences, IsMnemonic}
 use Rattle.s39_words.specs.Printing.{listed_word}
 use Rattle.s39_words.specs.Reading.{IsWordCount, flag_of, Reads}
-use Rattle.s39_words.specs.Share.{data_words}
 use Rattle.s39_words.specs.Spelling.{words_of, Spells}
 use Rattle.s39_words.specs.declared.share.ShareFields.{ShareFields}
 use Rattle.s39_words.specs.declared.word_error.WordError.TheVariants.{BadChecksum as words_BadChecksum, BadPadding as words_BadPadding, GroupThreshold as words_GroupThreshold}
@@ -59,12 +58,12 @@ no_difference [] (w ∷ ws) n none = absurd (omega (arith, n))
 no_difference (v ∷ vs) [] n none = absurd (omega (arith, n))
 no_difference (v ∷ vs) (w ∷ ws) n none = by_test _ (v == w)
     (λ e.
-      let same = eqb-true v w e in
-      let rest = differ_same v w vs ws same in
-      ap₂ (λ x xs. x ∷ xs) same (no_difference vs ws (omega (arith, n)) (sym rest ∙ none)))
+    let same = eqb-true v w e in
+    let rest = differ_same v w vs ws same in
+    ap₂ (λ x xs. x ∷ xs) same (no_difference vs ws (omega (arith, n)) (sym rest ∙ none)))
     (λ e.
-      let more = differ_not v w vs ws (λ same. false≢true (sym e ∙ eq-eqb v w same)) in
-      absurd (omega (arith, more, none)))
+    let more = differ_not v w vs ws (λ same. false≢true (sym e ∙ eq-eqb v w same)) in
+    absurd (omega (arith, more, none)))
 
 place_counted : (test : List ℕ → ℕ → Bool) (m : List ℕ) (w : ℕ) (ms : List (List ℕ)) (ws : List ℕ) → test m w ≡ true
     → count_of_places test (m ∷ ms) (w ∷ ws) ≡ suc (count_of_places test ms ws)
@@ -111,9 +110,9 @@ differences_few (m ∷ ms) (v ∷ vs) (w ∷ ws) p all =
     by_test _ (is_doubtful m w)
     (λ doubt. let n = place_counted is_doubtful m w ms ws doubt in let most = differ_most v w vs ws in omega (arith, n, most, rest))
     (λ sure.
-      let n = place_passed is_doubtful m w ms ws sure in
-      let same = differ_same v w vs ws (one_choice m v w p.0 (All-head IsIndex w ws all) sure) in
-      omega (arith, n, same, rest))
+    let n = place_passed is_doubtful m w ms ws sure in
+    let same = differ_same v w vs ws (one_choice m v w p.0 (All-head IsIndex w ws all) sure) in
+    omega (arith, n, same, rest))
 
 -- and in each misread place
 differences_some : (marks : List (List ℕ)) (vs ws : List ℕ) → AreChosen marks vs → 1 ≤ count_of_places is_misread marks ws
@@ -123,13 +122,13 @@ differences_some (m ∷ ms) [] ws p some = absurd p
 differences_some (m ∷ ms) (v ∷ vs) [] p some = absurd (omega arith)
 differences_some (m ∷ ms) (v ∷ vs) (w ∷ ws) p some = by_test _ (is_misread m w)
     (λ misread.
-      let n = differ_not v w vs ws (λ same. false≢true (sym (chosen_is_read m v p.0) ∙ ap (is_misread m) same ∙ misread)) in
-      omega (arith, n))
+    let n = differ_not v w vs ws (λ same. false≢true (sym (chosen_is_read m v p.0) ∙ ap (is_misread m) same ∙ misread)) in
+    omega (arith, n))
     (λ read.
-      let n = place_passed is_misread m w ms ws read in
-      let rest = differences_some ms vs ws p.1 (omega (arith, n, some)) in
-      let least = differ_least v w vs ws in
-      omega (arith, least, rest))
+    let n = place_passed is_misread m w ms ws read in
+    let rest = differences_some ms vs ws p.1 (omega (arith, n, some)) in
+    let least = differ_least v w vs ws in
+    omega (arith, least, rest))
 
 counted_open : (m : List ℕ) (ms : List (List ℕ)) → is_open m ≡ true → count_by is_open (m ∷ ms) ≡ 1 + count_by is_open ms
 counted_open m ms e = sum_by-cons (λ x. cond (is_open x) 1 0) m ms ∙ ap (λ (b : Bool). cond {A = ℕ} b 1 0 + count_by is_open ms) e
@@ -144,14 +143,14 @@ open_few (m ∷ ms) (w ∷ ws) n =
     let rest = open_few ms ws (omega (arith, n)) in
     by_test _ (is_open m)
     (λ yes.
-      let a = counted_open m ms yes in
-      let b = place_counted is_doubtful m w ms ws (ap (λ c. c || is_misread m w) yes) in
-      omega (arith, a, b, rest))
+    let a = counted_open m ms yes in
+    let b = place_counted is_doubtful m w ms ws (ap (λ c. c || is_misread m w) yes) in
+    omega (arith, a, b, rest))
     (λ no.
-      let a = counted_closed m ms no in
-      by_test _ (is_doubtful m w)
-      (λ doubt. let b = place_counted is_doubtful m w ms ws doubt in omega (arith, a, b, rest))
-      (λ sure. let b = place_passed is_doubtful m w ms ws sure in omega (arith, a, b, rest)))
+    let a = counted_closed m ms no in
+    by_test _ (is_doubtful m w)
+    (λ doubt. let b = place_counted is_doubtful m w ms ws doubt in omega (arith, a, b, rest))
+    (λ sure. let b = place_passed is_doubtful m w ms ws sure in omega (arith, a, b, rest)))
 
 -- words for which the same marks stand differ in open places alone
 open_differences : (marks : List (List ℕ)) (vs ws : List ℕ) → AreChosen marks vs → AreChosen marks ws → count_of_differences vs ws ≤ count_by is_open marks
@@ -228,8 +227,8 @@ fit_alike line vs ws f g few p q flags =
     ⊎_elim
     (λ none. no_difference vs ws n none)
     (λ some.
-      let same : flag_of vs ≡ flag_of ws = spelled_flag vs f all p.spells ∙ flags ∙ sym (spelled_flag ws g all' q.spells) in
-      absurd (bad_isn't_spelled vs f (bad_spelling vs ws g all all' q.spells n same some (omega (arith, most, few))) p.spells))
+    let same : flag_of vs ≡ flag_of ws = spelled_flag vs f all p.spells ∙ flags ∙ sym (spelled_flag ws g all' q.spells) in
+    absurd (bad_isn't_spelled vs f (bad_spelling vs ws g all all' q.spells n same some (omega (arith, most, few))) p.spells))
     (few_or_none (count_of_differences vs ws))
 
 -- the words at a place that isn't open are the same

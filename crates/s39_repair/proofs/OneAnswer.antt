@@ -1,5 +1,5 @@
 -- A line has one answer.
-use Rattle.std.proofs.Common.{◌≡◌, ◌≢◌, ℕ, zero, suc, ◌<◌, ◌≤◌, ◌⊎◌, inl, inr, List, [], ◌∷◌, length, get_or, Option, Some, None, Result, Ok, Err, Ordering}
+use Rattle.std.proofs.Common.{◌≡◌, ◌≢◌, ℕ, zero, suc, ◌<◌, ◌≤◌, ◌⊎◌, List, [], ◌∷◌, length, Option, Some, None, Result, Ok, Err, Ordering}
 use Rattle.std.proofs.Common.{refl, sym, ap, ap₂, subst, ◌∙◌, ⊎_elim, arith}
 use Rattle.std.specs.Prelude.{AllPairs, Contains, MatchOption}
 use Rattle.std.specs.Cmp.Lexicographic.{slice_cmp}
@@ -19,7 +19,7 @@ use Rattle.s39_words.proofs.OneReading.{same_reading, same_share}
 use Rattle.s39_repair.specs.declared.repaired.Repaired.{Repaired}
 use Rattle.s39_repair.specs.declared.repair_error.RepairError.{RepairError}
 use Rattle.s39_repair.specs.declared.repair_error.RepairError.TheVariants.{UnknownWord, WordCount, UnreadableWords, NoMnemonic, WrongWord, BadChecksum, BadPadding, GroupThreshold}
-use Rattle.s39_repair.specs.Answer.{first_unknown, most_open, AreAll, AreWrongWords, ComesBefore, IsReadable, IsWhole, IsWrongWord, Repairs}
+use Rattle.s39_repair.specs.Answer.{first_unknown, most_open, AreAll, AreWrongWords, ComesBefore, IsReadable, IsWhole, Repairs}
 use Rattle.s39_repair.specs.Marks.{open_count, spelling, Fits}
 use Rattle.s39_repair.proofs.ComesBack.{chosen_once, comes_back}
 
@@ -58,13 +58,13 @@ module _ (line : List ℕ) where
   same_pair ws vs f g (Some t) (Some u) p q a b =
       ⊎_elim
       (λ first. ⊎_elim
-        (λ both. absurd (not_before_itself ws (subst (λ us. ComesBefore us ws) first (subst (ComesBefore vs) both b.2))))
-        (λ last. (same_words ws vs f g p q (sym first), ap Some (same_words a.0 b.0 t u a.1 b.1 (sym last))))
-        (a.3 b.0 u b.1))
+      (λ both. absurd (not_before_itself ws (subst (λ us. ComesBefore us ws) first (subst (ComesBefore vs) both b.2))))
+      (λ last. (same_words ws vs f g p q (sym first), ap Some (same_words a.0 b.0 t u a.1 b.1 (sym last))))
+      (a.3 b.0 u b.1))
       (λ turned. ⊎_elim
-        (λ last. absurd (not_both_before ws a.0 a.2 (subst (λ us. ComesBefore us ws) turned (subst (ComesBefore vs) last b.2))))
-        (λ both. absurd (not_before_itself a.0 (subst (λ us. ComesBefore us a.0) turned (subst (ComesBefore vs) both b.2))))
-        (a.3 b.0 u b.1))
+      (λ last. absurd (not_both_before ws a.0 a.2 (subst (λ us. ComesBefore us ws) turned (subst (ComesBefore vs) last b.2))))
+      (λ both. absurd (not_before_itself a.0 (subst (λ us. ComesBefore us a.0) turned (subst (ComesBefore vs) both b.2))))
+      (a.3 b.0 u b.1))
       (a.3 vs g q)
 
   same_all : (a b : Repaired) → AreAll (Fits line) a → AreAll (Fits line) b → a ≡ b

@@ -5,7 +5,6 @@ use Rattle.std.specs.Prelude.{All, Contains}
 use Rattle.std.specs.Option.{option_to_list}
 use Rattle.std.proofs.lemmas.Bool.{cases_eq}
 use Rattle.s39_lists.proofs.Sublists.{Contains-nil, Contains-head, Contains-cons}
-use Rattle.s39_words.specs.Checksum.{IsValidChecksum}
 use Rattle.s39_words.specs.Layout.{IsIndex, most_words}
 use Rattle.s39_words.specs.Reading.{IsWordCount, flag_of, Reads}
 use Rattle.s39_words.specs.Spelling.{words_of, Spells}
@@ -17,13 +16,13 @@ use Rattle.s39_words.proofs.OneReading.{same_reading}
 use Rattle.s39_repair.specs.declared.repaired.Repaired.{Repaired}
 use Rattle.s39_repair.specs.declared.repair_error.RepairError.{RepairError}
 use Rattle.s39_repair.specs.declared.repair_error.RepairError.TheVariants.{UnknownWord, WordCount, UnreadableWords, NoMnemonic, WrongWord, BadChecksum, BadPadding, GroupThreshold}
-use Rattle.s39_repair.specs.Answer.{most_open, AreWrongWords, IsWhole, IsWrongWord, Repairs}
-use Rattle.s39_repair.specs.Marks.{open_count, spelling, Fits}
+use Rattle.s39_repair.specs.Answer.{AreWrongWords, IsWhole, IsWrongWord, Repairs}
+use Rattle.s39_repair.specs.Marks.{spelling}
 use Rattle.s39_repair.specs.Misread.{HasWrongWords}
-use Rattle.s39_repair.specs.Sums.{ArePlaces, AgreeElsewhere}
+use Rattle.s39_repair.specs.Sums.{ArePlaces}
 use Rattle.s39_repair.proofs.Candidates.{spelled_checksum, spelled_indices}
 use Rattle.s39_repair.proofs.ComesBack.{chosen_below, chosen_length, chosen_once}
-use Rattle.s39_repair.proofs.Misread.{bad_isn't_spelled, is_mnemonic, same_flags, spelled_count, spelled_flag, two_at_least}
+use Rattle.s39_repair.proofs.Misread.{bad_isn't_spelled, same_flags, spelled_count, spelled_flag, two_at_least}
 use Rattle.s39_repair.proofs.WrongPlaces.{one_valid, two_alike}
 
 -- ---- the answer to a line with a bad checksum
@@ -103,8 +102,8 @@ two_named line first second is =
     let less : first < second = are.ascending 0 1 0 (omega arith) (omega arith) in
     ⊎_elim (λ e. inl e) (λ off. ⊎_elim (λ e. inr e)
     (λ off'. absurd (two_alike words first second (chosen_below (words_of line) words whole.words_are) (at_most_words (length words) count)
-      (λ share spells. bad_isn't_spelled words share is.2 spells) p q less
-      (sym (flag_stays words first p off) ∙ flag_stays words second q off')))
+    (λ share spells. bad_isn't_spelled words share is.2 spells) p q less
+    (sym (flag_stays words first p off) ∙ flag_stays words second q off')))
     (cases_eq second 2)) (cases_eq first 2)
 
 -- ---- replaced words
@@ -170,10 +169,10 @@ module _ (line words mnemonic : List ℕ) (share : ShareFields) (place other : �
         words,
         record { known = spelled_indices words in_list; count = count },
         λ valid. off (ap (λ us. get_or us place 0)
-          (one_valid (flag_of words) words words mnemonic a.i a.j a.k a.places
-          (record { same_count = refl; elsewhere = λ p off_i off_j off_k. refl })
-          (record { same_count = h.same_count; elsewhere = λ p off_i off_j off_k. let w = a.away p off_i off_j off_k in h.elsewhere p w.0 w.1 })
-          in_list in_list h.in_list valid (spelled_checksum mnemonic share (flag_of words) h.in_list h.spells flag))),
+            (one_valid (flag_of words) words words mnemonic a.i a.j a.k a.places
+            (record { same_count = refl; elsewhere = λ p off_i off_j off_k. refl })
+            (record { same_count = h.same_count; elsewhere = λ p off_i off_j off_k. let w = a.away p off_i off_j off_k in h.elsewhere p w.0 w.1 })
+            in_list in_list h.in_list valid (spelled_checksum mnemonic share (flag_of words) h.in_list h.spells flag))),
       )
 
   -- a third place, if the position isn't one of these two
@@ -186,9 +185,9 @@ module _ (line words mnemonic : List ℕ) (share : ShareFields) (place other : �
   third at apart low high = ⊎_elim
       (λ e. record { k = length words; places = behind (length words) (λ x. omega (arith, x, h.first_within)) (λ x. omega (arith, x, h.second_within)) (omega (arith, short)); away = λ p a b c x. a (omega (arith, x, e)) })
       (λ off. ⊎_elim
-        (λ e. record { k = length words; places = behind (length words) (λ x. omega (arith, x, h.first_within)) (λ x. omega (arith, x, h.second_within)) (omega (arith, short)); away = λ p a b c x. b (omega (arith, x, e)) })
-        (λ off'. record { k = at - 1; places = behind (at - 1) (λ x. off (omega (arith, x))) (λ x. off' (omega (arith, x))) (omega (arith, short)); away = λ p a b c x. c (omega (arith, x)) })
-        (cases_eq (suc other) at))
+      (λ e. record { k = length words; places = behind (length words) (λ x. omega (arith, x, h.first_within)) (λ x. omega (arith, x, h.second_within)) (omega (arith, short)); away = λ p a b c x. b (omega (arith, x, e)) })
+      (λ off'. record { k = at - 1; places = behind (at - 1) (λ x. off (omega (arith, x))) (λ x. off' (omega (arith, x))) (omega (arith, short)); away = λ p a b c x. c (omega (arith, x)) })
+      (cases_eq (suc other) at))
       (cases_eq (suc place) at)
     where
       behind : (m : ℕ) → place ≢ m → other ≢ m → m ≤ most_words + 3 → ArePlaces place other m
@@ -218,9 +217,9 @@ module _ (line words mnemonic : List ℕ) (share : ShareFields) (place other : �
         (spelled_checksum w.mnemonic w.share share.extendable w.in_list w.spells flag)
         (spelled_checksum mnemonic share share.extendable h.in_list h.spells refl) in
         absurd (⊎_elim
-          (λ here. off' (w.elsewhere other (λ e. apart (omega (arith, e, here))) ∙ ap (λ us. get_or us other 0) same))
-          (λ elsewhere. off (w.elsewhere place elsewhere ∙ ap (λ us. get_or us place 0) same))
-          (cases_eq (suc place) at)))
+        (λ here. off' (w.elsewhere other (λ e. apart (omega (arith, e, here))) ∙ ap (λ us. get_or us other 0) same))
+        (λ elsewhere. off (w.elsewhere place elsewhere ∙ ap (λ us. get_or us place 0) same))
+        (cases_eq (suc place) at)))
         (cases_eq at 2)
 
     abbrev OnlyTwo : Result Repaired RepairError → Type 0

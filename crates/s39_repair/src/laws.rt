@@ -73,7 +73,8 @@ pub fn one_wrong_word_is_named()
         → Contains positions (suc place) }
 {}
 
-/// If one word is wrong and the checksum is bad, the answer names the position of this word.
+/// If one word is wrong and the checksum is bad, the answer names the position of this word. The flag may be another
+/// one, if the second word is wrong.
 pub fn one_wrong_word_is_found()
     ensures { (line words mnemonic : List ℕ) (share : ShareFields) (place : ℕ) (answer : Result Repaired RepairError)
         → HasWrongWords line words mnemonic share place place → Repairs line answer
@@ -82,8 +83,8 @@ pub fn one_wrong_word_is_found()
         × Contains (first ∷ option_to_list second) (suc place) }
 {}
 
-/// If one word is replaced by another one and the flag stays the same, the checksum is bad. If the answer then names two
-/// positions, one of them is 2.
+/// If one word is replaced by another one and the flag stays the same, the checksum is bad. Of two positions that an
+/// answer names, one is 2.
 pub fn one_replaced_word()
     ensures bad { (line words mnemonic : List ℕ) (share : ShareFields) (place : ℕ)
         → HasWrongWords line words mnemonic share place place
