@@ -1,5 +1,6 @@
 -- Mnemonics that fit one line, or that a line was to say.
-use Rattle.std.proofs.Common.{◌≡◌, ◌≢◌, ℕ, zero, suc, ◌+◌, ◌<◌, ◌≤◌, ◌⊎◌, inl, inr, Bool, true, false, cond, List, [], ◌∷◌, length, get_or, Option, Some, None, Result, Ok, Err}
+use Rattle.std.proofs.Common.{◌≡◌, ◌≢◌, ℕ, zero, suc, ◌+◌, ◌<◌, ◌≤◌, ◌⊎◌, inl, inr, Bool, true, false, cond, List, [], ◌∷◌, length, get_or, Option}
+use Rattle.std.proofs.Common.{Some, None, Result, Ok, Err}
 use Rattle.std.proofs.Common.{refl, sym, ap, ap₂, subst, ◌∙◌, ⊎_elim, arith}
 use Rattle.std.specs.Prelude.{All, Contains, count_by, not, ◌==◌, ◌||◌}
 use Rattle.std.specs.List.{range_with_len}
@@ -14,7 +15,8 @@ use Rattle.s39_words.specs.Printing.{listed_word}
 use Rattle.s39_words.specs.Reading.{IsWordCount, flag_of, Reads}
 use Rattle.s39_words.specs.Spelling.{words_of, Spells}
 use Rattle.s39_words.specs.declared.share.ShareFields.{ShareFields}
-use Rattle.s39_words.specs.declared.word_error.WordError.TheVariants.{BadChecksum as words_BadChecksum, BadPadding as words_BadPadding, GroupThreshold as words_GroupThreshold}
+use Rattle.s39_words.specs.declared.word_error.WordError.TheVariants.{BadChecksum as words_BadChecksum, BadPadding as words_BadPadding}
+use Rattle.s39_words.specs.declared.word_error.WordError.TheVariants.{GroupThreshold as words_GroupThreshold}
 use Rattle.s39_words.proofs.DataWords.{is_word_count, flag-is}
 use Rattle.s39_words.proofs.Indices.{indices_same}
 use Rattle.s39_words.proofs.Mnemonics.{spelled_words}
@@ -22,7 +24,8 @@ use Rattle.s39_words.proofs.OneReading.{same_reading}
 use Rattle.s39_words.proofs.WrongWords.{bad_checksum}
 use Rattle.s39_repair.specs.declared.repaired.Repaired.{Repaired}
 use Rattle.s39_repair.specs.declared.repair_error.RepairError.{RepairError}
-use Rattle.s39_repair.specs.declared.repair_error.RepairError.TheVariants.{UnknownWord, WordCount, UnreadableWords, NoMnemonic, WrongWord, BadChecksum, BadPadding, GroupThreshold}
+use Rattle.s39_repair.specs.declared.repair_error.RepairError.TheVariants.{UnknownWord, WordCount, UnreadableWords, NoMnemonic, WrongWord}
+use Rattle.s39_repair.specs.declared.repair_error.RepairError.TheVariants.{BadChecksum, BadPadding, GroupThreshold}
 use Rattle.s39_repair.specs.Answer.{most_open, IsWhole, Repairs}
 use Rattle.s39_repair.specs.Marks.{choices, is_open, listed_that, open_count, spelling, stands_for, Fits}
 use Rattle.s39_repair.specs.Misread.{count_of_places, is_doubtful, is_misread, IsMisreadLine}
@@ -78,7 +81,8 @@ place_passed test m w ms ws e = rw e refl
 chosen_from : (mark : List ℕ) (index : ℕ) → IsIndex index → is_misread mark index ≡ false → Contains (choices mark) index
 unfolding listed_that
 chosen_from mark index below read =
-    Contains-filter (λ i. stands_for mark (listed_word i)) (range_with_len 0 word_list_length) index (Contains-range word_list_length index below) (shown (stands_for mark (listed_word index)) read)
+    Contains-filter (λ i. stands_for mark (listed_word i)) (range_with_len 0 word_list_length) index
+    (Contains-range word_list_length index below) (shown (stands_for mark (listed_word index)) read)
   where
     shown : (b : Bool) → not b ≡ false → b ≡ true
     shown true e = refl
@@ -232,7 +236,8 @@ fit_alike line vs ws f g few p q flags =
     (few_or_none (count_of_differences vs ws))
 
 -- the words at a place that isn't open are the same
-chosen_alike : (marks : List (List ℕ)) (vs ws : List ℕ) (k : ℕ) → AreChosen marks vs → AreChosen marks ws → k < length marks → is_open (get_or marks k []) ≡ false
+chosen_alike : (marks : List (List ℕ)) (vs ws : List ℕ) (k : ℕ) → AreChosen marks vs → AreChosen marks ws → k < length marks
+    → is_open (get_or marks k []) ≡ false
     → get_or vs k 0 ≡ get_or ws k 0
 chosen_alike [] vs ws k p q below closed = absurd (omega arith)
 chosen_alike (m ∷ ms) [] ws k p q below closed = absurd p
@@ -240,7 +245,8 @@ chosen_alike (m ∷ ms) (v ∷ vs) [] k p q below closed = absurd q
 chosen_alike (m ∷ ms) (v ∷ vs) (w ∷ ws) zero p q below closed = only_one (choices m) v w closed p.0 q.0
 chosen_alike (m ∷ ms) (v ∷ vs) (w ∷ ws) (suc k) p q below closed = chosen_alike ms vs ws k p.1 q.1 (omega arith) closed
 
-pub one_fits_closed : (line vs ws : List ℕ) (f g : ShareFields) → open_count line ≤ most_open → is_open (get_or (words_of line) 1 []) ≡ false → Fits line vs f → Fits line ws g
+pub one_fits_closed : (line vs ws : List ℕ) (f g : ShareFields) → open_count line ≤ most_open → is_open (get_or (words_of line) 1 []) ≡ false
+    → Fits line vs f → Fits line ws g
     → vs ≡ ws
 one_fits_closed line vs ws f g few closed p q =
     let all = chosen_below (words_of line) vs p.words in

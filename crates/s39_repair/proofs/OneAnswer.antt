@@ -14,11 +14,13 @@ use Rattle.s39_words.specs.Reading.{IsWordCount, Reads}
 use Rattle.s39_words.specs.Spelling.{words_of, Spells}
 use Rattle.s39_words.specs.declared.share.ShareFields.{ShareFields}
 use Rattle.s39_words.specs.declared.word_error.WordError.{WordError}
-use Rattle.s39_words.specs.declared.word_error.WordError.TheVariants.{BadChecksum as words_BadChecksum, BadPadding as words_BadPadding, GroupThreshold as words_GroupThreshold}
+use Rattle.s39_words.specs.declared.word_error.WordError.TheVariants.{BadChecksum as words_BadChecksum, BadPadding as words_BadPadding}
+use Rattle.s39_words.specs.declared.word_error.WordError.TheVariants.{GroupThreshold as words_GroupThreshold}
 use Rattle.s39_words.proofs.OneReading.{same_reading, same_share}
 use Rattle.s39_repair.specs.declared.repaired.Repaired.{Repaired}
 use Rattle.s39_repair.specs.declared.repair_error.RepairError.{RepairError}
-use Rattle.s39_repair.specs.declared.repair_error.RepairError.TheVariants.{UnknownWord, WordCount, UnreadableWords, NoMnemonic, WrongWord, BadChecksum, BadPadding, GroupThreshold}
+use Rattle.s39_repair.specs.declared.repair_error.RepairError.TheVariants.{UnknownWord, WordCount, UnreadableWords, NoMnemonic, WrongWord}
+use Rattle.s39_repair.specs.declared.repair_error.RepairError.TheVariants.{BadChecksum, BadPadding, GroupThreshold}
 use Rattle.s39_repair.specs.Answer.{first_unknown, most_open, AreAll, AreWrongWords, ComesBefore, IsReadable, IsWhole, Repairs}
 use Rattle.s39_repair.specs.Marks.{open_count, spelling, Fits}
 use Rattle.s39_repair.proofs.ComesBack.{chosen_once, comes_back}

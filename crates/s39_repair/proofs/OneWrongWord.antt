@@ -10,12 +10,14 @@ use Rattle.s39_words.specs.Reading.{IsWordCount, flag_of, Reads}
 use Rattle.s39_words.specs.Spelling.{words_of, Spells}
 use Rattle.s39_words.specs.declared.share.ShareFields.{ShareFields}
 use Rattle.s39_words.specs.declared.word_error.WordError.{WordError}
-use Rattle.s39_words.specs.declared.word_error.WordError.TheVariants.{BadChecksum as words_BadChecksum, BadPadding as words_BadPadding, GroupThreshold as words_GroupThreshold}
+use Rattle.s39_words.specs.declared.word_error.WordError.TheVariants.{BadChecksum as words_BadChecksum, BadPadding as words_BadPadding}
+use Rattle.s39_words.specs.declared.word_error.WordError.TheVariants.{GroupThreshold as words_GroupThreshold}
 use Rattle.s39_words.proofs.Indices.{at_most_words}
 use Rattle.s39_words.proofs.OneReading.{same_reading}
 use Rattle.s39_repair.specs.declared.repaired.Repaired.{Repaired}
 use Rattle.s39_repair.specs.declared.repair_error.RepairError.{RepairError}
-use Rattle.s39_repair.specs.declared.repair_error.RepairError.TheVariants.{UnknownWord, WordCount, UnreadableWords, NoMnemonic, WrongWord, BadChecksum, BadPadding, GroupThreshold}
+use Rattle.s39_repair.specs.declared.repair_error.RepairError.TheVariants.{UnknownWord, WordCount, UnreadableWords, NoMnemonic, WrongWord}
+use Rattle.s39_repair.specs.declared.repair_error.RepairError.TheVariants.{BadChecksum, BadPadding, GroupThreshold}
 use Rattle.s39_repair.specs.Answer.{AreWrongWords, IsWhole, IsWrongWord, Repairs}
 use Rattle.s39_repair.specs.Marks.{spelling}
 use Rattle.s39_repair.specs.Misread.{HasWrongWords}
@@ -183,10 +185,10 @@ module _ (line words mnemonic : List ℕ) (share : ShareFields) (place other : �
 
   third : (at : ℕ) → place ≢ other → 1 ≤ at → at ≤ length words → Third at
   third at apart low high = ⊎_elim
-      (λ e. record { k = length words; places = behind (length words) (λ x. omega (arith, x, h.first_within)) (λ x. omega (arith, x, h.second_within)) (omega (arith, short)); away = λ p a b c x. a (omega (arith, x, e)) })
+      (λ e. record { k = length words; places = past; away = λ p a b c x. a (omega (arith, x, e)) })
       (λ off. ⊎_elim
-      (λ e. record { k = length words; places = behind (length words) (λ x. omega (arith, x, h.first_within)) (λ x. omega (arith, x, h.second_within)) (omega (arith, short)); away = λ p a b c x. b (omega (arith, x, e)) })
-      (λ off'. record { k = at - 1; places = behind (at - 1) (λ x. off (omega (arith, x))) (λ x. off' (omega (arith, x))) (omega (arith, short)); away = λ p a b c x. c (omega (arith, x)) })
+      (λ e. record { k = length words; places = past; away = λ p a b c x. b (omega (arith, x, e)) })
+      (λ off'. record { k = at - 1; places = before off off'; away = λ p a b c x. c (omega (arith, x)) })
       (cases_eq (suc other) at))
       (cases_eq (suc place) at)
     where
@@ -199,6 +201,12 @@ module _ (line words mnemonic : List ℕ) (share : ShareFields) (place other : �
         second_in_range = omega (arith, h.second_within, short);
         third_in_range = top;
       }
+
+      past : ArePlaces place other (length words)
+      past = behind (length words) (λ x. omega (arith, x, h.first_within)) (λ x. omega (arith, x, h.second_within)) (omega (arith, short))
+
+      before : suc place ≢ at → suc other ≢ at → ArePlaces place other (at - 1)
+      before off off' = behind (at - 1) (λ x. off (omega (arith, x))) (λ x. off' (omega (arith, x))) (omega (arith, short))
 
   module _ (apart : place ≢ other) (off : get_or words place 0 ≢ get_or mnemonic place 0) (off' : get_or words other 0 ≢ get_or mnemonic other 0)
       (flags : flag_of words ≡ flag_of mnemonic) where
