@@ -37,7 +37,8 @@ spelled_indices mnemonic all =
     (HaveIndices-listed_words mnemonic all)
 
 -- are those of the share, with a valid checksum
-pub spelled_parts : (mnemonic : List ℕ) (share : ShareFields) → All IsIndex mnemonic → (s : Spells (spelling mnemonic) share) → mnemonic ≡ data_words share ++ s.checksum
+pub spelled_parts : (mnemonic : List ℕ) (share : ShareFields) → All IsIndex mnemonic → (s : Spells (spelling mnemonic) share)
+    → mnemonic ≡ data_words share ++ s.checksum
 spelled_parts mnemonic share all s =
     indices_same (words_of (spelling mnemonic)) mnemonic (data_words share ++ s.checksum) (spelled_indices mnemonic all) s.words
 
@@ -90,7 +91,8 @@ is_lost ranges mnemonic first lost share extendable i j k all closed first_is on
     (subst (λ ws. AgreeElsewhere ws mnemonic i j k) (sym first_is) (agree ranges mnemonic i j k fits.words closed))
 
 -- so the text of the lost words spells its share
-pub spells_lost : (text lost mnemonic : List ℕ) (share : ShareFields) → text ≡ spelling lost → lost ≡ mnemonic → Spells (spelling mnemonic) share → Spells text share
+pub spells_lost : (text lost mnemonic : List ℕ) (share : ShareFields) → text ≡ spelling lost → lost ≡ mnemonic → Spells (spelling mnemonic) share
+    → Spells text share
 spells_lost text lost mnemonic share text_is is spells = subst (λ t. Spells t share) (sym (text_is ∙ ap spelling is)) spells
 
 -- ---- comparing flags

@@ -1,5 +1,6 @@
 -- The words for which a mark stands are a range of the list.
-use Rattle.std.proofs.Common.{◌≡◌, ◌≢◌, ℕ, ◌+◌, ◌-◌, ◌<◌, ◌≤◌, Bool, true, false, List, [], ◌∷◌, ◌++◌, length, get_or, take, drop, filter, Some, refl, sym, ap, ap₂, subst, ◌∙◌, arith}
+use Rattle.std.proofs.Common.{◌≡◌, ◌≢◌, ℕ, ◌+◌, ◌-◌, ◌<◌, ◌≤◌, Bool, true, false, List, [], ◌∷◌, ◌++◌, length, get_or, take, drop, filter, Some, refl}
+use Rattle.std.proofs.Common.{sym, ap, ap₂, subst, ◌∙◌, arith}
 use Rattle.std.specs.Prelude.{◌↔◌, ◌||◌, ◌&&◌, All, Contains, IsTrue, nat_eq, bytes_eq}
 use Rattle.std.specs.List.{ends_with, range_with_len}
 use Rattle.std.specs.Char.{to_ascii_lowercase}
@@ -23,7 +24,8 @@ use Rattle.s39_repair.specs.Marks.{stands_for, listed_that, choices}
 
 -- ---- the numbers of a range that pass a test, if they stand between two numbers
 
-between : (p : ℕ → Bool) (n a b : ℕ) → a ≤ b → b ≤ n → ((i : ℕ) → i < n → IsTrue (p i) ↔ ((a ≤ i) × (i < b))) → filter p (range_with_len 0 n) ≡ range_with_len a (b - a)
+between : (p : ℕ → Bool) (n a b : ℕ) → a ≤ b → b ≤ n → ((i : ℕ) → i < n → IsTrue (p i) ↔ ((a ≤ i) × (i < b)))
+    → filter p (range_with_len 0 n) ≡ range_with_len a (b - a)
 between p n a b low high h =
     let middle = b - a in
     let rest = n - b in
@@ -89,7 +91,8 @@ whole_word_is mark a b range some bound long =
     let lt : IsIndex a = omega arith in
     let same : str_to_ascii_lowercase mark ≡ listed_word a = same_from_begins mark (listed_word a) ((range a lt).1 (omega arith, some)) long in
     between (IsWhole mark) word_list_length a (a + 1) (omega arith) (omega arith) (λ i lt'. (
-      λ is. let one : i ≡ a = same_index i a lt' lt (sym ((bytes_eq-Decides (str_to_ascii_lowercase mark) (listed_word i)).0 is) ∙ same) in (omega arith, omega arith),
+      λ is. let one : i ≡ a = same_index i a lt' lt (sym ((bytes_eq-Decides (str_to_ascii_lowercase mark) (listed_word i)).0 is) ∙ same) in
+          (omega arith, omega arith),
       λ inside. let one : i ≡ a = omega (arith, inside.0, inside.1) in
           (bytes_eq-Decides (str_to_ascii_lowercase mark) (listed_word i)).1 (same ∙ ap listed_word (sym one)),
     ))
@@ -143,7 +146,8 @@ no_question_mark small i lt e =
     omega (arith, at, letter)
 
 -- what stands for words if it ends with a question mark
-open_mark : (letters : List ℕ) (i : ℕ) → IsIndex i → stands_for (str_to_ascii_lowercase letters ++ 63 ∷ []) (listed_word i) ≡ begins_with letters (listed_word i)
+open_mark : (letters : List ℕ) (i : ℕ) → IsIndex i
+    → stands_for (str_to_ascii_lowercase letters ++ 63 ∷ []) (listed_word i) ≡ begins_with letters (listed_word i)
 open_mark letters i lt =
     let small = str_to_ascii_lowercase letters in
     let mark = small ++ 63 ∷ [] in

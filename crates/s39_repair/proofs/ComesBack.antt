@@ -1,10 +1,11 @@
 -- A mnemonic that fits a line is in the answer to it.
-use Rattle.std.proofs.Common.{◌≡◌, ℕ, ◌+◌, ◌<◌, ◌≤◌, ◌⊎◌, inl, inr, Bool, true, false, cond, List, [], ◌∷◌, ◌++◌, length, get_or, suc, Option, Some, None, Result, Ok, Err, refl, sym, ap, ap₂, subst, ◌∙◌, ⊎_elim, arith}
+use Rattle.std.proofs.Common.{◌≡◌, ℕ, ◌+◌, ◌<◌, ◌≤◌, ◌⊎◌, inl, inr, Bool, true, false, cond, List, [], ◌∷◌, length, get_or, suc, Option, Some, None}
+use Rattle.std.proofs.Common.{Result, Ok, Err, refl, sym, ap, ap₂, subst, ◌∙◌, ⊎_elim, arith}
 use Rattle.std.specs.Prelude.{All, Contains, MatchOption, count_by, nat_lt, not}
 use Rattle.std.specs.List.{range_with_len}
 use Rattle.std.proofs.lemmas.Bool.{cases_lt, lt-ltb, false≢true}
 use Rattle.std.proofs.lemmas.List.{get_or_default}
-use Rattle.std.proofs.lemmas.List.Elements.{All-nil, All-cons, All-head, All-tail}
+use Rattle.std.proofs.lemmas.List.Elements.{All-nil, All-cons}
 use Rattle.std.proofs.lemmas.List.Sums.{sum_by-cons}
 use Rattle.s39_lists.proofs.Ranges.{range-below}
 use Rattle.s39_lists.proofs.Sublists.{of_filter}
@@ -14,12 +15,14 @@ use Rattle.s39_words.specs.Reading.{IsWordCount, Reads}
 use Rattle.s39_words.specs.Spelling.{words_of, Spells}
 use Rattle.s39_words.specs.declared.share.ShareFields.{ShareFields}
 use Rattle.s39_words.specs.declared.word_error.WordError.{WordError}
-use Rattle.s39_words.specs.declared.word_error.WordError.TheVariants.{BadChecksum as words_BadChecksum, BadPadding as words_BadPadding, GroupThreshold as words_GroupThreshold}
+use Rattle.s39_words.specs.declared.word_error.WordError.TheVariants.{BadChecksum as words_BadChecksum, BadPadding as words_BadPadding}
+use Rattle.s39_words.specs.declared.word_error.WordError.TheVariants.{GroupThreshold as words_GroupThreshold}
 use Rattle.s39_words.proofs.DataWords.{is_word_count}
 use Rattle.s39_words.proofs.OneReading.{same_reading, same_share}
 use Rattle.s39_repair.specs.declared.repaired.Repaired.{Repaired}
 use Rattle.s39_repair.specs.declared.repair_error.RepairError.{RepairError}
-use Rattle.s39_repair.specs.declared.repair_error.RepairError.TheVariants.{UnknownWord, WordCount, UnreadableWords, NoMnemonic, WrongWord, BadChecksum, BadPadding, GroupThreshold}
+use Rattle.s39_repair.specs.declared.repair_error.RepairError.TheVariants.{UnknownWord, WordCount, UnreadableWords, NoMnemonic, WrongWord}
+use Rattle.s39_repair.specs.declared.repair_error.RepairError.TheVariants.{BadChecksum, BadPadding, GroupThreshold}
 use Rattle.s39_repair.specs.Answer.{first_unknown, most_open, ComesBefore, IsWhole, Repairs}
 use Rattle.s39_repair.specs.Marks.{choices, is_known, is_open, listed_that, open_count, spelling, Fits}
 use Rattle.s39_repair.proofs.Candidates.{spelled_parts}
@@ -34,7 +37,7 @@ listed_below test index has =
     let below = range-below word_list_length among.0 index among.1 in
     subst (λ i. i < word_list_length) among.2 below
 
-chosen_below : (marks : List (List ℕ)) (words : List ℕ) → AreChosen marks words → All IsIndex words
+pub chosen_below : (marks : List (List ℕ)) (words : List ℕ) → AreChosen marks words → All IsIndex words
 chosen_below [] [] all = All-nil IsIndex
 chosen_below [] (w ∷ ws) all = absurd all
 chosen_below (m ∷ ms) [] all = absurd all
@@ -50,13 +53,13 @@ chosen_known (m ∷ ms) (w ∷ ws) all =
     All-cons (λ mark. not (is_known mark) ≡ false) m ms (ap not (lt-ltb 0 (length (choices m)) (some_from_contains (choices m) w all.0)))
     (chosen_known ms ws all.1)
 
-chosen_length : (marks : List (List ℕ)) (words : List ℕ) → AreChosen marks words → length marks ≡ length words
+pub chosen_length : (marks : List (List ℕ)) (words : List ℕ) → AreChosen marks words → length marks ≡ length words
 chosen_length [] [] all = refl
 chosen_length [] (w ∷ ws) all = absurd all
 chosen_length (m ∷ ms) [] all = absurd all
 chosen_length (m ∷ ms) (w ∷ ws) all = ap suc (chosen_length ms ws all.1)
 
-only_one : (xs : List ℕ) (x y : ℕ) → nat_lt 1 (length xs) ≡ false → Contains xs x → Contains xs y → x ≡ y
+pub only_one : (xs : List ℕ) (x y : ℕ) → nat_lt 1 (length xs) ≡ false → Contains xs x → Contains xs y → x ≡ y
 only_one xs x y closed one other =
     let short : length xs ≤ 1 =
     ⊎_elim (λ more. absurd (false≢true (sym closed ∙ lt-ltb 1 (length xs) more))) (λ few. few) (cases_lt 1 (length xs)) in
@@ -64,7 +67,7 @@ only_one xs x y closed one other =
     sym one.2 ∙ get_or_default xs one.0 x y one.1 ∙ ap (λ i. get_or xs i y) same ∙ other.2
 
 -- a line without open places stands for one list of words
-chosen_once : (marks : List (List ℕ)) (vs ws : List ℕ) → count_by is_open marks ≡ 0 → AreChosen marks vs → AreChosen marks ws → vs ≡ ws
+pub chosen_once : (marks : List (List ℕ)) (vs ws : List ℕ) → count_by is_open marks ≡ 0 → AreChosen marks vs → AreChosen marks ws → vs ≡ ws
 chosen_once [] [] [] none p q = refl
 chosen_once [] [] (w ∷ ws) none p q = absurd q
 chosen_once [] (v ∷ vs) ws none p q = absurd p

@@ -79,10 +79,12 @@ module _ (ranges : List WordRange) where
 
   pub both_fit : (words last : List ℕ) (share second : ShareFields) → FitsRanges ranges words share → FitsRanges ranges last second
       → share.extendable ≡ false → second.extendable ≡ true → OnlyWith false words → OnlyWith true last
-      → AreAll (FitsRanges ranges) (if is_lt (slice_cmp nat_cmp words last) then record { first = share; second = Some second } else record { first = second; second = Some share })
+      → AreAll (FitsRanges ranges) (if is_lt (slice_cmp nat_cmp words last) then record { first = share; second = Some second }
+      else record { first = second; second = Some share })
   both_fit words last share second fits fits' plain extendable only only' =
       let o = slice_cmp nat_cmp words last in
-      (elim (is_lt o) as (λ b. is_lt o ≡ b → AreAll (FitsRanges ranges) (if b then record { first = share; second = Some second } else record { first = second; second = Some share })) [
+      (elim (is_lt o) as (λ b. is_lt o ≡ b → AreAll (FitsRanges ranges) (if b then record { first = share; second = Some second }
+      else record { first = second; second = Some share })) [
         | true ↦ λ low. two_fit words last share second false true fits fits' only only' plain_or_not (less o low)
         | false ↦ λ high.
             let other : o ≢ Equal = λ e. apart words last share second fits fits' plain extendable (same_from_equal words last e) in

@@ -9,3 +9,6 @@ pub mod Flags
 pub mod WrongPlaces
 pub mod Wholes
 pub mod ComesBack
+pub mod OneAnswer
+pub mod Misread
+pub mod OneWrongWord

@@ -81,7 +81,8 @@ module _ (extendable : Bool) (ws vs : List ℕ) (i j k : ℕ) (ps : ArePlaces i 
       let n = length (front extendable) in
       let differences = sum_of word_field ws vs in
       let start : n + 0 ≡ n = omega arith in
-      let term : (p : ℕ) → word_field.mul (get_or differences p 0) (power word_field x (n + p)) ≡ word_field.mul (change p) (power word_field (locator extendable p) m) =
+      let term : (p : ℕ) → word_field.mul (get_or differences p 0) (power word_field x (n + p))
+      ≡ word_field.mul (change p) (power word_field (locator extendable p) m) =
       λ p. ap₂ word_field.mul (sum-at ws vs p agree.same_count) (power-exchanges word_field axioms half m (n + p)) in
       sym (axioms.add_zero (sum_with extendable ws m))
       ∙ ap (bit_xor (sum_with extendable ws m)) (sym root)
@@ -90,7 +91,8 @@ module _ (extendable : Bool) (ws vs : List ℕ) (i j k : ℕ) (ps : ArePlaces i 
       ∙ value_from-same (front extendable) ws vs 0 x
       ∙ ap (λ l. value_from word_field differences l x) start
       ∙ three_terms word_field axioms differences i j k n x ps.first_second ps.first_third ps.second_third
-      (λ p off_i off_j off_k. sum-at ws vs p agree.same_count ∙ ap (λ a. bit_xor a (get_or vs p 0)) (agree.elsewhere p off_i off_j off_k) ∙ axioms.add_self (get_or vs p 0))
+      (λ p off_i off_j off_k. sum-at ws vs p agree.same_count ∙ ap (λ a. bit_xor a (get_or vs p 0)) (agree.elsewhere p off_i off_j off_k)
+      ∙ axioms.add_self (get_or vs p 0))
       ∙ ap₂ bit_xor (term i) (ap₂ bit_xor (term j) (ap (λ t. bit_xor t 0) (term k)))
 
   change-element : (p : ℕ) → word_field.IsElement (change p)
@@ -169,9 +171,11 @@ module _ (extendable : Bool) (ws : List ℕ) (i j k a b c : ℕ) where
       λ p e e_is. ap (bit_xor (get_or ws p 0)) e_is ∙ add_cancels word_field axioms (get_or ws p 0) (get_or vs p 0) in
       ext_get_or 0 found vs (n₃ ∙ n₂ ∙ n₁ ∙ agree.same_count) (λ p below.
       ⊎_elim
-      (λ at. ap (λ q. get_or found q 0) at ∙ get_or-set_same second k (changed ws k c) 0 (omega (arith, at)) ∙ right k c c_is ∙ ap (λ q. get_or vs q 0) (sym at))
+      (λ at. ap (λ q. get_or found q 0) at ∙ get_or-set_same second k (changed ws k c) 0 (omega (arith, at))
+      ∙ right k c c_is ∙ ap (λ q. get_or vs q 0) (sym at))
       (λ off_k. get_or-set_other second k p (changed ws k c) 0 off_k ∙ ⊎_elim
-      (λ at. ap (λ q. get_or second q 0) at ∙ get_or-set_same first j (changed ws j b) 0 (omega (arith, at)) ∙ right j b b_is ∙ ap (λ q. get_or vs q 0) (sym at))
+      (λ at. ap (λ q. get_or second q 0) at ∙ get_or-set_same first j (changed ws j b) 0 (omega (arith, at))
+      ∙ right j b b_is ∙ ap (λ q. get_or vs q 0) (sym at))
       (λ off_j. get_or-set_other first j p (changed ws j b) 0 off_j ∙ ⊎_elim
       (λ at. ap (λ q. get_or first q 0) at ∙ get_or-set_same ws i (changed ws i a) 0 (omega (arith, at)) ∙ right i a a_is ∙ ap (λ q. get_or vs q 0) (sym at))
       (λ off_i. get_or-set_other ws i p (changed ws i a) 0 off_i ∙ agree.elsewhere p off_i off_j off_k)
@@ -198,7 +202,8 @@ with_changes-in_range ws i j k a b c all la lb lc =
 pub sums_from : (extendable : Bool) (ws : List ℕ) (i j k e s₁ s₂ s₃ x y z : ℕ) → s₁ ≡ sum_with extendable ws 1 → s₂ ≡ sum_with extendable ws 2
     → s₃ ≡ sum_with extendable ws 3 → x ≡ locator extendable i → y ≡ locator extendable j → z ≡ locator extendable k
     → e ≡ value_of_sums word_field s₁ s₂ s₃ x y z
-    → e ≡ value_of_sums word_field (sum_with extendable ws 1) (sum_with extendable ws 2) (sum_with extendable ws 3) (locator extendable i) (locator extendable j) (locator extendable k)
+    → e ≡ value_of_sums word_field (sum_with extendable ws 1) (sum_with extendable ws 2) (sum_with extendable ws 3)
+    (locator extendable i) (locator extendable j) (locator extendable k)
 sums_from extendable ws i j k e s₁ s₂ s₃ x y z e₁ e₂ e₃ x_is y_is z_is is =
     is
     ∙ ap (λ s. value_of_sums word_field s s₂ s₃ x y z) e₁
@@ -206,4 +211,5 @@ sums_from extendable ws i j k e s₁ s₂ s₃ x y z e₁ e₂ e₃ x_is y_is z_
     ∙ ap (λ s. value_of_sums word_field (sum_with extendable ws 1) (sum_with extendable ws 2) s x y z) e₃
     ∙ ap (λ s. value_of_sums word_field (sum_with extendable ws 1) (sum_with extendable ws 2) (sum_with extendable ws 3) s y z) x_is
     ∙ ap (λ s. value_of_sums word_field (sum_with extendable ws 1) (sum_with extendable ws 2) (sum_with extendable ws 3) (locator extendable i) s z) y_is
-    ∙ ap (λ s. value_of_sums word_field (sum_with extendable ws 1) (sum_with extendable ws 2) (sum_with extendable ws 3) (locator extendable i) (locator extendable j) s) z_is
+    ∙ ap (λ s. value_of_sums word_field (sum_with extendable ws 1) (sum_with extendable ws 2) (sum_with extendable ws 3)
+    (locator extendable i) (locator extendable j) s) z_is

@@ -62,7 +62,8 @@ unknown_from mark range same none =
     let n : length (choices mark) ≡ range.end - range.first = ap length same ∙ length-words_in range in
     ap not (le-ltb 0 (length (choices mark)) (omega arith))
 
-known_all : (marks : List (List ℕ)) (ranges : List WordRange) → map choices marks ≡ map words_in ranges → All IsRange ranges → All (λ mark. not (is_known mark) ≡ false) marks
+known_all : (marks : List (List ℕ)) (ranges : List WordRange) → map choices marks ≡ map words_in ranges → All IsRange ranges
+    → All (λ mark. not (is_known mark) ≡ false) marks
 known_all [] ranges same all = All-nil (λ mark. not (is_known mark) ≡ false)
 known_all (m ∷ ms) [] same all = cc
 known_all (m ∷ ms) (r ∷ rs) same all =
@@ -109,7 +110,8 @@ chosen : (range : WordRange) (xs : List ℕ) (index : ℕ) → xs ≡ words_in r
 chosen range xs index same low high =
     subst (λ ys. Contains ys index) (sym same) (Contains-range_from range.first (range.end - range.first) index low (omega arith))
 
-has_words : (marks : List (List ℕ)) (ranges : List WordRange) (words : List ℕ) → map choices marks ≡ map words_in ranges → AreChosen marks words → HasWords ranges words
+has_words : (marks : List (List ℕ)) (ranges : List WordRange) (words : List ℕ) → map choices marks ≡ map words_in ranges → AreChosen marks words
+    → HasWords ranges words
 has_words [] [] [] same all = record { same_count = refl; each = λ k d below. absurd (omega arith) }
 has_words [] [] (w ∷ ws) same all = absurd all
 has_words [] (r ∷ rs) words same all = cc
@@ -126,7 +128,8 @@ has_words (m ∷ ms) (r ∷ rs) (w ∷ ws) same all =
     each here rest zero d below = in_range r (choices m) w here all.0
     each here rest (suc k) d below = rest.each k d (omega arith)
 
-are_chosen : (marks : List (List ℕ)) (ranges : List WordRange) (words : List ℕ) → map choices marks ≡ map words_in ranges → HasWords ranges words → AreChosen marks words
+are_chosen : (marks : List (List ℕ)) (ranges : List WordRange) (words : List ℕ) → map choices marks ≡ map words_in ranges → HasWords ranges words
+    → AreChosen marks words
 are_chosen [] [] [] same has = tt
 are_chosen [] [] (w ∷ ws) same has = let n = has.same_count in absurd (omega (arith, n))
 are_chosen [] (r ∷ rs) words same has = cc
@@ -141,13 +144,15 @@ are_chosen (m ∷ ms) (r ∷ rs) (w ∷ ws) same has =
       are_chosen ms rs ws later (record { same_count = omega (arith, n); each = λ k d below. has.each (suc k) d (omega arith) }),
     )
 
-pub fits_ranges : (line : List ℕ) (ranges : List WordRange) (mnemonic : List ℕ) (share : ShareFields) → AreMarks line ranges → Fits line mnemonic share → FitsRanges ranges mnemonic share
+pub fits_ranges : (line : List ℕ) (ranges : List WordRange) (mnemonic : List ℕ) (share : ShareFields) → AreMarks line ranges
+    → Fits line mnemonic share → FitsRanges ranges mnemonic share
 fits_ranges line ranges mnemonic share m fits = record {
   words = has_words (words_of line) ranges mnemonic m.same fits.words;
   spells = fits.spells;
 }
 
-pub fits_line : (line : List ℕ) (ranges : List WordRange) (mnemonic : List ℕ) (share : ShareFields) → AreMarks line ranges → FitsRanges ranges mnemonic share → Fits line mnemonic share
+pub fits_line : (line : List ℕ) (ranges : List WordRange) (mnemonic : List ℕ) (share : ShareFields) → AreMarks line ranges
+    → FitsRanges ranges mnemonic share → Fits line mnemonic share
 fits_line line ranges mnemonic share m fits = record {
   words = are_chosen (words_of line) ranges mnemonic m.same fits.words;
   spells = fits.spells;

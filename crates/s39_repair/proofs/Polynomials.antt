@@ -1,5 +1,6 @@
 -- The polynomial of a checksum, and its value.
-use Rattle.std.proofs.Common.{◌≡◌, ℕ, ◌+◌, ◌-◌, ◌<◌, ◌≤◌, Bool, List, [], ◌∷◌, ◌++◌, length, get_or, drop, Option, Some, None, IsSome, refl, sym, ap, ap₂, ◌∙◌, arith}
+use Rattle.std.proofs.Common.{◌≡◌, ℕ, ◌+◌, ◌-◌, ◌<◌, ◌≤◌, Bool, List, [], ◌∷◌, ◌++◌, length, get_or, drop, Option, Some, None, IsSome, refl, sym, ap}
+use Rattle.std.proofs.Common.{ap₂, ◌∙◌, arith}
 use Rattle.std.specs.Prelude.{◌↔◌, All, bit_xor, unwrap_or}
 use Rattle.std.specs.Option.{option_to_list}
 use Rattle.std.proofs.lemmas.Bool.{false≢true}
@@ -35,10 +36,12 @@ added-in_range (x ∷ []) all = All-cons IsIndex (bit_xor x 1) [] (axioms.add_el
 added-in_range (x ∷ y ∷ ys) all =
     All-cons IsIndex x (one_added_to_last (y ∷ ys)) (All-head IsIndex x (y ∷ ys) all) (added-in_range (y ∷ ys) (All-tail IsIndex x (y ∷ ys) all))
 
-pub polynomial-in_range : (extendable : Bool) (words : List ℕ) → All IsIndex words → All IsIndex (one_added_to_last (1 ∷ customization_string extendable ++ words))
+pub polynomial-in_range : (extendable : Bool) (words : List ℕ) → All IsIndex words
+    → All IsIndex (one_added_to_last (1 ∷ customization_string extendable ++ words))
 polynomial-in_range extendable words all =
     added-in_range (1 ∷ customization_string extendable ++ words)
-    (All-append IsIndex (1 ∷ customization_string extendable) words (All-cons IsIndex 1 (customization_string extendable) (omega arith) (customization extendable).1) all)
+    (All-append IsIndex (1 ∷ customization_string extendable) words
+    (All-cons IsIndex 1 (customization_string extendable) (omega arith) (customization extendable).1) all)
 
 -- the value with one coefficient more in front
 pub next_value : (cs : List ℕ) (i x value product e sum : ℕ) → 0 < i → i ≤ length cs → All IsIndex cs → value ≡ value_at word_field (drop i cs) x

@@ -9,7 +9,8 @@ use Rattle.s39_words.specs.Spelling.{is_separator, words_of}
 use Rattle.s39_words.proofs.TextWords.{words_of_first, some_from_begins}
 
 -- the mark ends at a separator
-pub ends_at_separator : (text : List ℕ) (end : ℕ) → end < length text → is_separator (get_or text end 0) ≡ true → All (λ b. is_separator b ≡ true) (take 1 (drop end text))
+pub ends_at_separator : (text : List ℕ) (end : ℕ) → end < length text → is_separator (get_or text end 0) ≡ true
+    → All (λ b. is_separator b ≡ true) (take 1 (drop end text))
 ends_at_separator text end within here =
     subst (λ l. All (λ b. is_separator b ≡ true) (take 1 l)) (sym (drop_more text end 0 within))
     (All-cons (λ b. is_separator b ≡ true) (get_or text end 0) [] here (All-nil (λ b. is_separator b ≡ true)))
@@ -33,7 +34,3 @@ first_words text end inside behind begins some =
     let parts = first text end inside behind in
     words_of_first text (take end text) (drop end text) parts (some_from_begins text (take end text) (drop end text) parts begins some)
     ∙ ap (λ l. str_to_ascii_lowercase (take end text) ∷ words_of l) (sym (take_rest text end))
-
-pub rest_shorter : (text : List ℕ) (end : ℕ) → All (λ b. is_separator b ≡ true) (take 1 (drop end text)) → All (λ b. is_separator b ≡ false) (take end text)
-    → BeginsInWord text → 0 < length text → 0 < length (take end text)
-rest_shorter text end behind inside begins some = some_from_begins text (take end text) (drop end text) (first text end inside behind) begins some

@@ -8,7 +8,8 @@ use Rattle.s39_field.specs.Field.{Operations, IsField}
 use Rattle.s39_field.specs.Polynomial.{power, value_from}
 use Rattle.s39_field.specs.PowerSums.{power_sum}
 use Rattle.s39_repair.specs.Sums.{value_of_sums}
-use Rattle.s39_field.proofs.Values.{zero_add, add_exchanges, add_of_sums, same_from_sum, mul-zero_left, mul-zero_right, one_mul, distributes_left, zero_from_product}
+use Rattle.s39_field.proofs.Values.{zero_add, add_exchanges, add_of_sums, same_from_sum, mul-zero_left, mul-zero_right, one_mul, distributes_left}
+use Rattle.s39_field.proofs.Values.{zero_from_product}
 
 module _ {F : Type 0} (f : Operations F) (is : IsField f) where
   -- ---- a polynomial whose coefficients are zero but at three places

@@ -1,5 +1,6 @@
 -- Lines in which no place is open, and the answers to lines from those to ranges.
-use Rattle.std.proofs.Common.{◌≡◌, ℕ, ◌+◌, ◌<◌, Bool, true, false, cond, List, [], ◌∷◌, length, get_or, Option, Some, None, Result, Ok, Err, refl, sym, ap, subst, ◌∙◌, arith}
+use Rattle.std.proofs.Common.{◌≡◌, ℕ, ◌+◌, ◌<◌, Bool, true, false, cond, List, [], ◌∷◌, length, get_or, Option, Some, None, Result, Ok, Err, refl}
+use Rattle.std.proofs.Common.{sym, ap, subst, ◌∙◌, arith}
 use Rattle.std.specs.Prelude.{◌⊎◌, All, MatchOption, count_by}
 use Rattle.std.proofs.lemmas.List.{length-map, get_or-map, ext_get_or}
 use Rattle.std.proofs.lemmas.List.Elements.{All-nil, All-cons}
@@ -8,12 +9,14 @@ use Rattle.s39_words.specs.Reading.{IsWordCount, Reads}
 use Rattle.s39_words.specs.Spelling.{words_of, Spells}
 use Rattle.s39_words.specs.declared.prefix.WordRange.{WordRange}
 use Rattle.s39_words.specs.declared.share.ShareFields.{ShareFields}
-use Rattle.s39_words.specs.declared.word_error.WordError.TheVariants.{UnknownWord as words_UnknownWord, WordCount as words_WordCount, BadChecksum as words_BadChecksum}
+use Rattle.s39_words.specs.declared.word_error.WordError.TheVariants.{UnknownWord as words_UnknownWord, WordCount as words_WordCount}
+use Rattle.s39_words.specs.declared.word_error.WordError.TheVariants.{BadChecksum as words_BadChecksum}
 use Rattle.s39_words.proofs.Indices.{indices_same, unknown_excludes_indices}
 use Rattle.s39_words.proofs.OneReading.{same_reading}
 use Rattle.s39_repair.specs.declared.repaired.Repaired.{Repaired}
 use Rattle.s39_repair.specs.declared.repair_error.RepairError.{RepairError}
-use Rattle.s39_repair.specs.declared.repair_error.RepairError.TheVariants.{UnknownWord, WordCount, UnreadableWords, NoMnemonic, WrongWord, BadChecksum, BadPadding, GroupThreshold}
+use Rattle.s39_repair.specs.declared.repair_error.RepairError.TheVariants.{UnknownWord, WordCount, UnreadableWords, NoMnemonic, WrongWord}
+use Rattle.s39_repair.specs.declared.repair_error.RepairError.TheVariants.{BadChecksum, BadPadding, GroupThreshold}
 use Rattle.s39_repair.specs.Answer.{firsts, AreAll, ComesBefore, IsWhole, Repairs, RepairsWhole}
 use Rattle.s39_repair.specs.Marks.{spelling, is_open_range, AreClosed, AreMarks, IsRange, HasWords, Fits, FitsRanges}
 use Rattle.s39_repair.proofs.Candidates.{no_range, one_word, firsts-in_list, spelled_indices}
@@ -57,7 +60,8 @@ no_unknown ranges position all reads =
 pub no_other_count : (ranges : List WordRange) (n : ℕ) → All IsRange ranges → IsWordCount (length ranges)
     → Reads (spelling (firsts ranges)) (Err (words_WordCount n)) → ⊥
 no_other_count ranges n all count reads =
-    let same = indices_same (words_of (spelling (firsts ranges))) reads.0 (firsts ranges) reads.1 (spelled_indices (firsts ranges) (firsts-in_list ranges all)) in
+    let same = indices_same (words_of (spelling (firsts ranges))) reads.0 (firsts ranges) reads.1
+    (spelled_indices (firsts ranges) (firsts-in_list ranges all)) in
     reads.3 (subst IsWordCount (sym (reads.2 ∙ ap length same ∙ length_firsts ranges)) count)
 
 pub bad_spells_none : (text : List ℕ) (share : ShareFields) → Reads text (Err words_BadChecksum) → Spells text share → ⊥
@@ -70,7 +74,8 @@ bad_spells_none text share reads spells =
 pub closed_from_count : (ranges : List WordRange) → count_by is_open_range ranges ≡ 0 → AreClosed ranges
 closed_from_count [] none = All-nil (λ r. is_open_range r ≡ false)
 closed_from_count (r ∷ rs) none =
-    let parts : count_by is_open_range (r ∷ rs) ≡ cond {A = ℕ} (is_open_range r) 1 0 + count_by is_open_range rs = sum_by-cons (λ q. cond (is_open_range q) 1 0) r rs in
+    let parts : count_by is_open_range (r ∷ rs) ≡ cond {A = ℕ} (is_open_range r) 1 0 + count_by is_open_range rs =
+    sum_by-cons (λ q. cond (is_open_range q) 1 0) r rs in
     All-cons (λ q. is_open_range q ≡ false) r rs (shut (is_open_range r) (omega (arith, parts, none)))
     (closed_from_count rs (omega (arith, parts, none)))
   where

@@ -1,5 +1,6 @@
 -- The words of which one is wrong: two at most.
-use Rattle.std.proofs.Common.{◌≡◌, ◌≢◌, ℕ, suc, ◌+◌, ◌-◌, ◌<◌, ◌≤◌, ◌⊎◌, inl, inr, Bool, true, false, Option, Some, None, List, [], ◌∷◌, ◌++◌, length, get_or, refl, sym, ap, subst, ◌∙◌, ⊎_elim, arith}
+use Rattle.std.proofs.Common.{◌≡◌, ◌≢◌, ℕ, suc, ◌+◌, ◌-◌, ◌<◌, ◌≤◌, ◌⊎◌, inl, inr, Bool, true, false, Option, Some, None, List, [], ◌∷◌, ◌++◌, length}
+use Rattle.std.proofs.Common.{get_or, refl, sym, ap, subst, ◌∙◌, ⊎_elim, arith}
 use Rattle.std.specs.Prelude.{◌↔◌, All, AllPairs, Contains, IsTrue, IfSome, is_some}
 use Rattle.std.specs.Option.{ForNone}
 use Rattle.std.proofs.Math.ListN.{set, get_or-eq_default}
@@ -25,10 +26,6 @@ use Rattle.s39_repair.proofs.LostWords.{only_words}
 
 pub opened-all : (ranges : List WordRange) (place : ℕ) → All IsRange ranges → All IsRange (set ranges place every_word)
 opened-all ranges place all = All-set IsRange ranges place every_word (record { some = omega arith; in_list = omega arith }) all
-
-pub opened-closed : (ranges : List WordRange) (place j k : ℕ) → AreClosed ranges → IsClosedElsewhere (set ranges place every_word) place j k
-opened-closed ranges place j k closed = λ p d within off_i off_j off_k.
-    ap is_open_range (get_or-set_other ranges place p every_word d off_i) ∙ closed p d (omega (arith, length-set ranges place every_word))
 
 firsts-at : (ranges : List WordRange) (p : ℕ) → p < length ranges → get_or (firsts ranges) p 0 ≡ (get_or ranges p no_range).first
 firsts-at ranges p within = get_or-map (λ (r : WordRange). r.first) ranges p no_range 0 within
@@ -125,7 +122,7 @@ one_valid extendable ws vs us i j k ps one other ews evs eus valid valid' =
     ∙ only_words extendable ws i j k (value i j k) (value j i k) (value k i j) us ps other ews eus valid' refl refl refl
 
 -- two wrong words whose mnemonics have the same flag would leave no wrong word
-two_alike : (ws : List ℕ) (a b : ℕ) → All IsIndex ws → length ws ≤ most_words → ((share : ShareFields) → Spells (spelling ws) share → ⊥)
+pub two_alike : (ws : List ℕ) (a b : ℕ) → All IsIndex ws → length ws ≤ most_words → ((share : ShareFields) → Spells (spelling ws) share → ⊥)
     → (p : IsWrongWord ws a) → (q : IsWrongWord ws b) → a < b → p.share.extendable ≡ q.share.extendable → ⊥
 two_alike ws a b ews short bad p q less flag =
     let i = a - 1 in
@@ -183,14 +180,6 @@ pub record WrongUpTo (ws positions : List ℕ) (n : ℕ) : Type 0 where
   pub wrong : (at : ℕ) → Contains positions at → IsWrongWord ws at
   pub below : (at : ℕ) → Contains positions at → at ≤ n
   pub all : (at : ℕ) → IsWrongWord ws at → at ≤ n → Contains positions at
-
-pub wrong_none : (ws : List ℕ) → WrongUpTo ws [] 0
-wrong_none ws = record {
-  ascending = AllPairs-nil (λ i j. i < j);
-  wrong = λ at has. absurd (Contains-nil at has);
-  below = λ at has. absurd (Contains-nil at has);
-  all = λ at is low. let p = is.positive in absurd (omega arith);
-}
 
 contains_front : (xs ys : List ℕ) (x : ℕ) → Contains xs x → Contains (xs ++ ys) x
 contains_front [] ys x has = absurd (Contains-nil x has)
@@ -266,17 +255,20 @@ wrong_room ws xs n ews short bad h is =
 -- ---- laws
 
 pub one_mnemonic : (mnemonic other : List ℕ) (share found : ShareFields) (i j k : ℕ) → ArePlaces i j k → AgreeElsewhere mnemonic other i j k
-    → All IsIndex mnemonic → All IsIndex other → Spells (spelling mnemonic) share → Spells (spelling other) found → share.extendable ≡ found.extendable → other ≡ mnemonic
+    → All IsIndex mnemonic → All IsIndex other → Spells (spelling mnemonic) share → Spells (spelling other) found
+    → share.extendable ≡ found.extendable → other ≡ mnemonic
 one_mnemonic mnemonic other share found i j k places agree all all' spells spells' flag =
     one_valid found.extendable mnemonic other mnemonic i j k places agree (record { same_count = refl; elsewhere = λ p off_i off_j off_k. refl }) all all' all
     (spelled_checksum other found found.extendable all' spells' refl)
     (spelled_checksum mnemonic share found.extendable all spells flag)
 
-pub two_at_most : (ws xs : List ℕ) → All IsIndex ws → length ws ≤ most_words → ((share : ShareFields) → Spells (spelling ws) share → ⊥) → AreWrongWords ws xs → length xs ≤ 2
+pub two_at_most : (ws xs : List ℕ) → All IsIndex ws → length ws ≤ most_words → ((share : ShareFields) → Spells (spelling ws) share → ⊥)
+    → AreWrongWords ws xs → length xs ≤ 2
 two_at_most ws xs ews short bad are =
     ⊎_elim
     (λ many.
-    let at : (k : ℕ) → k < length xs → IsWrongWord ws (get_or xs k 0) = λ k below. are.wrong (get_or xs k 0) (k, below, get_or_default xs k (get_or xs k 0) 0 below) in
+    let at : (k : ℕ) → k < length xs → IsWrongWord ws (get_or xs k 0) =
+    λ k below. are.wrong (get_or xs k 0) (k, below, get_or_default xs k (get_or xs k 0) 0 below) in
     absurd (no_third ws (get_or xs 0 0) (get_or xs 1 0) (get_or xs 2 0) ews short bad (at 0 (omega arith)) (at 1 (omega arith)) (at 2 (omega arith))
     (are.ascending 0 1 0 (omega arith) (omega arith)) (are.ascending 1 2 0 (omega arith) (omega arith))))
     (λ few. few)

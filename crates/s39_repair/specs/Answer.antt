@@ -1,5 +1,6 @@
 -- What a line says: the mnemonics that fit, or the first cause for which there is none.
-use Rattle.std.specs.Prelude.{◌≡◌, ◌≢◌, ◌⊎◌, ℕ, suc, ◌<◌, ◌≤◌, List, [], ◌∷◌, None, Some, Option, Result, Ok, Err, MatchOption, All, AllPairs, Contains, length, map, not, position, slice_index, unwrap_or}
+use Rattle.std.specs.Prelude.{◌≡◌, ◌≢◌, ◌⊎◌, ℕ, suc, ◌<◌, ◌≤◌, List, [], ◌∷◌, None, Some, Option, Result, Ok, Err, MatchOption, All, AllPairs}
+use Rattle.std.specs.Prelude.{Contains, length, map, not, position, slice_index, unwrap_or}
 use Rattle.std.specs.List.{AllZip}
 use Rattle.std.specs.Option.{option_to_list}
 use Rattle.std.specs.Ordering.{nat_cmp}
@@ -9,13 +10,15 @@ use Rattle.s39_refusal.specs.declared.cause.Cause.{Cause}
 use Rattle.s39_refusal.specs.Causes.{cause}
 use Rattle.s39_words.specs.declared.prefix.WordRange.{WordRange}
 use Rattle.s39_words.specs.declared.share.ShareFields.{ShareFields}
-use Rattle.s39_words.specs.declared.word_error.WordError.TheVariants.{BadChecksum as words_BadChecksum, BadPadding as words_BadPadding, GroupThreshold as words_GroupThreshold}
+use Rattle.s39_words.specs.declared.word_error.WordError.TheVariants.{BadChecksum as words_BadChecksum, BadPadding as words_BadPadding}
+use Rattle.s39_words.specs.declared.word_error.WordError.TheVariants.{GroupThreshold as words_GroupThreshold}
 use Rattle.s39_words.specs.Layout.{IsIndex}
 use Rattle.s39_words.specs.Reading.{IsWordCount, Reads}
 use Rattle.s39_words.specs.Spelling.{words_of, Spells}
 use Rattle.s39_repair.specs.declared.repaired.Repaired.{Repaired}
 use Rattle.s39_repair.specs.declared.repair_error.RepairError.{RepairError}
-use Rattle.s39_repair.specs.declared.repair_error.RepairError.TheVariants.{UnknownWord, WordCount, UnreadableWords, NoMnemonic, WrongWord, BadChecksum, BadPadding, GroupThreshold}
+use Rattle.s39_repair.specs.declared.repair_error.RepairError.TheVariants.{UnknownWord, WordCount, UnreadableWords, NoMnemonic, WrongWord}
+use Rattle.s39_repair.specs.declared.repair_error.RepairError.TheVariants.{BadChecksum, BadPadding, GroupThreshold}
 use Rattle.s39_repair.specs.Marks.{choices, is_known, open_count, spelling, Fits, FitsRanges}
 
 -- the most open places of a line

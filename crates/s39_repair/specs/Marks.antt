@@ -1,5 +1,6 @@
 -- What can be read of the words of a mnemonic, and the mnemonics that fit.
-use Rattle.std.specs.Prelude.{◌≡◌, ◌≢◌, ℕ, false, slice_index, slice_index_or, ◌-◌, ◌<◌, ◌≤◌, List, [], ◌∷◌, Bool, ◌||◌, ◌&&◌, nat_lt, nat_eq, bytes_eq, All, count_by, filter, length, map, take, Contains}
+use Rattle.std.specs.Prelude.{◌≡◌, ◌≢◌, ℕ, false, slice_index, slice_index_or, ◌-◌, ◌<◌, ◌≤◌, List, [], ◌∷◌, Bool, ◌||◌, ◌&&◌, nat_lt, nat_eq}
+use Rattle.std.specs.Prelude.{bytes_eq, All, count_by, filter, length, map, take, Contains}
 use Rattle.std.specs.List.{AllZip, ends_with, join_with_byte, range_with_len}
 use Rattle.s39_words.specs.declared.prefix.WordRange.{WordRange}
 use Rattle.s39_words.specs.declared.share.ShareFields.{ShareFields}

@@ -95,6 +95,10 @@ fn refused_lines(rt: HostRuntime) {
             "duckling enlarge academic academic ? result lend solution fridge kidney coal ? deal husband erode duke ajar critical decision keyboard",
             RepairError::NoMnemonic,
         ),
+        (
+            "duckling enlarge academic academic ? result lend solution fridge kidney coal piece deal husband erode duke ajar critical decision kidney",
+            RepairError::NoMnemonic,
+        ),
     ];
     for (line, error) in cases {
         assert_eq!(rt; repair(line.as_bytes()).err(), Some(*error));

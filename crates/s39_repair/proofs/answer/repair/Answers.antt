@@ -26,8 +26,11 @@ pub returns-in-Some : goal.returns-in-Some
 returns-in-Some c =
     let line = c.args.line.now in
     let ranges = c.as_slice-ranges.result.now in
-    let m : AreMarks line ranges = subst (AreMarks line) (sym c.as_slice-ranges.ensures.value) c.in_ok-marks.ensures.found in
-    (readable line ranges m, omega (arith, open_count_is line ranges m, c.in-Ok.ensures.few), all_of_line line ranges c.in-Some.repaired m c.in-Some.ensures.some)
+    let m : AreMarks line ranges = subst (AreMarks line) (sym c.as_slice-ranges.ensures.value) c.in_ok-marks.ensures.found in (
+      readable line ranges m,
+      omega (arith, open_count_is line ranges m, c.in-Ok.ensures.few),
+      all_of_line line ranges c.in-Some.repaired m c.in-Some.ensures.some,
+    )
 
 pub returns-in-None : goal.returns-in-None
 returns-in-None c =

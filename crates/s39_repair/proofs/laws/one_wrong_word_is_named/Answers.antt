@@ -1,4 +1,4 @@
-use Rattle.std.proofs.Common.{ℕ, suc, ap, arith}
+use Rattle.std.proofs.Common.{suc, ap, arith}
 use Rattle.s39_repair.proofs.laws.one_wrong_word_is_named.Goals as goal
 
 pub returns : goal.returns
