@@ -1,5 +1,6 @@
 //! Facts about the definitions. Each is the contract of a function that does nothing.
-ghost use Rattle.std.specs.Prelude.{◌≡◌, ℕ, ◌<◌, List, length, map, All, Contains, Result, Ok, Err, None, replicate};
+ghost use Rattle.std.specs.Prelude.{◌≡◌, ◌≢◌, ℕ, ◌<◌, List, [], length, map, All, Contains, Result, Ok, Err, None, Some, replicate};
+ghost use Rattle.std.specs.List.{slice_get};
 ghost use Rattle.s39_kdf.specs.Bytes.{AreBytes};
 ghost use Rattle.s39_kdf.specs.Limits.{longest_secret, IsSecretLength};
 ghost use Rattle.s39_set.specs.Names.{Name, Names, most_groups, most_members};
@@ -282,6 +283,30 @@ pub fn backups_reissue_their_shares()
     secrets_are_like_their_shares();
     any_points_complete();
     shares_are_points();
+}
+
+/// Shares of a created backup are of no plan with another group threshold or another number of groups, unless there are
+/// none. Such a plan also has the group of each of them with the backup's member threshold and more members than its
+/// member index.
+pub fn plans_of_a_backup_are_like_its_plan()
+    ensures group_threshold { (set : List ShareFields) (passphrase secret : List ℕ)
+        (group_threshold : ℕ) (groups : List Members)
+        → IsShareSet set → set ≢ [] → (backup : AreOfBackup set passphrase secret)
+        → AreOfPlan group_threshold groups set → group_threshold ≡ backup.group_threshold }
+    ensures count { (set : List ShareFields) (passphrase secret : List ℕ)
+        (group_threshold : ℕ) (groups : List Members)
+        → IsShareSet set → set ≢ [] → (backup : AreOfBackup set passphrase secret)
+        → AreOfPlan group_threshold groups set → length groups ≡ length backup.groups }
+    ensures members { (set : List ShareFields) (passphrase secret : List ℕ)
+        (group_threshold : ℕ) (groups : List Members) (share : ShareFields)
+        → IsShareSet set → (backup : AreOfBackup set passphrase secret)
+        → AreOfPlan group_threshold groups set → Contains set share
+        → (members own : Members)
+        × (slice_get groups share.group_index ≡ Some members)
+        × (slice_get backup.groups share.group_index ≡ Some own)
+        × (members.threshold ≡ own.threshold) × (share.member_index < members.count) }
+{
+    backups_reissue_their_shares();
 }
 
 /// A plan with more members has a backup with the same random bytes, and the backup of the smaller plan is a part of

@@ -127,3 +127,52 @@ fn shares_from_others(rt: HostRuntime) -> Result<(), Fail> {
     assert!(rt; !is_of_plan(&set, &Plan::parse("2/3of3,1of1,1of1")?));
     Ok(())
 }
+
+/// Plans that differ from that of the shares in one number alone, and plans that don't differ for them.
+#[test]
+fn sets_of_plans_alike(rt: HostRuntime) -> Result<(), Fail> {
+    for (plan, lines, expected) in [
+        ("1/2of3,1of1,1of1", [FIRST, GROUP_1].as_slice(), false),
+        ("3/2of3,1of1,1of1", [FIRST, GROUP_1].as_slice(), false),
+        ("2/2of3,1of1", [FIRST, SECOND].as_slice(), false),
+        ("2/2of3,1of1,1of1,1of1", [FIRST, GROUP_2].as_slice(), false),
+        ("2/2of2,1of1,1of1", [SECOND, THIRD].as_slice(), false),
+        ("2/2of3,1of1,1of1", [FIRST, FOURTH].as_slice(), false),
+        ("2/3of3,1of1,1of1", [THIRD, GROUP_1].as_slice(), false),
+        ("2/2of3,2of2,1of1", [GROUP_1].as_slice(), false),
+        ("2/2of3,1of1,1of1", [FIRST, GROUP_1].as_slice(), true),
+        ("2/2of4,1of1,1of1", [FIRST, FOURTH].as_slice(), true),
+        ("2/2of2,2of2,1of1", [FIRST, GROUP_2].as_slice(), true),
+        ("9of9", [].as_slice(), true),
+    ] {
+        assert_eq!(rt; is_of_plan(&set_of(lines)?, &Plan::parse(plan)?), expected);
+    }
+    Ok(())
+}
+
+/// Plans that differ from that of the shares in one number alone.
+#[test]
+fn sets_of_other_plans(rt: HostRuntime) -> Result<(), Fail> {
+    for (plan, lines) in [
+        ("1/2of3,1of1,1of1", [FIRST, GROUP_1].as_slice()),
+        ("3/2of3,1of1,1of1", [FIRST, GROUP_1].as_slice()),
+        ("2/2of3,1of1", [FIRST, SECOND].as_slice()),
+        ("2/2of3,1of1,1of1,1of1", [FIRST, GROUP_2].as_slice()),
+        ("2/2of2,1of1,1of1", [SECOND, THIRD].as_slice()),
+        ("2/2of3,1of1,1of1", [FIRST, FOURTH].as_slice()),
+        ("2/3of3,1of1,1of1", [THIRD, GROUP_1].as_slice()),
+        ("2/2of3,2of2,1of1", [GROUP_1].as_slice()),
+        ("2/2of3,1of1", [GROUP_2].as_slice()),
+    ] {
+        assert!(rt; !is_of_plan(&set_of(lines)?, &Plan::parse(plan)?));
+    }
+    for (plan, lines) in [
+        ("2/2of3,1of1,1of1", [FIRST, GROUP_1].as_slice()),
+        ("2/2of4,1of1,1of1", [FIRST, FOURTH].as_slice()),
+        ("2/2of2,2of2,1of1", [FIRST, GROUP_2].as_slice()),
+        ("9of9", [].as_slice()),
+    ] {
+        assert!(rt; is_of_plan(&set_of(lines)?, &Plan::parse(plan)?));
+    }
+    Ok(())
+}

@@ -36,8 +36,8 @@ fn writes_lost_mnemonics_again(rt: HostRuntime) -> Result<(), Fail> {
 #[test]
 fn refuses_what_it_cannot_tell(rt: HostRuntime) -> Result<(), Fail> {
     let alloc = rt.alloc();
-    let [a, b, _, d, e] = FIVE;
-    let cases: [(&str, &str, &[&str], &str); 13] = [
+    let [a, b, c, d, e] = FIVE;
+    let cases: [(&str, &str, &[&str], &str); 16] = [
         (
             PLAN,
             "0.1",
@@ -59,6 +59,9 @@ fn refuses_what_it_cannot_tell(rt: HostRuntime) -> Result<(), Fail> {
         (PLAN, "0.3", &[a, b], "64 name 0.3 not in plan"),
         (PLAN, "0.2+1.1+3.0", &["ducklin"], "64 name 1.1 not in plan"),
         ("2/3of3,1of1,1of1", "0.2", &[a, b], "65 other plan"),
+        ("1/2of3,1of1,1of1", "2.0", &[a, d], "65 other plan"),
+        ("2/2of3,1of1", "0.1", &[a, c], "65 other plan"),
+        ("2/2of2,1of1,1of1", "0.0", &[b, c], "65 other plan"),
         (PLAN, "0.1+0.0", &[a, b], "63 bad list of names"),
         (PLAN, "", &["ducklin"], "63 bad list of names"),
         ("1of3", "0.1+0.0", &[a, b], "34 one of many in plan group 0"),
