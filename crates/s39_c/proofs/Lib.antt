@@ -4,3 +4,4 @@ mod OneReissue
 mod MostExponents
 mod Rooms
 mod WordLines
+mod RepairedLines

@@ -5,6 +5,8 @@ use Rattle.s39_refusal.specs.Causes.{cause}
 use Rattle.s39_kdf.specs.Causes.{length_cause}
 use Rattle.s39_words.specs.declared.word_error.WordError.{WordError}
 use Rattle.s39_words.specs.Reading.{cause_of as word_cause_of}
+use Rattle.s39_repair.specs.declared.repair_error.RepairError.{RepairError}
+use Rattle.s39_repair.specs.Answer.{cause_of as repair_cause_of}
 use Rattle.s39_set.specs.Causes.{cursor_cause, names_cause}
 use Rattle.s39_set.specs.declared.status.Status.{Status}
 use Rattle.s39_backup.specs.declared.plan_error.PlanError.{PlanError}
@@ -47,6 +49,10 @@ line_of (Some line) = line
 -- a text is no mnemonic
 abbrev pub word_refused : WordError → ShamirAnswer
 word_refused error = refusal (word_cause_of error) 0
+
+-- no mnemonic is given for a line of marks
+abbrev pub repair_refused : RepairError → ShamirAnswer
+repair_refused error = refusal (repair_cause_of error) 0
 
 -- a text is no plan
 abbrev pub plan_refused : PlanError → ShamirAnswer

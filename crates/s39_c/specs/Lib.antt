@@ -6,6 +6,7 @@ pub mod Fingerprinting
 pub mod Recovering
 pub mod Drilling
 pub mod Reissuing
+pub mod Repairing
 pub mod Status
 pub mod Telling
 pub mod Version

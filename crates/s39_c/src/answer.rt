@@ -1,12 +1,13 @@
 //! The answer of a call.
 ghost use Rattle.std.specs.Prelude.{◌≡◌, ℕ};
-ghost use Rattle.s39_c.specs.Answers.{done, number, counted, created, listed, too_short, out_of_range, high_exponent, refusal, plan_refused, cursor_refused, names_refused, word_refused, refused};
+ghost use Rattle.s39_c.specs.Answers.{done, number, counted, created, listed, too_short, out_of_range, high_exponent, refusal, plan_refused, cursor_refused, names_refused, word_refused, repair_refused, refused};
 
 use s39_backup::PlanError;
 use s39_drilling::Listing;
 use s39_input::{Fault, Unwritten, WrittenLines};
 use s39_reading::WrittenStatus;
 use s39_refusal::Cause;
+use s39_repair::RepairError;
 use s39_set::{BadCursor, BadNames};
 use s39_words::WordError;
 
@@ -34,8 +35,8 @@ pub struct ShamirAnswer {
     /// The number of the refused line, counted from 1, if a call that takes lines refuses one. Otherwise it is 0.
     pub line: u64,
     /// The first detail of a refusal: a position, a number or a group. In a digest mismatch, 16 stands for the digest
-    /// of the group shares. After success, `shamir_random_needed` gives its result here, `shamir_create` the number of
-    /// mnemonics, `shamir_drill` the number of listed quorums, and `shamir_status` the number of complete groups.
+    /// of the group shares. After success, `shamir_random_needed` gives its result here, `shamir_create` and
+    /// `shamir_repair` the number of mnemonics, `shamir_drill` the number of listed quorums, and `shamir_status` the number of complete groups.
     /// Otherwise it is 0.
     pub first: u64,
     /// The second detail of a refusal. After success, `shamir_drill` gives the offset of the last line in its output
@@ -153,6 +154,14 @@ impl From<WordError> for ShamirAnswer {
     ghost from_gives = { λ error answer. answer ≡ word_refused error };
 
     fn from(error: WordError) -> ShamirAnswer {
+        refusal(error.cause(), 0)
+    }
+}
+
+impl From<RepairError> for ShamirAnswer {
+    ghost from_gives = { λ error answer. answer ≡ repair_refused error };
+
+    fn from(error: RepairError) -> ShamirAnswer {
         refusal(error.cause(), 0)
     }
 }

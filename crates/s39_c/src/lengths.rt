@@ -12,13 +12,14 @@ ghost use Rattle.s39_creating.specs.Lengths.{longest_backup};
 ghost use Rattle.s39_reading.specs.Lengths.{longest_status};
 ghost use Rattle.s39_creating.specs.Reissue.{IsReissueOutput};
 ghost use Rattle.s39_reading.specs.Status.{IsStatusOutput};
-ghost use Rattle.s39_c.specs.declared.lengths.TheConstants.{NAMES_BYTES_MAX, LISTING_BYTES_ENOUGH, MNEMONICS_BYTES_MAX, STATUS_BYTES_MAX, FINGERPRINT_BYTES_MAX, WORDS_BYTES_MAX};
+ghost use Rattle.s39_c.specs.declared.lengths.TheConstants.{NAMES_BYTES_MAX, LISTING_BYTES_ENOUGH, MNEMONICS_BYTES_MAX, STATUS_BYTES_MAX, FINGERPRINT_BYTES_MAX, WORDS_BYTES_MAX, REPAIRED_BYTES_MAX};
 ghost use Rattle.s39_c.specs.Answers.{too_short};
 ghost use Rattle.s39_c.specs.Creating.{Wanted, GivesBackup};
 ghost use Rattle.s39_c.specs.Drilling.{GivesDrill};
 ghost use Rattle.s39_c.specs.Exponents.{UpTo};
 ghost use Rattle.s39_c.specs.Fingerprinting.{GivesFingerprint};
 ghost use Rattle.s39_c.specs.Reissuing.{GivesReissued};
+ghost use Rattle.s39_c.specs.Repairing.{longest_repaired};
 ghost use Rattle.s39_c.specs.Status.{GivesStatus};
 ghost use Rattle.s39_c.specs.Words.{longest_words, words_text, GivesWords};
 
@@ -45,6 +46,9 @@ pub const STATUS_BYTES_MAX: usize = 1_638;
 /// The maximum length of a list of words, which is the length of all words, each with its line feed.
 pub const WORDS_BYTES_MAX: usize = 7_231;
 
+/// The maximum length of the mnemonics that fit a line, which are two at most, each with its line feed.
+pub const REPAIRED_BYTES_MAX: usize = 1_980;
+
 /// The constants equal the numbers of the definitions.
 pub fn lengths()
     ensures names { NAMES_BYTES_MAX ≡ longest_names }
@@ -53,6 +57,7 @@ pub fn lengths()
     ensures fingerprint { FINGERPRINT_BYTES_MAX ≡ 2 * fingerprint_length }
     ensures status { STATUS_BYTES_MAX ≡ longest_status }
     ensures words { WORDS_BYTES_MAX ≡ longest_words }
+    ensures repaired { REPAIRED_BYTES_MAX ≡ longest_repaired }
 {}
 
 /// A list of names, as a listing has it and as a drill takes it, is no longer than the maximum.

@@ -16,6 +16,7 @@ mod memory;
 mod parsing;
 mod recovering;
 mod reissuing;
+mod repairing;
 mod status;
 mod telling;
 mod version;
@@ -28,6 +29,7 @@ pub use fingerprinting::shamir_fingerprint;
 pub use parsing::{ShamirShare, shamir_parse};
 pub use recovering::shamir_recover;
 pub use reissuing::shamir_reissue;
+pub use repairing::shamir_repair;
 pub use status::shamir_status;
 pub use telling::shamir_text;
 pub use version::shamir_version;
@@ -39,6 +41,8 @@ mod exponent_tests;
 mod fingerprint_tests;
 #[cfg(test)]
 mod reissue_tests;
+#[cfg(test)]
+mod repair_tests;
 #[cfg(test)]
 mod telling_tests;
 #[cfg(test)]

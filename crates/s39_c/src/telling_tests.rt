@@ -15,7 +15,7 @@ const fn refusal(code: u32, line: u64, first: u64, second: u64) -> ShamirAnswer 
 
 #[test]
 fn tells(rt: HostRuntime) {
-    let cases: [(ShamirAnswer, &[u8]); 41] = [
+    let cases: [(ShamirAnswer, &[u8]); 49] = [
         (refusal(0, 0, 0, 0), b"done"),
         (refusal(1, 0, 715, 0), b"buffer too short: 715 bytes needed"),
         (refusal(2, 0, 0, 0), b"number out of range"),
@@ -25,6 +25,23 @@ fn tells(rt: HostRuntime) {
         (refusal(13, 3, 0, 0), b"bad checksum"),
         (refusal(14, 3, 0, 0), b"bad padding"),
         (refusal(15, 3, 0, 0), b"group threshold above group count"),
+        (refusal(16, 0, 4, 0), b"4 unreadable words: at most 3"),
+        (refusal(17, 0, 0, 0), b"no mnemonic has these words"),
+        (
+            refusal(18, 0, 7, 0),
+            b"bad checksum: if one word is wrong, it is word 7",
+        ),
+        (
+            refusal(18, 0, 2, 20),
+            b"bad checksum: if one word is wrong, it is word 2 or word 20",
+        ),
+        (
+            refusal(18, 0, 109, 110),
+            b"bad checksum: if one word is wrong, it is word 109 or word 110",
+        ),
+        (refusal(18, 0, 256, 0), b"unknown answer"),
+        (refusal(18, 0, 256, 2), b"unknown answer"),
+        (refusal(18, 0, 2, 256), b"unknown answer"),
         (refusal(21, 2, 0, 0), b"other identifier"),
         (refusal(22, 2, 0, 0), b"other extendable flag"),
         (refusal(23, 2, 0, 0), b"other exponent"),

@@ -19,6 +19,14 @@ pub enum RefusalText {
     BadPadding,
     #[error("group threshold above group count")]
     GroupThreshold,
+    #[error("{0} unreadable words: at most 3")]
+    UnreadableWords(u64),
+    #[error("no mnemonic has these words")]
+    NoMnemonic,
+    #[error("bad checksum: if one word is wrong, it is word {0}")]
+    WrongWord(u8),
+    #[error("bad checksum: if one word is wrong, it is word {0} or word {1}")]
+    WrongWordOfTwo(u8, u8),
     #[error("other identifier")]
     OtherIdentifier,
     #[error("other extendable flag")]
@@ -92,6 +100,10 @@ impl RefusalText {
             code::BAD_CHECKSUM => RefusalText::BadChecksum,
             code::BAD_PADDING => RefusalText::BadPadding,
             code::GROUP_THRESHOLD => RefusalText::GroupThreshold,
+            code::UNREADABLE_WORDS => RefusalText::UnreadableWords(number),
+            code::NO_MNEMONIC => RefusalText::NoMnemonic,
+            code::WRONG_WORD if cause.second == 0 => RefusalText::WrongWord(group?),
+            code::WRONG_WORD => RefusalText::WrongWordOfTwo(group?, second?),
             code::OTHER_IDENTIFIER => RefusalText::OtherIdentifier,
             code::OTHER_EXTENDABLE => RefusalText::OtherExtendable,
             code::OTHER_EXPONENT => RefusalText::OtherExponent,
