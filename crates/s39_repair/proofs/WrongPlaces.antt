@@ -7,7 +7,6 @@ use Rattle.std.proofs.Math.ListN.{set, get_or-eq_default}
 use Rattle.std.proofs.lemmas.Bool.{cases_lt, cases_eq, false≢true}
 use Rattle.std.proofs.lemmas.List.{length-map, length-set, get_or-map, get_or-set_same, get_or-set_other, get_or_default, ext_get_or}
 use Rattle.std.proofs.lemmas.List.Elements.{All-nil, All-cons, All-get_or, All-set}
-use Rattle.s39_lists.proofs.Pairs.{AllPairs-nil}
 use Rattle.s39_lists.proofs.Sublists.{AllPairs-append, Contains-nil, Contains-head, Contains-cons, Contains-cases}
 use Rattle.s39_words.specs.Checksum.{IsValidChecksum}
 use Rattle.s39_words.specs.Layout.{IsIndex, most_words}
@@ -16,7 +15,7 @@ use Rattle.s39_words.specs.declared.prefix.WordRange.{WordRange}
 use Rattle.s39_words.specs.declared.share.ShareFields.{ShareFields}
 use Rattle.s39_repair.specs.Answer.{firsts, AreAll, IsWrongWord, AreWrongWords}
 use Rattle.s39_repair.specs.declared.repaired.Repaired.{Repaired}
-use Rattle.s39_repair.specs.Marks.{every_word, is_open_range, spelling, AreClosed, FitsRanges, IsRange, IsClosedElsewhere}
+use Rattle.s39_repair.specs.Marks.{every_word, spelling, AreClosed, FitsRanges, IsRange}
 use Rattle.s39_repair.specs.Sums.{locator, sum_with, value_of_sums, ArePlaces, AgreeElsewhere}
 use Rattle.s39_field.specs.FieldProduct.{word_field}
 use Rattle.s39_repair.proofs.Candidates.{no_range, one_word, spelled_checksum, words_in_list}
