@@ -86,6 +86,9 @@ extern "C" {
 /* The maximum length of the output of shamir_words: that of all 1,024 words, with a line feed after each. */
 #define SHAMIR_WORDS_BYTES_MAX 7231
 
+/* The maximum length of the output of shamir_repair: that of two mnemonics, each with its line feed. */
+#define SHAMIR_REPAIRED_BYTES_MAX 1980
+
 /* The forms in which a listing of shamir_drill tells secrets: their digits, or their fingerprints. */
 #define SHAMIR_FORM_DIGITS 0
 #define SHAMIR_FORM_FINGERPRINTS 1
@@ -133,6 +136,9 @@ typedef enum shamir_code {
     SHAMIR_E_BAD_CHECKSUM = 13,           /* the checksum is wrong */
     SHAMIR_E_BAD_PADDING = 14,            /* a padding bit isn't 0 */
     SHAMIR_E_GROUP_THRESHOLD = 15,        /* the group threshold is above the group count */
+    SHAMIR_E_UNREADABLE_WORDS = 16,       /* more than three places of a line are open; first: how many are */
+    SHAMIR_E_NO_MNEMONIC = 17,            /* no mnemonic fits a line of marks */
+    SHAMIR_E_WRONG_WORD = 18,             /* the checksum is wrong; first, second: see shamir_repair */
     SHAMIR_E_OTHER_IDENTIFIER = 21,       /* the identifier differs from that of earlier lines */
     SHAMIR_E_OTHER_EXTENDABLE = 22,       /* the extendable flag differs from that of earlier lines */
     SHAMIR_E_OTHER_EXPONENT = 23,         /* the iteration exponent differs from that of earlier lines */
@@ -165,8 +171,8 @@ typedef enum shamir_code {
  *
  * line is the number of the refused line, counted from 1, for the codes 11 to 28 and 71 of calls that take lines. Otherwise
  * it is 0. Only shamir_drill sets the field "mismatches"; in answers of other calls this field is 0. first and second are the
- * details of a refusal. After success, first is a result of shamir_random_needed, shamir_create, shamir_drill and shamir_status,
- * and second is one of shamir_drill and shamir_status. Otherwise they are 0.
+ * details of a refusal. After success, first is a result of shamir_random_needed, shamir_create, shamir_drill, shamir_status and
+ * shamir_repair, and second is one of shamir_drill and shamir_status. Otherwise they are 0.
  */
 typedef struct shamir_answer {
     uint32_t code;       /* a shamir_code: SHAMIR_DONE, or the cause of the refusal */
@@ -400,6 +406,35 @@ SHAMIR_CALL
 shamir_answer shamir_reissue(
     const char *plan, size_t plan_bytes, const char *names, size_t names_bytes, const char *lines, size_t lines_bytes, char *mnemonics,
     size_t mnemonics_bytes);
+
+/*
+ * Finds the mnemonics that fit a line of which some words can't be read, or finds the place of a wrong word.
+ *
+ * The line is a list of marks, separated as the words of a mnemonic are. Upper-case letters count as lower-case ones. A word of
+ * the word list stands for itself. Letters followed by one "?" stand for every word that begins with these letters, so "?" alone
+ * stands for any word. A place is open if its mark stands for more than one word. A mnemonic fits if shamir_parse accepts it, it
+ * has as many words as the line has marks, and each mark stands for the word at its place. Two mnemonics fit at most, and two
+ * only if the second word is open, because that word holds the extendable flag.
+ *
+ * The mnemonics that fit go to the start of mnemonics, in ascending order of their words' indices in the word list. Each has
+ * lower-case words with single spaces, and a line feed after it. first is how many they are: 1 or 2. SHAMIR_REPAIRED_BYTES_MAX
+ * bytes are always enough.
+ *
+ * Each open place uses up one of the three words of the checksum. With three open places, a wrong word elsewhere isn't found, and
+ * the call may give another mnemonic. So compare the answer with all that can be read.
+ *
+ * For 11, first is which mark stands for no word, counted from 1. The code is 16 if more than three places are open, and 17 if
+ * one to three are open and no mnemonic fits. The codes 13 to 15 and 18 are for lines with no open place. If the checksum is
+ * wrong and one other word would make a mnemonic of the line, the code is 18: the wrong word is word number first, counted
+ * from 1, or word number second if that isn't 0. first is then below second. If there is no such word, the code is 13.
+ *
+ * The call refuses with the first of these that applies: 11, 12, 16, 17, 18, 13, 14, 15, 1.
+ *
+ *     char mnemonics[SHAMIR_REPAIRED_BYTES_MAX];
+ *     shamir_answer answer = shamir_repair(line, strlen(line), mnemonics, sizeof mnemonics);
+ */
+SHAMIR_CALL
+shamir_answer shamir_repair(const char *line, size_t line_bytes, char *mnemonics, size_t mnemonics_bytes);
 
 /*
  * Computes the fingerprint of a master secret, by which its owner can recognise the secret without seeing it.

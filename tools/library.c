@@ -150,6 +150,12 @@ typedef struct words_example {
     const char *text;
 } words_example;
 
+typedef struct repair_example {
+    const char *line;
+    wanted answer;
+    const char *mnemonics;
+} repair_example;
+
 typedef struct reissue_example {
     const char *plan;
     const char *names;
@@ -316,6 +322,31 @@ static const words_example words_examples[] = {
     {"em\n", DONE, ""},
     {"", {1, 0, SHAMIR_WORDS_BYTES_MAX, 0, "buffer too short: 7231 bytes needed"}, ""},
     {NULL, {1, 0, SHAMIR_WORDS_BYTES_MAX, 0, "buffer too short: 7231 bytes needed"}, ""}
+};
+
+#define REST "result length solution fridge kidney coal piece deal husband erode duke ajar critical decision "
+
+static const repair_example repair_examples[] = {
+    {ONE, DONE_WITH(1, 0), ONE "\n"},
+    {"duckling ? academic academic agency result length solution fridge kidney coal ? deal husband erode duke ajar critical decision keyboard",
+     DONE_WITH(1, 0), ONE "\n"},
+    {"Duckling enlarge academic academic agency result le? SO? fridge kidney coal piece deal husband erode duke ajar critical decision keyboard",
+     DONE_WITH(1, 0), ONE "\n"},
+    {"? ? ? academic agency " REST "keyboard", DONE_WITH(2, 0), ONE "\ntherapy heat device academic agency " REST "keyboard\n"},
+    {"duckling enlarge academic academic agency " REST "zz?", {11, 0, 20, 0, "unknown word 20"}, ""},
+    {ONE "\n", {11, 0, 20, 0, "unknown word 20"}, ""},
+    {"duckling ?", {12, 0, 2, 0, "2 words make no share"}, ""},
+    {"? enlarge ? academic ? result ? solution fridge kidney coal piece deal husband erode duke ajar critical decision keyboard",
+     {16, 0, 4, 0, "4 unreadable words: at most 3"}, ""},
+    {"duckling enlarge academic academic ? result solution length fridge kidney coal piece deal husband erode duke ajar critical decision keyboard",
+     {17, 0, 0, 0, "no mnemonic has these words"}, ""},
+    {"duckling enlarge academic academic agency " REST "kidney",
+     {18, 0, 20, 0, "bad checksum: if one word is wrong, it is word 20"}, ""},
+    {"duckling enlarge academic academic agency result lend solution fridge kidney coal piece deal husband erode duke ajar critical decision keyboard",
+     {18, 0, 7, 0, "bad checksum: if one word is wrong, it is word 7"}, ""},
+    {"duckling enlarge academic academic agency result solution length fridge kidney coal piece deal husband erode duke ajar critical decision keyboard",
+     {13, 0, 0, 0, "bad checksum"}, ""},
+    {NULL, {12, 0, 0, 0, "0 words make no share"}, ""}
 };
 
 /* The name of the export and the number of the example in its table, from 0, for messages. Then the number of differences. */
@@ -636,6 +667,23 @@ static void check_words(const words_example *example)
     }
 }
 
+/* Checks what shamir_repair gives into a buffer of exactly the length of the mnemonics, and that it refuses shorter buffers. */
+static void check_repair(const repair_example *example)
+{
+    slice line = slice_of(example->line);
+    slice mnemonics = slice_of(example->mnemonics);
+    slice nothing = {NULL, 0};
+    size_t bytes = example->answer.code == SHAMIR_DONE ? mnemonics.length : ROOM_BYTES;
+    shamir_answer found = shamir_repair(line.bytes, line.length, fresh(bytes), bytes);
+
+    compare(found, answer_of(&example->answer, mnemonics.length, 0), mnemonics);
+    check_text(found, example->answer.told);
+    if (mnemonics.length > 0) {
+        compare(shamir_repair(line.bytes, line.length, fresh(bytes), bytes - 1), too_short(bytes), nothing);
+        compare(shamir_repair(line.bytes, line.length, fresh(0), 0), too_short(bytes), nothing);
+    }
+}
+
 /* Checks that the library gives the header's version into a buffer of exactly its length, and refuses a shorter one. */
 static void check_version(void)
 {
@@ -672,6 +720,7 @@ int main(void)
     CHECK_EACH("shamir_drill", drill_examples, check_drill)
     CHECK_EACH("shamir_status", status_examples, check_status)
     CHECK_EACH("shamir_reissue", reissue_examples, check_reissue)
+    CHECK_EACH("shamir_repair", repair_examples, check_repair)
     CHECK_EACH("shamir_fingerprint", fingerprint_examples, check_fingerprint)
     CHECK_EACH("shamir_words", words_examples, check_words)
     check_version();

@@ -43,7 +43,7 @@ from dataclasses import dataclass, field
 from typing import Any, Callable, Generator, Iterable, List, Optional, Tuple, Union, cast
 
 __all__ = ["Code", "Data", "EXPONENT_MAX", "GroupStatus", "Lines", "OF_GROUPS", "Outcome", "Refusal", "Share", "Status", "Text"]
-__all__ += ["create", "drill", "fingerprint", "library_version", "parse", "random_needed", "recover", "reissue", "status", "words"]
+__all__ += ["create", "drill", "fingerprint", "library_version", "parse", "random_needed", "recover", "reissue", "repair", "status", "words"]
 
 __version__ = "1.0.0"
 
@@ -60,6 +60,7 @@ MNEMONICS_BYTES_MAX = 253440
 STATUS_BYTES_MAX = 1638
 FINGERPRINT_BYTES_MAX = 8
 WORDS_BYTES_MAX = 7231
+REPAIRED_BYTES_MAX = 1980
 TEXT_BYTES_MAX = 64
 
 # The maximum iteration exponent.
@@ -93,6 +94,9 @@ class Code(enum.IntEnum):
     BAD_CHECKSUM = 13
     BAD_PADDING = 14
     GROUP_THRESHOLD = 15
+    UNREADABLE_WORDS = 16
+    NO_MNEMONIC = 17
+    WRONG_WORD = 18
     OTHER_IDENTIFIER = 21
     OTHER_EXTENDABLE = 22
     OTHER_EXPONENT = 23
@@ -184,6 +188,7 @@ def _declared(library: ctypes.CDLL) -> ctypes.CDLL:
         ("shamir_drill", _SLICE * 2 + [ctypes.c_uint32] + _SLICE + [ctypes.c_uint32] * 2 + _ROOM),
         ("shamir_status", _SLICE + _ROOM),
         ("shamir_reissue", _SLICE * 3 + _ROOM),
+        ("shamir_repair", _SLICE + _ROOM),
         ("shamir_fingerprint", _SLICE + _ROOM),
         ("shamir_words", _SLICE + _ROOM),
         ("shamir_text", [ctypes.POINTER(_Answer)] + _ROOM),
@@ -542,6 +547,26 @@ def reissue(plan: Text, names: Text, lines: Lines) -> List[str]:
     """
     given = _slice(_bytes(plan)) + _slice(_bytes(names)) + _slice(_joined(lines))
     return _filled(lambda out, room: _library.shamir_reissue(*given, out, room), MNEMONICS_BYTES_MAX).decode().splitlines()
+
+
+def repair(line: Text) -> List[str]:
+    """Return the mnemonics that fit a line of which some words can't be read, in ascending order of their words' indices.
+
+    >>> shamir.repair(" ".join(["?", *mnemonics[0].split()[1:]])) == mnemonics[:1]
+    True
+
+    The line is a list of marks, separated as words are. A word of the word list stands for itself. Letters followed by
+    one `?` stand for every word that begins with them, and `?` alone stands for any word. A place is open if its mark
+    stands for more than one word. One mnemonic fits, or two if the second word is open.
+
+    Each open place uses up one of the three words of the checksum. With three open places, a wrong word elsewhere isn't
+    found, and the answer may be another mnemonic. So compare the answer with all that can be read.
+
+    Raises `Refusal` with one of the codes 11 to 18. For Code.WRONG_WORD the details are the positions, counted from 1,
+    one of which is that of the wrong word if just one word is wrong. The second is 0 if there is one.
+    """
+    given = _slice(_bytes(line))
+    return _filled(lambda out, room: _library.shamir_repair(*given, out, room), REPAIRED_BYTES_MAX).decode().splitlines()
 
 
 def fingerprint(secret: Data) -> str:

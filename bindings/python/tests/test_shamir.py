@@ -207,6 +207,28 @@ class WorkedExamples(unittest.TestCase):
             answer = shamir._library.shamir_create(plan, len(plan), SECRET, 16, b"", 0, 0, 0, random, len(random), room, len(room))
             self.assertEqual((answer.code, answer.first, answer.second), (0, count, 0))
 
+    def test_repair(self):
+        marks = ONE.split()
+        for places in [[], [5], [5, 12], [18, 19, 20], [1, 19, 20]]:
+            self.assertEqual(shamir.repair(" ".join("?" if place in places else word for place, word in enumerate(marks, 1))), [ONE])
+        for line in [ONE.upper(), ONE.encode(), " ".join(word[:4] + "?" for word in marks), OddText(ONE)]:
+            self.assertEqual(shamir.repair(line), [ONE])
+        other = " ".join(["therapy", "heat", "device", *marks[3:]])
+        self.assertEqual(shamir.repair(" ".join(["? ? ?", *marks[3:]])), [ONE, other])
+        for line, code, details in [
+            (" ".join([*marks[:6], "zz?", *marks[7:]]), shamir.Code.UNKNOWN_WORD, (7, 0)),
+            ("duckling ?", shamir.Code.WORD_COUNT, (2, 0)),
+            (" ".join([*marks[:16], "? ? ? ?"]), shamir.Code.UNREADABLE_WORDS, (4, 0)),
+            (" ".join([*marks[:4], "?", marks[5], marks[7], marks[6], *marks[8:]]), shamir.Code.NO_MNEMONIC, (0, 0)),
+            (" ".join([*marks[:6], "lend", *marks[7:]]), shamir.Code.WRONG_WORD, (7, 0)),
+            (" ".join([*marks[:6], "ze?", *marks[7:]]), shamir.Code.WRONG_WORD, (7, 0)),
+            (" ".join([*marks[:6], marks[7], marks[6], *marks[8:]]), shamir.Code.BAD_CHECKSUM, (0, 0)),
+        ]:
+            with self.assertRaises(shamir.Refusal) as refused:
+                shamir.repair(line)
+            self.assertEqual((refused.exception.code, refused.exception.line, refused.exception.details), (code, None, details))
+        self.assertRaises(TypeError, shamir.repair, None)
+
     def test_words(self):
         """The digest is that of the word list that SLIP-0039 publishes."""
         whole = shamir.words("")
@@ -306,6 +328,7 @@ class WorkedExamples(unittest.TestCase):
             (16, lambda *room: library.shamir_recover(text, len(text), *key, 0, *room)),
             (41, lambda *room: library.shamir_status(one, len(one), *room)),
             (144, lambda *room: library.shamir_reissue(PLAN.encode(), 16, b"0.1", 3, text, len(text), *room)),
+            (len(one) + 1, lambda *room: library.shamir_repair(one, len(one), *room)),
             (8, lambda *room: library.shamir_fingerprint(SECRET, 16, *room)),
             (68, lambda *room: library.shamir_drill(text, len(text), *key, 0, None, 0, 1, 0, *room)),
             (44, lambda *room: library.shamir_drill(text, len(text), *key, 0, None, 0, 1, 1, *room)),
@@ -392,6 +415,7 @@ class WorkedExamples(unittest.TestCase):
                 lambda: next(shamir.drill(ONE, passphrase=bad)),
                 lambda: next(shamir.drill(ONE, after=bad)),
                 lambda: shamir.words(bad),
+                lambda: shamir.repair(bad),
                 lambda: shamir.status(bad),
                 lambda: shamir.status([bad]),
                 lambda: shamir.reissue(bad, "0.0", FIVE),
