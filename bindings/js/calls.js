@@ -108,7 +108,7 @@ function answered(memory, { slots, base }) {
   return { code: view.getUint32(0, true), line, first, second, output };
 }
 
-const CALLS = ["create", "drill", "fingerprint", "parse", "random_needed", "recover", "reissue", "status", "text", "version", "words"];
+const CALLS = ["create", "drill", "fingerprint", "parse", "random_needed", "recover", "reissue", "repair", "status", "text", "version", "words"];
 const EXPORTS = ["memory", "__heap_base", ...CALLS.map((name) => `shamir_${name}`)];
 
 /** A compiled module, and an instance of it. */

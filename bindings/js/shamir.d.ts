@@ -145,6 +145,22 @@ export class Engine {
      */
     reissueBytes(plan: Text, names: Text, lines: Lines): Uint8Array[];
     /**
+     * Returns the mnemonics that fit a line of which some words can't be read, in ascending order of their words' indices.
+     *
+     * The line is a list of marks, separated as words are. A word of the word list stands for itself. Letters followed by one `?`
+     * stand for every word that begins with them, and `?` alone stands for any word. A place is open if its mark stands for more
+     * than one word. One mnemonic fits, or two if the second word is open.
+     *
+     * Each open place uses up one of the three words of the checksum. With three open places, a wrong word elsewhere isn't found,
+     * and the answer may be another mnemonic. So compare the answer with all that can be read.
+     *
+     * Throws a `Refusal` with one of the codes 11 to 18. For `Code.WRONG_WORD` the details are the positions, counted from 1, one of
+     * which is that of the wrong word if just one word is wrong. The second is 0 if there is one.
+     * @param {Text} line
+     * @returns {string[]}
+     */
+    repair(line: Text): string[];
+    /**
      * Returns the fingerprint of a secret, by which its owner can recognise the secret without seeing it.
      *
      *     shamir.fingerprint(Uint8Array.from({ length: 16 }, (_, i) => i)); // "2282bae5"

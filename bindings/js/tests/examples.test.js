@@ -134,6 +134,28 @@ test("fingerprint", () => {
   }
 });
 
+test("repair", () => {
+  const words = ONE.split(" ");
+  /** @param {string[]} marks @param {number} from */
+  const at = (marks, from) => [...words.slice(0, from - 1), ...marks, ...words.slice(from - 1 + marks.length)].join(" ");
+  for (const line of [ONE, ONE.toUpperCase(), at(["?"], 5), at(["?", "?", "?"], 18), words.map((word) => `${word.slice(0, 4)}?`).join(" ")]) {
+    assert.deepEqual(shamir.repair(line), [ONE]);
+    assert.deepEqual(shamir.repair(bytesOf(line)), [ONE]);
+  }
+  assert.deepEqual(shamir.repair(at(["?", "?", "?"], 1)), [ONE, at(["therapy", "heat", "device"], 1)]);
+  for (const [line, code, details] of /** @type {[string, number, number[]][]} */ ([
+    [at(["zz?"], 7), 11, [7, 0]],
+    ["duckling ?", 12, [2, 0]],
+    [at(["?", "?", "?", "?"], 17), 16, [4, 0]],
+    [at(["?", "result", "solution", "length"], 5), 17, [0, 0]],
+    [at(["lend"], 7), 18, [7, 0]],
+    [at(["ze?"], 7), 18, [7, 0]],
+    [at(["solution", "length"], 7), 13, [0, 0]],
+  ])) {
+    assert.throws(() => shamir.repair(line), { code, line: null, details });
+  }
+});
+
 test("words", () => {
   const source = file("crates/s39_words/src/word_list.rt").toString();
   const list = Array.from(source.matchAll(/\*b"([a-z ]{8})"/g), ([, word]) => word.trim());

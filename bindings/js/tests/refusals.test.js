@@ -34,6 +34,9 @@ const REFUSALS = [
   [11, 2, [1, 0], "unknown word 1", () => shamir.recover("\nx")],
   [11, 1, [1, 0], "unknown word 1", () => shamir.reissue(PLAN, "0.0", "x")],
   [12, null, [0, 0], "0 words make no share", () => shamir.parse("")],
+  [16, null, [4, 0], "4 unreadable words: at most 3", () => shamir.repair(ONE.replace(/^(\S+ ){4}/, "? ? ? ? "))],
+  [17, null, [0, 0], "no mnemonic has these words", () => shamir.repair(ONE.replace("agency", "?").replace("length solution", "solution length"))],
+  [18, null, [7, 0], "bad checksum: if one word is wrong, it is word 7", () => shamir.repair(ONE.replace("length", "lend"))],
   [12, 1, [21, 0], "21 words make no share", () => shamir.status(`${ONE} academic`)],
   [13, 3, [0, 0], "bad checksum", () => shamir.recover(["\n", "", `${ONE.replace("keyboard", "kidney")}\n`])],
   [14, null, [0, 0], "bad padding", () => shamir.parse(BAD_PADDING)],
@@ -102,7 +105,7 @@ test("the codes and numbers are those of the header", () => {
   const source = file("bindings/js/shamir.js").toString();
   const numbers = new Map(Array.from(header.matchAll(/^#define SHAMIR_(\w+) (\d+)$/gm), ([, name, number]) => [name, Number(number)]));
   const own = Array.from(source.matchAll(/^const (\w+_BYTES_MAX|FORM_\w+) = (\d+);$/gm), ([, name, number]) => [name, Number(number)]);
-  assert.equal(own.length, 8);
+  assert.equal(own.length, 9);
   for (const [name, number] of [...own, ["EXPONENT_MAX", EXPONENT_MAX], ["OF_GROUPS", OF_GROUPS]]) assert.equal(numbers.get(name), number);
 });
 
