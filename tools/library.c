@@ -652,6 +652,38 @@ static void check_version(void)
     compare(shamir_version(fresh(0), 0), too_short(version.length), none);
 }
 
+/* Checks the flag of a new backup: it's set by any number except 0. The room has the text of a mnemonic and its line feed. */
+static void check_flag(void)
+{
+    static const uint32_t flags[] = {0, 1, 2, 255, 256, 65536, UINT32_MAX};
+    uint8_t secret_kept[SHAMIR_SECRET_BYTES_MAX];
+    uint8_t random_kept[RANDOM_MAX];
+    uint8_t value[SHAMIR_SECRET_BYTES_MAX];
+    slice plan = slice_of("1of1");
+    slice secret = bytes_of(SECRET, secret_kept);
+    slice key = slice_of(KEY);
+    slice random = bytes_of("1f09", random_kept);
+    shamir_answer found;
+    size_t i;
+
+    export_name = "shamir_create";
+    for (i = 0; i < sizeof flags / sizeof flags[0]; i++) {
+        shamir_share share = NO_SHARE;
+        char *text = fresh(ROOM_BYTES);
+
+        found = shamir_create(plan.bytes, plan.length, secret.bytes, secret.length, key.bytes, key.length, 0, flags[i], random.bytes,
+            random.length, text, ROOM_BYTES);
+        if (found.code != 0 || found.written == 0) {
+            differ("no backup with a flag");
+            continue;
+        }
+        found = shamir_parse(text, found.written - 1, &share, value, sizeof value);
+        if (found.code != 0 || share.extendable != (flags[i] != 0)) {
+            differ("another extendable flag");
+        }
+    }
+}
+
 /* Checks the text of a code that no export gives. */
 static void check_unknown(void)
 {
@@ -677,6 +709,7 @@ int main(void)
     CHECK_EACH("shamir_reissue", reissue_examples, check_reissue)
     CHECK_EACH("shamir_fingerprint", fingerprint_examples, check_fingerprint)
     CHECK_EACH("shamir_words", words_examples, check_words)
+    check_flag();
     check_version();
     check_unknown();
     return differences != 0;
