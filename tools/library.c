@@ -292,6 +292,9 @@ static const reissue_example reissue_examples[] = {
     {FIVE_PLAN, "2.0", {FIVE_0, FIVE_1}, {66, 0, 512, 0x00010102, "cannot tell 2.0: 0 of 1 members, 1 of 2 other groups"}, {NULL}},
     {FIVE_PLAN, "0.3", {FIVE_0, FIVE_1}, {64, 0, 0, 3, "name 0.3 not in plan"}, {NULL}},
     {"2/3of3,1of1,1of1", "0.2", {FIVE_0, FIVE_1}, {65, 0, 0, 0, "other plan"}, {NULL}},
+    {"1/2of3,1of1,1of1", "2.0", {FIVE_0, FIVE_3}, {65, 0, 0, 0, "other plan"}, {NULL}},
+    {"2/2of3,1of1", "0.1", {FIVE_0, FIVE_2}, {65, 0, 0, 0, "other plan"}, {NULL}},
+    {"2/2of2,1of1,1of1", "0.0", {FIVE_1, FIVE_2}, {65, 0, 0, 0, "other plan"}, {NULL}},
     {FIVE_PLAN, "0.1+0.0", {FIVE_0, FIVE_1}, {63, 0, 0, 0, "bad list of names"}, {NULL}},
     {FIVE_PLAN, NULL, {ONE_WRONG}, {63, 0, 0, 0, "bad list of names"}, {NULL}},
     {NULL, "0.1+0.0", {ONE_WRONG}, {31, 0, 0, 0, "bad plan"}, {NULL}},
@@ -697,6 +700,38 @@ static void check_version(void)
     compare(shamir_version(fresh(0), 0), too_short(version.length), none);
 }
 
+/* Checks the flag of a new backup: it's set by any number except 0. The room has the text of a mnemonic and its line feed. */
+static void check_flag(void)
+{
+    static const uint32_t flags[] = {0, 1, 2, 255, 256, 65536, UINT32_MAX};
+    uint8_t secret_kept[SHAMIR_SECRET_BYTES_MAX];
+    uint8_t random_kept[RANDOM_MAX];
+    uint8_t value[SHAMIR_SECRET_BYTES_MAX];
+    slice plan = slice_of("1of1");
+    slice secret = bytes_of(SECRET, secret_kept);
+    slice key = slice_of(KEY);
+    slice random = bytes_of("1f09", random_kept);
+    shamir_answer found;
+    size_t i;
+
+    export_name = "shamir_create";
+    for (i = 0; i < sizeof flags / sizeof flags[0]; i++) {
+        shamir_share share = NO_SHARE;
+        char *text = fresh(ROOM_BYTES);
+
+        found = shamir_create(plan.bytes, plan.length, secret.bytes, secret.length, key.bytes, key.length, 0, flags[i], random.bytes,
+            random.length, text, ROOM_BYTES);
+        if (found.code != 0 || found.written == 0) {
+            differ("no backup with a flag");
+            continue;
+        }
+        found = shamir_parse(text, found.written - 1, &share, value, sizeof value);
+        if (found.code != 0 || share.extendable != (flags[i] != 0)) {
+            differ("another extendable flag");
+        }
+    }
+}
+
 /* Checks the text of a code that no export gives. */
 static void check_unknown(void)
 {
@@ -723,6 +758,7 @@ int main(void)
     CHECK_EACH("shamir_repair", repair_examples, check_repair)
     CHECK_EACH("shamir_fingerprint", fingerprint_examples, check_fingerprint)
     CHECK_EACH("shamir_words", words_examples, check_words)
+    check_flag();
     check_version();
     check_unknown();
     return differences != 0;
