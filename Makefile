@@ -204,6 +204,7 @@ deb: shamir libshamir.so shamir.html
 dist:
 	@top=$$(git rev-parse --show-toplevel 2>&1); test "$$top" = "$$(pwd -P)" || \
 	{ echo "make dist: this folder isn't the top of a git checkout, so there is no commit to pack: $$top" >&2; exit 1; }
+	@rm -f shamir-$(VERSION).sha256 shamir-$(VERSION).txt
 	git -c tar.umask=0022 archive --format=tar --prefix=shamir-$(VERSION)/ --output=shamir-$(VERSION).tar HEAD
 	gzip -9nf shamir-$(VERSION).tar
 	@$(MAKE) -s shamir.html || { echo "make dist: shamir-$(VERSION).tar.gz is written, and shamir.html isn't" >&2; exit 1; }

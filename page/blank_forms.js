@@ -44,7 +44,7 @@ function form(plan, name, count) {
   return element(
     "section",
     { class: "form" },
-    element("h2", {}, say("blank.heading"), element("span", { class: "name" }, name || say("blank.unnamed"))),
+    element("h2", {}, say("blank.heading"), element("span", { class: "name" }, name ? say("blank.name", { name }) : say("blank.unnamed"))),
     paragraph(takes),
     whole === takes ? null : paragraph(whole),
     element("ol", {}, ...lines),

@@ -58,6 +58,8 @@ def check(name, url, see, opened=Page):
             page.wait_title(say("prepare.title"))
             check_screen(page, f"{mode} before you begin", see)
             page.push(say("prepare.anyway"))
+            page.wait_title(say("prepare.sure.title"))
+            check_screen(page, f"{mode} are you sure", see)
             page.push(say("prepare.yes"))
             page.wait_title(say("check.title"))
             type_paper(page, SOUND_PAPER)

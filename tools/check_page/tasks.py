@@ -231,7 +231,12 @@ def check_replace(page, see):
     page.choose(say("replace.other"))
     page.push(say("continue"))
     page.wait_text(say("replace.new"))
+    see("a new backup instead")
     end(page)
+
+
+# Shows the page as it's printed, or as it is again.
+SHOW_AS = "for (const it of document.styleSheets[0].cssRules) if (it.media?.mediaText === '%s') it.media.mediaText = '%s'; null"
 
 
 def check_blank(page, see):
@@ -246,8 +251,13 @@ def check_blank(page, see):
     lines = page.evaluate("[...document.querySelectorAll('.form ol')].map((it) => it.children.length).join(' ')")
     if page.printed()[1] != 5:
         raise Failed("the five forms aren't five sheets")
-    if names != "0.0 0.1 0.2 1.0 2.0" or lines != "33 33 33 33 33":
+    if names != " ".join(say("blank.name", name=name) for name in ["0.0", "0.1", "0.2", "1.0", "2.0"]) or lines != "33 33 33 33 33":
         raise Failed(f"the forms are {names}, with {lines} lines")
+    page.evaluate(SHOW_AS % ("print", "all"))
+    page.size(794, 5600)
+    see("printed forms")
+    page.size(1200, 900)
+    page.evaluate(SHOW_AS % ("all", "print"))
     end(page)
     if page.evaluate("document.getElementById('sheet').children.length"):
         raise Failed("the forms stay after the task")
