@@ -1,8 +1,8 @@
 //! Facts about the definitions of the command line. Each is the contract of a function that does nothing.
-ghost use Rattle.std.specs.Prelude.{[], ◌∷◌, codes};
+ghost use Rattle.std.specs.Prelude.{◌≡◌, [], ◌∷◌, codes};
 ghost use Rattle.s39_kdf.specs.declared.secret_form.SecretForm.TheVariants.{Digits, Fingerprint};
 ghost use Rattle.s39_command.specs.Words.{ApartDrill, AreCreateWords, AreDrillWords, AreRecoverWords};
-ghost use Rattle.s39_command.specs.Words.{IsLimit, JoinedDrill, drill_apart};
+ghost use Rattle.s39_command.specs.Words.{IsLimit, JoinedDrill, drill_apart, limit_of};
 ghost use Rattle.s39_command.specs.Words.{CreateWordsAreTaken, DrillWordsAreTaken, OneCall, RecoverWordsAreTaken};
 
 /// The definition of the command line takes the words of a drill, of a recovery and of a creation, whatever their texts are,
@@ -33,6 +33,14 @@ pub fn there_are_such_words()
         ∷ codes "00112233445566778899aabbccddeeff"
         ∷ codes "--passphrase" ∷ codes "TREZOR" ∷ codes "2of3" ∷ []) }
     ensures limit { IsLimit (codes "5") }
+{}
+
+/// The least limit, the greatest, and one between them are limits. The text of the greatest has its number as its value.
+pub fn there_are_such_limits()
+    ensures least { IsLimit (codes "1") }
+    ensures above_a_thousand { IsLimit (codes "1001") }
+    ensures greatest { IsLimit (codes "4294967295") }
+    ensures value { limit_of (codes "4294967295") ≡ 4294967295 }
 {}
 
 /// Words give one call: any two calls that they give have the same values and the same files of values.
