@@ -13,7 +13,7 @@ ghost use Rattle.s39_reading.specs.Lengths.{longest_status};
 ghost use Rattle.s39_creating.specs.Reissue.{IsReissueOutput};
 ghost use Rattle.s39_reading.specs.Status.{IsStatusOutput};
 ghost use Rattle.s39_c.specs.declared.lengths.TheConstants.{NAMES_BYTES_MAX, LISTING_BYTES_ENOUGH, MNEMONICS_BYTES_MAX, STATUS_BYTES_MAX, FINGERPRINT_BYTES_MAX, WORDS_BYTES_MAX, REPAIRED_BYTES_MAX};
-ghost use Rattle.s39_c.specs.Answers.{done, too_short};
+ghost use Rattle.s39_c.specs.Answers.{too_short};
 ghost use Rattle.s39_c.specs.Creating.{Wanted, GivesBackup};
 ghost use Rattle.s39_c.specs.Drilling.{GivesDrill};
 ghost use Rattle.s39_c.specs.Exponents.{UpTo};
@@ -21,7 +21,6 @@ ghost use Rattle.s39_c.specs.Fingerprinting.{GivesFingerprint};
 ghost use Rattle.s39_c.specs.Reissuing.{GivesReissued};
 ghost use Rattle.s39_c.specs.Repairing.{longest_repaired};
 ghost use Rattle.s39_c.specs.Status.{GivesStatus};
-ghost use Rattle.s39_c.specs.Telling.{GivesText};
 ghost use Rattle.s39_c.specs.Words.{longest_words, words_text, GivesWords};
 
 use s39_creating::laws::{backups_are_short, reissues_are_short};
@@ -122,13 +121,4 @@ pub fn words_fit()
     ensures most { (letters old new : List ℕ) (needed : ℕ)
         → GivesWords letters old new (too_short needed) → length old < WORDS_BYTES_MAX }
     ensures reached { length (words_text []) ≡ WORDS_BYTES_MAX }
-{}
-
-/// If a buffer is refused as too short for the text of an answer, it is shorter than 64 bytes, and the refusal asks for
-/// at most 64. A text that is written takes at most 64 bytes.
-pub fn texts_fit()
-    ensures short { (old new : List ℕ) (needed : ℕ) → GivesText old new (too_short needed)
-        → (length old < 64) × (needed ≤ 64) }
-    ensures written { (old new : List ℕ) (written : ℕ) → GivesText old new (done written)
-        → (written ≤ length old) × (written ≤ 64) }
 {}
