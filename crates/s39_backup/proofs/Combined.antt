@@ -1,21 +1,20 @@
 -- What is combined, as the code holds it.
-use Rattle.std.proofs.Common.{◌≡◌, ℕ, ◌+◌, ◌<◌, ◌≤◌, ◌==◌, Bool, true, false, List, [], ◌∷◌, ◌++◌, length, find, Contains, Option, Some, None, refl, sym, ap}
+use Rattle.std.proofs.Common.{◌≡◌, ℕ, ◌<◌, ◌≤◌, ◌==◌, Bool, true, false, List, [], ◌∷◌, length, find, Contains, Option, Some, None, refl, sym, ap}
 use Rattle.std.proofs.Common.{subst, ◌∙◌, arith}
 use Rattle.std.specs.Prelude.{IfSome, IsSome}
 use Rattle.std.specs.Borrow.{Bor}
 use Rattle.std.specs.Option.{option_copied}
-use Rattle.std.proofs.lemmas.List.{length-map, map_push}
+use Rattle.std.proofs.lemmas.List.{length-map}
 use Rattle.std.proofs.lemmas.Bool.Decides.{nat_tests}
 use Rattle.arrayvec.specs.ArrayVec.{ArrayVec}
 use Rattle.s39_words.specs.declared.share.ShareFields.{ShareFields}
 use Rattle.s39_set.specs.Names.{Names, names_in_group}
 use Rattle.s39_set.specs.ShareSet.{has_name}
-use Rattle.s39_split.specs.Recovery.{Combines}
-use Rattle.s39_backup.specs.Combination.{member_shares, GroupCombines}
-use Rattle.s39_backup.specs.GroupShares.{indexed_group_shares, value_bytes_of, groups_below, IsExactQuorum, AreOfOneLevel, AreGroupShares}
+use Rattle.s39_backup.specs.Combination.{member_shares}
+use Rattle.s39_backup.specs.GroupShares.{indexed_group_shares, value_bytes_of, IsExactQuorum, AreOfOneLevel}
 use Rattle.s39_lists.proofs.Finds.{Contains-find}
 use Rattle.s39_backup.proofs.Values.{HasShare}
-use Rattle.s39_backup.proofs.Levels.{length-member_shares, members_of_one_level, group_combines, some_group, few_group_shares, group_shares_more}
+use Rattle.s39_backup.proofs.Levels.{length-member_shares, members_of_one_level, some_group}
 
 -- a share that is found is one of the set
 pub among-found : (found : Option (Bor ShareFields)) (group member : ℕ) (set : List ShareFields)
@@ -37,36 +36,15 @@ some_name set (n ∷ ns) quorum = omega arith
 pub length-indexed_group_shares : (items : List (ℕ × ArrayVec ℕ)) → length (indexed_group_shares items) ≡ length items
 length-indexed_group_shares items = length-map items (λ share. (share.0, share.1.items))
 
-module _ (set : List ShareFields) (names : Names) (quorum : IsExactQuorum set names) (group : ℕ) where
-  module _ (members : List (ℕ × List ℕ)) (is : members ≡ member_shares set names group) where
-    pub length-members : length members ≡ length (names_in_group group names)
-    length-members = ap length is ∙ length-member_shares set names group
+module _ (set : List ShareFields) (names : Names) (quorum : IsExactQuorum set names) (group : ℕ) (members : List (ℕ × List ℕ))
+    (is : members ≡ member_shares set names group) where
+  pub length-members : length members ≡ length (names_in_group group names)
+  length-members = ap length is ∙ length-member_shares set names group
 
-    -- the shares of a group can be combined
-    pub members_can : 0 < length members → AreOfOneLevel (value_bytes_of set) members
-    members_can some =
-        subst (AreOfOneLevel (value_bytes_of set)) (sym is) (members_of_one_level set names quorum group (omega (arith, length-members)))
-
-    -- and combine as the group does
-    pub members_combine : (outcome : Option (List ℕ)) → 0 < length members → Combines (length members) members outcome
-        → GroupCombines set names group outcome
-    members_combine outcome some combines =
-        group_combines set names quorum group outcome (omega (arith, length-members)) (subst (λ s. Combines (length s) s outcome) is combines)
-
-  module _ (shares : List (ℕ × ArrayVec ℕ)) (before : AreGroupShares set names (groups_below names group) (indexed_group_shares shares)) where
-    pub few_shares : length shares ≤ group
-    few_shares =
-        omega (arith, few_group_shares set names quorum (indexed_group_shares shares) group before, length-indexed_group_shares shares)
-
-    -- the share of one group more
-    pub shares_more : (share : ArrayVec ℕ) (new : List (ℕ × ArrayVec ℕ)) → new ≡ shares ++ (group, share) ∷ [] → 0 < length (names_in_group group names)
-        → GroupCombines set names group (Some share.items) → length share.items ≡ value_bytes_of set
-        → AreGroupShares set names (groups_below names (group + 1)) (indexed_group_shares new)
-    shares_more share new is some combines bytes =
-        let pushed : indexed_group_shares new ≡ indexed_group_shares shares ++ (group, share.items) ∷ [] =
-        ap indexed_group_shares is ∙ map_push (λ s. (s.0, s.1.items)) shares (group, share) in
-        subst (AreGroupShares set names (groups_below names (group + 1))) (sym pushed)
-        (group_shares_more set names quorum (indexed_group_shares shares) group share.items before some combines bytes)
+  -- the shares of a group can be combined
+  pub members_can : 0 < length members → AreOfOneLevel (value_bytes_of set) members
+  members_can some =
+      subst (AreOfOneLevel (value_bytes_of set)) (sym is) (members_of_one_level set names quorum group (omega (arith, length-members)))
 
 -- a list that isn't empty has an element
 pub some_from_test : (test : Bool) (n : ℕ) → test ≡ (n == 0) → test ≡ false → 0 < n

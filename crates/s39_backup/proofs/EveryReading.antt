@@ -1,5 +1,5 @@
 -- Every text is read as a plan, or refused: each part of what a plan's form says is decided.
-use Rattle.std.proofs.Common.{◌≡◌, ℕ, zero, suc, ◌<◌, ◌≤◌, ◌==◌, List, [], ◌∷◌, ◌++◌, length, get_or, take, map, All, Option, Some, None, Result, Ok, Err}
+use Rattle.std.proofs.Common.{◌≡◌, ℕ, zero, suc, ◌<◌, ◌≤◌, ◌==◌, List, [], ◌∷◌, ◌++◌, length, map, All, Option, Some, None, Result, Err}
 use Rattle.std.proofs.Common.{◌⊎◌, inl, inr, refl, sym, ap, ap₂, subst, ◌∙◌, arith}
 use Rattle.std.specs.List.{position, slice_split}
 use Rattle.std.specs.Fmt.{decimal}
@@ -7,14 +7,13 @@ use Rattle.std.proofs.lemmas.Bool.{cases_lt, cases_eq}
 use Rattle.std.proofs.lemmas.List.Elements.{All-nil, All-cons, All-head, All-tail}
 use Rattle.s39_lists.proofs.Decided.{same_or_other}
 use Rattle.s39_lists.proofs.Splits.{cut_at, position-cut, joined-from_parts, split-joined}
-use Rattle.s39_set.specs.Names.{most_groups, most_members}
 use Rattle.s39_set.specs.Texts.{IsCut}
 use Rattle.s39_backup.specs.declared.plan.Members.{Members}
 use Rattle.s39_backup.specs.declared.plan_error.PlanError.{PlanError}
-use Rattle.s39_backup.specs.declared.plan_error.PlanError.TheVariants.{BadPlan, PlanGroups, PlanMembers, OneOfMany}
-use Rattle.s39_backup.specs.Plan.{IsPlanNumber, members_text, HasEnoughMembers, IsOneOfMany, IsGroup, HasEnoughGroups, PlanForm, IsPlanReading}
+use Rattle.s39_backup.specs.declared.plan_error.PlanError.TheVariants.{BadPlan}
+use Rattle.s39_backup.specs.Plan.{IsPlanNumber, members_text, PlanForm, judged, IsPlanReading}
 use Rattle.s39_backup.specs.PlanText.{IsNumberText, HasPlanNumbers, IsMembersText, IsGroupsText}
-use Rattle.s39_backup.proofs.Plans.{first_refused}
+use Rattle.s39_backup.proofs.PlanReadings.{reading_judged}
 use Rattle.s39_backup.proofs.PlanTexts.{commaless, numbers_of, groups_once, with_slash, without_slash}
 
 -- ---- what is decided
@@ -43,19 +42,6 @@ below_or_not P each (suc limit) =
           | inl same ↦ other (subst P same some.2)
           | inr another ↦ none (some.0, omega arith, some.2)
         ])
-      ]
-    ]
-
--- what all elements are, or the first of them isn't
-all_or_first : {X : Type 0} (P : X → Type 0) → ((x : X) → Decided (P x)) → (d : X) (xs : List X)
-    → All P xs ⊎ ((k : ℕ) × (k < length xs) × All P (take k xs) × ¬ P (get_or xs k d))
-all_or_first P each d [] = inl (All-nil P)
-all_or_first P each d (x ∷ xs) =
-    elim (each x) [
-      | inr not ↦ inr (0, omega arith, All-nil P, not)
-      | inl is ↦ elim (all_or_first P each d xs) [
-        | inl all ↦ inl (All-cons P x xs is all)
-        | inr first ↦ (let within = first.1 in inr (suc first.0, omega arith, All-cons P x (take first.0 xs) is first.2, first.3))
       ]
     ]
 
@@ -181,66 +167,12 @@ form_or_not text = by_slash (position (λ b. b == 47) text) refl
     by_slash None missing = without_slash_or_not text (λ front back cut.
         let found = sym missing ∙ ap (position (λ b. b == 47)) cut.text_is ∙ position-cut 47 front back cut.first in cc)
 
--- ---- the groups of a plan
-
-enough_or_not : (members : Members) → Decided (HasEnoughMembers members)
-enough_or_not members =
-    both_or_not (at_most_or_not members.count most_members) (at_most_or_not members.threshold members.count)
-    (λ few enough. record { few = few; enough = enough }) (λ is. is.few) (λ is. is.enough)
-
-one_of_many_or_not : (members : Members) → Decided (IsOneOfMany members)
-one_of_many_or_not members =
-    both_or_not (cases_eq members.threshold 1) (at_most_or_not 2 members.count) (λ one many. (one, omega arith))
-    (λ is. is.0) (λ is. let many = is.1 in omega arith)
-
-group_or_not : (members : Members) → Decided (IsGroup members)
-group_or_not members =
-    elim (one_of_many_or_not members) [
-      | inl one ↦ inr (λ is. is.not_one_of_many one)
-      | inr several ↦ both_or_not (at_most_or_not 1 members.threshold) (enough_or_not members)
-          (λ positive enough. record { positive = positive; enough = enough; not_one_of_many = several }) (λ is. is.positive) (λ is. is.enough)
-    ]
-
-enough_groups_or_not : (group_threshold : ℕ) (groups : List Members) → Decided (HasEnoughGroups group_threshold groups)
-enough_groups_or_not group_threshold groups =
-    both_or_not (at_most_or_not (length groups) most_groups) (at_most_or_not group_threshold (length groups))
-    (λ few enough. record { few = few; enough = enough }) (λ is. is.few) (λ is. is.enough)
-
--- what a text is read as that has a plan's form, and as many groups as a plan can have
-judged : (text : List ℕ) (plan : PlanForm text) → HasEnoughGroups plan.group_threshold plan.groups
-    → (reading : Result (ℕ × List Members) PlanError) × IsPlanReading text reading
-judged text plan enough =
-    let blank : Members = record { threshold = 0; count = 0 } in
-    elim (all_or_first IsGroup group_or_not blank plan.groups) [
-      | inl all ↦ (
-        Ok (plan.group_threshold, plan.groups),
-        (plan.form, record { positive = plan.form.threshold_number.positive; enough = enough; each = all }),
-      )
-      | inr first ↦ (
-          let (k, within, accepted, refused) = first in
-          let members = get_or plan.groups k blank in
-          elim (enough_or_not members) [
-            | inr few ↦ (Err (PlanMembers k), (plan, enough, first_refused plan.groups k blank (λ m. ¬ HasEnoughMembers m) within accepted few))
-            | inl several ↦ elim (one_of_many_or_not members) [
-              | inl one ↦ (
-                Err (OneOfMany k),
-                (plan, enough, first_refused plan.groups k blank (λ m. HasEnoughMembers m × IsOneOfMany m) within accepted (several, one)),
-              )
-              | inr other ↦ absurd (refused (record {
-                positive = (plan.form.thresholds k blank within).positive;
-                enough = several;
-                not_one_of_many = other;
-              }))
-            ]
-          ])
-    ]
+-- ---- readings
 
 pub reading_exists : (text : List ℕ) → (reading : Result (ℕ × List Members) PlanError) × IsPlanReading text reading
 reading_exists text =
     elim (form_or_not text) [
+      | inl plan ↦ let numbers : ℕ × List Members = (plan.group_threshold, plan.groups) in
+          (judged numbers, reading_judged text plan.group_threshold plan.groups plan.form (judged numbers) refl)
       | inr none ↦ (Err BadPlan, none)
-      | inl plan ↦ elim (enough_groups_or_not plan.group_threshold plan.groups) [
-        | inr few ↦ (Err PlanGroups, (plan, few))
-        | inl enough ↦ judged text plan enough
-      ]
     ]

@@ -1,13 +1,14 @@
 -- The shares of a group of a quorum, and those of its groups.
 use Rattle.std.proofs.Common.{◌≡◌, ◌≢◌, ℕ, ◌+◌, ◌-◌, ◌%◌, ◌<◌, ◌≤◌, ◌==◌, Bool, false, List, [], ◌∷◌, ◌++◌, length, get_or, take, filter, map, All, AllPairs}
-use Rattle.std.proofs.Common.{Contains, Option, Some, None, Less, nat_lt, nat_le, cond, inl, inr, refl, sym, ap, subst, ◌∙◌, arith}
-use Rattle.std.specs.Prelude.{IsSomeAnd}
-use Rattle.std.specs.List.{range_with_len, zip}
-use Rattle.std.specs.Option.{option_map_or}
-use Rattle.std.proofs.lemmas.Bool.{cases_lt, eqb-true, eq-eqb, lt-ltb, le-ltb, le-leb, lt-leb}
+use Rattle.std.proofs.Common.{Contains, Option, Some, None, Ok, Err, Less, nat_lt, nat_le, cond, inl, inr, refl, sym, ap, subst, ◌∙◌, arith}
+use Rattle.std.specs.Prelude.{IsSomeAnd, ◌↔◌}
+use Rattle.std.specs.List.{range_with_len}
+use Rattle.std.specs.Option.{option_map_or, ok_or}
+use Rattle.std.proofs.lemmas.Bool.{cases_lt, eqb-true, eq-eqb, lt-ltb, le-ltb, le-leb, lt-leb, ltb-true}
 use Rattle.std.proofs.lemmas.Bool.Decides.{nat_tests}
-use Rattle.std.proofs.lemmas.List.{length-map, map_push}
-use Rattle.std.proofs.lemmas.List.Elements.{All-map, All-filter, All-contains, All-push, filter_passes}
+use Rattle.std.proofs.lemmas.List.{length-map}
+use Rattle.std.proofs.lemmas.List.Elements.{All-map, All-filter, All-contains, filter_passes}
+use Rattle.std.proofs.lemmas.List.Folds.{map_fixed}
 use Rattle.std.proofs.lemmas.List.Sums.{length-filter, count_by-le-length, count_by_more_yes, sum_by-take-le}
 use Rattle.std.proofs.lemmas.List.FromFn.{length-range_with_len}
 use Rattle.std.proofs.lemmas.List.Kept.{AllPairs-filter}
@@ -17,17 +18,20 @@ use Rattle.s39_set.specs.Names.{Name, Names, most_groups, most_members, name_cmp
 use Rattle.s39_set.specs.Groups.{is_complete}
 use Rattle.s39_set.specs.ShareSet.{name_of}
 use Rattle.s39_set.specs.Quorums.{group_threshold_of, member_threshold_of}
-use Rattle.s39_kdf.specs.Limits.{shortest_secret}
-use Rattle.s39_split.specs.Shares.{HaveOneLength}
+use Rattle.s39_kdf.specs.Bytes.{AreBytes}
 use Rattle.s39_split.specs.Sharing.{most_shares}
-use Rattle.s39_split.specs.Recovery.{Combines}
-use Rattle.s39_backup.specs.Combination.{value_of, member_shares, groups_of, GroupCombines, AllCombine, GroupsCombine, MismatchesInGroup}
-use Rattle.s39_backup.specs.GroupShares.{value_bytes_of, groups_below, IsExactQuorum, AreOfOneLevel, AreGroupShares}
+use Rattle.s39_split.specs.Recovery.{Combines, combined}
+use Rattle.s39_backup.specs.declared.combination.Mismatch.{Mismatch}
+use Rattle.s39_backup.specs.declared.combination.Mismatch.TheVariants.{OfGroups}
+use Rattle.s39_backup.specs.Combination.{value_of, member_shares, groups_of, group_share, combination_of}
+use Rattle.s39_backup.specs.GroupShares.{value_bytes_of, groups_below, IsExactQuorum, AreOfOneLevel}
+use Rattle.s39_lists.specs.Each.{each}
+use Rattle.s39_lists.proofs.Each.{from_ok_or, then_gives, each-length, each-push, each-stop, each-values, each-images}
 use Rattle.s39_lists.proofs.Pairs.{All-from_map, AllPairs-from_map, AllPairs-map}
-use Rattle.s39_backup.proofs.Images.{zip-parts, AllZip-parts}
 use Rattle.s39_lists.proofs.Images.{filter_alike}
 use Rattle.s39_lists.proofs.Ranges.{range-below, filter-range_more_yes, filter-range_more_no, range-distinct, filter-range_parts}
-use Rattle.s39_backup.proofs.Values.{has_share, values_agree, value_bytes-long, length-value_of, member_threshold-positive, group_threshold-positive}
+use Rattle.s39_backup.proofs.Combining.{IsLike, combined_is, combined_like, share_is}
+use Rattle.s39_backup.proofs.Values.{has_share, values_agree, value_bytes-long, bytes-value_of, length-value_of, member_threshold-positive, group_threshold-positive}
 
 -- a set with a group threshold has a share
 pub some_share : (set : List ShareFields) (threshold : ℕ) → group_threshold_of set ≡ Some threshold → (share : ShareFields) × Contains set share
@@ -37,17 +41,6 @@ some_share (s ∷ ss) threshold e = (s, (0, omega arith, refl))
 -- a name of a group is among these
 abbrev has_name_in : Names → ℕ → Bool
 has_name_in names group = nat_lt 0 (length (names_in_group group names))
-
--- shares of one level have one length, which is long enough
-module _ (bytes : ℕ) (shares : List (ℕ × List ℕ)) (level : AreOfOneLevel bytes shares) where
-  pub level-one_length : HaveOneLength shares
-  level-one_length i j d before within = level.lengths i d (omega arith) ∙ sym (level.lengths j d within)
-
-  pub level-long : All (λ share. shortest_secret ≤ length share.1) shares
-  level-long k d within =
-      let long = level.long in
-      let same = level.lengths k d within in
-      omega arith
 
 -- ---- the shares of a group
 
@@ -122,12 +115,27 @@ module _ (set : List ShareFields) (names : Names) (quorum : IsExactQuorum set na
           value_bytes-long set has.share quorum.is_set has.among;
     }
 
-    -- what they combine to is what the group does
-    pub group_combines : (outcome : Option (List ℕ)) → 0 < length (names_in_group group names)
-        → Combines (length (member_shares set names group)) (member_shares set names group) outcome → GroupCombines set names group outcome
-    group_combines outcome some combines =
-        subst (λ threshold. IsSomeAnd threshold (λ t. Combines t (member_shares set names group) outcome)) (sym (member_threshold_is some))
-        (subst (λ t. Combines t (member_shares set names group) outcome) (length-member_shares set names group) combines)
+    member_bytes : All (λ share. AreBytes share.1) (member_shares set names group)
+    member_bytes =
+        All-map (λ share. AreBytes share.1) (λ name. (name.1, value_of set name)) (names_in_group group names)
+        (λ k d within. bytes-value_of set (get_or (names_in_group group names) k d) quorum.is_set (group_at_hand k d within))
+
+    -- they combine to what is computed alone
+    pub members_combine : 0 < length (names_in_group group names) → (outcome : Option (List ℕ))
+        → IsSomeAnd (member_threshold_of set group) (λ threshold. Combines threshold (member_shares set names group) outcome
+        ↔ (outcome ≡ combined (member_shares set names group)))
+    members_combine some outcome =
+        let shares = member_shares set names group in
+        subst (λ o. IsSomeAnd o (λ t. Combines t shares outcome ↔ (outcome ≡ combined shares))) (sym (member_threshold_is some))
+        (combined_is (value_bytes_of set) shares (members_of_one_level some) member_bytes (length (names_in_group group names))
+        (length-member_shares set names group) outcome)
+
+    -- the share of a group is like them
+    share_like_members : (share : ℕ × List ℕ) → 0 < length (names_in_group group names) → group_share set names group ≡ Ok share
+        → IsLike (value_bytes_of set) share.1
+    share_like_members share some is =
+        combined_like (value_bytes_of set) (member_shares set names group) (members_of_one_level some) member_bytes share.1
+        (share_is group (combined (member_shares set names group)) share is).1
 
   -- ---- the groups
 
@@ -166,82 +174,87 @@ module _ (set : List ShareFields) (names : Names) (quorum : IsExactQuorum set na
   pub some_group : 0 < length (groups_of names)
   some_group = group_threshold-positive set (length (groups_of names)) quorum.is_set group_threshold_is
 
-  module _ (shares : List (ℕ × List ℕ)) where
-    pub length-group_shares : (groups : List ℕ) → AreGroupShares set names groups shares → length shares ≡ length groups
-    length-group_shares groups is = sym (length-map shares (λ share. share.0)) ∙ ap length is.indices
+  -- each group has a name
+  pub have_names : All (λ group. 0 < length (names_in_group group names)) (groups_of names)
+  have_names k d within = ltb-true 0 _ (filter_passes (has_name_in names) (range_with_len 0 most_groups) k d within)
 
-    -- one share for each group below a number that has names
-    pub few_group_shares : (group : ℕ) → AreGroupShares set names (groups_below names group) shares → length shares ≤ group
-    few_group_shares group is =
-        omega (
-          arith,
-          length-group_shares (groups_below names group) is,
-          length-filter (has_name_in names) (range_with_len 0 group),
-          count_by-le-length (has_name_in names) (range_with_len 0 group),
-          length-range_with_len 0 group,
-        )
+  -- ---- the shares of the groups
 
-    -- the group shares can be combined
-    pub groups_of_one_level : AreGroupShares set names (groups_of names) shares → AreOfOneLevel (value_bytes_of set) shares
-    groups_of_one_level is = record {
-      some = omega (arith, length-group_shares (groups_of names) is, some_group);
-      few = few_group_shares most_groups is;
+  -- one for each group below a number that has names
+  pub few_group_shares : (group : ℕ) (shares : List (ℕ × List ℕ)) → each (group_share set names) (groups_below names group) ≡ Ok shares
+      → length shares ≤ group
+  few_group_shares group shares all =
+      omega (
+        arith,
+        each-length (group_share set names) (groups_below names group) shares all,
+        length-filter (has_name_in names) (range_with_len 0 group),
+        count_by-le-length (has_name_in names) (range_with_len 0 group),
+        length-range_with_len 0 group,
+      )
+
+  module _ (shares : List (ℕ × List ℕ)) (all : each (group_share set names) (groups_of names) ≡ Ok shares) where
+    alike : All (λ share. IsLike (value_bytes_of set) share.1) shares
+    alike = each-values (group_share set names) (λ group. 0 < length (names_in_group group names)) (λ share. IsLike (value_bytes_of set) share.1)
+        (λ group share some is. share_like_members group share some is) (groups_of names) shares have_names all
+
+    indices_are : map (λ share. share.0) shares ≡ groups_of names
+    indices_are =
+        each-images (group_share set names) (λ share. share.0) (λ group. group)
+        (λ group share is. (share_is group (combined (member_shares set names group)) share is).0) (groups_of names) shares all
+        ∙ map_fixed (λ group. group) (groups_of names) (λ k d within. refl)
+
+    -- they can be combined
+    pub groups_of_one_level : AreOfOneLevel (value_bytes_of set) shares
+    groups_of_one_level = record {
+      some = omega (arith, each-length (group_share set names) (groups_of names) shares all, some_group);
+      few = few_group_shares most_groups shares all;
       distinct = AllPairs-from_map (λ a b. a ≢ b) (λ share. share.0) shares
-          (subst (AllPairs (λ a b. a ≢ b)) (sym is.indices)
+          (subst (AllPairs (λ a b. a ≢ b)) (sym indices_are)
           (AllPairs-filter (λ a b. a ≢ b) (has_name_in names) (range_with_len 0 most_groups) (range-distinct most_groups)));
       indices = All-from_map (λ group. group < most_groups) (λ share. share.0) shares
-          (subst (All (λ group. group < most_groups)) (sym is.indices)
+          (subst (All (λ group. group < most_groups)) (sym indices_are)
           (All-filter (has_name_in names) (λ group. group < most_groups) (range_with_len 0 most_groups) (range-below most_groups)));
-      lengths = is.lengths;
+      lengths = λ k d within. (alike k d within).0;
       long =
           let (share, among) = some_share set (length (groups_of names)) group_threshold_is in
           value_bytes-long set share quorum.is_set among;
     }
 
-    -- each is what its group combines to
-    pub all_combine : (groups : List ℕ) → AreGroupShares set names groups shares → AllCombine set names groups (map (λ share. share.1) shares)
-    all_combine groups is =
-        subst (λ gs. AllCombine set names gs (map (λ share. share.1) shares)) is.indices
-        (AllZip-parts (λ group share. GroupCombines set names group (Some share)) shares is.combine)
+    group_bytes : All (λ share. AreBytes share.1) shares
+    group_bytes k d within = (alike k d within).1
 
-    -- what they combine to is what the groups do
-    pub groups_combine : (outcome : Option (List ℕ)) → AreGroupShares set names (groups_of names) shares → Combines (length shares) shares outcome
-        → GroupsCombine set (groups_of names) (map (λ share. share.1) shares) outcome
-    groups_combine outcome is combines =
-        let joined : zip (groups_of names) (map (λ share. share.1) shares) ≡ shares =
-        ap (λ gs. zip gs (map (λ share. share.1) shares)) (sym is.indices) ∙ zip-parts shares in
-        subst (λ threshold. IsSomeAnd threshold (λ t. Combines t (zip (groups_of names) (map (λ share. share.1) shares)) outcome)) (sym group_threshold_is)
-        (subst (λ pairs. Combines (length (groups_of names)) pairs outcome) (sym joined)
-        (subst (λ t. Combines t shares outcome) (length-group_shares (groups_of names) is) combines))
+    -- to what is computed alone
+    pub groups_combine : (outcome : Option (List ℕ))
+        → IsSomeAnd (group_threshold_of set) (λ threshold. Combines threshold shares outcome ↔ (outcome ≡ combined shares))
+    groups_combine outcome =
+        subst (λ o. IsSomeAnd o (λ t. Combines t shares outcome ↔ (outcome ≡ combined shares))) (sym group_threshold_is)
+        (combined_is (value_bytes_of set) shares groups_of_one_level group_bytes (length (groups_of names))
+        (each-length (group_share set names) (groups_of names) shares all) outcome)
 
-    module _ (group : ℕ) where
-      pub group_shares_more : (share : List ℕ) → AreGroupShares set names (groups_below names group) shares → 0 < length (names_in_group group names)
-          → GroupCombines set names group (Some share) → length share ≡ value_bytes_of set
-          → AreGroupShares set names (groups_below names (group + 1)) (shares ++ (group, share) ∷ [])
-      group_shares_more share is some combines bytes = record {
-        indices = map_push (λ s. s.0) shares (group, share)
-            ∙ ap (λ gs. gs ++ group ∷ []) is.indices
-            ∙ sym (filter-range_more_yes (has_name_in names) group (lt-ltb 0 (length (names_in_group group names)) some));
-        combine = All-push (λ s. GroupCombines set names s.0 (Some s.1)) shares (group, share) is.combine combines;
-        lengths = All-push (λ s. length s.1 ≡ value_bytes_of set) shares (group, share) is.lengths bytes;
-      }
+  -- the encrypted secret is like the values
+  pub encrypted_like : (encrypted : List ℕ) → combination_of set names ≡ Ok encrypted → IsLike (value_bytes_of set) encrypted
+  unfolding combination_of
+  encrypted_like encrypted is =
+      let gives = then_gives (λ shares. ok_or (combined shares) OfGroups) (each (group_share set names) (groups_of names)) encrypted is in
+      combined_like (value_bytes_of set) gives.a (groups_of_one_level gives.a gives.first_is) (group_bytes gives.a gives.first_is) encrypted
+      (from_ok_or (combined gives.a) OfGroups encrypted gives.then_is)
 
-      pub group_shares_without : AreGroupShares set names (groups_below names group) shares → length (names_in_group group names) ≤ 0
-          → AreGroupShares set names (groups_below names (group + 1)) shares
-      group_shares_without is none = record {
-        indices = is.indices ∙ sym (filter-range_more_no (has_name_in names) group (le-ltb 0 (length (names_in_group group names)) none));
-        combine = is.combine;
-        lengths = is.lengths;
-      }
+  -- one group more
+  module _ (group : ℕ) (shares : List (ℕ × List ℕ)) (before : each (group_share set names) (groups_below names group) ≡ Ok shares) where
+    pub with_group : (share : ℕ × List ℕ) → 0 < length (names_in_group group names) → group_share set names group ≡ Ok share
+        → each (group_share set names) (groups_below names (group + 1)) ≡ Ok (shares ++ share ∷ [])
+    with_group share some is =
+        ap (each (group_share set names)) (filter-range_more_yes (has_name_in names) group (lt-ltb 0 (length (names_in_group group names)) some))
+        ∙ each-push (group_share set names) (groups_below names group) group shares share before is
 
-      -- a group that is refused after all earlier ones combined is the first
-      pub mismatches : group < most_groups → AreGroupShares set names (groups_below names group) shares → 0 < length (names_in_group group names)
-          → GroupCombines set names group None → MismatchesInGroup set names group
-      mismatches low is some refused = record {
-        before = groups_below names group;
-        after = filter (has_name_in names) (range_with_len (group + 1) (most_groups - (group + 1)));
-        shares = map (λ share. share.1) shares;
-        parts = filter-range_parts (has_name_in names) group most_groups low (lt-ltb 0 (length (names_in_group group names)) some);
-        earlier = all_combine (groups_below names group) is;
-        refused = refused;
-      }
+    pub without_group : length (names_in_group group names) ≤ 0 → each (group_share set names) (groups_below names (group + 1)) ≡ Ok shares
+    without_group none =
+        ap (each (group_share set names)) (filter-range_more_no (has_name_in names) group (le-ltb 0 (length (names_in_group group names)) none)) ∙ before
+
+    pub stops_at_group : (mismatch : Mismatch) → group < most_groups → 0 < length (names_in_group group names)
+        → group_share set names group ≡ Err mismatch → each (group_share set names) (groups_of names) ≡ Err mismatch
+    stops_at_group mismatch low some is =
+        ap (each (group_share set names))
+        (filter-range_parts (has_name_in names) group most_groups low (lt-ltb 0 (length (names_in_group group names)) some))
+        ∙ each-stop (group_share set names) (groups_below names group) group
+        (filter (has_name_in names) (range_with_len (group + 1) (most_groups - (group + 1)))) shares mismatch before is

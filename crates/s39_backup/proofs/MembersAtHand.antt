@@ -11,7 +11,6 @@ use Rattle.std.proofs.lemmas.List.Kept.{AllPairs-cons, AllPairs-filter}
 use Rattle.s39_kdf.specs.Bytes.{AreBytes}
 use Rattle.s39_kdf.specs.Limits.{shortest_secret}
 use Rattle.s39_split.specs.Sharing.{most_shares, secret_place}
-use Rattle.s39_split.specs.Shares.{HaveOneLength}
 use Rattle.s39_lists.proofs.Images.{filter_alike}
 use Rattle.s39_lists.proofs.Pairs.{AllPairs-from_map, AllPairs-map, AllPairs-head, AllPairs-tail}
 use Rattle.s39_words.specs.declared.share.ShareFields.{ShareFields}
@@ -26,8 +25,6 @@ use Rattle.s39_backup.proofs.Values.{values_agree, value_bytes-long}
 
 abbrev pub point_of : ShareFields → ℕ × List ℕ
 point_of share = (share.member_index, share.value.items)
-
--- ---- tests of a list's elements
 
 -- ---- in the order of their indices
 
@@ -169,6 +166,19 @@ module _ {X : Type 0} (old xs : List X) (x : X) (threshold : ℕ) (points : List
     | inr long ↦ are ∙ ap (λ ys. old ++ ys) (sym (take-append-le (threshold - length old) xs (x ∷ []) long))
   ]
 
+-- as many as a number are taken, or all of fewer
+pub taken_all : {X : Type 0} (n : ℕ) (xs : List X) → length (take n xs) ≡ n → n ≤ length xs
+taken_all n xs as_many = elim (cases_lt (length xs) n) [
+  | inl short ↦ omega (arith, ap length (take_all n xs (omega arith)))
+  | inr long ↦ long
+]
+
+pub taken_few : {X : Type 0} (n : ℕ) (xs : List X) → length (take n xs) ≢ n → (length (take n xs) ≡ length xs) × (length xs < n)
+taken_few n xs differs = elim (cases_lt (length xs) n) [
+  | inl short ↦ (ap length (take_all n xs (omega arith)), short)
+  | inr long ↦ absurd (differs (length-take-le n xs long))
+]
+
 -- as many as a number are taken exactly where there are as many
 pub taken : {X : Type 0} (n : ℕ) (xs : List X) → (length (take n xs) == n) ≡ nat_le n (length xs)
 taken n xs = elim (cases_lt (length xs) n) [
@@ -248,27 +258,6 @@ module _ (set : List ShareFields) (is : IsShareSet set) (group : ℕ) where
         lengths = All-cons (λ p. length p.1 ≡ value_bytes_of set) point members bytes members-long;
         long = omega arith;
       }
-
--- what can be combined can be completed
-pub level-points : (bytes : ℕ) (points : List (ℕ × List ℕ)) → AreOfOneLevel bytes points → ArePointsOfOneLevel bytes points
-level-points bytes points level = record {
-  some = level.some;
-  few = level.few;
-  distinct = level.distinct;
-  places = λ k d within. inl (level.indices k d within);
-  lengths = level.lengths;
-  long = level.long;
-}
-
-module _ (bytes : ℕ) (points : List (ℕ × List ℕ)) (level : ArePointsOfOneLevel bytes points) where
-  pub points-one_length : HaveOneLength points
-  points-one_length i j d before within = level.lengths i d (omega arith) ∙ sym (level.lengths j d within)
-
-  pub points-long : All (λ point. shortest_secret ≤ length point.1) points
-  points-long k d within =
-      let long = level.long in
-      let same = level.lengths k d within in
-      omega arith
 
 -- one point and all others
 pub filled : {X : Type 0} (p : X) (old new xs : List X) (threshold : ℕ) → old ≡ p ∷ [] → new ≡ old ++ take (threshold - length old) xs

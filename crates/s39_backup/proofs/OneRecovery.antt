@@ -1,29 +1,32 @@
--- A quorum combines to one thing, where shares do, and so it has one outcome, where a text encrypts one secret.
-use Rattle.std.proofs.Common.{◌≡◌, ◌≢◌, ℕ, ◌<◌, ◌^◌, Bool, List, [], ◌∷◌, ◌++◌, length, map, All, AllPairs, Option, Some, None, Result, Ok, Err, nat_lt, refl}
+-- A quorum has one outcome, where a text encrypts one secret.
+use Rattle.std.proofs.Common.{◌≡◌, ℕ, ◌<◌, ◌%◌, ◌^◌, Bool, List, [], ◌∷◌, length, Contains, Option, Some, None, Result, Ok, Err, nat_lt, refl}
 use Rattle.std.proofs.Common.{sym, ap, ap₂, subst, ◌∙◌, arith}
 use Rattle.std.proofs.Math.Bridge.{le_prop}
-use Rattle.std.specs.Prelude.{IsSomeAnd, IfOk, IfErr, IsOkAnd, MatchResult}
+use Rattle.std.specs.Prelude.{IfOk, IfErr, IsOkAnd, MatchResult}
+use Rattle.std.specs.List.{range_with_len}
+use Rattle.std.specs.Option.{ok_or}
 use Rattle.arrayvec.specs.ArrayVec.{ArrayVec}
-use Rattle.std.specs.List.{range_with_len, zip}
-use Rattle.std.proofs.lemmas.Bool.{ltb-true}
-use Rattle.std.proofs.lemmas.List.{length-map}
-use Rattle.std.proofs.lemmas.List.Elements.{All-head, All-tail, All-same, filter_passes, All-filter}
-use Rattle.std.proofs.lemmas.List.Kept.{AllPairs-filter}
-use Rattle.std.proofs.lemmas.Slice.Zip.{AllZip-long, firsts-zip}
+use Rattle.std.proofs.lemmas.List.Elements.{All-head, All-contains}
 use Rattle.s39_kdf.specs.declared.params.Params.{Params}
-use Rattle.s39_kdf.specs.Limits.{id_bits, exponent_bits}
-use Rattle.s39_kdf.specs.Cipher.{IsEncryption, EncryptsOneSecret}
+use Rattle.s39_kdf.specs.Limits.{id_bits, exponent_bits, IsSecretLength}
+use Rattle.s39_kdf.specs.Cipher.{IsEncryption, EncryptsOneSecret, TextsHaveOneSecret, EncryptionKeepsLengthAndBytes}
+use Rattle.s39_lists.specs.Each.{and_then, each}
+use Rattle.s39_lists.proofs.Each.{each-refuses}
+use Rattle.s39_lists.proofs.Ranges.{range-below}
+use Rattle.s39_lists.proofs.Sublists.{of_filter}
+use Rattle.s39_split.specs.Recovery.{combined}
 use Rattle.s39_words.specs.declared.share.ShareFields.{ShareFields}
+use Rattle.s39_words.specs.Share.{IsShare}
 use Rattle.s39_set.specs.Names.{Names, most_groups, names_in_group}
-use Rattle.s39_split.specs.Recovery.{Combines, SharesCombineOnce}
+use Rattle.s39_set.specs.ShareSet.{IsShareSet}
 use Rattle.s39_backup.specs.declared.combination.Mismatch.{Mismatch}
 use Rattle.s39_backup.specs.declared.combination.Mismatch.TheVariants.{InGroup, OfGroups}
-use Rattle.s39_backup.specs.Combination.{member_shares, groups_of, GroupCombines, AllCombine, GroupsCombine, MismatchesInGroup, IsCombination}
+use Rattle.s39_backup.specs.Combination.{member_shares, groups_of, group_share, combination_of}
 use Rattle.s39_backup.specs.Outcome.{AreParams, Recovers, IsOutcome}
-use Rattle.s39_backup.specs.GroupShares.{IsExactQuorum}
-use Rattle.s39_lists.proofs.Pairs.{All-from_map, AllPairs-from_map}
-use Rattle.s39_lists.proofs.Ranges.{range-below, range-distinct}
-use Rattle.s39_backup.proofs.Levels.{member_threshold_is, members_of_one_level, group_threshold_is, some_group}
+use Rattle.s39_backup.specs.GroupShares.{value_bytes_of, IsExactQuorum}
+use Rattle.s39_backup.proofs.Combining.{mismatch_is}
+use Rattle.s39_backup.proofs.Values.{values_agree}
+use Rattle.s39_backup.proofs.Levels.{some_share, group_threshold_is, value_bytes-even, encrypted_like}
 
 -- ---- parameters
 
@@ -54,147 +57,13 @@ one_params : (set : List ShareFields) (p q : Params) → AreParams set p → Are
 one_params [] p q a b = absurd a
 one_params (s ∷ ss) p q a b = same_params p q (a.0 ∙ sym b.0) (a.1 ∙ sym b.1) (a.2 ∙ sym b.2)
 
-module _ (set : List ShareFields) (names : Names) (quorum : IsExactQuorum set names) (combine_once : SharesCombineOnce) where
-  -- a group with names has one outcome
-  group_once : (group : ℕ) (outcome other : Option (List ℕ)) → 0 < length (names_in_group group names)
-      → GroupCombines set names group outcome → GroupCombines set names group other → outcome ≡ other
-  group_once group outcome other some a b =
-      let shares = member_shares set names group in
-      let threshold = member_threshold_is set names quorum group some in
-      let level = members_of_one_level set names quorum group some in
-      let low : All (λ share. share.0 < 256) shares = λ k d within. (let l = level.indices k d within in omega arith) in
-      combine_once (length (names_in_group group names)) shares outcome other level.some low level.distinct
-      (subst (λ o. IsSomeAnd o (λ t. Combines t shares outcome)) threshold a)
-      (subst (λ o. IsSomeAnd o (λ t. Combines t shares other)) threshold b)
+-- ---- outcomes
 
-  -- some names are of each of these groups
-  abbrev HaveNames : List ℕ → Type 0
-  HaveNames groups = All (λ group. 0 < length (names_in_group group names)) groups
-
-  have_names : HaveNames (groups_of names)
-  have_names k d within = ltb-true 0 _ (filter_passes (λ group. nat_lt 0 (length (names_in_group group names))) (range_with_len 0 most_groups) k d within)
-
-  -- groups have one list of shares
-  shares_once : (groups : List ℕ) (xs ys : List (List ℕ)) → HaveNames groups → AllCombine set names groups xs → AllCombine set names groups ys → xs ≡ ys
-  shares_once [] [] [] have a b = refl
-  shares_once [] [] (y ∷ ys) have a b = absurd b
-  shares_once [] (x ∷ xs) ys have a b = absurd a
-  shares_once (g ∷ gs) [] ys have a b = absurd a
-  shares_once (g ∷ gs) (x ∷ xs) [] have a b = absurd b
-  shares_once (g ∷ gs) (x ∷ xs) (y ∷ ys) have a b =
-      let same : Some x ≡ Some y = group_once g (Some x) (Some y) (All-head (λ group. 0 < length (names_in_group group names)) g gs have) a.0 b.0 in
-      let rest = shares_once gs xs ys (All-tail (λ group. 0 < length (names_in_group group names)) g gs have) a.1 b.1 in
-      cc
-
-  -- the groups have one outcome
-  groups_once : (shares : List (List ℕ)) (outcome other : Option (List ℕ)) → AllCombine set names (groups_of names) shares
-      → GroupsCombine set (groups_of names) shares outcome → GroupsCombine set (groups_of names) shares other → outcome ≡ other
-  groups_once shares outcome other all a b =
-      let groups = groups_of names in
-      let pairs = zip groups shares in
-      let threshold = group_threshold_is set names quorum in
-      let as_many : length shares ≡ length groups = AllZip-long (λ group share. GroupCombines set names group (Some share)) groups shares all in
-      let firsts : map (λ p. p.0) pairs ≡ groups = firsts-zip groups shares as_many in
-      let count : length pairs ≡ length groups = sym (length-map pairs (λ p. p.0)) ∙ ap length firsts in
-      let has : ℕ → Bool = λ group. nat_lt 0 (length (names_in_group group names)) in
-      let low : All (λ pair. pair.0 < most_groups) pairs =
-      All-from_map (λ group. group < most_groups) (λ p. p.0) pairs
-      (All-same (λ group. group < most_groups) (map (λ p. p.0) pairs) groups firsts
-      (All-filter has (λ group. group < most_groups) (range_with_len 0 most_groups) (range-below most_groups))) in
-      let some : 0 < length pairs = omega (arith, some_group set names quorum) in
-      combine_once (length groups) pairs outcome other some
-      (λ k d within. (let l = low k d within in omega arith))
-      (AllPairs-from_map (λ x y. x ≢ y) (λ p. p.0) pairs
-      (subst (AllPairs (λ x y. x ≢ y)) (sym firsts) (AllPairs-filter (λ x y. x ≢ y) has (range_with_len 0 most_groups) (range-distinct most_groups))))
-      (subst (λ o. IsSomeAnd o (λ t. Combines t pairs outcome)) threshold a)
-      (subst (λ o. IsSomeAnd o (λ t. Combines t pairs other)) threshold b)
-
-  -- a group that is refused is none of those that combine
-  not_refused : (before after : List ℕ) (group : ℕ) (shares : List (List ℕ)) → HaveNames (before ++ group ∷ after)
-      → AllCombine set names (before ++ group ∷ after) shares → GroupCombines set names group None → ⊥
-  not_refused [] after group [] have all refused = all
-  not_refused [] after group (x ∷ xs) have all refused =
-      let same : Some x ≡ None = group_once group (Some x) None (All-head (λ g. 0 < length (names_in_group g names)) group after have) all.0 refused in
-      cc
-  not_refused (b ∷ bs) after group [] have all refused = all
-  not_refused (b ∷ bs) after group (x ∷ xs) have all refused =
-      not_refused bs after group xs (All-tail (λ g. 0 < length (names_in_group g names)) b (bs ++ group ∷ after) have) all.1 refused
-
-  -- one group is the first that is refused
-  first_once : (before after : List ℕ) (group : ℕ) (shares : List (List ℕ)) (others rest : List ℕ) (other : ℕ) (more : List (List ℕ))
-      → HaveNames (before ++ group ∷ after) → before ++ group ∷ after ≡ others ++ other ∷ rest
-      → AllCombine set names before shares → GroupCombines set names group None
-      → AllCombine set names others more → GroupCombines set names other None
-      → group ≡ other
-  first_once [] after group shares [] rest other more have same earlier refused earlier_other refused_other = cc
-  first_once [] after group shares (o ∷ os) rest other [] have same earlier refused earlier_other refused_other = absurd earlier_other
-  first_once [] after group shares (o ∷ os) rest other (y ∷ ys) have same earlier refused earlier_other refused_other =
-      let here : group ≡ o = cc in
-      let both : Some y ≡ None =
-      group_once group (Some y) None (All-head (λ g. 0 < length (names_in_group g names)) group after have) (rw here earlier_other.0) refused in
-      cc
-  first_once (b ∷ bs) after group [] [] rest other more have same earlier refused earlier_other refused_other = absurd earlier
-  first_once (b ∷ bs) after group (x ∷ xs) [] rest other more have same earlier refused earlier_other refused_other =
-      let here : b ≡ other = cc in
-      let both : Some x ≡ None =
-      group_once b (Some x) None (All-head (λ g. 0 < length (names_in_group g names)) b (bs ++ group ∷ after) have) earlier.0 (rw here refused_other) in
-      cc
-  first_once (b ∷ bs) after group [] (o ∷ os) rest other more have same earlier refused earlier_other refused_other = absurd earlier
-  first_once (b ∷ bs) after group (x ∷ xs) (o ∷ os) rest other [] have same earlier refused earlier_other refused_other = absurd earlier_other
-  first_once (b ∷ bs) after group (x ∷ xs) (o ∷ os) rest other (y ∷ ys) have same earlier refused earlier_other refused_other =
-      let behind : bs ++ group ∷ after ≡ os ++ other ∷ rest = cc in
-      first_once bs after group xs os rest other ys (All-tail (λ g. 0 < length (names_in_group g names)) b (bs ++ group ∷ after) have) behind
-      earlier.1 refused earlier_other.1 refused_other
-
-  -- where all groups combine, none is the first that is refused
-  none_mismatches : (shares : List (List ℕ)) (group : ℕ) → AllCombine set names (groups_of names) shares → MismatchesInGroup set names group → ⊥
-  none_mismatches shares group all m =
-      not_refused m.before m.after group shares (All-same (λ g. 0 < length (names_in_group g names)) (m.before ++ group ∷ m.after) (groups_of names)
-      (sym m.parts) have_names)
-      (subst (λ groups. AllCombine set names groups shares) m.parts all) m.refused
-
-  -- where the group shares combine, they aren't refused
-  groups_not_refused : (shares others : List (List ℕ)) (encrypted : List ℕ) → AllCombine set names (groups_of names) shares
-      → GroupsCombine set (groups_of names) shares (Some encrypted) → AllCombine set names (groups_of names) others
-      → GroupsCombine set (groups_of names) others None → ⊥
-  groups_not_refused shares others encrypted all combined all_others refused =
-      let same : others ≡ shares = shares_once (groups_of names) others shares have_names all_others all in
-      let both : Some encrypted ≡ None = groups_once shares (Some encrypted) None all combined
-      (subst (λ xs. GroupsCombine set (groups_of names) xs None) same refused) in
-      cc
-
-  encrypted_once : (encrypted other : List ℕ) → IsCombination set names (Ok encrypted) → IsCombination set names (Ok other) → encrypted ≡ other
-  encrypted_once encrypted other r s =
-      let shares : s.shares ≡ r.shares = shares_once (groups_of names) s.shares r.shares have_names s.groups r.groups in
-      let both : Some encrypted ≡ Some other =
-      groups_once r.shares (Some encrypted) (Some other) r.groups r.combined
-      (subst (λ xs. GroupsCombine set (groups_of names) xs (Some other)) shares s.combined) in
-      cc
-
-  -- a quorum combines to one thing
-  pub combination_once : (combination other : Result (List ℕ) Mismatch) → IsCombination set names combination → IsCombination set names other
-      → combination ≡ other
-  combination_once (Ok encrypted) (Ok other) r s = ap (λ x. Ok x) (encrypted_once encrypted other r s)
-  combination_once (Ok encrypted) (Err (InGroup group)) r s = absurd (none_mismatches r.shares group r.groups s)
-  combination_once (Ok encrypted) (Err OfGroups) r s = absurd (groups_not_refused r.shares s.shares encrypted r.groups r.combined s.groups s.refused)
-  combination_once (Err (InGroup group)) (Ok other) r s = absurd (none_mismatches s.shares group s.groups r)
-  combination_once (Err OfGroups) (Ok other) r s = absurd (groups_not_refused s.shares r.shares other s.groups s.combined r.groups r.refused)
-  combination_once (Err (InGroup group)) (Err (InGroup other)) r s =
-      ap (λ (g : ℕ). Err (InGroup g))
-      (first_once r.before r.after group r.shares s.before s.after other s.shares
-      (All-same (λ g. 0 < length (names_in_group g names)) (r.before ++ group ∷ r.after) (groups_of names) (sym r.parts) have_names)
-      (sym r.parts ∙ s.parts) r.earlier r.refused s.earlier s.refused)
-  combination_once (Err (InGroup group)) (Err OfGroups) r s = absurd (none_mismatches s.shares group s.groups r)
-  combination_once (Err OfGroups) (Err (InGroup group)) r s = absurd (none_mismatches r.shares group r.groups s)
-  combination_once (Err OfGroups) (Err OfGroups) r s = refl
-
--- a quorum that combines to one thing has one outcome
-module _ (set : List ShareFields) (names : Names)
-    (once : (combination other : Result (List ℕ) Mismatch) → IsCombination set names combination → IsCombination set names other → combination ≡ other)
-    (encrypts_once : EncryptsOneSecret) (passphrase : List ℕ) where
+-- a quorum has one outcome, where a text encrypts one secret
+module _ (set : List ShareFields) (names : Names) (encrypts_once : EncryptsOneSecret) (passphrase : List ℕ) where
   secret_once : (secret other : List ℕ) → Recovers set names passphrase secret → Recovers set names passphrase other → secret ≡ other
   secret_once secret other r s =
-      let both : Ok s.encrypted ≡ Ok r.encrypted = once (Ok s.encrypted) (Ok r.encrypted) s.combined r.combined in
+      let both : Ok s.encrypted ≡ Ok r.encrypted = sym s.combined ∙ r.combined in
       let encrypted : s.encrypted ≡ r.encrypted = cc in
       let params : s.params ≡ r.params = one_params set s.params r.params s.params_are r.params_are in
       encrypts_once passphrase r.params secret other r.encrypted r.secret_is
@@ -203,25 +72,65 @@ module _ (set : List ShareFields) (names : Names)
   pub outcome_once : (outcome other : Result (List ℕ) Mismatch) → IsOutcome set names passphrase outcome → IsOutcome set names passphrase other
       → outcome ≡ other
   outcome_once (Ok secret) (Ok other) r s = ap (λ x. Ok x) (secret_once secret other r s)
-  outcome_once (Ok secret) (Err mismatch) r s = let both = once (Ok r.encrypted) (Err mismatch) r.combined s in cc
-  outcome_once (Err mismatch) (Ok secret) r s = let both = once (Err mismatch) (Ok s.encrypted) r s.combined in cc
+  outcome_once (Ok secret) (Err mismatch) r s = let both : Ok r.encrypted ≡ Err mismatch = sym r.combined ∙ s in absurd (cc)
+  outcome_once (Err mismatch) (Ok secret) r s = let both : Ok s.encrypted ≡ Err mismatch = sym s.combined ∙ r in absurd (cc)
   outcome_once (Err mismatch) (Err other) r s =
-      let both : Err mismatch ≡ Err other = once (Err mismatch) (Err other) r s in
+      let both : Err mismatch ≡ Err other = sym r ∙ s in
       let same : mismatch ≡ other = cc in
       ap (λ (m : Mismatch). Err m) same
 
--- what is combined is the one thing that the quorum combines to
-pub only_combination : (set : List ShareFields) (names : Names)
-    → ((combination other : Result (List ℕ) Mismatch) → IsCombination set names combination → IsCombination set names other → combination ≡ other)
-    → (encrypted : List ℕ) → IsCombination set names (Ok encrypted)
-    → (result : Result (ArrayVec ℕ) Mismatch) → IfOk result (λ e. IsCombination set names (Ok e.items)) → IfErr result (λ m. IsCombination set names (Err m))
-    → IsOkAnd result (λ e. e.items ≡ encrypted)
-only_combination set names once encrypted is (Ok e) combined refused =
-    let same : Ok e.items ≡ Ok encrypted = once (Ok e.items) (Ok encrypted) combined is in
-    cc
-only_combination set names once encrypted is (Err m) combined refused =
-    let both = once (Err m) (Ok encrypted) refused is in
-    absurd (cc)
+-- the shares of a set have parameters
+params_of_share : (set : List ShareFields) (share : ShareFields) → IsShareSet set → Contains set share → (params : Params) × AreParams set params
+params_of_share [] share is (k, below, here) = absurd (omega arith)
+params_of_share (s ∷ ss) share is among =
+    let valid = All-head IsShare s ss is.each in
+    (of_fields s.id s.extendable s.exponent valid.id valid.exponent, (refl, refl, refl))
+
+-- and every quorum has an outcome
+module _ (set : List ShareFields) (names : Names) (quorum : IsExactQuorum set names) where
+  pub outcome_exists : TextsHaveOneSecret → (passphrase : List ℕ) → (outcome : Result (List ℕ) Mismatch) × IsOutcome set names passphrase outcome
+  outcome_exists texts passphrase = by (combination_of set names) refl
+    where
+      by : (combination : Result (List ℕ) Mismatch) → combination_of set names ≡ combination
+          → (outcome : Result (List ℕ) Mismatch) × IsOutcome set names passphrase outcome
+      by (Err mismatch) is = (Err mismatch, is)
+      by (Ok encrypted) is =
+          let (share, among) = some_share set (length (groups_of names)) (group_threshold_is set names quorum) in
+          let (params, are) = params_of_share set share quorum.is_set among in
+          let long = (encrypted_like set names quorum encrypted is).0 in
+          let (secret, encryption, only) = texts passphrase params encrypted (ap (λ n. n % 2) long ∙ value_bytes-even set names quorum) in
+          (Ok secret, record { encrypted = encrypted; params = params; combined = is; params_are = are; secret_is = encryption })
+
+  -- a secret of the length that secrets have
+  pub secret_length : EncryptionKeepsLengthAndBytes → (passphrase secret : List ℕ) → Recovers set names passphrase secret → IsSecretLength (length secret)
+  secret_length keeps passphrase secret r =
+      let (share, among) = some_share set (length (groups_of names)) (group_threshold_is set names quorum) in
+      subst IsSecretLength
+      (All-contains (λ s. length s.value.items ≡ value_bytes_of set) set share (values_agree set quorum.is_set) among
+      ∙ sym (encrypted_like set names quorum r.encrypted r.combined).0 ∙ (keeps passphrase r.params secret r.encrypted r.secret_is).0)
+      (All-contains IsShare set share quorum.is_set.each among).value.count
+
+-- or the mismatch of a group that there may be
+pub refused_group : (set : List ShareFields) (names : Names) (group : ℕ) → combination_of set names ≡ Err (InGroup group) → group < most_groups
+unfolding combination_of
+refused_group set names group is =
+    by (each (group_share set names) (groups_of names)) refl is
+  where
+    of_groups : (o : Option (List ℕ)) → ok_or o OfGroups ≡ Err (InGroup group) → ⊥
+    of_groups None clash = cc
+    of_groups (Some encrypted) clash = cc
+
+    by : (shares : Result (List (ℕ × List ℕ)) Mismatch) → each (group_share set names) (groups_of names) ≡ shares
+        → and_then (λ shares. ok_or (combined shares) OfGroups) shares ≡ Err (InGroup group) → group < most_groups
+    by (Ok shares) all clash = absurd (of_groups (combined shares) clash)
+    by (Err mismatch) refused same =
+        let is : mismatch ≡ InGroup group = cc in
+        let (g, among, g_refused) = each-refuses (group_share set names) (groups_of names) mismatch refused in
+        let of : InGroup group ≡ InGroup g = sym is ∙ (mismatch_is g (combined (member_shares set names g)) mismatch g_refused).0 in
+        let here : group ≡ g = cc in
+        let found = of_filter (λ g. nat_lt 0 (length (names_in_group g names))) (range_with_len 0 most_groups) g among in
+        let low = All-contains (λ g. g < most_groups) (range_with_len 0 most_groups) g (range-below most_groups) found.0 in
+        omega arith
 
 -- what is recovered is the one outcome of the quorum
 pub only_outcome : (set : List ShareFields) (names : Names) (passphrase : List ℕ)

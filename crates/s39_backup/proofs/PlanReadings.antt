@@ -1,124 +1,207 @@
 -- A text has one reading as a plan.
-use Rattle.std.proofs.Common.{◌≡◌, ℕ, List, [], ◌∷◌, ◌++◌, length, All, Result, Ok, Err, ◌⊎◌, inl, inr, refl, sym, ap, ap₂, subst, ◌∙◌, arith}
-use Rattle.std.proofs.lemmas.List.Elements.{All-head, All-tail, All-same}
+use Rattle.std.proofs.Common.{◌≡◌, ◌≢◌, ◌⊎◌, ℕ, ◌+◌, ◌<◌, ◌≤◌, ◌==◌, ◌&&◌, nat_lt, nat_le, Bool, true, false, List, [], ◌∷◌, length, get_or, map, All}
+use Rattle.std.proofs.Common.{Result, Ok, Err, inl, inr, refl, sym, ap, ap₂, subst, ◌∙◌, arith}
+use Rattle.std.specs.Prelude.{if◌then◌else◌}
+use Rattle.std.specs.List.{enumerate_from}
+use Rattle.std.proofs.lemmas.Bool.{and_parts, and_from, and_left, and_right, cases_lt, cases_eq, eq-eqb, ne_eqb, le-leb, leb-true, lt-leb, lt-ltb, le-ltb}
+use Rattle.std.proofs.lemmas.List.Folds.{map_fixed}
+use Rattle.std.proofs.lemmas.List.FromFn.{get_or-enumerate_from, length-enumerate_from}
+use Rattle.s39_lists.specs.Each.{each}
+use Rattle.s39_lists.proofs.Each.{each-values, each-images, each-map, each-refuses}
+use Rattle.s39_lists.proofs.Pairs.{All-from_map}
+use Rattle.s39_set.specs.Names.{most_groups, most_members}
 use Rattle.s39_backup.specs.declared.plan.Members.{Members}
 use Rattle.s39_backup.specs.declared.plan_error.PlanError.{PlanError}
 use Rattle.s39_backup.specs.declared.plan_error.PlanError.TheVariants.{BadPlan, PlanGroups, PlanMembers, OneOfMany}
-use Rattle.s39_backup.specs.Plan.{HasEnoughMembers, IsOneOfMany, IsGroup, HasEnoughGroups, IsPlan, IsFirstRefusedGroup}
-use Rattle.s39_backup.specs.Plan.{HasPlanForm, PlanForm, IsPlanReading, IsOnlyReading}
-use Rattle.s39_backup.specs.PlanText.{RefusesAGroup}
+use Rattle.s39_backup.specs.Plan.{IsGroup, IsOneOfMany, HasEnoughGroups, IsPlan}
+use Rattle.s39_backup.specs.Plan.{HasPlanForm, PlanForm, judged_group, with_threshold, judged, IsPlanReading, IsOnlyReading}
 use Rattle.s39_backup.proofs.PlanTexts.{form_once}
 
--- ---- the first group that is refused
+-- ---- one group
 
--- each way to refuse a group
-pub enough_is_refused : (members : Members) → ¬ HasEnoughMembers members → IsGroup members → ⊥
-enough_is_refused members refused is = refused is.enough
+module _ (place : ℕ) (members : Members) where
+  pub refused_members : (most_members < members.count) ⊎ (members.count < members.threshold) → judged_group (place, members) ≡ Err (PlanMembers place)
+  refused_members why =
+      let fails : (nat_le members.count most_members && nat_le members.threshold members.count) ≡ false = elim why [
+        | inl many ↦ and_left (nat_le members.count most_members) (nat_le members.threshold members.count) (lt-leb members.count most_members many)
+        | inr few ↦ and_right (nat_le members.count most_members) (nat_le members.threshold members.count) (lt-leb members.threshold members.count few)
+      ] in
+      rw fails refl
 
-pub one_of_many_is_refused : (members : Members) → HasEnoughMembers members × IsOneOfMany members → IsGroup members → ⊥
-one_of_many_is_refused members refused is = is.not_one_of_many refused.1
+  module _ (few : members.count ≤ most_members) (enough : members.threshold ≤ members.count) where
+    passes : (nat_le members.count most_members && nat_le members.threshold members.count) ≡ true
+    passes =
+        and_from (nat_le members.count most_members) (nat_le members.threshold members.count) (le-leb members.count most_members few)
+        (le-leb members.threshold members.count enough)
 
--- all groups of a plan are accepted
-none_refused : (groups before : List Members) (members : Members) (after : List Members) → groups ≡ before ++ members ∷ after → All IsGroup groups
-    → IsGroup members
-none_refused groups [] members after parts all = All-head IsGroup members after (All-same IsGroup (members ∷ after) groups (sym parts) all)
-none_refused [] (b ∷ bs) members after parts all = absurd (let l : 0 ≡ length (b ∷ (bs ++ members ∷ after)) = ap length parts in omega arith)
-none_refused (g ∷ gs) (b ∷ bs) members after parts all =
-    let rest : gs ≡ bs ++ members ∷ after = cc in
-    none_refused gs bs members after rest (All-tail IsGroup g gs all)
+    pub refused_one_of_many : members.threshold ≡ 1 → 1 < members.count → judged_group (place, members) ≡ Err (OneOfMany place)
+    refused_one_of_many one many = rw (passes, eq-eqb members.threshold 1 one, lt-ltb 1 members.count many) refl
 
--- the first group that is refused is known
-pub record AreSameGroup (place other : ℕ) (members another : Members) : Type 0 where
-  pub place_is : place ≡ other
-  pub members_are : members ≡ another
+    pub accepted : (members.threshold ≢ 1) ⊎ (members.count ≤ 1) → judged_group (place, members) ≡ Ok members
+    accepted why =
+        let other : ((members.threshold == 1) && nat_lt 1 members.count) ≡ false = elim why [
+          | inl several ↦ and_left (members.threshold == 1) (nat_lt 1 members.count) (ne_eqb members.threshold 1 several)
+          | inr few ↦ and_right (members.threshold == 1) (nat_lt 1 members.count) (le-ltb 1 members.count few)
+        ] in
+        rw (passes, other) refl
 
-same_parts : (before others : List Members) (members another : Members) (after rest : List Members) → before ++ members ∷ after ≡ others ++ another ∷ rest
-    → All IsGroup before → ¬ IsGroup members → All IsGroup others → ¬ IsGroup another → AreSameGroup (length before) (length others) members another
-same_parts [] [] members another after rest parts accepted refused accepted' refused' =
-    let same : members ≡ another = cc in record { place_is = refl; members_are = same }
-same_parts [] (o ∷ os) members another after rest parts accepted refused accepted' refused' =
-    let same : o ≡ members = cc in
-    absurd (refused (subst (λ (m : Members). IsGroup m) same (All-head IsGroup o os accepted')))
-same_parts (b ∷ bs) [] members another after rest parts accepted refused accepted' refused' =
-    let same : b ≡ another = cc in
-    absurd (refused' (subst (λ (m : Members). IsGroup m) same (All-head IsGroup b bs accepted)))
-same_parts (b ∷ bs) (o ∷ os) members another after rest parts accepted refused accepted' refused' =
-    let tails : bs ++ members ∷ after ≡ os ++ another ∷ rest = cc in
-    let same = same_parts bs os members another after rest tails (All-tail IsGroup b bs accepted) refused (All-tail IsGroup o os accepted') refused' in
-    let place = same.place_is in
-    record { place_is = omega arith; members_are = same.members_are }
+-- what is judged is the group, or it isn't a group of a plan
+record IsJudged (group : ℕ × Members) (result : Result Members PlanError) : Type 0 where
+  value : (members : Members) → result ≡ Ok members → (members ≡ group.1) × (1 ≤ group.1.threshold → IsGroup group.1)
+  not_bad : result ≡ Err BadPlan → ⊥
 
-module _ (groups : List Members) (IsRefused IsRefused' : Members → Type 0)
-    (not_group : (members : Members) → IsRefused members → IsGroup members → ⊥)
-    (not_group' : (members : Members) → IsRefused' members → IsGroup members → ⊥) where
-  first_once : (place other : ℕ) (first : IsFirstRefusedGroup groups place IsRefused) (second : IsFirstRefusedGroup groups other IsRefused')
-      → AreSameGroup place other first.members second.members
-  first_once place other first second =
-      let same = same_parts first.before second.before first.members second.members first.after second.after (sym first.parts ∙ second.parts)
-      first.accepted (not_group first.members first.refused) second.accepted (not_group' second.members second.refused) in
-      record { place_is = first.place_is ∙ same.place_is ∙ sym second.place_is; members_are = same.members_are }
+is_judged : (group : ℕ × Members) → IsJudged group (judged_group group)
+is_judged (place, members) = elim (cases_lt most_members members.count) [
+  | inl many ↦ refused (PlanMembers place) (refused_members place members (inl many)) (λ e. cc)
+  | inr few ↦ elim (cases_lt members.count members.threshold) [
+    | inl lack ↦ refused (PlanMembers place) (refused_members place members (inr lack)) (λ e. cc)
+    | inr enough ↦ elim (cases_lt 1 members.count) [
+      | inr one ↦ taken few enough (inr one) (λ both. let many = both.1 in omega arith)
+      | inl many ↦ elim (cases_eq members.threshold 1) [
+        | inl one ↦ refused (OneOfMany place) (refused_one_of_many place members few enough one many) (λ e. cc)
+        | inr several ↦ taken few enough (inl several) (λ both. several both.0)
+      ]
+    ]
+  ]
+]
+  where
+    refused : (error : PlanError) → judged_group (place, members) ≡ Err error → error ≢ BadPlan → IsJudged (place, members) (judged_group (place, members))
+    refused error is other = record {
+      value = λ m same. let clash : Err error ≡ Ok m = sym is ∙ same in absurd (cc);
+      not_bad = λ bad. let same : Err error ≡ Err BadPlan = sym is ∙ bad in (let e : error ≡ BadPlan = cc in other e);
+    }
 
--- ---- what a group threshold and groups are read as
+    taken : members.count ≤ most_members → members.threshold ≤ members.count → (members.threshold ≢ 1) ⊎ (members.count ≤ 1)
+        → ¬ IsOneOfMany members → IsJudged (place, members) (judged_group (place, members))
+    taken few enough why several =
+        let is = accepted place members few enough why in
+        record {
+          value = λ m same.
+              let both : Ok members ≡ Ok m = sym is ∙ same in
+              let e : members ≡ m = cc in
+              (sym e, λ positive. record { positive = positive; enough = record { few = few; enough = enough }; not_one_of_many = several });
+          not_bad = λ bad. let clash : Ok members ≡ Err BadPlan = sym is ∙ bad in cc;
+        }
 
-abbrev pub IsReadAs : ℕ → List Members → Result (ℕ × List Members) PlanError → Type 0
-IsReadAs group_threshold groups (Ok plan) = (plan.0 ≡ group_threshold) × (plan.1 ≡ groups) × IsPlan group_threshold groups
-IsReadAs group_threshold groups (Err BadPlan) = ⊥
-IsReadAs group_threshold groups (Err PlanGroups) = ¬ HasEnoughGroups group_threshold groups
-IsReadAs group_threshold groups (Err (PlanMembers group)) = HasEnoughGroups group_threshold groups × RefusesAGroup groups (PlanMembers group)
-IsReadAs group_threshold groups (Err (OneOfMany group)) = HasEnoughGroups group_threshold groups × RefusesAGroup groups (OneOfMany group)
+-- ---- all groups
+
+seconds : {X : Type 0} (n : ℕ) (xs : List X) → map (λ p. p.1) (enumerate_from n xs) ≡ xs
+seconds n [] = refl
+seconds n (x ∷ xs) = ap (λ ys. x ∷ ys) (seconds (n + 1) xs)
+
+pub groups_judged : (groups values : List Members) → each judged_group (enumerate_from 0 groups) ≡ Ok values
+    → (values ≡ groups) × (All (λ m. 1 ≤ m.threshold) groups → All IsGroup groups)
+groups_judged groups values all =
+    let places = enumerate_from 0 groups in
+    let same : values ≡ groups =
+    sym (map_fixed (λ m. m) values (λ k d within. refl))
+    ∙ each-images judged_group (λ m. m) (λ g. g.1) (λ g m is. ((is_judged g).value m is).0) places values all ∙ seconds 0 groups in (
+      same,
+      λ positive. subst (All IsGroup) same
+          (each-values judged_group (λ g. 1 ≤ g.1.threshold) IsGroup
+          (λ g m low is. let j = (is_judged g).value m is in subst IsGroup (sym j.0) (j.1 low)) places values
+          (All-from_map (λ m. 1 ≤ m.threshold) (λ (g : ℕ × Members). g.1) places (subst (All (λ m. 1 ≤ m.threshold)) (sym (seconds 0 groups)) positive)) all),
+    )
+
+pub judged_at : (groups : List Members) (k : ℕ) (d : ℕ × Members) → k < length groups
+    → judged_group (get_or (enumerate_from 0 groups) k d) ≡ judged_group (k, get_or groups k d.1)
+judged_at groups k d within =
+    let start : 0 + k ≡ k = omega arith in
+    ap judged_group (get_or-enumerate_from 0 groups k d within ∙ ap (λ (p : ℕ). (p, get_or groups k d.1)) start)
 
 module _ (group_threshold : ℕ) (groups : List Members) where
-  same_plan : (plan other : ℕ × List Members) → plan.0 ≡ other.0 → plan.1 ≡ other.1 → plan ≡ other
-  same_plan plan other threshold groups_are = ap₂ (λ (t : ℕ) (gs : List Members). (t, gs)) threshold groups_are
+  abbrev IsEnough : Bool
+  IsEnough = nat_le (length groups) most_groups && nat_le group_threshold (length groups)
 
-  accepted_once : (plan : ℕ × List Members) (error : PlanError) → IsPlan group_threshold groups → IsReadAs group_threshold groups (Err error) → ⊥
-  accepted_once plan BadPlan is refused = refused
-  accepted_once plan PlanGroups is refused = refused is.enough
-  accepted_once plan (PlanMembers group) is refused =
-      let first = refused.1 in
-      enough_is_refused first.members first.refused (none_refused groups first.before first.members first.after first.parts is.each)
-  accepted_once plan (OneOfMany group) is refused =
-      let first = refused.1 in
-      one_of_many_is_refused first.members first.refused (none_refused groups first.before first.members first.after first.parts is.each)
+  enough_test : HasEnoughGroups group_threshold groups → IsEnough ≡ true
+  enough_test enough =
+      and_from (nat_le (length groups) most_groups) (nat_le group_threshold (length groups)) (le-leb (length groups) most_groups enough.few)
+      (le-leb group_threshold (length groups) enough.enough)
 
-  refused_once : (error other : PlanError) → IsReadAs group_threshold groups (Err error) → IsReadAs group_threshold groups (Err other) → error ≡ other
-  refused_once BadPlan other r s = absurd r
-  refused_once PlanGroups BadPlan r s = absurd s
-  refused_once PlanGroups PlanGroups r s = refl
-  refused_once PlanGroups (PlanMembers g) r s = absurd (r s.0)
-  refused_once PlanGroups (OneOfMany g) r s = absurd (r s.0)
-  refused_once (PlanMembers g) BadPlan r s = absurd s
-  refused_once (PlanMembers g) PlanGroups r s = absurd (s r.0)
-  refused_once (PlanMembers g) (PlanMembers h) r s =
-      ap (λ (n : ℕ). PlanMembers n)
-      (first_once groups (λ m. ¬ HasEnoughMembers m) (λ m. ¬ HasEnoughMembers m) enough_is_refused enough_is_refused g h r.1 s.1).place_is
-  refused_once (PlanMembers g) (OneOfMany h) r s =
-      let first = r.1 in
-      let second = s.1 in
-      let same = first_once groups (λ m. ¬ HasEnoughMembers m) (λ m. HasEnoughMembers m × IsOneOfMany m)
-      enough_is_refused one_of_many_is_refused g h first second in
-      absurd (first.refused (subst (λ (m : Members). HasEnoughMembers m) (sym same.members_are) second.refused.0))
-  refused_once (OneOfMany g) BadPlan r s = absurd s
-  refused_once (OneOfMany g) PlanGroups r s = absurd (s r.0)
-  refused_once (OneOfMany g) (PlanMembers h) r s =
-      let first = r.1 in
-      let second = s.1 in
-      let same = first_once groups (λ m. HasEnoughMembers m × IsOneOfMany m) (λ m. ¬ HasEnoughMembers m)
-      one_of_many_is_refused enough_is_refused g h first second in
-      absurd (second.refused (subst (λ (m : Members). HasEnoughMembers m) same.members_are first.refused.0))
-  refused_once (OneOfMany g) (OneOfMany h) r s =
-      ap (λ (n : ℕ). OneOfMany n)
-      (first_once groups (λ m. HasEnoughMembers m × IsOneOfMany m) (λ m. HasEnoughMembers m × IsOneOfMany m)
-      one_of_many_is_refused one_of_many_is_refused g h r.1 s.1).place_is
+  -- with a right number of groups, the groups decide
+  pub judged_each : HasEnoughGroups group_threshold groups
+      → judged (group_threshold, groups) ≡ with_threshold group_threshold (each judged_group (enumerate_from 0 groups))
+  judged_each enough = rw (enough_test enough) refl
 
-  read_once : (reading other : Result (ℕ × List Members) PlanError) → IsReadAs group_threshold groups reading → IsReadAs group_threshold groups other
-      → reading ≡ other
-  read_once (Ok plan) (Ok other) r s = ap (λ (p : ℕ × List Members). Ok p) (same_plan plan other (r.0 ∙ sym s.0) (r.1 ∙ sym s.1))
-  read_once (Ok plan) (Err error) r s = absurd (accepted_once plan error r.2 s)
-  read_once (Err error) (Ok plan) r s = absurd (accepted_once plan error s.2 r)
-  read_once (Err error) (Err other) r s = ap (λ (e : PlanError). Err e) (refused_once error other r s)
+  pub judged_groups : (most_groups < length groups) ⊎ (length groups < group_threshold) → judged (group_threshold, groups) ≡ Err PlanGroups
+  judged_groups why =
+      let fails : IsEnough ≡ false = elim why [
+        | inl many ↦ and_left (nat_le (length groups) most_groups) (nat_le group_threshold (length groups)) (lt-leb (length groups) most_groups many)
+        | inr few ↦ and_right (nat_le (length groups) most_groups) (nat_le group_threshold (length groups)) (lt-leb group_threshold (length groups) few)
+      ] in
+      rw fails refl
+
+  -- they are accepted exactly if they are those of a plan
+  pub judged_ok : IsPlan group_threshold groups → judged (group_threshold, groups) ≡ Ok (group_threshold, groups)
+  judged_ok is =
+      judged_each is.enough
+      ∙ ap (with_threshold group_threshold)
+      (each-map judged_group (λ g. g.1) (enumerate_from 0 groups)
+      (λ k d within.
+      let below : k < length groups = omega (arith, length-enumerate_from 0 groups) in
+      let is_group = is.each k d.1 below in
+      let start : 0 + k ≡ k = omega arith in
+      let at : get_or (enumerate_from 0 groups) k d ≡ (k, get_or groups k d.1) =
+      get_or-enumerate_from 0 groups k d below ∙ ap (λ (p : ℕ). (p, get_or groups k d.1)) start in
+      rw at (accepted k (get_or groups k d.1) is_group.enough.few is_group.enough.enough (elim (cases_eq (get_or groups k d.1).threshold 1) [
+        | inl one ↦ inr (elim (cases_lt 1 (get_or groups k d.1).count) [
+          | inl many ↦ absurd (is_group.not_one_of_many (one, many))
+          | inr few ↦ few
+        ])
+        | inr several ↦ inl several
+      ])))
+      ∙ ap (λ gs. Ok gs) (seconds 0 groups))
+
+  pub ok_judged : 1 ≤ group_threshold → All (λ m. 1 ≤ m.threshold) groups → (plan : ℕ × List Members) → judged (group_threshold, groups) ≡ Ok plan
+      → (plan ≡ (group_threshold, groups)) × IsPlan group_threshold groups
+  ok_judged low positive plan is = by IsEnough refl (each judged_group (enumerate_from 0 groups)) refl is
+    where
+      by : (enough : Bool) → IsEnough ≡ enough → (all : Result (List Members) PlanError) → each judged_group (enumerate_from 0 groups) ≡ all
+          → (if enough then with_threshold group_threshold all else Err PlanGroups) ≡ Ok plan
+          → (plan ≡ (group_threshold, groups)) × IsPlan group_threshold groups
+      by false test all all_is clash = absurd (cc)
+      by true test (Err e) all_is clash = absurd (cc)
+      by true test (Ok values) all_is same =
+          let judges = groups_judged groups values all_is in
+          let plan_is : (group_threshold, values) ≡ plan = cc in
+          let parts = and_parts (nat_le (length groups) most_groups) (nat_le group_threshold (length groups)) test in (
+            sym plan_is ∙ ap (λ gs. (group_threshold, gs)) judges.0,
+            record {
+              positive = low;
+              enough = record { few = leb-true (length groups) most_groups parts.0; enough = leb-true group_threshold (length groups) parts.1 };
+              each = judges.1 positive;
+            },
+          )
+
+  -- and never refused for their form
+  not_bad : judged (group_threshold, groups) ≡ Err BadPlan → ⊥
+  not_bad is = by IsEnough (each judged_group (enumerate_from 0 groups)) refl is
+    where
+      by : (enough : Bool) (all : Result (List Members) PlanError) → each judged_group (enumerate_from 0 groups) ≡ all
+          → (if enough then with_threshold group_threshold all else Err PlanGroups) ≡ Err BadPlan → ⊥
+      by false all all_is clash = cc
+      by true (Ok values) all_is clash = cc
+      by true (Err e) all_is same =
+          let bad : e ≡ BadPlan = cc in
+          let (g, among, refused) = each-refuses judged_group (enumerate_from 0 groups) e all_is in
+          (is_judged g).not_bad (refused ∙ ap (λ x. Err x) bad)
 
 -- ---- readings
+
+-- what is judged of a text that has a plan's form is what it is read as
+module _ (text : List ℕ) (group_threshold : ℕ) (groups : List Members) (form : HasPlanForm text group_threshold groups) where
+  abbrev read_form : PlanForm text
+  read_form = record { group_threshold = group_threshold; groups = groups; form = form }
+
+  pub reading_judged : (reading : Result (ℕ × List Members) PlanError) → judged (group_threshold, groups) ≡ reading → IsPlanReading text reading
+  reading_judged (Ok plan) is =
+      let number = form.threshold_number in
+      let same = ok_judged group_threshold groups number.positive (λ k d below. (form.thresholds k d below).positive) plan is in
+      subst (λ (p : ℕ × List Members). HasPlanForm text p.0 p.1 × IsPlan p.0 p.1) (sym same.0) (form, same.1)
+  reading_judged (Err BadPlan) is = absurd (not_bad group_threshold groups is)
+  reading_judged (Err PlanGroups) is = (read_form, is)
+  reading_judged (Err (PlanMembers group)) is = (read_form, is)
+  reading_judged (Err (OneOfMany group)) is = (read_form, is)
 
 -- a text that has no plan's form
 pub record IsRefusedForm (text : List ℕ) (reading : Result (ℕ × List Members) PlanError) : Type 0 where
@@ -128,30 +211,16 @@ pub record IsRefusedForm (text : List ℕ) (reading : Result (ℕ × List Member
 -- and one that has it
 pub record IsReadForm (text : List ℕ) (reading : Result (ℕ × List Members) PlanError) : Type 0 where
   pub plan : PlanForm text
-  pub read_as : IsReadAs plan.group_threshold plan.groups reading
+  pub judged_is : judged (plan.group_threshold, plan.groups) ≡ reading
 
 reading_cases : (text : List ℕ) (reading : Result (ℕ × List Members) PlanError) → IsPlanReading text reading
     → IsRefusedForm text reading ⊎ IsReadForm text reading
 reading_cases text (Ok plan) is =
-    inr (record { plan = record { group_threshold = plan.0; groups = plan.1; form = is.0 }; read_as = (refl, refl, is.1) })
+    inr (record { plan = record { group_threshold = plan.0; groups = plan.1; form = is.0 }; judged_is = judged_ok plan.0 plan.1 is.1 })
 reading_cases text (Err BadPlan) is = inl (record { no_form = is; reading_is = refl })
-reading_cases text (Err PlanGroups) is = inr (record { plan = is.0; read_as = is.1 })
-reading_cases text (Err (PlanMembers group)) is = inr (record { plan = is.0; read_as = (is.1, is.2) })
-reading_cases text (Err (OneOfMany group)) is = inr (record { plan = is.0; read_as = (is.1, is.2) })
-
--- what a text of a plan's form is read as
-module _ (text : List ℕ) (group_threshold : ℕ) (groups : List Members) (form : HasPlanForm text group_threshold groups) where
-  abbrev read_form : PlanForm text
-  read_form = record { group_threshold = group_threshold; groups = groups; form = form }
-
-  pub reading-groups : ¬ HasEnoughGroups group_threshold groups → IsPlanReading text (Err PlanGroups)
-  reading-groups refused = (read_form, refused)
-
-  pub reading-refused : (error : PlanError) → HasEnoughGroups group_threshold groups → RefusesAGroup groups error → IsPlanReading text (Err error)
-  reading-refused BadPlan enough refused = absurd refused
-  reading-refused PlanGroups enough refused = absurd refused
-  reading-refused (PlanMembers group) enough refused = (read_form, enough, refused)
-  reading-refused (OneOfMany group) enough refused = (read_form, enough, refused)
+reading_cases text (Err PlanGroups) is = inr (record { plan = is.0; judged_is = is.1 })
+reading_cases text (Err (PlanMembers group)) is = inr (record { plan = is.0; judged_is = is.1 })
+reading_cases text (Err (OneOfMany group)) is = inr (record { plan = is.0; judged_is = is.1 })
 
 pub reading_once : (text : List ℕ) (reading other : Result (ℕ × List Members) PlanError) → IsPlanReading text reading → IsPlanReading text other
     → reading ≡ other
@@ -163,11 +232,9 @@ reading_once text reading other is also =
       ]
       | inr read ↦ elim (reading_cases text other also) [
         | inl none' ↦ absurd (none'.no_form read.plan)
-        | inr read' ↦ (
+        | inr read' ↦
             let same = form_once text read.plan.group_threshold read'.plan.group_threshold read.plan.groups read'.plan.groups read.plan.form read'.plan.form in
-            read_once read'.plan.group_threshold read'.plan.groups reading other
-            (subst (λ gs. IsReadAs read'.plan.group_threshold gs reading) same.groups_are
-            (subst (λ (t : ℕ). IsReadAs t read.plan.groups reading) same.threshold read.read_as)) read'.read_as)
+            sym read.judged_is ∙ ap₂ (λ (t : ℕ) (gs : List Members). judged (t, gs)) same.threshold same.groups_are ∙ read'.judged_is
       ]
     ]
 

@@ -1,31 +1,32 @@
 -- Each quorum of a created backup's shares recovers its secret.
-use Rattle.std.proofs.Common.{◌≡◌, ◌≢◌, ℕ, zero, suc, ◌+◌, ◌<◌, List, [], ◌∷◌, length, get_or, find, map, All, AllPairs, Contains, Option, Some, None, inl}
+use Rattle.std.proofs.Common.{◌≡◌, ℕ, zero, suc, ◌+◌, ◌<◌, List, [], ◌∷◌, length, get_or, find, map, All, Contains, Option, Some, None, inl}
 use Rattle.std.proofs.Common.{inr, refl, sym, ap, subst, ◌∙◌, arith}
-use Rattle.std.specs.Prelude.{IsSomeAnd, ◌==◌, nat_lt}
-use Rattle.std.specs.List.{AllZip, enumerate_from, range_with_len, slice_get, zip}
-use Rattle.std.specs.Option.{option_map, option_map_or}
+use Rattle.std.specs.Prelude.{◌==◌, Ok}
+use Rattle.std.specs.List.{enumerate_from, slice_get}
+use Rattle.std.specs.Option.{option_map, option_map_or, ok_or}
 use Rattle.std.proofs.lemmas.List.{length-map}
-use Rattle.std.proofs.lemmas.List.Elements.{All-cons, All-contains, All-head, All-map, All-tail, Contains-append_cases, filter_passes}
-use Rattle.std.proofs.lemmas.Bool.{and_parts, eqb-true, ltb-true}
-use Rattle.std.proofs.lemmas.List.Kept.{AllPairs-filter}
-use Rattle.std.proofs.lemmas.Slice.Zip.{firsts-zip}
+use Rattle.std.proofs.lemmas.List.Elements.{All-contains, All-map, Contains-append_cases}
+use Rattle.std.proofs.lemmas.Bool.{and_parts, eqb-true}
 use Rattle.s39_kdf.specs.declared.params.Params.{Params}
 use Rattle.s39_split.specs.Sharing.{IsSplit}
-use Rattle.s39_split.specs.Recovery.{Combines, AnySharesCombine}
+use Rattle.s39_split.specs.Recovery.{combined, AnySharesCombine}
+use Rattle.s39_split.proofs.OneOutcome.{combine_once}
+use Rattle.s39_lists.specs.Each.{and_then, each}
+use Rattle.s39_lists.proofs.Each.{each-map}
 use Rattle.s39_words.specs.declared.share.ShareFields.{ShareFields}
-use Rattle.s39_set.specs.Names.{Name, Names, most_groups, names_in_group}
+use Rattle.s39_set.specs.Names.{Name, Names, names_in_group}
 use Rattle.s39_set.specs.ShareSet.{name_of, is_in_group, has_name}
 use Rattle.s39_set.specs.Quorums.{group_threshold_of, member_threshold_of}
 use Rattle.s39_lists.proofs.Finds.{find-passes, Contains-find, some_same}
 use Rattle.s39_backup.specs.declared.plan.Members.{Members}
 use Rattle.s39_backup.specs.Created.{AreSplitAmong, created_share, created_group, created_groups, IsCreatedFrom, AreOfBackup, asked_for}
-use Rattle.s39_backup.specs.Combination.{value_of, member_shares, groups_of, GroupCombines, CombinesTo}
+use Rattle.s39_backup.specs.declared.combination.Mismatch.TheVariants.{OfGroups}
+use Rattle.s39_backup.specs.Combination.{value_of, member_shares, groups_of, share_or_mismatch, group_share, combination_of}
 use Rattle.s39_backup.specs.Outcome.{AreParams, Recovers}
 use Rattle.s39_backup.specs.GroupShares.{IsExactQuorum}
-use Rattle.s39_lists.proofs.Pairs.{AllPairs-from_map}
-use Rattle.s39_lists.proofs.Ranges.{range-distinct}
 use Rattle.s39_backup.proofs.Values.{has_share}
 use Rattle.s39_backup.proofs.Levels.{in_group, group_at_hand, length-member_shares, members_of_one_level, member_threshold_is, group_threshold_is}
+use Rattle.s39_backup.proofs.Levels.{have_names, groups_of_one_level}
 
 -- ---- the created shares
 
@@ -126,19 +127,6 @@ split_at_place (g ∷ gs) (s ∷ ss) (p ∷ ps) (v ∷ vs) (suc k) members other
 split_at_place [] [] [] [] place members others all group_is values_are = absurd (let none : None ≡ Some members = group_is in cc)
 split_at_place gs ss ps vs place members others all group_is values_are = absurd all
 
--- ---- lists
-
--- what is true of each element and of what a function gives of it is true of the two lists
-all_zip_map : {X Y : Type 0} (R : X → Y → Type 0) (f : X → Y) (xs : List X) → All (λ x. R x (f x)) xs → AllZip R xs (map f xs)
-all_zip_map R f [] all = tt
-all_zip_map R f (x ∷ xs) all = (All-head (λ x. R x (f x)) x xs all, all_zip_map R f xs (All-tail (λ x. R x (f x)) x xs all))
-
-zip_map_all : (P : ℕ × List ℕ → Type 0) (f : ℕ → List ℕ) (xs : List ℕ) → All (λ x. P (x, f x)) xs → All P (zip xs (map f xs))
-zip_map_all P f [] all = λ k d below. absurd (omega arith)
-zip_map_all P f (x ∷ xs) all =
-    let pair : ℕ × List ℕ = (x, f x) in
-    All-cons P pair (zip xs (map f xs)) (All-head (λ x. P (x, f x)) x xs all) (zip_map_all P f xs (All-tail (λ x. P (x, f x)) x xs all))
-
 -- ---- the shares of a backup that are at hand
 
 module _ (set : List ShareFields) (names : Names) (quorum : IsExactQuorum set names) (passphrase secret : List ℕ)
@@ -200,13 +188,13 @@ module _ (set : List ShareFields) (names : Names) (quorum : IsExactQuorum set na
           sym (some_same share.member_threshold threshold h) ∙ ap (λ s. s.member_threshold) is.share_is ∙ ap (λ m. m.threshold) same
 
   -- the group share to which the shares of a group combine
-  record CombinesAt (group : ℕ) : Type 0 where
-    share : List ℕ
-    share_is : slice_get created.group_shares group ≡ Some share
-    combines : GroupCombines set names group (Some share)
+  share_at : ℕ → List ℕ
+  share_at group = option_map_or (λ share. share) (slice_get created.group_shares group) []
 
-  group_share : (group : ℕ) → 0 < length (names_in_group group names) → CombinesAt group
-  group_share group some =
+  combined_at : (group : ℕ) → 0 < length (names_in_group group names)
+      → (slice_get created.group_shares group ≡ Some (share_at group)) × (group_share set names group ≡ Ok (group, share_at group))
+  unfolding share_at
+  combined_at group some =
       let ns = names_in_group group names in
       let chosen = member_shares set names group in
       let first = named group (get_or ns 0 (0, 0)) (in_group set names quorum group 0 (0, 0) some) (group_at_hand set names quorum group 0 (0, 0) some) in
@@ -221,34 +209,13 @@ module _ (set : List ShareFields) (names : Names) (quorum : IsExactQuorum set na
       subst (λ vs. slice_get vs (get_or ns k d).1 ≡ Some (value_of set (get_or ns k d))) same one.value_is) in
       let threshold : member_threshold_of set group ≡ Some (length ns) = member_threshold_is set names quorum group some in
       let as_planned : length ns ≡ first.members.threshold = threshold_of_plan group (length ns) first.members first.group_is threshold in
-      let combined = any first.members.threshold first.members.count at.share at.piece first.others chosen at.split
+      let combines = any first.members.threshold first.members.count at.share at.piece first.others chosen at.split
       (record { distinct = level.distinct; belong = belong })
       (length-member_shares set names group ∙ as_planned) in
-      record {
-        share = at.share;
-        share_is = at.share_is;
-        combines = subst (λ o. IsSomeAnd o (λ t. Combines t chosen (Some at.share))) (sym (threshold ∙ ap (λ (n : ℕ). Some n) as_planned)) combined.0;
-      }
-
-  -- the group share of a group
-  share_at : ℕ → List ℕ
-  share_at group = option_map_or (λ share. share) (slice_get created.group_shares group) []
-
-  have_names : All (λ group. 0 < length (names_in_group group names)) (groups_of names)
-  have_names k d within =
-      ltb-true 0 _ (filter_passes (λ group. nat_lt 0 (length (names_in_group group names))) (range_with_len 0 most_groups) k d within)
-
-  share_at-is : (group : ℕ) (at : CombinesAt group) → share_at group ≡ at.share
-  unfolding share_at
-  share_at-is group at = ap (λ o. option_map_or (λ share. share) o []) at.share_is
-
-  all_at : All (λ group. (slice_get created.group_shares group ≡ Some (share_at group)) × GroupCombines set names group (Some (share_at group)))
-      (groups_of names)
-  all_at k d within =
-      let group = get_or (groups_of names) k d in
-      let at = group_share group (have_names k d within) in
-      let same : at.share ≡ share_at group = sym (share_at-is group at) in
-      (at.share_is ∙ ap (λ s. Some s) same, subst (λ s. GroupCombines set names group (Some s)) same at.combines)
+      let is : Some at.share ≡ combined chosen = combine_once first.members.threshold chosen (Some at.share) level.some
+      (λ k d within. let low = level.indices k d within in omega arith) level.distinct combines.0 in
+      let share : share_at group ≡ at.share = ap (λ o. option_map_or (λ share. share) o []) at.share_is in
+      rw share (at.share_is, ap (share_or_mismatch group) (sym is))
 
   -- the group threshold at hand is that of the plan
   group_threshold_of_plan : length (groups_of names) ≡ backup.group_threshold
@@ -261,29 +228,25 @@ module _ (set : List ShareFields) (names : Names) (quorum : IsExactQuorum set na
           sym (some_same s.group_threshold (length (groups_of names)) h) ∙ ap (λ t. t.group_threshold) is.share_is
 
   -- the quorum combines to the encrypted secret
-  pub combines_to_encrypted : CombinesTo set names created.encrypted
+  pub combines_to_encrypted : combination_of set names ≡ Ok created.encrypted
+  unfolding combination_of
   combines_to_encrypted =
       let groups = groups_of names in
-      let shares = map share_at groups in
-      let chosen = zip groups shares in
-      let as_many : length shares ≡ length groups = length-map groups share_at in
-      let firsts : map (λ p. p.0) chosen ≡ groups = firsts-zip groups shares as_many in
-      let count : length chosen ≡ length groups = sym (length-map chosen (λ p. p.0)) ∙ ap length firsts in
-      let distinct : AllPairs (λ a b. a.0 ≢ b.0) chosen =
-      AllPairs-from_map (λ x y. x ≢ y) (λ p. p.0) chosen
-      (subst (AllPairs (λ x y. x ≢ y)) (sym firsts)
-      (AllPairs-filter (λ x y. x ≢ y) (λ group. nat_lt 0 (length (names_in_group group names))) (range_with_len 0 most_groups) (range-distinct most_groups))) in
+      let with_share : ℕ → ℕ × List ℕ = λ group. (group, share_at group) in
+      let chosen = map with_share groups in
+      let at : All (λ group. (slice_get created.group_shares group ≡ Some (share_at group)) × (group_share set names group ≡ Ok (with_share group))) groups =
+      λ k d within. combined_at (get_or groups k d) (have_names set names quorum k d within) in
+      let all : each (group_share set names) groups ≡ Ok chosen =
+      each-map (group_share set names) with_share groups (λ k d within. (at k d within).1) in
+      let level = groups_of_one_level set names quorum chosen all in
       let belong : All (λ s. slice_get created.group_shares s.0 ≡ Some s.1) chosen =
-      zip_map_all (λ s. slice_get created.group_shares s.0 ≡ Some s.1) share_at groups (λ k d within. (all_at k d within).0) in
-      let combined = any backup.group_threshold (length backup.groups) created.encrypted created.group_piece created.group_shares chosen
+      All-map (λ s. slice_get created.group_shares s.0 ≡ Some s.1) with_share groups (λ k d within. (at k d within).0) in
+      let combines = any backup.group_threshold (length backup.groups) created.encrypted created.group_piece created.group_shares chosen
       created.groups_split
-      (record { distinct = distinct; belong = belong }) (count ∙ group_threshold_of_plan) in
-      record {
-        shares = shares;
-        groups = all_zip_map (λ group share. GroupCombines set names group (Some share)) share_at groups (λ k d within. (all_at k d within).1);
-        combined = subst (λ o. IsSomeAnd o (λ t. Combines t chosen (Some created.encrypted)))
-            (sym (group_threshold_is set names quorum ∙ ap (λ (n : ℕ). Some n) group_threshold_of_plan)) combined.0;
-      }
+      (record { distinct = level.distinct; belong = belong }) (length-map groups with_share ∙ group_threshold_of_plan) in
+      let is : Some created.encrypted ≡ combined chosen = combine_once backup.group_threshold chosen (Some created.encrypted) level.some
+      (λ k d within. let low = level.indices k d within in omega arith) level.distinct combines.0 in
+      ap (and_then (λ shares. ok_or (combined shares) OfGroups)) all ∙ ap (λ o. ok_or o OfGroups) (sym is)
 
   -- the parameters of the creation are those of the set
   pub params_are_created : AreParams set created.params

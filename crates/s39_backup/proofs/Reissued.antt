@@ -1,42 +1,48 @@
 -- Mnemonics of a created backup determine its shares, and no others.
-use Rattle.std.proofs.Common.{◌≡◌, ◌≢◌, ℕ, ◌+◌, ◌<◌, ◌≤◌, ◌==◌, ◌&&◌, not, Bool, List, [], ◌∷◌, length, get_or, take, filter, find, All, AllPairs, Contains}
-use Rattle.std.proofs.Common.{Option, Some, None, Result, Ok, Err, inl, inr, ◌⊎◌, refl, sym, ap, subst, ◌∙◌, arith}
+use Rattle.std.proofs.Common.{◌≡◌, ◌≢◌, ◌⊎◌, ℕ, ◌+◌, ◌<◌, ◌≤◌, ◌==◌, ◌&&◌, not, Bool, List, [], ◌∷◌, length, get_or, take, filter, map, All, Contains}
+use Rattle.std.proofs.Common.{Some, Result, Ok, Err, inl, inr, refl, sym, ap, subst, ◌∙◌, arith}
 use Rattle.std.specs.Prelude.{IsSomeAnd}
 use Rattle.std.specs.List.{enumerate_from, slice_get}
-use Rattle.std.proofs.lemmas.Bool.{and_parts, cases_eq, cases_lt, eqb-true, leb-true}
-use Rattle.std.proofs.lemmas.List.{length-take-le}
-use Rattle.std.proofs.lemmas.List.Elements.{All-nil, All-cons, All-head, All-tail, All-map, All-take, All-filter, All-contains, All-contains_itself}
-use Rattle.std.proofs.lemmas.List.Elements.{filter_passes}
-use Rattle.std.proofs.lemmas.List.Elements.{Contains-append_right}
+use Rattle.std.specs.Option.{option_map_or, ok_or}
+use Rattle.std.specs.Result.{result_map_both}
+use Rattle.std.proofs.lemmas.Bool.{and_parts, eqb-true, leb-true}
+use Rattle.std.proofs.lemmas.List.{length-map, length-take-le}
+use Rattle.std.proofs.lemmas.List.Elements.{All-cons, All-map, All-take, All-filter, All-contains, All-contains_itself, filter_passes}
 use Rattle.std.proofs.lemmas.List.FromFn.{length-enumerate_from, get_or-enumerate_from}
 use Rattle.std.proofs.lemmas.Option.{slice_get-get_or, slice_get_within}
 use Rattle.s39_kdf.specs.Bytes.{AreBytes}
+use Rattle.s39_lists.specs.Each.{and_then, each}
+use Rattle.s39_lists.proofs.Each.{each-map}
+use Rattle.s39_lists.proofs.Sublists.{AllPairs-sublist, take-sublist}
+use Rattle.s39_lists.proofs.Finds.{some_same, Contains-find}
 use Rattle.s39_split.specs.Sharing.{secret_place}
-use Rattle.s39_split.specs.Recovery.{AreSharesOf, AnySharesCombine, SecretsAreLikeTheirShares}
-use Rattle.s39_split.specs.Completion.{Completes, ArePointsOf, AnyPointsComplete, SharesArePoints}
-use Rattle.s39_lists.proofs.Pairs.{AllPairs-from_map, AllPairs-map}
-use Rattle.s39_split.proofs.SplitLaws.{AreBytes-interpolated}
+use Rattle.s39_split.specs.Recovery.{AreSharesOf, AnySharesCombine}
+use Rattle.s39_split.specs.Completion.{completed, ArePointsOf, AnyPointsComplete, SharesArePoints}
+use Rattle.s39_split.proofs.OneOutcome.{combine_once}
+use Rattle.s39_split.proofs.Completions.{complete_once}
 use Rattle.s39_words.specs.declared.share.ShareFields.{ShareFields}
 use Rattle.s39_set.specs.Names.{Name}
-use Rattle.s39_set.specs.ShareSet.{IsShareSet, name_of, is_in_group, has_name}
-use Rattle.s39_lists.proofs.Sublists.{AllPairs-sublist, take-sublist, Contains-head}
+use Rattle.s39_set.specs.ShareSet.{IsShareSet, is_in_group, has_name}
 use Rattle.s39_backup.specs.declared.plan.Members.{Members}
-use Rattle.s39_backup.specs.declared.combination.Mismatch.{Mismatch}
 use Rattle.s39_backup.specs.declared.combination.Mismatch.TheVariants.{InGroup, OfGroups}
 use Rattle.s39_backup.specs.declared.reissue_error.ReissueError.{ReissueError}
 use Rattle.s39_backup.specs.declared.reissue_error.ReissueError.TheVariants.{Undetermined, DigestMismatch}
-use Rattle.s39_backup.specs.Plan.{IsGroup}
-use Rattle.s39_backup.specs.Plan.{IsNameOfPlan}
+use Rattle.s39_backup.specs.Plan.{IsGroup, IsNameOfPlan}
 use Rattle.s39_backup.specs.Created.{created_share, created_groups, IsCreatedFrom, AreOfBackup, asked_for}
+use Rattle.s39_backup.specs.Combination.{share_or_mismatch}
 use Rattle.s39_backup.specs.GroupShares.{value_bytes_of}
-use Rattle.s39_backup.specs.Reissue.{IsOfPlan, AreOfPlan, members_at_hand, least_members, is_at_hand, other_groups, LeastCombine, EachCombines, TellGroup}
-use Rattle.s39_backup.specs.Reissue.{IsGroupShare, ArePoints, IsOneShort, IsValue, IsMissing, IsReissue, IsRightFor, share_like}
-use Rattle.s39_lists.proofs.Finds.{some_same, Contains-find}
+use Rattle.s39_backup.specs.Reissue.{IsOfPlan, AreOfPlan, members_at_hand, least_members, is_at_hand, other_groups, least_share, share_by_others, value_at}
+use Rattle.s39_backup.specs.Reissue.{counts_for, first_of, share_like, missing_value, missing_share, IsReissue, IsRightFor}
+use Rattle.s39_backup.specs.Reissuing.{ArePointsOfOneLevel}
+use Rattle.s39_backup.proofs.Agreeing.{All-at}
+use Rattle.s39_backup.proofs.Combining.{level-points, low_places}
 use Rattle.s39_backup.proofs.Promise.{IsCreatedShare, in_created_groups, IsSplitAt, split_at_place}
 use Rattle.s39_backup.proofs.WholeBackups.{contains_created, HasValues, values_at}
-use Rattle.s39_backup.proofs.MembersAtHand.{point_of, members-distinct, members-long, members-bytes}
-use Rattle.s39_backup.proofs.Determined.{found_name, not_found}
-use Rattle.s39_backup.proofs.OtherGroups.{each_firsts, each_length, others_complete}
+use Rattle.s39_backup.proofs.MembersAtHand.{point_of, members-distinct, members-bytes, share_level}
+use Rattle.s39_backup.proofs.AtHand.{found_name}
+use Rattle.s39_backup.proofs.OtherGroups.{others_complete, group_level, least_bytes, shares_level, shares_bytes, share_like_values}
+use Rattle.s39_backup.proofs.Points.{low_name, which_points, value_from, has_first}
+use Rattle.s39_backup.proofs.Reissues.{at_hand_or_missing}
 
 module _ (set : List ShareFields) (is_set : IsShareSet set) (passphrase secret : List ℕ) (backup : AreOfBackup set passphrase secret) where
   abbrev created : IsCreatedFrom (asked_for secret passphrase backup.group_threshold backup.groups backup.options) backup.random backup.shares
@@ -118,11 +124,15 @@ module _ (set : List ShareFields) (is_set : IsShareSet set) (passphrase secret :
     }
 
     -- its least members combine to its share
-    least_combine : AnySharesCombine → members.threshold ≤ length (members_at_hand set group) → (outcome : Option (List ℕ))
-        → LeastCombine set (group, members) outcome → outcome ≡ Some split.share
-    least_combine any enough outcome combines =
-        (any members.threshold members.count split.share split.piece values.others (least_members set (group, members)) split.split
-        (least_belong members.threshold) (length-take-le members.threshold (members_at_hand set group) enough)).1 outcome combines
+    least_combine : AnySharesCombine → IsGroup members → members.threshold ≤ length (members_at_hand set group)
+        → least_share set (group, members) ≡ Ok (group, split.share)
+    least_combine any is_group enough =
+        let level = group_level set is_set (group, members) is_group enough in
+        let combines = any members.threshold members.count split.share split.piece values.others (least_members set (group, members)) split.split
+        (least_belong members.threshold) (length-take-le members.threshold (members_at_hand set group) enough) in
+        ap (share_or_mismatch group)
+        (sym (combine_once members.threshold (least_members set (group, members)) (Some split.share) level.some
+        (λ k d within. let low = level.indices k d within in omega arith) level.distinct combines.0))
 
     -- points of it complete to the value of each member
     module _ (member : ℕ) (below : member < members.count) (any : AnyPointsComplete) where
@@ -132,202 +142,135 @@ module _ (set : List ShareFields) (is_set : IsShareSet set) (passphrase secret :
       value_is : slice_get values.others member ≡ Some value
       value_is = let number = values.number in slice_get-get_or values.others member [] (omega arith)
 
-      complete_to : (points : List (ℕ × List ℕ)) → ArePointsOf split.share values.others points → All (λ point. AreBytes point.1) points
-          → length points ≡ members.threshold → (outcome : Option (List ℕ)) → Completes members.threshold points member outcome → outcome ≡ Some value
-      complete_to points choice bytes number outcome completes =
-          (any members.threshold members.count split.share split.piece values.others points member value bytes split.split choice number value_is).1
-          outcome completes
+      complete_to : (points : List (ℕ × List ℕ)) → ArePointsOf split.share values.others points → ArePointsOfOneLevel (value_bytes_of set) points
+          → All (λ point. AreBytes point.1) points → length points ≡ members.threshold → completed points member ≡ Some value
+      complete_to points choice level bytes number =
+          let completes = any members.threshold members.count split.share split.piece values.others points member value bytes split.split choice number
+          value_is in
+          sym (complete_once members.threshold points member (Some value) level.some (low_places (value_bytes_of set) points level) level.distinct completes.0)
 
   -- ---- the share of a group, from others
 
-  -- a group of the plan of which enough members are at hand
-  record IsGood (other : ℕ × Members) : Type 0 where
-    group_is : slice_get backup.groups other.0 ≡ Some other.1
-    enough : other.1.threshold ≤ length (members_at_hand set other.0)
-    positive : 1 ≤ other.1.threshold
+  -- the share of a group of the plan
+  share_at : ℕ → List ℕ
+  share_at group = option_map_or (λ share. share) (slice_get created.group_shares group) []
 
-  all_good : (n group : ℕ) → All IsGood (take n (other_groups set backup.groups group))
-  all_good n group =
+  share_at-is : (group : ℕ) (share : List ℕ) → slice_get created.group_shares group ≡ Some share → share_at group ≡ share
+  unfolding share_at
+  share_at-is group share is = ap (λ o. option_map_or (λ share. share) o []) is
+
+  -- groups of the plan, of which enough members are at hand, have their shares
+  abbrev IsOfPlanAndAtHand : ℕ × Members → Type 0
+  IsOfPlanAndAtHand other = (slice_get created.group_shares other.0 ≡ Some (share_at other.0)) × (least_share set other ≡ Ok (other.0, share_at other.0))
+
+  all_known : AnySharesCombine → (n group : ℕ) → All IsOfPlanAndAtHand (take n (other_groups set backup.groups group))
+  all_known any n group =
       let all = enumerate_from 0 backup.groups in
       let is_other : ℕ × Members → Bool = λ other. not (other.0 == group) && is_at_hand set other in
-      let planned : All (λ g. (slice_get backup.groups g.0 ≡ Some g.1) × (1 ≤ g.1.threshold)) all =
+      let planned : All (λ g. (slice_get backup.groups g.0 ≡ Some g.1) × IsGroup g.1) all =
       λ k d within.
       let number = length-enumerate_from 0 backup.groups in
       let is_group : IsGroup (get_or backup.groups k d.1) = backup.is_plan.each k d.1 (omega arith) in
       let start : 0 + k ≡ k = omega arith in
       let at : get_or all k d ≡ (k, get_or backup.groups k d.1) =
       get_or-enumerate_from 0 backup.groups k d (omega arith) ∙ ap (λ (p : ℕ). (p, get_or backup.groups k d.1)) start in
-      rw at (slice_get-get_or backup.groups k d.1 (omega arith), is_group.positive) in
-      All-take IsGood n (filter is_other all)
+      rw at (slice_get-get_or backup.groups k d.1 (omega arith), is_group) in
+      All-take IsOfPlanAndAtHand n (filter is_other all)
       (λ k d within.
       let g = get_or (filter is_other all) k d in
       let passes = filter_passes is_other all k d within in
-      let plan = All-filter is_other (λ g. (slice_get backup.groups g.0 ≡ Some g.1) × (1 ≤ g.1.threshold)) all planned k d within in
-      record {
-        group_is = plan.0;
-        enough = leb-true g.1.threshold (length (members_at_hand set g.0)) (and_parts (not (g.0 == group)) (is_at_hand set g) passes).1;
-        positive = plan.1;
-      })
+      let plan = All-filter is_other (λ g. (slice_get backup.groups g.0 ≡ Some g.1) × IsGroup g.1) all planned k d within in
+      let enough = leb-true g.1.threshold (length (members_at_hand set g.0)) (and_parts (not (g.0 == group)) (is_at_hand set g) passes).1 in
+      let at = split g.0 g.1 plan.0 in
+      let same = share_at-is g.0 at.share at.share_is in
+      rw same (at.share_is, least_combine g.0 g.1 plan.0 any plan.1 enough))
 
-  module _ (any : AnySharesCombine) (like : SecretsAreLikeTheirShares) where
-    good_share : (other : ℕ × Members) → IsGood other → (share : List ℕ) → LeastCombine set other (Some share)
-        → (slice_get created.group_shares other.0 ≡ Some share) × AreBytes share
-    good_share other good share combines =
-        let at = split other.0 other.1 good.group_is in
-        let same = least_combine other.0 other.1 good.group_is any good.enough (Some share) combines in
-        let members = members_at_hand set other.0 in (
-          at.share_is ∙ sym same,
-          (like other.1.threshold (value_bytes_of set) (least_members set other) share good.positive combines
-              (All-take (λ p. length p.1 ≡ value_bytes_of set) other.1.threshold members (members-long set is_set other.0))
-              (All-take (λ p. AreBytes p.1) other.1.threshold members (members-bytes set is_set other.0))).1,
-        )
+  module _ (any : AnySharesCombine) (complete : AnyPointsComplete) (as_points : SharesArePoints) (group : ℕ) (members : Members)
+      (group_is : slice_get backup.groups group ≡ Some members) where
+    low : group < 256
+    low = let within = slice_get_within backup.groups group members group_is in let few = backup.is_plan.enough.few in omega arith
 
-    each_good : (others : List (ℕ × Members)) (shares : List (ℕ × List ℕ)) → All IsGood others → EachCombines set others shares
-        → All (λ s. (slice_get created.group_shares s.0 ≡ Some s.1) × AreBytes s.1) shares
-    each_good [] [] good all = All-nil (λ s. (slice_get created.group_shares s.0 ≡ Some s.1) × AreBytes s.1)
-    each_good [] (s ∷ ss) good all = absurd all
-    each_good (o ∷ os) [] good all = absurd all
-    each_good (o ∷ os) (s ∷ ss) good all =
-        let one = good_share o (All-head IsGood o os good) s.1 all.0.1 in
-        All-cons (λ s. (slice_get created.group_shares s.0 ≡ Some s.1) × AreBytes s.1) s ss
-        (ap (slice_get created.group_shares) all.0.0 ∙ one.0, one.1)
-        (each_good os ss (All-tail IsGood o os good) all.1)
-
-    module _ (complete : AnyPointsComplete) (as_points : SharesArePoints) (group : ℕ) (members : Members)
-        (group_is : slice_get backup.groups group ≡ Some members)
-        (enough : backup.group_threshold ≤ length (other_groups set backup.groups group)) where
-      abbrev others : List (ℕ × Members)
-      others = take backup.group_threshold (other_groups set backup.groups group)
-
-      -- what they tell is the share of the group
-      told : (outcome : Option (List ℕ)) → TellGroup set others group outcome → outcome ≡ Some (split group members group_is).share
-      told outcome tell =
-          let at = split group members group_is in
-          let few = backup.is_plan.enough.few in
-          let most = backup.is_plan.enough.enough in
-          let complete_others = others_complete set group backup.groups backup.is_plan.each few backup.group_threshold enough (omega arith) in
-          let good = each_good others tell.shares (all_good backup.group_threshold group) tell.combine in
-          let firsts = each_firsts set others tell.shares tell.combine in
-          let number = length-take-le backup.group_threshold (other_groups set backup.groups group) enough in
-          let as_many = each_length set others tell.shares tell.combine in
-          let choice : AreSharesOf created.group_shares tell.shares = record {
-            distinct = AllPairs-from_map (λ a b. a ≢ b) (λ s. s.0) tell.shares
-                (subst (AllPairs (λ a b. a ≢ b)) (sym firsts) (AllPairs-map (λ a b. a ≢ b) (λ g. g.0) others complete_others.distinct));
-            belong = λ k d within. (good k d within).0;
-          } in
-          (complete backup.group_threshold group_count created.encrypted created.group_piece created.group_shares tell.shares group at.share
-          (λ k d within. (good k d within).1) created.groups_split
-          (as_points backup.group_threshold group_count created.encrypted created.group_piece created.group_shares tell.shares created.groups_split choice).0
-          (sym as_many ∙ number) at.share_is).1 outcome
-          (subst (λ (n : ℕ). Completes n tell.shares group outcome) number tell.complete)
-
-      -- its bytes
-      told_bytes : (share : List ℕ) → group < 256 → TellGroup set others group (Some share) → AreBytes share
-      told_bytes share low tell = AreBytes-interpolated tell.shares group share low tell.complete.1
-
-      -- none is refused
-      none_refused : (mismatch : Mismatch) → IsGroupShare set others group (Err mismatch) → ⊥
-      none_refused OfGroups tell = let same = told None tell in cc
-      none_refused (InGroup other) first =
-          let one : ℕ × Members = (other, first.members) in
-          let good = All-contains IsGood others one (all_good backup.group_threshold group)
-          (subst (λ xs. Contains xs one) (sym first.parts) (Contains-append_right first.before (one ∷ first.after) one (Contains-head one first.after))) in
-          let same = least_combine other first.members good.group_is any good.enough None first.refused in
-          cc
+    -- what they give is the share of the group
+    told : backup.group_threshold ≤ length (other_groups set backup.groups group)
+        → share_by_others set (take backup.group_threshold (other_groups set backup.groups group)) group ≡ Ok (split group members group_is).share
+    unfolding share_by_others
+    told enough =
+        let at = split group members group_is in
+        let others = take backup.group_threshold (other_groups set backup.groups group) in
+        let few = backup.is_plan.enough.few in
+        let most = backup.is_plan.enough.enough in
+        let positive = backup.is_plan.positive in
+        let number = length-take-le backup.group_threshold (other_groups set backup.groups group) enough in
+        let complete_others = others_complete set group backup.groups backup.is_plan.each few backup.group_threshold enough (omega arith) in
+        let with_share : ℕ × Members → ℕ × List ℕ = λ other. (other.0, share_at other.0) in
+        let shares = map with_share others in
+        let known = all_known any backup.group_threshold group in
+        let all : each (least_share set) others ≡ Ok shares = each-map (least_share set) with_share others (λ k d within. (known k d within).1) in
+        let level = shares_level set is_set others complete_others (omega arith) shares all in
+        let choice : AreSharesOf created.group_shares shares = record {
+          distinct = level.distinct;
+          belong = All-map (λ s. slice_get created.group_shares s.0 ≡ Some s.1) with_share others (λ k d within. (known k d within).0);
+        } in
+        let completes = complete backup.group_threshold group_count created.encrypted created.group_piece created.group_shares shares group at.share
+        (shares_bytes set is_set others complete_others (omega arith) shares all) created.groups_split
+        (as_points backup.group_threshold group_count created.encrypted created.group_piece created.group_shares shares created.groups_split choice).0
+        (length-map others with_share ∙ number) at.share_is in
+        ap (and_then (λ shares. ok_or (completed shares group) OfGroups)) all
+        ∙ ap (λ o. ok_or o OfGroups) (sym (complete_once backup.group_threshold shares group (Some at.share) level.some
+        (low_places (value_bytes_of set) shares level) level.distinct completes.0))
 
     -- ---- a member that isn't at hand
 
-    module _ (complete : AnyPointsComplete) (as_points : SharesArePoints) (group : ℕ) (members : Members) (member : ℕ)
-        (group_is : slice_get backup.groups group ≡ Some members) (below : member < members.count) where
-      abbrev at_hand : List (ℕ × List ℕ)
-      at_hand = members_at_hand set group
-
-      abbrev number_of_others : ℕ
-      number_of_others = length (other_groups set backup.groups group)
-
-      abbrev IsShort : Type 0
-      IsShort = IsOneShort set backup.group_threshold backup.groups group members member
-
-      abbrev AreItsPoints : Result (List (ℕ × List ℕ)) ReissueError → Type 0
-      AreItsPoints points = ArePoints set backup.group_threshold backup.groups group members member points
-
-      at : IsSplitAt backup.groups created.group_shares group members (values group members group_is).others
-      at = split group members group_is
+    module _ (member : ℕ) (below : member < members.count) where
+      is_group : IsGroup members
+      is_group = All-at IsGroup backup.groups group members backup.is_plan.each group_is
 
       its_value : List ℕ
       its_value = get_or (values group members group_is).others member []
 
-      short_or_not : IsShort ⊎ (IsShort → ⊥)
-      short_or_not = elim (cases_eq (length at_hand + 1) members.threshold) [
-        | inl one ↦ elim (cases_lt number_of_others backup.group_threshold) [
-          | inl few ↦ inr (λ short. let s = short.1 in omega arith)
-          | inr enough ↦ inl (one, enough)
-        ]
-        | inr apart ↦ inr (λ short. apart short.0)
-      ]
-
-      low : group < 256
-      low = let within = slice_get_within backup.groups group members group_is in let few = backup.is_plan.enough.few in omega arith
-
-      -- its least members complete to its value
-      by_members : members.threshold ≤ length at_hand → (outcome : Option (List ℕ))
-          → Completes members.threshold (least_members set (group, members)) member outcome → outcome ≡ Some its_value
+      -- a value that is missing is its value, unless too few are at hand
+      known_value : (missing_value set backup.group_threshold backup.groups (group, member) members ≡ Ok its_value)
+          ⊎ (missing_value set backup.group_threshold backup.groups (group, member) members
+          ≡ Err (Undetermined (counts_for set backup.group_threshold backup.groups (group, member) members)))
       unfolding its_value
-      by_members enough outcome completes =
-          complete_to group members group_is member below complete (least_members set (group, members))
-          (as_points members.threshold members.count (split group members group_is).share (split group members group_is).piece
-          (values group members group_is).others (least_members set (group, members)) (split group members group_is).split
-          (least_belong group members group_is members.threshold)).0
-          (All-take (λ p. AreBytes p.1) members.threshold at_hand (members-bytes set is_set group))
-          (length-take-le members.threshold at_hand enough) outcome completes
-
-      -- and so do its members with its share
-      by_share : length at_hand + 1 ≡ members.threshold → AreBytes (split group members group_is).share → (outcome : Option (List ℕ))
-          → Completes members.threshold ((secret_place, (split group members group_is).share) ∷ at_hand) member outcome → outcome ≡ Some its_value
-      unfolding its_value
-      by_share one bytes outcome completes =
-          let share = (split group members group_is).share in
-          let point : ℕ × List ℕ = (secret_place, share) in
-          complete_to group members group_is member below complete (point ∷ at_hand)
-          (as_points members.threshold members.count share (split group members group_is).piece
-          (values group members group_is).others at_hand (split group members group_is).split
-          (record { distinct = members-distinct set is_set group; belong = members_belong group members group_is })).1
-          (All-cons (λ p. AreBytes p.1) point at_hand bytes (members-bytes set is_set group))
-          (omega arith) outcome completes
-
-      -- and so do the points that determine it
-      right_points : (points : List (ℕ × List ℕ)) → AreItsPoints (Ok points) → (outcome : Option (List ℕ))
-          → Completes members.threshold points member outcome → outcome ≡ Some its_value
-      right_points points are outcome completes = elim (cases_lt (length at_hand) members.threshold) [
-        | inl few ↦ elim short_or_not [
-          | inl short ↦ (
-              let (share, is_share, points_are) = are.one_short short in
-              let same : Some share ≡ Some (split group members group_is).share =
-              told complete as_points group members group_is short.1 (Some share) is_share in
-              let share_is : share ≡ (split group members group_is).share = some_same share (split group members group_is).share same in
-              by_share short.0 (subst AreBytes share_is (told_bytes complete as_points group members group_is short.1 share low is_share)) outcome
-              (subst (λ s. Completes members.threshold ((secret_place, s) ∷ at_hand) member outcome) share_is
-              (subst (λ ps. Completes members.threshold ps member outcome) points_are completes)))
-          | inr other ↦ (
-              let clash = are.too_few few other in
-              absurd (cc))
-        ]
-        | inr enough ↦ (
-            let e = are.enough enough in
-            let same : points ≡ least_members set (group, members) = cc in
-            by_members enough outcome (subst (λ ps. Completes members.threshold ps member outcome) same completes))
-      ]
-
-      -- no digest refuses them
-      no_mismatch : (mismatch : Mismatch) → IsValue set backup.group_threshold backup.groups group members member (Err (DigestMismatch mismatch)) → ⊥
-      no_mismatch mismatch (inr (is, (points, are, completes))) = let clash = right_points points are None completes in cc
-      no_mismatch mismatch (inl are) = elim (cases_lt (length at_hand) members.threshold) [
-        | inl few ↦ elim short_or_not [
-          | inl short ↦ none_refused complete as_points group members group_is short.1 mismatch (are.one_short short)
-          | inr other ↦ (let clash = are.too_few few other in cc)
-        ]
-        | inr enough ↦ (let clash = are.enough enough in cc)
-      ]
+      known_value =
+          let at = split group members group_is in
+          let others = (values group members group_is).others in
+          let at_hand = members_at_hand set group in
+          let from = value_from set backup.group_threshold backup.groups (group, member) members in
+          let most = is_group.enough.few in
+          let counted = is_group.enough.enough in
+          elim (which_points set backup.group_threshold backup.groups (group, member) members) [
+            | inl all ↦
+                let points = least_members set (group, members) in
+                inl (from _ all.points_are ∙ ap (λ o. ok_or o (DigestMismatch (InGroup group)))
+                (complete_to group members group_is member below complete points
+                (as_points members.threshold members.count at.share at.piece others points at.split
+                (least_belong group members group_is members.threshold)).0
+                (level-points (value_bytes_of set) points (group_level set is_set (group, members) is_group all.enough))
+                (least_bytes set is_set (group, members) is_group all.enough)
+                (length-take-le members.threshold at_hand all.enough)))
+            | inr (inl short) ↦
+                let point : ℕ × List ℕ = (secret_place, at.share) in
+                let one = short.one in
+                let plan_few = backup.is_plan.enough.few in
+                let plan_most = backup.is_plan.enough.enough in
+                let positive = backup.is_plan.positive in
+                let number = length-take-le backup.group_threshold (other_groups set backup.groups group) short.enough in
+                let like = share_like_values set is_set (take backup.group_threshold (other_groups set backup.groups group))
+                (others_complete set group backup.groups backup.is_plan.each plan_few backup.group_threshold short.enough (omega arith)) (omega arith)
+                group at.share low (told short.enough) in
+                inl (from _ short.points_are
+                ∙ ap (λ r. and_then (value_at group member) (result_map_both (λ s. (secret_place, s) ∷ at_hand) (λ m. DigestMismatch m) r)) (told short.enough)
+                ∙ ap (λ o. ok_or o (DigestMismatch (InGroup group)))
+                (complete_to group members group_is member below complete (point ∷ at_hand)
+                (as_points members.threshold members.count at.share at.piece others at_hand at.split
+                (record { distinct = members-distinct set is_set group; belong = members_belong group members group_is })).1
+                (share_level set is_set group at.share like.0.0 like.1 (omega arith))
+                (All-cons (λ p. AreBytes p.1) point at_hand like.0.1 (members-bytes set is_set group))
+                (omega arith)))
+            | inr (inr few) ↦ inr (from _ few.points_are)
+          ]
 
       -- the backup has the share with its value
       right_share : (like : ShareFields) → Contains set like → Contains backup.shares (share_like like (group, member) members.threshold its_value)
@@ -346,29 +289,27 @@ module _ (set : List ShareFields) (is_set : IsShareSet set) (passphrase secret :
           (subst (λ (n : ℕ). Contains (created_groups created.params backup.group_threshold group_count 0 backup.groups created.values)
           (created_share created.params backup.group_threshold group_count n members member its_value)) start has))
 
-      right_missing : (result : Result ShareFields ReissueError)
-          → IsMissing set backup.group_threshold backup.groups (group, member) members result → IsRightFor backup.shares (group, member) result
-      right_missing (Ok share) (value, (points, are, completes), (like, among, is)) =
-          let same : value ≡ its_value = some_same value its_value (right_points points are (Some value) completes) in
-          let share_is : share ≡ share_like like (group, member) members.threshold its_value =
-          is ∙ ap (share_like like (group, member) members.threshold) same in
-          (subst (Contains backup.shares) (sym share_is) (right_share like among), ap name_of share_is)
-      right_missing (Err (Undetermined few)) missing = tt
-      right_missing (Err (DigestMismatch mismatch)) missing = absurd (no_mismatch mismatch missing)
+      right_missing : IsNameOfPlan backup.groups (group, member) → (result : Result ShareFields ReissueError)
+          → result ≡ missing_share set backup.group_threshold backup.groups (group, member) members → IsRightFor backup.shares (group, member) result
+      right_missing named result is = subst (IsRightFor backup.shares (group, member)) (sym is) (elim known_value [
+        | inr few ↦ rw few tt
+        | inl here ↦
+            let (low, low_member, is_group) = low_name backup.group_threshold backup.groups group member members backup.is_plan group_is named in
+            let among = has_first set is_set backup.group_threshold backup.groups backup.is_plan (group, member) members is_group low low_member
+            its_value here in
+            rw here (right_share (first_of set) among, refl)
+      ])
 
-    -- ---- a share
+  -- ---- a share
 
-    pub right : AnyPointsComplete → SharesArePoints → (name : Name) (result : Result ShareFields ReissueError) → IsNameOfPlan backup.groups name
-        → IsReissue set backup.group_threshold backup.groups name result → IsRightFor backup.shares name result
-    right complete as_points name result of_plan is = by (find (has_name name.0 name.1) set) refl
-      where
-        by : (found : Option ShareFields) → find (has_name name.0 name.1) set ≡ found → IsRightFor backup.shares name result
-        by (Some share) here =
-            let among = Contains-find (has_name name.0 name.1) set share here in
-            let name_is = found_name name.0 name.1 set share here in
-            subst (IsRightFor backup.shares name) (sym (is.at_hand share among name_is))
-            (All-contains (Contains backup.shares) set share backup.belong among, name_is)
-        by None here =
-            let (members, group_is, missing) = is.missing (not_found set is_set name here) in
-            let below : name.1 < members.count = subst (λ o. IsSomeAnd o (λ m. name.1 < m.count)) group_is of_plan in
-            right_missing complete as_points name.0 members name.1 group_is below result missing
+  pub right : AnySharesCombine → AnyPointsComplete → SharesArePoints → (name : Name) (result : Result ShareFields ReissueError)
+      → IsNameOfPlan backup.groups name → IsReissue set backup.group_threshold backup.groups name result → IsRightFor backup.shares name result
+  right any complete as_points name result named is = elim (at_hand_or_missing set backup.group_threshold backup.groups name result is) [
+    | inl at_hand ↦
+        let among = Contains-find (has_name name.0 name.1) set at_hand.share at_hand.found in
+        subst (IsRightFor backup.shares name) (sym at_hand.is)
+        (All-contains (Contains backup.shares) set at_hand.share backup.belong among, found_name name.0 name.1 set at_hand.share at_hand.found)
+    | inr missing ↦
+        let below : name.1 < missing.members.count = subst (λ o. IsSomeAnd o (λ m. name.1 < m.count)) missing.group_is named in
+        right_missing any complete as_points name.0 missing.members missing.group_is name.1 below named result missing.is
+  ]

@@ -1,12 +1,15 @@
 -- What the shares of a quorum combine to (SLIP-0039, "Shamir's secret sharing"). It doesn't depend on the passphrase.
-use Rattle.std.specs.Prelude.{◌≡◌, ℕ, List, [], ◌∷◌, ◌++◌, length, map, filter, find, zip, Option, Some, None, nat_lt, Result, Ok, Err, IsSomeAnd}
-use Rattle.std.specs.List.{AllZip, range_with_len}
-use Rattle.std.specs.Option.{option_map_or}
-use Rattle.s39_split.specs.Recovery.{Combines}
+use Rattle.std.specs.Prelude.{◌≡◌, ◌↔◌, ℕ, List, [], length, map, filter, find, Contains, Option, Some, None, nat_lt, Result, Ok, Err, IsSomeAnd}
+use Rattle.std.specs.List.{range_with_len}
+use Rattle.std.specs.Option.{option_map_or, ok_or}
+use Rattle.std.specs.Result.{result_map_both}
+use Rattle.arrayvec.specs.ArrayVec.{ArrayVec}
+use Rattle.s39_lists.specs.Each.{and_then, each}
+use Rattle.s39_split.specs.Recovery.{Combines, combined}
 use Rattle.s39_words.specs.declared.ShareFields.{ShareFields}
 use Rattle.s39_set.specs.Names.{Name, Names, most_groups, names_in_group}
-use Rattle.s39_set.specs.ShareSet.{has_name}
-use Rattle.s39_set.specs.Quorums.{group_threshold_of, member_threshold_of}
+use Rattle.s39_set.specs.ShareSet.{IsShareSet, has_name}
+use Rattle.s39_set.specs.Quorums.{IsQuorum, group_threshold_of, member_threshold_of}
 use Rattle.s39_backup.specs.declared.combination.Mismatch.{Mismatch}
 use Rattle.s39_backup.specs.declared.combination.Mismatch.TheVariants.{InGroup, OfGroups}
 
@@ -22,44 +25,34 @@ member_shares set names group = map (λ name. (name.1, value_of set name)) (name
 abbrev pub groups_of : Names → List ℕ
 groups_of names = filter (λ group. nat_lt 0 (length (names_in_group group names))) (range_with_len 0 most_groups)
 
--- the shares of a group combine to this group share; None if they are refused
-abbrev pub GroupCombines : List ShareFields → Names → ℕ → Option (List ℕ) → Type 0
-GroupCombines set names group outcome =
-    IsSomeAnd (member_threshold_of set group) (λ threshold. Combines threshold (member_shares set names group) outcome)
+-- bytes, as contracts see them
+abbrev pub in_bytes : {E : Type 0} → Result (ArrayVec ℕ) E → Result (List ℕ) E
+in_bytes result = result_map_both (λ bytes. bytes.items) (λ error. error) result
 
--- each group combines to its group share
-abbrev pub AllCombine : List ShareFields → Names → List ℕ → List (List ℕ) → Type 0
-AllCombine set names groups shares = AllZip (λ group share. GroupCombines set names group (Some share)) groups shares
+-- the share of a group, if its shares combine, with the group's index; or the mismatch in this group
+abbrev pub share_or_mismatch : ℕ → Option (List ℕ) → Result (ℕ × List ℕ) Mismatch
+share_or_mismatch group (Some share) = Ok (group, share)
+share_or_mismatch group None = Err (InGroup group)
 
--- the group shares, each with its group index, combine to this encrypted secret, or are refused
-abbrev pub GroupsCombine : List ShareFields → List ℕ → List (List ℕ) → Option (List ℕ) → Type 0
-GroupsCombine set groups shares outcome =
-    IsSomeAnd (group_threshold_of set) (λ threshold. Combines threshold (zip groups shares) outcome)
-
--- all groups combine, and the group shares combine to this encrypted secret
-pub record CombinesTo (set : List ShareFields) (names : Names) (encrypted : List ℕ) : Type 0 where
-  pub shares : List (List ℕ)
-  pub groups : AllCombine set names (groups_of names) shares
-  pub combined : GroupsCombine set (groups_of names) shares (Some encrypted)
-
--- this is the first group whose shares are refused
-pub record MismatchesInGroup (set : List ShareFields) (names : Names) (group : ℕ) : Type 0 where
-  pub before : List ℕ
-  pub after : List ℕ
-  pub shares : List (List ℕ)
-  pub parts : groups_of names ≡ before ++ group ∷ after
-  pub earlier : AllCombine set names before shares
-  pub refused : GroupCombines set names group None
-
--- all groups combine, but the group shares are refused
-pub record MismatchesOfGroups (set : List ShareFields) (names : Names) : Type 0 where
-  pub shares : List (List ℕ)
-  pub groups : AllCombine set names (groups_of names) shares
-  pub refused : GroupsCombine set (groups_of names) shares None
+-- what the shares of a group among these names combine to
+abbrev pub group_share : List ShareFields → Names → ℕ → Result (ℕ × List ℕ) Mismatch
+group_share set names group = share_or_mismatch group (combined (member_shares set names group))
 
 -- what the names of a quorum combine to: an encrypted secret, or a mismatch of digests, in the lowest group that has
 -- one, or else of the groups
-abbrev pub IsCombination : List ShareFields → Names → Result (List ℕ) Mismatch → Type 0
-IsCombination set names (Ok encrypted) = CombinesTo set names encrypted
-IsCombination set names (Err (InGroup group)) = MismatchesInGroup set names group
-IsCombination set names (Err OfGroups) = MismatchesOfGroups set names
+unfoldable pub combination_of : List ShareFields → Names → Result (List ℕ) Mismatch
+combination_of set names = and_then (λ shares. ok_or (combined shares) OfGroups) (each (group_share set names) (groups_of names))
+
+-- The function combines as the standard says. Each group of a quorum has as many shares as its member threshold, and
+-- they combine to what the function takes for their share, and to nothing else.
+abbrev pub GroupsAreCombined : Type 0
+GroupsAreCombined = (set : List ShareFields) (names : Names) (group : ℕ) (outcome : Option (List ℕ))
+    → IsShareSet set → IsQuorum set names → Contains (groups_of names) group
+    → IsSomeAnd (member_threshold_of set group) (λ threshold. Combines threshold (member_shares set names group) outcome
+    ↔ (outcome ≡ combined (member_shares set names group)))
+
+-- So do the shares of the groups, which are as many as the group threshold.
+abbrev pub GroupSharesAreCombined : Type 0
+GroupSharesAreCombined = (set : List ShareFields) (names : Names) (shares : List (ℕ × List ℕ)) (outcome : Option (List ℕ))
+    → IsShareSet set → IsQuorum set names → each (group_share set names) (groups_of names) ≡ Ok shares
+    → IsSomeAnd (group_threshold_of set) (λ threshold. Combines threshold shares outcome ↔ (outcome ≡ combined shares))

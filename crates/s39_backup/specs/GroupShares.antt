@@ -1,6 +1,7 @@
 -- The shares of one level, as they are combined. No public contract cites this.
-use Rattle.std.specs.Prelude.{◌≡◌, ◌≢◌, ℕ, ◌<◌, ◌≤◌, List, [], ◌∷◌, length, map, filter, nat_lt, All, AllPairs, Some}
+use Rattle.std.specs.Prelude.{◌≡◌, ◌≢◌, ℕ, ◌<◌, ◌≤◌, List, [], ◌∷◌, length, map, filter, nat_lt, All, AllPairs, Result}
 use Rattle.std.specs.List.{range_with_len}
+use Rattle.std.specs.Result.{result_map_both}
 use Rattle.arrayvec.specs.ArrayVec.{ArrayVec}
 use Rattle.s39_kdf.specs.Limits.{shortest_secret}
 use Rattle.s39_split.specs.Sharing.{most_shares}
@@ -8,11 +9,14 @@ use Rattle.s39_words.specs.declared.ShareFields.{ShareFields}
 use Rattle.s39_set.specs.Names.{Names, names_in_group}
 use Rattle.s39_set.specs.ShareSet.{IsShareSet}
 use Rattle.s39_set.specs.Quorums.{HasJustTheGroups}
-use Rattle.s39_backup.specs.Combination.{GroupCombines}
 
 -- each group share's index and bytes
 abbrev pub indexed_group_shares : List (ℕ × ArrayVec ℕ) → List (ℕ × List ℕ)
 indexed_group_shares shares = map (λ share. (share.0, share.1.items)) shares
+
+-- the same of an answer
+abbrev pub in_pairs : {E : Type 0} → Result (ArrayVec (ℕ × ArrayVec ℕ)) E → Result (List (ℕ × List ℕ)) E
+in_pairs result = result_map_both (λ shares. indexed_group_shares shares.items) (λ error. error) result
 
 -- the length of the values of a set's shares, in which they agree
 abbrev pub value_bytes_of : List ShareFields → ℕ
@@ -37,9 +41,3 @@ pub record AreOfOneLevel (bytes : ℕ) (shares : List (ℕ × List ℕ)) : Type 
 -- the groups below a number that have a name among these
 abbrev pub groups_below : Names → ℕ → List ℕ
 groups_below names n = filter (λ group. nat_lt 0 (length (names_in_group group names))) (range_with_len 0 n)
-
--- these are the shares of these groups, each with its group index
-pub record AreGroupShares (set : List ShareFields) (names : Names) (groups : List ℕ) (shares : List (ℕ × List ℕ)) : Type 0 where
-  pub indices : map (λ share. share.0) shares ≡ groups
-  pub combine : All (λ share. GroupCombines set names share.0 (Some share.1)) shares
-  pub lengths : All (λ share. length share.1 ≡ value_bytes_of set) shares

@@ -1,9 +1,12 @@
 -- Plans, and the texts that give them.
-use Rattle.std.specs.Prelude.{◌≡◌, ◌⊎◌, ◌≢◌, ℕ, ◌<◌, ◌≤◌, List, [], ◌∷◌, ◌++◌, All, codes, length, map, Result, Ok, Err, IsSomeAnd}
-use Rattle.std.specs.List.{join_with_byte, slice_get}
+use Rattle.std.specs.Prelude.{◌≡◌, ◌⊎◌, ◌≢◌, ℕ, ◌<◌, ◌≤◌, ◌==◌, ◌&&◌, not, nat_lt, nat_le, if◌then◌else◌, List, [], ◌++◌, All, codes, length, map}
+use Rattle.std.specs.Prelude.{Result, Ok, Err, IsSomeAnd}
+use Rattle.std.specs.List.{join_with_byte, slice_get, enumerate_from}
+use Rattle.std.specs.Result.{result_map_both}
 use Rattle.std.specs.Fmt.{decimal}
 use Rattle.s39_refusal.specs.declared.cause.Cause.{Cause}
 use Rattle.s39_refusal.specs.Causes.{cause}
+use Rattle.s39_lists.specs.Each.{each}
 use Rattle.s39_set.specs.Names.{Name, most_groups, most_members}
 use Rattle.s39_backup.specs.declared.plan.Members.{Members}
 use Rattle.s39_backup.specs.declared.plan_error.PlanError.{PlanError}
@@ -69,29 +72,31 @@ pub record PlanForm (text : List ℕ) : Type 0 where
   pub groups : List Members
   pub form : HasPlanForm text group_threshold groups
 
--- the group at this place, counted from 0, is the first that a plan can't have, and it is refused for this cause
-pub record IsFirstRefusedGroup (groups : List Members) (place : ℕ) (IsRefused : Members → Type 0) : Type 0 where
-  pub before : List Members
-  pub members : Members
-  pub after : List Members
-  pub parts : groups ≡ before ++ members ∷ after
-  pub place_is : place ≡ length before
-  pub accepted : All IsGroup before
-  pub refused : IsRefused members
+-- a group, which stands here with its place, counted from 0, or the first cause for which a plan can't have it
+abbrev pub judged_group : ℕ × Members → Result Members PlanError
+judged_group group =
+    if not (nat_le group.1.count most_members && nat_le group.1.threshold group.1.count) then Err (PlanMembers group.0)
+    else if (group.1.threshold == 1) && nat_lt 1 group.1.count then Err (OneOfMany group.0)
+    else Ok group.1
 
--- What a text is read as: the group threshold and the groups of a plan, or the first cause that applies. The causes
--- are, in this order: another form; the number of groups; and then, group by group, the number of members, and one of
--- many.
+-- the groups with a group threshold
+abbrev pub with_threshold : ℕ → Result (List Members) PlanError → Result (ℕ × List Members) PlanError
+with_threshold threshold groups = result_map_both (λ gs. (threshold, gs)) (λ error. error) groups
+
+-- a group threshold and groups, or the first cause for which they are no plan: the number of groups; and then, group by
+-- group, the number of members, and one of many
+abbrev pub judged : ℕ × List Members → Result (ℕ × List Members) PlanError
+judged plan =
+    if nat_le (length plan.1) most_groups && nat_le plan.0 (length plan.1)
+    then with_threshold plan.0 (each judged_group (enumerate_from 0 plan.1))
+    else Err PlanGroups
+
+-- What a text is read as: the group threshold and the groups of a plan, or the first cause that applies: another form,
+-- or what is judged of its numbers.
 abbrev pub IsPlanReading : List ℕ → Result (ℕ × List Members) PlanError → Type 0
 IsPlanReading text (Ok plan) = HasPlanForm text plan.0 plan.1 × IsPlan plan.0 plan.1
 IsPlanReading text (Err BadPlan) = ¬ PlanForm text
-IsPlanReading text (Err PlanGroups) = (read : PlanForm text) × ¬ HasEnoughGroups read.group_threshold read.groups
-IsPlanReading text (Err (PlanMembers group)) =
-    (read : PlanForm text) × HasEnoughGroups read.group_threshold read.groups
-    × IsFirstRefusedGroup read.groups group (λ members. ¬ HasEnoughMembers members)
-IsPlanReading text (Err (OneOfMany group)) =
-    (read : PlanForm text) × HasEnoughGroups read.group_threshold read.groups
-    × IsFirstRefusedGroup read.groups group (λ members. HasEnoughMembers members × IsOneOfMany members)
+IsPlanReading text (Err error) = (read : PlanForm text) × (judged (read.group_threshold, read.groups) ≡ Err error)
 
 -- a text is read as this, and as nothing else
 pub record IsOnlyReading (text : List ℕ) (answer : Result (ℕ × List Members) PlanError) : Type 0 where

@@ -4,9 +4,7 @@ use Rattle.std.specs.Fmt.{decimal}
 use Rattle.s39_set.specs.Names.{most_groups}
 use Rattle.s39_backup.specs.declared.plan.Members.{Members}
 use Rattle.s39_backup.specs.declared.plan_text.GroupList.{GroupList}
-use Rattle.s39_backup.specs.declared.plan_error.PlanError.{PlanError}
-use Rattle.s39_backup.specs.declared.plan_error.PlanError.TheVariants.{BadPlan, PlanGroups, PlanMembers, OneOfMany}
-use Rattle.s39_backup.specs.Plan.{HasEnoughMembers, IsOneOfMany, IsPlanNumber, members_text, groups_text, HasPlanForm, IsFirstRefusedGroup}
+use Rattle.s39_backup.specs.Plan.{IsPlanNumber, members_text, groups_text, HasPlanForm}
 
 -- the text is the decimal form of this number
 pub record IsNumberText (text : List ℕ) (n : ℕ) : Type 0 where
@@ -52,10 +50,3 @@ pub record ListsPlanOf (text : List ℕ) (form : ℕ × GroupList) : Type 0 wher
   pub groups : List Members
   pub has_form : HasPlanForm text form.0 groups
   pub is_list : IsListOf form.1 groups
-
--- the first group that a plan can't have is refused for this cause
-abbrev pub RefusesAGroup : List Members → PlanError → Type 0
-RefusesAGroup groups BadPlan = ⊥
-RefusesAGroup groups PlanGroups = ⊥
-RefusesAGroup groups (PlanMembers group) = IsFirstRefusedGroup groups group (λ members. ¬ HasEnoughMembers members)
-RefusesAGroup groups (OneOfMany group) = IsFirstRefusedGroup groups group (λ members. HasEnoughMembers members × IsOneOfMany members)

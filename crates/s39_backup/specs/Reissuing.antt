@@ -1,5 +1,5 @@
 -- The steps of a reissue. No public contract cites this.
-use Rattle.std.specs.Prelude.{◌≡◌, ◌≢◌, ◌⊎◌, ℕ, ◌<◌, ◌≤◌, ◌&&◌, nat_lt, true, List, ◌∷◌, length, map, filter, All, AllPairs, Some, None, Result, Ok, Err}
+use Rattle.std.specs.Prelude.{◌≡◌, ◌≢◌, ◌⊎◌, ℕ, ◌<◌, ◌≤◌, ◌&&◌, nat_lt, true, List, length, map, filter, All, AllPairs}
 use Rattle.s39_kdf.specs.Limits.{shortest_secret}
 use Rattle.s39_split.specs.Sharing.{most_shares, secret_place}
 use Rattle.s39_words.specs.declared.share.ShareFields.{ShareFields}
@@ -7,11 +7,7 @@ use Rattle.s39_set.specs.Names.{most_groups}
 use Rattle.s39_set.specs.ShareSet.{is_in_group}
 use Rattle.s39_backup.specs.declared.plan.Members.{Members}
 use Rattle.s39_backup.specs.Plan.{IsGroup}
-use Rattle.s39_split.specs.Completion.{Completes}
-use Rattle.s39_backup.specs.declared.combination.Mismatch.TheVariants.{InGroup}
-use Rattle.s39_backup.specs.declared.reissue_error.ReissueError.{ReissueError}
-use Rattle.s39_backup.specs.declared.reissue_error.ReissueError.TheVariants.{Undetermined, DigestMismatch}
-use Rattle.s39_backup.specs.Reissue.{members_at_hand, is_at_hand, IsGroupShare}
+use Rattle.s39_backup.specs.Reissue.{is_at_hand}
 
 -- the members of a group below an index that are at hand
 abbrev pub members_below : List ShareFields → ℕ → ℕ → List (ℕ × List ℕ)
@@ -34,16 +30,3 @@ pub record AreComplete (set : List ShareFields) (groups : List (ℕ × Members))
   pub indices : All (λ group. group.0 < most_groups) groups
   pub are_groups : All (λ group. IsGroup group.1) groups
   pub at_hand : All (λ group. is_at_hand set group ≡ true) groups
-
--- the value of a member of a group that is one member short, by the share of the group that other groups give, or the
--- mismatch of a digest
-abbrev pub IsValueBy : List ShareFields → List (ℕ × Members) → ℕ × Members → ℕ → Result (List ℕ) ReissueError → Type 0
-IsValueBy set others group member (Ok value) =
-    (share : List ℕ) × IsGroupShare set others group.0 (Ok share)
-    × Completes group.1.threshold ((secret_place, share) ∷ members_at_hand set group.0) member (Some value)
-IsValueBy set others group member (Err (DigestMismatch mismatch)) =
-    IsGroupShare set others group.0 (Err mismatch)
-    ⊎ ((mismatch ≡ InGroup group.0)
-    × ((share : List ℕ) × IsGroupShare set others group.0 (Ok share)
-    × Completes group.1.threshold ((secret_place, share) ∷ members_at_hand set group.0) member None))
-IsValueBy set others group member (Err (Undetermined _)) = ⊥

@@ -1,17 +1,20 @@
 //! What the shares of a quorum combine to (SLIP-0039, "Shamir's secret sharing").
-ghost use Rattle.std.specs.Prelude.{◌≡◌, ◌≢◌, ℕ, ◌<◌, ◌≤◌, ◌%◌, length, map, All, Contains, Some, None, Ok, Err, IfOk, IfErr, IsOkAnd, OnErr, List};
+ghost use Rattle.std.specs.Prelude.{◌≡◌, ◌≤◌, ◌%◌, ℕ, List, map, All, Contains, IfOk, IsOkAnd};
+ghost use Rattle.std.specs.Option.{option_map};
+ghost use Rattle.std.specs.Result.{result_ok};
 ghost use Rattle.arrayvec.specs.ArrayVec.{array_vec_len};
 ghost use Rattle.s39_kdf.specs.Limits.{shortest_secret};
-ghost use Rattle.s39_split.specs.Recovery.{Combines};
+ghost use Rattle.s39_lists.specs.Each.{each};
+ghost use Rattle.s39_split.specs.Recovery.{combined};
 ghost use Rattle.s39_set.specs.ShareSet.{IsShareSet, name_of};
 ghost use Rattle.s39_set.specs.Quorums.{IsQuorum};
-ghost use Rattle.s39_backup.specs.Combination.{IsCombination, MismatchesInGroup, member_shares, groups_of, value_of};
+ghost use Rattle.s39_backup.specs.Combination.{combination_of, in_bytes, group_share, member_shares, groups_of, value_of};
 ghost use Rattle.s39_backup.specs.Outcome.{AreParams};
 ghost use Rattle.s39_backup.specs.RecoverError.{mismatch_cause_of};
 ghost use Rattle.s39_backup.specs.Created.{AreOfBackup};
-ghost use Rattle.s39_backup.specs.GroupShares.{IsExactQuorum, AreOfOneLevel, AreGroupShares, indexed_group_shares};
+ghost use Rattle.s39_backup.specs.GroupShares.{IsExactQuorum, AreOfOneLevel, indexed_group_shares, in_pairs};
 
-use crate::laws::{every_quorum_combines, one_combination};
+use crate::laws::every_quorum_combines;
 use arrayvec::ArrayVec;
 use s39_kdf::{Bytes, Params};
 use s39_refusal::{Cause, code};
@@ -65,10 +68,7 @@ pub(crate) type GroupShares = ArrayVec<(u8, Bytes), MAX_SHARES>;
 /// ```
 pub fn combine_quorum(set: &ShareSet, quorum: &Quorum) -> Result<Bytes, Mismatch>
     requires { IsQuorum set.now quorum.now }
-    ensures encrypted { IfOk result (λ encrypted.
-        IsCombination set.now quorum.now (Ok encrypted.items)) }
-    ensures mismatch { IfErr result (λ mismatch.
-        IsCombination set.now quorum.now (Err mismatch)) }
+    ensures combination { combination_of set.now quorum.now ≡ in_bytes result }
     ensures length { IfOk result (λ encrypted.
         All (λ share. array_vec_len share.value ≡ array_vec_len encrypted) set.now) }
     ensures even { IfOk result (λ encrypted. array_vec_len encrypted % 2 ≡ 0) }
@@ -78,7 +78,6 @@ pub fn combine_quorum(set: &ShareSet, quorum: &Quorum) -> Result<Bytes, Mismatch
         → IsOkAnd result (λ encrypted. encrypted.items ≡ backup.created.encrypted) }
 {
     are_a_share_set(set);
-    one_combination();
     every_quorum_combines();
     quorums_are_exact();
     let shares = group_shares(set, quorum.pairs())?;
@@ -130,11 +129,7 @@ fn first_share<'a>(set: &'a ShareSet, names: &[(u8, u8)]) -> &'a Share
 /// The group shares to which the shares of each group combine, or the first group that is refused.
 fn group_shares(set: &ShareSet, names: &[(u8, u8)]) -> Result<GroupShares, Mismatch>
     requires { IsExactQuorum set.now names.now }
-    ensures shares { IfOk result (λ shares.
-        AreGroupShares set.now names.now (groups_of names.now)
-        (indexed_group_shares shares.items)) }
-    ensures mismatch { IfErr result (λ error. (group : ℕ)
-        × (error ≡ Mismatch.InGroup group) × MismatchesInGroup set.now names.now group) }
+    ensures { each (group_share set.now names.now) (groups_of names.now) ≡ in_pairs result }
 {
     let mut shares = GroupShares::new();
     for group in 0..MAX_GROUPS {
@@ -185,11 +180,7 @@ pub(crate) fn lend(shares: &GroupShares) -> Points<'_>
 /// What shares combine to, if there are exactly as many as their threshold.
 pub(crate) fn combine_all(shares: &Points<'_>) -> Result<Bytes, DigestMismatch>
     requires { (bytes : ℕ) × AreOfOneLevel bytes shares.now }
-    ensures secret { IfOk result (λ secret.
-        Combines (length shares.now) shares.now (Some secret.items)) }
-    ensures refused { OnErr result (Combines (length shares.now) shares.now None) }
-    ensures length { (bytes : ℕ) → All (λ share. length share.1 ≡ bytes) shares.now
-        → IfOk result (λ secret. array_vec_len secret ≡ bytes) }
+    ensures { option_map (λ secret. secret.items) (result_ok result) ≡ combined shares.now }
 {
     combine(shares.len() as u8, shares.as_slice())
 }

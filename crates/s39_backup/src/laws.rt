@@ -1,5 +1,5 @@
 //! Facts about the definitions. Each is the contract of a function that does nothing.
-ghost use Rattle.std.specs.Prelude.{◌≡◌, ◌≢◌, ℕ, ◌<◌, List, [], length, map, All, Contains, Result, Ok, Err, None, Some, replicate};
+ghost use Rattle.std.specs.Prelude.{◌≡◌, ◌≢◌, ℕ, ◌<◌, List, [], length, map, All, Contains, Result, Ok, Err, None, Some, codes, replicate};
 ghost use Rattle.std.specs.List.{slice_get};
 ghost use Rattle.s39_kdf.specs.Bytes.{AreBytes};
 ghost use Rattle.s39_kdf.specs.Limits.{longest_secret, IsSecretLength};
@@ -15,10 +15,10 @@ ghost use Rattle.s39_set.specs.ShareSet.{IsShareSet, name_of, refusal_of};
 ghost use Rattle.s39_set.specs.Quorums.{IsQuorum, MeetsThresholds};
 ghost use Rattle.s39_backup.specs.declared.combination.Mismatch.{Mismatch};
 ghost use Rattle.s39_backup.specs.declared.combination.Mismatch.TheVariants.{InGroup};
-ghost use Rattle.s39_backup.specs.Combination.{IsCombination};
+ghost use Rattle.s39_backup.specs.Combination.{combination_of, GroupsAreCombined, GroupSharesAreCombined};
 ghost use Rattle.s39_backup.specs.Outcome.{IsOutcome};
 ghost use Rattle.s39_backup.specs.Memo.{most_kept};
-ghost use Rattle.s39_backup.specs.Reissue.{AreOfPlan, IsReissue, IsDetermined, IsUndetermined, IsRightFor};
+ghost use Rattle.s39_backup.specs.Reissue.{AreOfPlan, IsReissue, IsDetermined, IsUndetermined, IsRightFor, PointsAreCompleted, OtherSharesAreCompleted, LeastMembersAreCombined};
 ghost use Rattle.s39_backup.specs.LargerPlan.{HaveMoreMembers, ArePartOf};
 ghost use Rattle.s39_backup.specs.declared.reissue_error.ReissueError.{ReissueError};
 ghost use Rattle.s39_backup.specs.declared.reissue_error.ReissueError.TheVariants.{Undetermined};
@@ -33,8 +33,7 @@ use s39_kdf::laws::{
 use s39_set::laws::{quorums_are_exact, shares_that_agree_join};
 use s39_split::laws::{
     any_points_complete, any_shares_combine, first_shares, needed_random_bytes, one_split,
-    points_complete, secrets_are_like_their_shares, shares_are_points, shares_combine,
-    shares_combine_once, shares_of_a_split,
+    shares_are_points, shares_of_a_split,
 };
 
 /// The constants of the code are the numbers of the definitions. A plan of sixteen groups of sixteen members, all of
@@ -114,16 +113,14 @@ pub fn every_text_has_a_plan_reading()
         → (reading : Result (ℕ × List Members) PlanError) × IsPlanReading text reading }
 {}
 
-/// A quorum of a share set combines to at most one encrypted secret or mismatch.
-pub fn one_combination()
-    ensures { (set : List ShareFields) (names : Names)
-        (combination other : Result (List ℕ) Mismatch)
-        → IsShareSet set → IsQuorum set names
-        → IsCombination set names combination → IsCombination set names other
-        → combination ≡ other }
+/// What a quorum of a share set combines to is what the standard says: each of its groups has as many shares as its member
+/// threshold, which combine to what `combination_of` takes for the group's share and to nothing else; and so do the shares
+/// of the groups, which are as many as the group threshold.
+pub fn quorums_combine_by_the_standard()
+    ensures groups { GroupsAreCombined }
+    ensures group_shares { GroupSharesAreCombined }
 {
     quorums_are_exact();
-    shares_combine_once();
 }
 
 /// A quorum of a share set has at most one outcome with a passphrase.
@@ -134,18 +131,7 @@ pub fn one_outcome()
         → IsOutcome set names passphrase outcome → IsOutcome set names passphrase other
         → outcome ≡ other }
 {
-    one_combination();
     encrypts_one_secret();
-}
-
-/// Every quorum of a share set combines to an encrypted secret or a mismatch.
-pub fn every_quorum_has_a_combination()
-    ensures { (set : List ShareFields) (names : Names) → IsShareSet set → IsQuorum set names
-        → (combination : Result (List ℕ) Mismatch) × IsCombination set names combination }
-{
-    quorums_are_exact();
-    shares_combine();
-    secrets_are_like_their_shares();
 }
 
 /// Every quorum of a share set has an outcome with any passphrase.
@@ -155,8 +141,6 @@ pub fn every_quorum_has_an_outcome()
         → (outcome : Result (List ℕ) Mismatch) × IsOutcome set names passphrase outcome }
 {
     quorums_are_exact();
-    shares_combine();
-    secrets_are_like_their_shares();
     one_encryption();
 }
 
@@ -169,9 +153,6 @@ pub fn outcomes_in_range()
         → IsOutcome set names passphrase (Err (InGroup group)) → group < most_groups }
 {
     quorums_are_exact();
-    one_combination();
-    shares_combine();
-    secrets_are_like_their_shares();
     encryption_keeps_length_and_bytes();
 }
 
@@ -179,7 +160,7 @@ pub fn outcomes_in_range()
 pub fn every_quorum_combines()
     ensures { (set : List ShareFields) (names : Names) (passphrase secret : List ℕ)
         → IsShareSet set → IsQuorum set names → (backup : AreOfBackup set passphrase secret)
-        → IsCombination set names (Ok backup.created.encrypted) }
+        → combination_of set names ≡ Ok backup.created.encrypted }
 {
     quorums_are_exact();
     any_shares_combine();
@@ -220,10 +201,7 @@ pub fn one_reissue()
         → IsReissue set group_threshold groups name result
         → IsReissue set group_threshold groups name other
         → result ≡ other }
-{
-    shares_combine_once();
-    points_complete();
-}
+{}
 
 /// Every name of a plan has a share, or a cause for which it is missing.
 pub fn every_name_has_a_reissue()
@@ -232,11 +210,15 @@ pub fn every_name_has_a_reissue()
         → IsShareSet set → IsPlan group_threshold groups → IsNameOfPlan groups name
         → (result : Result ShareFields ReissueError)
         × IsReissue set group_threshold groups name result }
-{
-    shares_combine();
-    points_complete();
-    secrets_are_like_their_shares();
-}
+{}
+
+/// A missing share is computed as the standard says. The points that determine a member complete to what the definition
+/// computes, and to nothing else. So do the shares of the other groups, and the least members of each of these combine so.
+pub fn reissues_complete_by_the_standard()
+    ensures points { PointsAreCompleted }
+    ensures group_shares { OtherSharesAreCompleted }
+    ensures members { LeastMembersAreCombined }
+{}
 
 /// If a name of a plan has a share, the fields of this share are in range, so that it can be printed.
 pub fn reissued_shares_are_shares()
@@ -244,12 +226,7 @@ pub fn reissued_shares_are_shares()
         (name : Name) (share : ShareFields)
         → IsShareSet set → IsPlan group_threshold groups → IsNameOfPlan groups name
         → IsReissue set group_threshold groups name (Ok share) → IsShare share }
-{
-    shares_combine();
-    points_complete();
-    secrets_are_like_their_shares();
-    one_reissue();
-}
+{}
 
 /// A name of a plan has a share only if the shares at hand determine it. `Undetermined` is the answer only if they
 /// don't, and it says what is at hand and what is needed.
@@ -280,7 +257,6 @@ pub fn backups_reissue_their_shares()
         → IsRightFor backup.shares name result }
 {
     any_shares_combine();
-    secrets_are_like_their_shares();
     any_points_complete();
     shares_are_points();
 }
@@ -329,3 +305,14 @@ pub fn larger_plans_keep_the_shares()
     one_created_backup();
     every_backup_can_be_created();
 }
+
+/// The plan `2of4` has more members than the plan `2of3`. So does `2/2of16,1of1,3of5` than `2/2of3,1of1,3of5`.
+pub fn there_are_larger_plans()
+    ensures of_one_group { (plan larger : ℕ × List Members)
+        × IsPlanReading (codes "2of3") (Ok plan) × IsPlanReading (codes "2of4") (Ok larger)
+        × (plan.0 ≡ larger.0) × HaveMoreMembers plan.1 larger.1 }
+    ensures of_several_groups { (plan larger : ℕ × List Members)
+        × IsPlanReading (codes "2/2of3,1of1,3of5") (Ok plan)
+        × IsPlanReading (codes "2/2of16,1of1,3of5") (Ok larger)
+        × (plan.0 ≡ larger.0) × HaveMoreMembers plan.1 larger.1 }
+{}

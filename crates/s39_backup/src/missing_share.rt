@@ -1,26 +1,25 @@
 //! Shares that aren't at hand, computed from those that are.
-ghost use Rattle.std.specs.Prelude.{◌≡◌, ℕ, List, Result, ◌+◌, ◌<◌, ◌≤◌, ◌∷◌, [], Some, None, Ok, Err, length, All, IfOk, IfErr, OnErr};
+ghost use Rattle.std.specs.Prelude.{◌≡◌, ◌+◌, ◌<◌, ◌≤◌, ◌∷◌, ℕ, List, Some, Ok, length};
 ghost use Rattle.std.specs.List.{slice_get};
+ghost use Rattle.std.specs.Option.{option_map};
+ghost use Rattle.std.specs.Result.{result_ok};
 ghost use Rattle.arrayvec.specs.ArrayVec.{array_vec_len};
 ghost use Rattle.s39_kdf.specs.Limits.{shortest_secret};
+ghost use Rattle.s39_lists.specs.Each.{and_then, each};
 ghost use Rattle.s39_split.specs.Sharing.{secret_place};
-ghost use Rattle.s39_split.specs.Completion.{Completes};
+ghost use Rattle.s39_split.specs.Recovery.{combined};
+ghost use Rattle.s39_split.specs.Completion.{completed};
 ghost use Rattle.s39_set.specs.Names.{most_groups, most_members};
-ghost use Rattle.s39_words.specs.declared.share.ShareFields.{ShareFields};
-ghost use Rattle.s39_backup.specs.declared.plan.Members.{Members};
-ghost use Rattle.s39_backup.specs.declared.reissue_error.ReissueError.{ReissueError};
 ghost use Rattle.s39_backup.specs.Created.{AreOfBackup};
-ghost use Rattle.s39_backup.specs.declared.combination.Mismatch.TheVariants.{InGroup};
-ghost use Rattle.s39_backup.specs.declared.reissue_error.ReissueError.TheVariants.{DigestMismatch as IsMismatch};
-ghost use Rattle.s39_backup.specs.Plan.{IsGroup};
-ghost use Rattle.s39_backup.specs.Plan.{IsNameOfPlan};
-ghost use Rattle.s39_backup.specs.GroupShares.{indexed_group_shares, value_bytes_of};
-ghost use Rattle.s39_backup.specs.Reissue.{AreOfPlan, is_at_hand, least_members, members_at_hand, LeastCombine, EachCombines, IsRefusedFirst, IsGroupShare, IsValue, share_like, IsMissing, IsReissue, IsRightFor};
-ghost use Rattle.s39_backup.specs.Reissuing.{ArePointsOfOneLevel, AreComplete, IsValueBy};
+ghost use Rattle.s39_backup.specs.Plan.{IsGroup, IsNameOfPlan};
+ghost use Rattle.s39_backup.specs.Combination.{in_bytes};
+ghost use Rattle.s39_backup.specs.GroupShares.{in_pairs, value_bytes_of};
+ghost use Rattle.s39_backup.specs.Reissue.{AreOfPlan, least_members, members_at_hand, least_share, share_by_others, points_by_others, value_at, missing_value, missing_share, share_like, IsReissue, IsRightFor};
+ghost use Rattle.s39_backup.specs.Reissuing.{ArePointsOfOneLevel, AreComplete};
 
 use crate::at_hand::{any_share, least_members, other_groups, push_least};
 use crate::combination::{GroupShares, Mismatch, combine_all, lend};
-use crate::laws::{backups_reissue_their_shares, one_reissue};
+use crate::laws::backups_reissue_their_shares;
 use crate::plan::{Members, Plan};
 use crate::reissue_error::{ReissueError, TooFew};
 use s39_kdf::Bytes;
@@ -62,16 +61,12 @@ pub fn reissue(plan: &Plan, set: &ShareSet, group: u8, member: u8) -> Result<Sha
     requires name { IsNameOfPlan plan.now.groups.items (group, member) }
     ensures reissue { IsReissue set.now plan.now.group_threshold plan.now.groups.items
         (group, member) result }
-    ensures only { (other : Result ShareFields ReissueError)
-        → IsReissue set.now plan.now.group_threshold plan.now.groups.items (group, member) other
-        → other ≡ result }
     // Of shares of a created backup of this plan: the share of this backup, or that it isn't determined.
     ensures created { (passphrase secret : List ℕ) (backup : AreOfBackup set.now passphrase secret)
         → backup.group_threshold ≡ plan.now.group_threshold → backup.groups ≡ plan.now.groups.items
         → IsRightFor backup.shares (group, member) result }
 {
     are_a_share_set(set);
-    one_reissue();
     backups_reissue_their_shares();
     share_of_name(plan, set, group, member)
 }
@@ -100,9 +95,9 @@ fn share_of_name(plan: &Plan, set: &ShareSet, group: u8, member: u8) -> Result<S
 /// The share of a name of a plan that the set doesn't have.
 fn missing_share(plan: &Plan, set: &ShareSet, group: u8, member: u8) -> Result<Share, ReissueError>
     requires { IsNameOfPlan plan.now.groups.items (group, member) }
-    ensures { (members : Members) × (slice_get plan.now.groups.items group ≡ Some members)
-        × IsMissing set.now plan.now.group_threshold plan.now.groups.items
-        (group, member) members result }
+    ensures { option_map
+        (missing_share set.now plan.now.group_threshold plan.now.groups.items (group, member))
+        (slice_get plan.now.groups.items group) ≡ Some result }
 {
     are_a_share_set(set);
     let members = members_of(plan, group, member);
@@ -161,11 +156,8 @@ fn missing_value(
     member: u8,
 ) -> Result<Bytes, ReissueError>
     requires { IsGroup group.1 }
-    ensures value { IfOk result (λ value. IsValue set.now plan.now.group_threshold
-        plan.now.groups.items group.0 group.1 member (Ok value.items)) }
-    ensures refused { IfErr result (λ error. IsValue set.now plan.now.group_threshold
-        plan.now.groups.items group.0 group.1 member (Err error)) }
-    ensures length { IfOk result (λ value. array_vec_len value ≡ value_bytes_of set.now) }
+    ensures { missing_value set.now plan.now.group_threshold plan.now.groups.items
+        (group.0, member) group.1 ≡ in_bytes result }
 {
     are_a_share_set(set);
     let points = least_members(set, group);
@@ -188,11 +180,8 @@ fn value_from_others(
     requires group { IsGroup group.1 }
     requires at_hand { at_hand ≡ length (members_at_hand set.now group.0) }
     requires few { at_hand < group.1.threshold }
-    ensures value { IfOk result (λ value. IsValue set.now plan.now.group_threshold
-        plan.now.groups.items group.0 group.1 member (Ok value.items)) }
-    ensures refused { IfErr result (λ error. IsValue set.now plan.now.group_threshold
-        plan.now.groups.items group.0 group.1 member (Err error)) }
-    ensures length { IfOk result (λ value. array_vec_len value ≡ value_bytes_of set.now) }
+    ensures { missing_value set.now plan.now.group_threshold plan.now.groups.items
+        (group.0, member) group.1 ≡ in_bytes result }
 {
     let groups = plan.groups.as_slice();
     let others = other_groups(set, groups, group.0);
@@ -229,12 +218,10 @@ fn value_by_others(
     requires complete { AreComplete set.now others.now }
     requires group { IsGroup group.1 }
     requires one_short { length (members_at_hand set.now group.0) + 1 ≡ group.1.threshold }
-    ensures value { IfOk result
-        (λ value. IsValueBy set.now others.now group member (Ok value.items)) }
-    ensures refused { IfErr result
-        (λ error. IsValueBy set.now others.now group member (Err error)) }
-    ensures length { IfOk result (λ value. array_vec_len value ≡ value_bytes_of set.now) }
+    ensures { and_then (value_at group.0 member) (points_by_others set.now others.now group.0)
+        ≡ in_bytes result }
 {
+    are_a_share_set(set);
     match group_share(set, others, group.0) {
         Ok(share) => value_by(set, group, &share, member),
         Err(mismatch) => Err(ReissueError::DigestMismatch(mismatch)),
@@ -252,12 +239,8 @@ fn value_by(
     requires one_short { length (members_at_hand set.now group.0) + 1 ≡ group.1.threshold }
     requires length { array_vec_len share.now ≡ value_bytes_of set.now }
     requires long { shortest_secret ≤ array_vec_len share.now }
-    ensures value { IfOk result (λ value. Completes group.1.threshold
-        ((secret_place, share.now.items) ∷ members_at_hand set.now group.0) member (Some value.items)) }
-    ensures refused { IfErr result (λ error. (error ≡ IsMismatch (InGroup group.0))
-        × Completes group.1.threshold
-        ((secret_place, share.now.items) ∷ members_at_hand set.now group.0) member None) }
-    ensures length { IfOk result (λ value. array_vec_len value ≡ value_bytes_of set.now) }
+    ensures { value_at group.0 member
+        ((secret_place, share.now.items) ∷ members_at_hand set.now group.0) ≡ in_bytes result }
 {
     are_a_share_set(set);
     let mut points = Points::new();
@@ -269,12 +252,7 @@ fn value_by(
 /// The value of a member at which points of its group are completed.
 fn value_at(points: &Points<'_>, group: u8, member: u8) -> Result<Bytes, ReissueError>
     requires { (bytes : ℕ) × ArePointsOfOneLevel bytes points.now }
-    ensures value { IfOk result (λ value.
-        Completes (length points.now) points.now member (Some value.items)) }
-    ensures refused { IfErr result (λ error. (error ≡ IsMismatch (InGroup group))
-        × Completes (length points.now) points.now member None) }
-    ensures length { (bytes : ℕ) → All (λ point. length point.1 ≡ bytes) points.now
-        → IfOk result (λ value. array_vec_len value ≡ bytes) }
+    ensures { value_at group member points.now ≡ in_bytes result }
 {
     match complete_all(points, member) {
         Ok(value) => Ok(value),
@@ -286,11 +264,7 @@ fn value_at(points: &Points<'_>, group: u8, member: u8) -> Result<Bytes, Reissue
 fn group_share(set: &ShareSet, others: &[(u8, Members)], group: u8) -> Result<Bytes, Mismatch>
     requires some { 0 < length others.now }
     requires complete { AreComplete set.now others.now }
-    ensures share { IfOk result (λ share. IsGroupShare set.now others.now group (Ok share.items)) }
-    ensures mismatch { IfErr result (λ mismatch.
-        IsGroupShare set.now others.now group (Err mismatch)) }
-    ensures length { IfOk result (λ share. array_vec_len share ≡ value_bytes_of set.now) }
-    ensures long { IfOk result (λ share. shortest_secret ≤ array_vec_len share) }
+    ensures { share_by_others set.now others.now group ≡ in_bytes result }
 {
     are_a_share_set(set);
     let shares = combine_each(set, others)?;
@@ -303,12 +277,7 @@ fn group_share(set: &ShareSet, others: &[(u8, Members)], group: u8) -> Result<By
 /// The group shares to which the least members of each of these groups combine, or the first group that is refused.
 fn combine_each(set: &ShareSet, groups: &[(u8, Members)]) -> Result<GroupShares, Mismatch>
     requires { AreComplete set.now groups.now }
-    ensures shares { IfOk result (λ shares.
-        EachCombines set.now groups.now (indexed_group_shares shares.items)) }
-    ensures lengths { IfOk result (λ shares.
-        All (λ share. length share.1 ≡ value_bytes_of set.now) (indexed_group_shares shares.items)) }
-    ensures mismatch { IfErr result (λ error. (group : ℕ)
-        × (error ≡ InGroup group) × IsRefusedFirst set.now groups.now group) }
+    ensures { each (least_share set.now) groups.now ≡ in_pairs result }
 {
     let mut shares = GroupShares::new();
     for group in groups {
@@ -324,9 +293,8 @@ fn combine_each(set: &ShareSet, groups: &[(u8, Members)]) -> Result<GroupShares,
 fn combine_least(set: &ShareSet, group: (u8, Members)) -> Result<Bytes, DigestMismatch>
     requires group { IsGroup group.1 }
     requires at_hand { group.1.threshold ≤ length (members_at_hand set.now group.0) }
-    ensures share { IfOk result (λ share. LeastCombine set.now group (Some share.items)) }
-    ensures refused { OnErr result (LeastCombine set.now group None) }
-    ensures length { IfOk result (λ share. array_vec_len share ≡ value_bytes_of set.now) }
+    ensures { option_map (λ share. share.items) (result_ok result)
+        ≡ combined (least_members set.now group) }
 {
     are_a_share_set(set);
     combine_all(&least_members(set, group))
@@ -335,11 +303,7 @@ fn combine_least(set: &ShareSet, group: (u8, Members)) -> Result<Bytes, DigestMi
 /// What points give at an index, if there are exactly as many as their threshold.
 fn complete_all(points: &Points<'_>, index: u8) -> Result<Bytes, DigestMismatch>
     requires { (bytes : ℕ) × ArePointsOfOneLevel bytes points.now }
-    ensures share { IfOk result (λ share.
-        Completes (length points.now) points.now index (Some share.items)) }
-    ensures refused { OnErr result (Completes (length points.now) points.now index None) }
-    ensures length { (bytes : ℕ) → All (λ point. length point.1 ≡ bytes) points.now
-        → IfOk result (λ share. array_vec_len share ≡ bytes) }
+    ensures { option_map (λ share. share.items) (result_ok result) ≡ completed points.now index }
 {
     complete(points.len() as u8, points.as_slice(), index)
 }

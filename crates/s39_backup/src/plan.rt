@@ -1,10 +1,11 @@
 //! Plans: how many groups a backup has and how many of them are needed, and the same for the members of each group.
-ghost use Rattle.std.specs.Prelude.{◌≡◌, ◌↔◌, ◌≤◌, length, All, IfErr, IsTrue, OnOk};
+ghost use Rattle.std.specs.Prelude.{◌≡◌, ◌↔◌, ◌≤◌, length, IsTrue};
+ghost use Rattle.std.specs.List.{enumerate_from};
 ghost use Rattle.std.specs.Result.{result_map_both};
+ghost use Rattle.s39_lists.specs.Each.{each};
 ghost use Rattle.s39_set.specs.Names.{most_groups};
 ghost use Rattle.s39_kdf.specs.Limits.{shortest_secret, longest_secret};
-ghost use Rattle.s39_backup.specs.Plan.{IsPlan, IsPlanNumber, IsGroup, IsNameOfPlan, IsOnlyReading};
-ghost use Rattle.s39_backup.specs.PlanText.{RefusesAGroup};
+ghost use Rattle.s39_backup.specs.Plan.{IsPlan, IsNameOfPlan, IsOnlyReading, judged_group};
 ghost use Rattle.s39_backup.specs.Created.{random_needed, most_random};
 
 use crate::creation::ID_BYTES;
@@ -133,10 +134,9 @@ impl Plan {
 
 /// Refuses the first group that a plan can't have.
 fn check_groups(groups: &[Members]) -> Result<(), PlanError>
-    requires few { length groups.now ≤ most_groups }
-    requires thresholds { All (λ members. IsPlanNumber members.threshold) groups.now }
-    ensures accepted { OnOk result (All IsGroup groups.now) }
-    ensures refused { IfErr result (RefusesAGroup groups.now) }
+    requires { length groups.now ≤ most_groups }
+    ensures { each judged_group (enumerate_from 0 groups.now)
+        ≡ result_map_both (λ _. groups.now) (λ error. error) result }
 {
     for (place, members) in groups.iter().enumerate() {
         if members.count > MAX_MEMBERS || members.threshold > members.count {

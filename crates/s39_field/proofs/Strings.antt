@@ -8,7 +8,7 @@ use Rattle.std.specs.List.{range_with_len}
 use Rattle.s39_field.specs.Field.{Operations, IsField}
 use Rattle.s39_field.specs.FieldProduct.{byte_field, byte_modulus}
 use Rattle.s39_field.specs.Interpolation.{Interpolates, points_at, weights_of, weighted_sum}
-use Rattle.s39_field.specs.Interpolation.{StringsHaveAValue, StringsHaveOneValue}
+use Rattle.s39_field.specs.Interpolation.{interpolated_bytes, StringsHaveAValue, StringsHaveOneValue}
 use Rattle.s39_lists.proofs.Pairs.{AllPairs-map}
 use Rattle.s39_field.specs.Theory.Powers.{byte_degree, byte_field_is_field}
 use Rattle.s39_field.specs.Theory.Residues.{product_modulo-lt}
@@ -28,7 +28,7 @@ weighted_sum-byte (w ∷ ws) (value ∷ values) =
     (product_modulo-lt byte_modulus byte_degree w value)
     (weighted_sum-byte ws values)
 
--- byte strings of one length at distinct places have a byte string at x
+-- byte strings of one length at distinct places have their byte string at x
 pub strings_have_a_value : StringsHaveAValue
 strings_have_a_value strings x count elements bytes lengths distinct =
     let place : ℕ × List ℕ → ℕ = λ string. string.0 in
@@ -36,9 +36,7 @@ strings_have_a_value strings x count elements bytes lengths distinct =
     let places : List ℕ = map place strings in
     let byte_at : ℕ → ℕ =
     λ position. weighted_sum byte_field (weights_of byte_field places x) (map (byte_of position) strings) in
-    let y : List ℕ = map byte_at (range_with_len 0 count) in
-    let size : length y ≡ count = length-map-range_with_len byte_at 0 count in (
-      y,
+    let size : length (interpolated_bytes strings x count) ≡ count = length-map-range_with_len byte_at 0 count in (
       size,
       All-map byte_field.IsElement byte_at (range_with_len 0 count)
           (λ k d below. weighted_sum-byte (weights_of byte_field places x) (map (byte_of (get_or (range_with_len 0 count) k d)) strings)),

@@ -93,7 +93,15 @@ module _ {F : Type 0} (f : Operations F) where
       → length values ≡ length places
       → Interpolates f (zip places values) x (weighted_sum (weights_of places x) values)
 
--- byte strings of one length at distinct places have a byte string at x
+-- the byte string of this length that byte strings have at x: at each position, the sum of Lagrange weight times byte
+abbrev pub interpolated_bytes : List (ℕ × List ℕ) → ℕ → ℕ → List ℕ
+interpolated_bytes strings x count =
+    map
+    (λ position. weighted_sum byte_field (weights_of byte_field (map (λ string. string.0) strings) x)
+    (map (λ string. slice_index string.1 position) strings))
+    (range_with_len 0 count)
+
+-- byte strings of one length at distinct places have this byte string at x
 abbrev pub StringsHaveAValue : Type 0
 StringsHaveAValue =
     (strings : List (ℕ × List ℕ)) (x count : ℕ)
@@ -101,7 +109,9 @@ StringsHaveAValue =
     → All (λ string. All byte_field.IsElement string.1) strings
     → All (λ string. length string.1 ≡ count) strings
     → AllPairs (λ p q. p.0 ≢ q.0) strings
-    → (y : List ℕ) × (length y ≡ count) × All byte_field.IsElement y × InterpolatesBytes strings x y
+    → (length (interpolated_bytes strings x count) ≡ count)
+    × All byte_field.IsElement (interpolated_bytes strings x count)
+    × InterpolatesBytes strings x (interpolated_bytes strings x count)
 
 -- and no other, if there is at least one of them
 abbrev pub StringsHaveOneValue : Type 0

@@ -1,4 +1,5 @@
-//! Products and inverses of bytes by logarithms: each nonzero byte is a power of 3.
+//! Products and inverses of bytes by logarithms: each nonzero byte is a power of 3. What the tables are asked for is the
+//! places of shares, which are public. The time of an answer depends on them, so bytes of shares are multiplied by `lanes`.
 
 ghost use Rattle.std.specs.Prelude.{◌≡◌, ◌≢◌, ◌+◌, ◌<◌};
 ghost use Rattle.s39_field.specs.FieldProduct.{byte_field};

@@ -43,6 +43,13 @@ pub fn lanes(w: Gf256, row: u8x16) -> u8x16
     sum
 }
 
+/// The product of `w` and one byte, by the steps of `lanes`.
+fn lane(w: Gf256, byte: u8) -> u8
+    ensures { result ≡ byte_field.mul w byte }
+{
+    lanes(w, u8x16::splat(byte)).to_array()[0]
+}
+
 /// Adds `w` times a row to another as far as the row fills whole vectors, and returns how many bytes
 /// these have.
 fn scaled_sum_of_vectors(acc: &mut [u8], w: Gf256, row: &[u8]) -> usize
@@ -79,6 +86,6 @@ pub fn scaled_sum(acc: &mut [u8], w: Gf256, row: &[u8])
 {
     let done = scaled_sum_of_vectors(acc, w, row);
     for k in done..acc.len() {
-        acc[k] = u8::from(Gf256::from(acc[k]).add(w.mul(Gf256::from(row[k]))));
+        acc[k] = u8::from(Gf256::from(acc[k]).add(Gf256::from(lane(w, row[k]))));
     }
 }

@@ -2,6 +2,7 @@ pub mod Bytes
 pub mod Hmac
 pub mod PreparedKey
 pub mod Fingerprint
+pub mod Noted
 pub mod Pbkdf2
 pub mod Cipher
 pub mod Limits

@@ -80,6 +80,19 @@ fn examples_of_limits(rt: HostRuntime) -> Result<(), Fail> {
 }
 
 #[test]
+fn examples_of_noted(rt: HostRuntime) -> Result<(), Fail> {
+    let noted = parse_fingerprint(b"df41d8fe")?;
+    let secret = b"\xbb\x54\xaa\xc4\xb8\x9d\xc8\x68\xba\x37\xd9\xcc\x21\xb2\xce\xce";
+    assert!(rt; noted.is_of(secret));
+    assert!(rt; !noted.is_of(&[7; 16]));
+
+    let noted = parse_fingerprint(b"DF41d8fe")?;
+    assert_eq!(rt; noted.bytes, *b"\xdf\x41\xd8\xfe");
+    assert_eq!(rt; parse_fingerprint(b"df41d8f"), Err(BadFingerprint));
+    Ok(())
+}
+
+#[test]
 fn examples_of_params(rt: HostRuntime) {
     let params = Params {
         id: 7945,

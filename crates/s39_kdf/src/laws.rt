@@ -1,4 +1,4 @@
-//! Laws of the cipher and of the limits. Each is proved as the contract of a function that does nothing.
+//! Laws of the cipher, of the limits and of fingerprints. Each is proved as the contract of a function that does nothing.
 ghost use Rattle.std.specs.Prelude.{◌≡◌, ◌+◌, ◌^◌};
 ghost use Rattle.s39_kdf.specs.Cipher.{EncryptsOneSecret, SecretsHaveOneEncryption, TextsHaveOneSecret, EncryptionKeepsLengthAndBytes};
 ghost use Rattle.s39_kdf.specs.Limits.{shortest_secret, longest_secret, exponent_bits};
@@ -6,6 +6,7 @@ ghost use Rattle.s39_kdf.specs.Passphrases.{PassphrasesHaveOneFirstUnprintable, 
 ghost use Rattle.s39_kdf.specs.Hmac.{block_length, mac_length};
 ghost use Rattle.s39_kdf.specs.Pbkdf2.{longest_derived_key};
 ghost use Rattle.s39_kdf.specs.Fingerprint.{fingerprint_length};
+ghost use Rattle.s39_kdf.specs.Noted.{DigitsWriteFingerprints, PrintedFingerprintsAreRead, FingerprintsAreCompared};
 
 use crate::fingerprinting::FINGERPRINT_BYTES;
 use crate::key_derivation::MAX_DERIVED_BYTES;
@@ -46,4 +47,12 @@ pub fn passphrases_are_printable_or_not()
     ensures one { PassphrasesHaveOneFirstUnprintable }
     ensures none { PrintablePassphrasesHaveNone }
     ensures some { PassphrasesArePrintableOrNot }
+{}
+
+/// The texts of a fingerprint are just those of eight hexadecimal digits, in either case. The digits of a secret's
+/// fingerprint are such a text. A secret has a noted fingerprint exactly if all bytes are the same.
+pub fn noted_fingerprints()
+    ensures digits { DigitsWriteFingerprints }
+    ensures printed { PrintedFingerprintsAreRead }
+    ensures compared { FingerprintsAreCompared }
 {}

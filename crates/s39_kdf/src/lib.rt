@@ -1,5 +1,5 @@
 //! Key derivation and the encryption of master secrets for SLIP-0039: HMAC-SHA256 (RFC 2104),
-//! PBKDF2-HMAC-SHA256 (RFC 8018), the four-round cipher, and the limits of secrets and passphrases.
+//! PBKDF2-HMAC-SHA256 (RFC 8018), the four-round cipher, the limits of secrets and passphrases, and fingerprints.
 //!
 //! ```rust
 //! use s39_kdf::{Params, check_secret, decrypt, encrypt};
@@ -21,6 +21,7 @@ mod key_derivation;
 mod keyed_hash;
 pub mod laws;
 mod limits;
+mod noted;
 mod params;
 mod secret_form;
 
@@ -32,6 +33,7 @@ pub use limits::{
     BadPassphrase, BadSecretLength, Bytes, MAX_SECRET_BYTES, MIN_SECRET_BYTES, check_passphrase,
     check_secret, check_secret_length,
 };
+pub use noted::{BadFingerprint, NotedFingerprint, parse_fingerprint};
 pub use params::{MAX_EXPONENT, Params};
 pub use secret_form::SecretForm;
 

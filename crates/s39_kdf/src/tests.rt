@@ -333,3 +333,35 @@ fn fingerprints(rt: HostRuntime) {
         assert_eq!(rt; &fingerprint(secret), expected);
     }
 }
+
+// The secret is that of a published vector; Python's hmac computes its fingerprint.
+#[test]
+fn noted_fingerprints(rt: HostRuntime) {
+    let secret = b"\xee\x8a\xbf\x3a\x09\xf0\x61\xde\x63\x9c\xc3\xc3\x6f\x41\xf9\xce";
+    for text in [b"deae74ed", b"DEAE74ED", b"dEAe74eD"] {
+        let noted = parse_fingerprint(text);
+        assert_eq!(rt; noted.map(|noted| noted.bytes), Ok(*b"\xde\xae\x74\xed"));
+        assert_eq!(rt; noted.map(|noted| noted.is_of(secret)), Ok(true));
+        assert_eq!(rt; noted.map(|noted| noted.is_of(&secret[1..])), Ok(false));
+    }
+    for other in [b"dfae74ed", b"deaf74ed", b"deae75ed", b"deae74ec"] {
+        let noted = parse_fingerprint(other);
+        assert_eq!(rt; noted.map(|noted| noted.is_of(secret)), Ok(false));
+    }
+    let texts: [&[u8]; 10] = [
+        b"",
+        b"deae74e",
+        b"deae74ed0",
+        b"deae74ed00",
+        b"deae74eg",
+        b"deae74e\xff",
+        b"deae 74ed",
+        b" deae74e",
+        b"deae74e\n",
+        b"0xdeae74",
+    ];
+    for text in texts {
+        assert_eq!(rt; parse_fingerprint(text), Err(BadFingerprint));
+    }
+    assert_eq!(rt; BadFingerprint.cause().code, 44);
+}

@@ -8,3 +8,4 @@ pub mod Ranges
 pub mod Pushes
 pub mod Loops
 pub mod Splits
+pub mod Each

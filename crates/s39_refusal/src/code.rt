@@ -79,11 +79,17 @@ pub const SECRET_LENGTH: u8 = 42;
 /// The number of random bytes isn't the one that the backup takes. The first detail is the number that it takes.
 pub const RANDOM_LENGTH: u8 = 43;
 
+/// A text isn't a fingerprint.
+pub const BAD_FINGERPRINT: u8 = 44;
+
 /// A digest doesn't match. The first detail is the group, counted from 0, or `OF_GROUPS`.
 pub const DIGEST_MISMATCH: u8 = 51;
 
 /// The first detail of `DIGEST_MISMATCH` if it is the digest of the group shares that doesn't match.
 pub const OF_GROUPS: u64 = 16;
+
+/// A secret has another fingerprint than the expected one.
+pub const OTHER_SECRET: u8 = 52;
 
 /// A cursor isn't a list of names.
 pub const BAD_CURSOR: u8 = 61;

@@ -1,6 +1,7 @@
 -- The mnemonics that fit ranges of words.
 use Rattle.std.proofs.Common.{◌≡◌, ◌≢◌, ℕ, ◌-◌, ◌<◌, ◌≤◌, Bool, true, false, List, ◌++◌, length, get_or, map, refl, sym, ap, subst, ◌∙◌, ⊎_elim, arith}
 use Rattle.std.specs.Prelude.{All, nat_lt}
+use Rattle.std.specs.List.{join_with_byte}
 use Rattle.std.proofs.Math.ListN.{get_or-eq_default}
 use Rattle.std.proofs.lemmas.Bool.{cases_lt, lt-ltb, false≢true}
 use Rattle.std.proofs.lemmas.List.{length-map, get_or-map}
@@ -8,7 +9,7 @@ use Rattle.std.proofs.lemmas.List.Elements.{All-from_get_or, All-map, All-weaker
 use mathlib.Core.Bool.{beq}
 use Rattle.s39_words.specs.Checksum.{IsValidChecksum}
 use Rattle.s39_words.specs.Layout.{IsIndex}
-use Rattle.s39_words.specs.Printing.{listed_word}
+use Rattle.s39_words.specs.Printing.{listed_word, IsPrinted}
 use Rattle.s39_words.specs.Share.{data_words}
 use Rattle.s39_words.specs.Spelling.{words_of, HaveIndices, Spells}
 use Rattle.s39_words.specs.declared.prefix.WordRange.{WordRange}
@@ -36,7 +37,14 @@ spelled_indices mnemonic all =
     subst (λ (ws : List (List ℕ)). HaveIndices ws mnemonic) (sym (words_of-joined (map listed_word mnemonic) (listed_words mnemonic all)))
     (HaveIndices-listed_words mnemonic all)
 
--- are those of the share, with a valid checksum
+-- the spelling of a mnemonic is the printed form of its share
+pub printed : (mnemonic : List ℕ) (share : ShareFields) → All IsIndex mnemonic → Spells (spelling mnemonic) share → IsPrinted (spelling mnemonic) share
+printed mnemonic share all spells = record {
+  spells = spells;
+  single_spaces = ap (join_with_byte 32) (sym (words_of-joined (map listed_word mnemonic) (listed_words mnemonic all)));
+}
+
+-- the words are those of the share, with a valid checksum
 pub spelled_parts : (mnemonic : List ℕ) (share : ShareFields) → All IsIndex mnemonic → (s : Spells (spelling mnemonic) share)
     → mnemonic ≡ data_words share ++ s.checksum
 spelled_parts mnemonic share all s =
@@ -108,3 +116,9 @@ other_flag true true h = absurd (false≢true (sym h))
 other_flag true false h = λ e. false≢true (sym e)
 other_flag false true h = λ e. false≢true e
 other_flag false false h = absurd (false≢true (sym h))
+
+pub flags_equal : (a b : Bool) → a ≡ b → beq a b ≡ true
+flags_equal true true h = refl
+flags_equal true false h = absurd (false≢true (sym h))
+flags_equal false true h = absurd (false≢true h)
+flags_equal false false h = refl

@@ -1,5 +1,5 @@
 -- The words for which a mark stands are a range of the list.
-use Rattle.std.proofs.Common.{◌≡◌, ◌≢◌, ℕ, ◌+◌, ◌-◌, ◌<◌, ◌≤◌, Bool, true, false, List, [], ◌∷◌, ◌++◌, length, get_or, take, drop, filter, Some, refl}
+use Rattle.std.proofs.Common.{◌≡◌, ◌≢◌, ℕ, zero, suc, ◌+◌, ◌-◌, ◌<◌, ◌≤◌, Bool, true, false, List, [], ◌∷◌, ◌++◌, length, get_or, take, drop, filter, Some, refl}
 use Rattle.std.proofs.Common.{sym, ap, ap₂, subst, ◌∙◌, arith}
 use Rattle.std.specs.Prelude.{◌↔◌, ◌||◌, ◌&&◌, All, Contains, IsTrue, nat_eq, bytes_eq}
 use Rattle.std.specs.List.{ends_with, range_with_len}
@@ -8,9 +8,11 @@ use Rattle.std.specs.Str.{str_to_ascii_lowercase}
 use Rattle.std.proofs.lemmas.Bool.Decides.{nat_tests}
 use Rattle.std.proofs.lemmas.List.{take_all, take_at, take_more, take-append-drop, drop_at, drop_more, length-map, length-append, length-drop}
 use Rattle.std.proofs.lemmas.List.{get_or-map, get_or_default, map-append, append-nil}
-use Rattle.std.proofs.lemmas.List.Elements.{filter_agree}
+use Rattle.std.proofs.lemmas.List.Elements.{All-take, All-weaker, filter_agree}
+use Rattle.std.proofs.lemmas.List.Folds.{map_fixed}
 use Rattle.std.proofs.lemmas.List.FromFn.{length-range_with_len, get_or-range_with_len}
 use Rattle.std.proofs.lemmas.Slice.Eq.{bytes_eq-Decides}
+use Rattle.std.proofs.lemmas.Str.Ascii.{lowercase_is}
 use Rattle.s39_lists.proofs.Ranges.{range-split}
 use Rattle.s39_words.specs.Layout.{IsIndex, word_list_length}
 use Rattle.s39_words.specs.Prefix.{begins_with}
@@ -204,3 +206,46 @@ other_choices mark none =
     or_false (bytes_eq small (listed_word i)) (ends_with nat_eq small (63 ∷ []) && begins_with (take (length small - 1) small) (listed_word i))
     (ap (λ b. b && begins_with (take (length small - 1) small) (listed_word i)) (no_last mark none)))
     (range_with_len 0 word_list_length)
+
+-- ---- what is written for a word of the list
+
+-- its first letters have no capitals
+small_front : (i n : ℕ) → IsIndex i → str_to_ascii_lowercase (take n (listed_word i)) ≡ take n (listed_word i)
+small_front i n lt =
+    map_fixed to_ascii_lowercase (take n (listed_word i)) (All-take (λ b. to_ascii_lowercase b ≡ b) n (listed_word i)
+    (All-weaker IsLetter (λ b. to_ascii_lowercase b ≡ b) (λ b letter. (lowercase_is b).2 (omega (arith, letter))) (listed_word i)
+    (letters i [] (omega (arith, length-word_list)))))
+
+small_word : (i : ℕ) → IsIndex i → str_to_ascii_lowercase (listed_word i) ≡ listed_word i
+small_word i lt =
+    let whole : take (length (listed_word i)) (listed_word i) ≡ listed_word i = take_all (length (listed_word i)) (listed_word i) (omega arith) in
+    subst (λ w. str_to_ascii_lowercase w ≡ w) whole (small_front i (length (listed_word i)) lt)
+
+-- the word stands for itself alone
+pub word_choices : (i : ℕ) → IsIndex i → choices (listed_word i) ≡ range_with_len i ((i + 1) - i)
+unfolding listed_that
+word_choices i lt =
+    let small = small_word i lt in
+    ap choices (sym small) ∙ other_choices (listed_word i) (λ front e. no_question_mark front i lt (sym e))
+    ∙ between (IsWhole (listed_word i)) word_list_length i (i + 1) (omega arith) (omega arith) (λ j lt'. (
+      λ is. let same = (bytes_eq-Decides (str_to_ascii_lowercase (listed_word i)) (listed_word j)).0 is in
+          let one : j ≡ i = same_index j i lt' lt (sym same ∙ small) in
+          (omega arith, omega arith),
+      λ inside. let one : j ≡ i = omega (arith, inside.0, inside.1) in
+          (bytes_eq-Decides (str_to_ascii_lowercase (listed_word i)) (listed_word j)).1 (small ∙ ap listed_word (sym one)),
+    ))
+
+take_length : (n : ℕ) (xs : List ℕ) → take (length (take n xs)) xs ≡ take n xs
+take_length zero xs = refl
+take_length (suc n) [] = refl
+take_length (suc n) (x ∷ xs) = ap (λ ys. x ∷ ys) (take_length n xs)
+
+-- its first letters and a question mark stand for it
+pub front_stands : (i n : ℕ) → IsIndex i → stands_for (take n (listed_word i) ++ 63 ∷ []) (listed_word i) ≡ true
+front_stands i n lt =
+    let front = take n (listed_word i) in
+    let small = small_front i n lt in
+    ap (λ l. stands_for (l ++ 63 ∷ []) (listed_word i)) (sym small)
+    ∙ open_mark front i lt
+    ∙ ap (λ l. bytes_eq l (take (length l) (listed_word i))) small
+    ∙ (bytes_eq-Decides front (take (length front) (listed_word i))).1 (sym (take_length n (listed_word i)))

@@ -18,7 +18,7 @@ use Rattle.s39_words.specs.declared.word_error.WordError.{WordError}
 use Rattle.s39_words.specs.declared.word_error.WordError.TheVariants.{BadChecksum as words_BadChecksum, BadPadding as words_BadPadding}
 use Rattle.s39_words.specs.declared.word_error.WordError.TheVariants.{GroupThreshold as words_GroupThreshold}
 use Rattle.s39_words.proofs.DataWords.{is_word_count}
-use Rattle.s39_words.proofs.OneReading.{same_reading, same_share}
+use Rattle.s39_words.proofs.OneReading.{read_from_spelled, same_reading, same_share}
 use Rattle.s39_repair.specs.declared.repaired.Repaired.{Repaired}
 use Rattle.s39_repair.specs.declared.repair_error.RepairError.{RepairError}
 use Rattle.s39_repair.specs.declared.repair_error.RepairError.TheVariants.{UnknownWord, WordCount, UnreadableWords, NoMnemonic, WrongWord}
@@ -46,7 +46,7 @@ chosen_below (m ∷ ms) (w ∷ ws) all = All-cons IsIndex w ws (listed_below _ w
 some_from_contains : (xs : List ℕ) (x : ℕ) → Contains xs x → 0 < length xs
 some_from_contains xs x has = omega (arith, has.1)
 
-chosen_known : (marks : List (List ℕ)) (words : List ℕ) → AreChosen marks words → All (λ mark. not (is_known mark) ≡ false) marks
+pub chosen_known : (marks : List (List ℕ)) (words : List ℕ) → AreChosen marks words → All (λ mark. not (is_known mark) ≡ false) marks
 chosen_known [] words all = All-nil (λ mark. not (is_known mark) ≡ false)
 chosen_known (m ∷ ms) [] all = absurd all
 chosen_known (m ∷ ms) (w ∷ ws) all =
@@ -99,7 +99,7 @@ module _ (line mnemonic : List ℕ) (share : ShareFields) (fits : Fits line mnem
   no_refusal words e whole reads =
       let same : words ≡ mnemonic = chosen_once (words_of line) words mnemonic whole.closed whole.words_are fits.words in
       let here : Reads (spelling mnemonic) (Err e) = subst (λ ws. Reads (spelling ws) (Err e)) same reads in
-      let one : Err e ≡ Ok share = same_reading (spelling mnemonic) (Err e) (Ok share) here fits.spells in
+      let one : Err e ≡ Ok share = same_reading (spelling mnemonic) (Err e) (Ok share) here (read_from_spelled (spelling mnemonic) share fits.spells) in
       cc
 
   same_words : (other : List ℕ) (found : ShareFields) → Spells (spelling other) found → mnemonic ≡ other → share ≡ found

@@ -12,3 +12,5 @@ pub mod ComesBack
 pub mod OneAnswer
 pub mod Misread
 pub mod OneWrongWord
+pub mod SomeAnswer
+pub mod Unread

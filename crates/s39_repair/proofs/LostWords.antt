@@ -12,7 +12,7 @@ use Rattle.s39_field.specs.PowerSums.{power_sum}
 use Rattle.s39_field.specs.Theory.Powers.{word_field_is_field}
 use Rattle.s39_field.proofs.FieldPowers.{power-element, power-nonzero, power-exchanges}
 use Rattle.s39_field.proofs.Products.{multiples_keep_roots}
-use Rattle.s39_field.proofs.Values.{add_cancels, mul-zero_left, zero_add, value_at-sum}
+use Rattle.s39_field.proofs.Values.{add_cancels, mul-zero_left, one_mul, zero_add, value_at-sum}
 use Rattle.s39_words.specs.Checksum.{generator, customization_string, checked_polynomial, IsValidChecksum}
 use Rattle.s39_words.specs.Layout.{IsIndex, most_words}
 use Rattle.s39_words.specs.Mistyping.{most_wrong_words}
@@ -62,6 +62,12 @@ locator-element extendable i = power-element word_field axioms half (length (fro
 
 pub locator-nonzero : (extendable : Bool) (i : ℕ) → locator extendable i ≢ 0
 locator-nonzero extendable i = power-nonzero word_field axioms half (length (front extendable) + i) half-element (λ z. omega (arith, z))
+
+pub next_locator : (extendable : Bool) (i : ℕ) → word_field.mul (locator extendable i) half ≡ locator extendable (i + 1)
+next_locator extendable i =
+    let n = length (front extendable) in
+    let next : suc (n + i) ≡ n + (i + 1) = omega arith in
+    ap (power word_field half) next
 
 module _ (extendable : Bool) (ws vs : List ℕ) (i j k : ℕ) (ps : ArePlaces i j k) (agree : AgreeElsewhere ws vs i j k)
     (ews : All IsIndex ws) (evs : All IsIndex vs) (valid : IsValidChecksum extendable vs) where
@@ -118,6 +124,77 @@ module _ (extendable : Bool) (ws vs : List ℕ) (i j k : ℕ) (ps : ArePlaces i 
       (locator-element extendable i) (locator-element extendable j) (locator-element extendable k) (locator-nonzero extendable i)
       (locators_apart extendable i j ps.first_second ps.first_in_range ps.second_in_range)
       (locators_apart extendable i k ps.first_third ps.first_in_range ps.third_in_range)
+
+-- ---- a word at one place
+
+-- words that agree but at one place
+pub set_one : (ws vs : List ℕ) (i : ℕ) → length ws ≡ length vs → i < length ws → ((p : ℕ) → p ≢ i → get_or ws p 0 ≡ get_or vs p 0)
+    → set ws i (get_or vs i 0) ≡ vs
+set_one ws vs i n within elsewhere =
+    ext_get_or 0 (set ws i (get_or vs i 0)) vs (length-set ws i (get_or vs i 0) ∙ n) (λ p below. ⊎_elim
+    (λ at. ap (λ q. get_or (set ws i (get_or vs i 0)) q 0) at ∙ get_or-set_same ws i (get_or vs i 0) 0 within ∙ ap (λ q. get_or vs q 0) (sym at))
+    (λ off. get_or-set_other ws i p (get_or vs i 0) 0 off ∙ elsewhere p off)
+    (cases_eq p i))
+
+module _ (extendable : Bool) (ws vs : List ℕ) (i : ℕ) (within : i < length ws) (short : length ws ≤ most_words) (n : length ws ≡ length vs)
+    (elsewhere : (p : ℕ) → p ≢ i → get_or ws p 0 ≡ get_or vs p 0) (ews : All IsIndex ws) (evs : All IsIndex vs)
+    (valid : IsValidChecksum extendable vs) where
+  abbrev behind : ℕ
+  behind = length ws
+
+  places : ArePlaces i behind (suc behind)
+  places = record {
+    first_second = λ e. omega (arith, e);
+    first_third = λ e. omega (arith, e);
+    second_third = λ e. omega (arith, e);
+    first_in_range = omega arith;
+    second_in_range = omega arith;
+    third_in_range = omega arith;
+  }
+
+  others : AgreeElsewhere ws vs i behind (suc behind)
+  others = record { same_count = n; elsewhere = λ p off_i off_j off_k. elsewhere p off_i }
+
+  abbrev x : ℕ
+  x = locator extendable i
+
+  abbrev a : ℕ
+  a = bit_xor (get_or ws i 0) (get_or vs i 0)
+
+  nothing : (p m : ℕ) → length ws ≤ p → word_field.mul (bit_xor (get_or ws p 0) (get_or vs p 0)) m ≡ 0
+  nothing p m past =
+      ap₂ (λ (b c : ℕ). word_field.mul (bit_xor b c) m) (get_or-eq_default ws 0 past) (get_or-eq_default vs 0 (omega (arith, n)))
+      ∙ mul-zero_left word_field axioms m
+
+  sum_is : (m : ℕ) → 1 ≤ m → m ≤ most_wrong_words → sum_with extendable ws m ≡ word_field.mul a (power word_field x m)
+  sum_is m low high =
+      let at = λ (p : ℕ). power word_field (locator extendable p) m in
+      sums_are extendable ws vs i behind (suc behind) places others ews evs valid m low high
+      ∙ ap₂ (λ s t. bit_xor (word_field.mul a (at i)) (bit_xor s (bit_xor t 0)))
+      (nothing behind (at behind) (omega arith)) (nothing (suc behind) (at (suc behind)) (omega arith))
+      ∙ axioms.add_zero (word_field.mul a (at i))
+
+  -- each sum is the one before, times the locator
+  pub next_sum : (m : ℕ) → 1 ≤ m → m < most_wrong_words → sum_with extendable ws (suc m) ≡ word_field.mul (sum_with extendable ws m) x
+  next_sum m low high =
+      sum_is (suc m) (omega arith) (omega arith)
+      ∙ sym (axioms.mul_associates a (power word_field x m) x)
+      ∙ ap (λ s. word_field.mul s x) (sym (sum_is m low (omega arith)))
+
+  change_is : word_field.mul (sum_with extendable ws 1) (word_field.inv x) ≡ a
+  change_is =
+      let element = locator-element extendable i in
+      ap (λ s. word_field.mul s (word_field.inv x)) (sum_is 1 (omega arith) (omega arith) ∙ ap (word_field.mul a) (one_mul word_field axioms x element))
+      ∙ axioms.mul_associates a x (word_field.inv x)
+      ∙ ap (word_field.mul a) (axioms.mul_inverse x element (locator-nonzero extendable i))
+      ∙ axioms.mul_one a (change-element extendable ws vs i behind (suc behind) places others ews evs valid i)
+
+  -- and the first one, over the locator, is the change
+  pub one_changed : set ws i (bit_xor (get_or ws i 0) (word_field.mul (sum_with extendable ws 1) (word_field.inv x))) ≡ vs
+  one_changed =
+      ap (λ c. set ws i (bit_xor (get_or ws i 0) c)) change_is
+      ∙ ap (set ws i) (add_cancels word_field axioms (get_or ws i 0) (get_or vs i 0))
+      ∙ set_one ws vs i n within elsewhere
 
 -- ---- all three of them
 
@@ -189,14 +266,16 @@ word-element ws p all = ⊎_elim
     (λ above. let none : get_or ws p 0 ≡ 0 = get_or-eq_default ws 0 above in omega (arith, none))
     (cases_lt p (length ws))
 
+pub changed-in_range : (ws : List ℕ) (p a : ℕ) → All IsIndex ws → IsIndex a → IsIndex (changed ws p a)
+changed-in_range ws p a all la = axioms.add_element (get_or ws p 0) a (word-element ws p all) la
+
 pub with_changes-in_range : (ws : List ℕ) (i j k a b c : ℕ) → All IsIndex ws → IsIndex a → IsIndex b → IsIndex c → All IsIndex (with_changes ws i j k a b c)
 with_changes-in_range ws i j k a b c all la lb lc =
-    let at : (p e : ℕ) → IsIndex e → IsIndex (changed ws p e) = λ p e le. axioms.add_element (get_or ws p 0) e (word-element ws p all) le in
     let first = set ws i (changed ws i a) in
     let second = set first j (changed ws j b) in
-    All-set IsIndex second k (changed ws k c) (at k c lc)
-    (All-set IsIndex first j (changed ws j b) (at j b lb)
-    (All-set IsIndex ws i (changed ws i a) (at i a la) all))
+    All-set IsIndex second k (changed ws k c) (changed-in_range ws k c all lc)
+    (All-set IsIndex first j (changed ws j b) (changed-in_range ws j b all lb)
+    (All-set IsIndex ws i (changed ws i a) (changed-in_range ws i a all la) all))
 
 -- the sums and the places, as the code has them
 pub sums_from : (extendable : Bool) (ws : List ℕ) (i j k e s₁ s₂ s₃ x y z : ℕ) → s₁ ≡ sum_with extendable ws 1 → s₂ ≡ sum_with extendable ws 2

@@ -20,7 +20,7 @@ use Rattle.s39_words.specs.declared.word_error.WordError.TheVariants.{GroupThres
 use Rattle.s39_words.proofs.DataWords.{is_word_count, flag-is}
 use Rattle.s39_words.proofs.Indices.{indices_same}
 use Rattle.s39_words.proofs.Mnemonics.{spelled_words}
-use Rattle.s39_words.proofs.OneReading.{same_reading}
+use Rattle.s39_words.proofs.OneReading.{read_from_spelled, same_reading}
 use Rattle.s39_words.proofs.WrongWords.{bad_checksum}
 use Rattle.s39_repair.specs.declared.repaired.Repaired.{Repaired}
 use Rattle.s39_repair.specs.declared.repair_error.RepairError.{RepairError}
@@ -35,14 +35,14 @@ use Rattle.s39_repair.proofs.MarksRead.{AreChosen}
 
 -- ---- counts
 
-by_test : (P : Type 0) (b : Bool) → (b ≡ true → P) → (b ≡ false → P) → P
+pub by_test : (P : Type 0) (b : Bool) → (b ≡ true → P) → (b ≡ false → P) → P
 by_test P true f g = f refl
 by_test P false f g = g refl
 
-differ_same : (v w : ℕ) (vs ws : List ℕ) → v ≡ w → count_of_differences (v ∷ vs) (w ∷ ws) ≡ count_of_differences vs ws
+pub differ_same : (v w : ℕ) (vs ws : List ℕ) → v ≡ w → count_of_differences (v ∷ vs) (w ∷ ws) ≡ count_of_differences vs ws
 differ_same v w vs ws e = rw (eq-eqb v w e) refl
 
-differ_not : (v w : ℕ) (vs ws : List ℕ) → v ≢ w → count_of_differences (v ∷ vs) (w ∷ ws) ≡ suc (count_of_differences vs ws)
+pub differ_not : (v w : ℕ) (vs ws : List ℕ) → v ≢ w → count_of_differences (v ∷ vs) (w ∷ ws) ≡ suc (count_of_differences vs ws)
 differ_not v w vs ws off = rw (false_from_ne_true (v == w) (λ e. off (eqb-true v w e))) refl
 
 differ_most : (v w : ℕ) (vs ws : List ℕ) → count_of_differences (v ∷ vs) (w ∷ ws) ≤ suc (count_of_differences vs ws)
@@ -50,7 +50,7 @@ differ_most v w vs ws = by_test _ (v == w)
     (λ e. let n = differ_same v w vs ws (eqb-true v w e) in omega (arith, n))
     (λ e. let n = differ_not v w vs ws (λ same. false≢true (sym e ∙ eq-eqb v w same)) in omega (arith, n))
 
-differ_least : (v w : ℕ) (vs ws : List ℕ) → count_of_differences vs ws ≤ count_of_differences (v ∷ vs) (w ∷ ws)
+pub differ_least : (v w : ℕ) (vs ws : List ℕ) → count_of_differences vs ws ≤ count_of_differences (v ∷ vs) (w ∷ ws)
 differ_least v w vs ws = by_test _ (v == w)
     (λ e. let n = differ_same v w vs ws (eqb-true v w e) in omega (arith, n))
     (λ e. let n = differ_not v w vs ws (λ same. false≢true (sym e ∙ eq-eqb v w same)) in omega (arith, n))
@@ -68,17 +68,17 @@ no_difference (v ∷ vs) (w ∷ ws) n none = by_test _ (v == w)
     let more = differ_not v w vs ws (λ same. false≢true (sym e ∙ eq-eqb v w same)) in
     absurd (omega (arith, more, none)))
 
-place_counted : (test : List ℕ → ℕ → Bool) (m : List ℕ) (w : ℕ) (ms : List (List ℕ)) (ws : List ℕ) → test m w ≡ true
+pub place_counted : (test : List ℕ → ℕ → Bool) (m : List ℕ) (w : ℕ) (ms : List (List ℕ)) (ws : List ℕ) → test m w ≡ true
     → count_of_places test (m ∷ ms) (w ∷ ws) ≡ suc (count_of_places test ms ws)
 place_counted test m w ms ws e = rw e refl
 
-place_passed : (test : List ℕ → ℕ → Bool) (m : List ℕ) (w : ℕ) (ms : List (List ℕ)) (ws : List ℕ) → test m w ≡ false
+pub place_passed : (test : List ℕ → ℕ → Bool) (m : List ℕ) (w : ℕ) (ms : List (List ℕ)) (ws : List ℕ) → test m w ≡ false
     → count_of_places test (m ∷ ms) (w ∷ ws) ≡ count_of_places test ms ws
 place_passed test m w ms ws e = rw e refl
 
 -- ---- what a mark stands for
 
-chosen_from : (mark : List ℕ) (index : ℕ) → IsIndex index → is_misread mark index ≡ false → Contains (choices mark) index
+pub chosen_from : (mark : List ℕ) (index : ℕ) → IsIndex index → is_misread mark index ≡ false → Contains (choices mark) index
 unfolding listed_that
 chosen_from mark index below read =
     Contains-filter (λ i. stands_for mark (listed_word i)) (range_with_len 0 word_list_length) index
@@ -88,7 +88,7 @@ chosen_from mark index below read =
     shown true e = refl
     shown false e = absurd (false≢true (sym e))
 
-chosen_is_read : (mark : List ℕ) (index : ℕ) → Contains (choices mark) index → is_misread mark index ≡ false
+pub chosen_is_read : (mark : List ℕ) (index : ℕ) → Contains (choices mark) index → is_misread mark index ≡ false
 unfolding listed_that
 chosen_is_read mark index has = ap not (of_filter (λ i. stands_for mark (listed_word i)) (range_with_len 0 word_list_length) index has).1
 
@@ -134,10 +134,10 @@ differences_some (m ∷ ms) (v ∷ vs) (w ∷ ws) p some = by_test _ (is_misread
     let least = differ_least v w vs ws in
     omega (arith, least, rest))
 
-counted_open : (m : List ℕ) (ms : List (List ℕ)) → is_open m ≡ true → count_by is_open (m ∷ ms) ≡ 1 + count_by is_open ms
+pub counted_open : (m : List ℕ) (ms : List (List ℕ)) → is_open m ≡ true → count_by is_open (m ∷ ms) ≡ 1 + count_by is_open ms
 counted_open m ms e = sum_by-cons (λ x. cond (is_open x) 1 0) m ms ∙ ap (λ (b : Bool). cond {A = ℕ} b 1 0 + count_by is_open ms) e
 
-counted_closed : (m : List ℕ) (ms : List (List ℕ)) → is_open m ≡ false → count_by is_open (m ∷ ms) ≡ 0 + count_by is_open ms
+pub counted_closed : (m : List ℕ) (ms : List (List ℕ)) → is_open m ≡ false → count_by is_open (m ∷ ms) ≡ 0 + count_by is_open ms
 counted_closed m ms e = sum_by-cons (λ x. cond (is_open x) 1 0) m ms ∙ ap (λ (b : Bool). cond {A = ℕ} b 1 0 + count_by is_open ms) e
 
 open_few : (marks : List (List ℕ)) (ws : List ℕ) → length marks ≡ length ws → count_by is_open marks ≤ count_of_places is_doubtful marks ws
@@ -213,16 +213,17 @@ bad_spelling words mnemonic share all all' s n flags some few =
 
 pub bad_isn't_spelled : (words : List ℕ) (share : ShareFields) → Reads (spelling words) (Err words_BadChecksum) → Spells (spelling words) share → ⊥
 bad_isn't_spelled words share bad s =
-    let one : Err words_BadChecksum ≡ Ok share = same_reading (spelling words) (Err words_BadChecksum) (Ok share) bad s in
+    let one : Err words_BadChecksum ≡ Ok share = same_reading (spelling words) (Err words_BadChecksum) (Ok share) bad
+    (read_from_spelled (spelling words) share s) in
     cc
 
 -- ---- two mnemonics that fit one line
 
-few_or_none : (n : ℕ) → (n ≡ 0) ⊎ (1 ≤ n)
+pub few_or_none : (n : ℕ) → (n ≡ 0) ⊎ (1 ≤ n)
 few_or_none zero = inl refl
 few_or_none (suc n) = inr (omega arith)
 
-fit_alike : (line vs ws : List ℕ) (f g : ShareFields) → open_count line ≤ most_open → Fits line vs f → Fits line ws g → f.extendable ≡ g.extendable → vs ≡ ws
+pub fit_alike : (line vs ws : List ℕ) (f g : ShareFields) → open_count line ≤ most_open → Fits line vs f → Fits line ws g → f.extendable ≡ g.extendable → vs ≡ ws
 fit_alike line vs ws f g few p q flags =
     let all = chosen_below (words_of line) vs p.words in
     let all' = chosen_below (words_of line) ws q.words in

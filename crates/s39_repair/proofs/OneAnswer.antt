@@ -32,7 +32,7 @@ never_less Less e = λ _. cc
 never_less Equal e = λ less. cc
 never_less Greater e = λ less. cc
 
-not_before_itself : (words : List ℕ) → ComesBefore words words → ⊥
+pub not_before_itself : (words : List ℕ) → ComesBefore words words → ⊥
 not_before_itself words less = never_less (slice_cmp nat_cmp words words) (nat_list_cmp_total.antisymm words words) less
 
 not_both_before : (words others : List ℕ) → ComesBefore words others → ComesBefore others words → ⊥

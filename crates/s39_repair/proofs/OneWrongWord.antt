@@ -13,7 +13,7 @@ use Rattle.s39_words.specs.declared.word_error.WordError.{WordError}
 use Rattle.s39_words.specs.declared.word_error.WordError.TheVariants.{BadChecksum as words_BadChecksum, BadPadding as words_BadPadding}
 use Rattle.s39_words.specs.declared.word_error.WordError.TheVariants.{GroupThreshold as words_GroupThreshold}
 use Rattle.s39_words.proofs.Indices.{at_most_words}
-use Rattle.s39_words.proofs.OneReading.{same_reading}
+use Rattle.s39_words.proofs.OneReading.{read_invalid, same_reading}
 use Rattle.s39_repair.specs.declared.repaired.Repaired.{Repaired}
 use Rattle.s39_repair.specs.declared.repair_error.RepairError.{RepairError}
 use Rattle.s39_repair.specs.declared.repair_error.RepairError.TheVariants.{UnknownWord, WordCount, UnreadableWords, NoMnemonic, WrongWord}
@@ -167,15 +167,13 @@ module _ (line words mnemonic : List ℕ) (share : ShareFields) (place other : �
   pub replaced_bad : get_or words place 0 ≢ get_or mnemonic place 0 → flag_of words ≡ flag_of mnemonic → Reads (spelling words) (Err words_BadChecksum)
   replaced_bad off flags =
       let flag : share.extendable ≡ flag_of words = sym (spelled_flag mnemonic share h.in_list h.spells) ∙ sym flags in
-      let a = around (length words) place other h.first_within h.second_within short in (
-        words,
-        record { known = spelled_indices words in_list; count = count },
-        λ valid. off (ap (λ us. get_or us place 0)
-            (one_valid (flag_of words) words words mnemonic a.i a.j a.k a.places
-            (record { same_count = refl; elsewhere = λ p off_i off_j off_k. refl })
-            (record { same_count = h.same_count; elsewhere = λ p off_i off_j off_k. let w = a.away p off_i off_j off_k in h.elsewhere p w.0 w.1 })
-            in_list in_list h.in_list valid (spelled_checksum mnemonic share (flag_of words) h.in_list h.spells flag))),
-      )
+      let a = around (length words) place other h.first_within h.second_within short in
+      read_invalid (spelling words) words (spelled_indices words in_list) count (λ valid.
+      off (ap (λ us. get_or us place 0)
+      (one_valid (flag_of words) words words mnemonic a.i a.j a.k a.places
+      (record { same_count = refl; elsewhere = λ p off_i off_j off_k. refl })
+      (record { same_count = h.same_count; elsewhere = λ p off_i off_j off_k. let w = a.away p off_i off_j off_k in h.elsewhere p w.0 w.1 })
+      in_list in_list h.in_list valid (spelled_checksum mnemonic share (flag_of words) h.in_list h.spells flag))))
 
   -- a third place, if the position isn't one of these two
   record Third (at : ℕ) : Type 0 where

@@ -1,30 +1,31 @@
 -- Lines in which no place is open, and the answers to lines from those to ranges.
 use Rattle.std.proofs.Common.{◌≡◌, ℕ, ◌+◌, ◌<◌, Bool, true, false, cond, List, [], ◌∷◌, length, get_or, Option, Some, None, Result, Ok, Err, refl}
-use Rattle.std.proofs.Common.{sym, ap, subst, ◌∙◌, arith}
+use Rattle.std.proofs.Common.{sym, ◌∙◌, arith}
 use Rattle.std.specs.Prelude.{◌⊎◌, All, MatchOption, count_by}
 use Rattle.std.proofs.lemmas.List.{length-map, get_or-map, ext_get_or}
 use Rattle.std.proofs.lemmas.List.Elements.{All-nil, All-cons}
 use Rattle.std.proofs.lemmas.List.Sums.{sum_by-cons}
+use Rattle.s39_words.specs.Layout.{IsIndex}
 use Rattle.s39_words.specs.Reading.{IsWordCount, Reads}
 use Rattle.s39_words.specs.Spelling.{words_of, Spells}
 use Rattle.s39_words.specs.declared.prefix.WordRange.{WordRange}
 use Rattle.s39_words.specs.declared.share.ShareFields.{ShareFields}
 use Rattle.s39_words.specs.declared.word_error.WordError.TheVariants.{UnknownWord as words_UnknownWord, WordCount as words_WordCount}
 use Rattle.s39_words.specs.declared.word_error.WordError.TheVariants.{BadChecksum as words_BadChecksum}
-use Rattle.s39_words.proofs.Indices.{indices_same, unknown_excludes_indices}
-use Rattle.s39_words.proofs.OneReading.{same_reading}
+use Rattle.s39_words.proofs.Indices.{count_isn't_refused, unknown_excludes_indices}
+use Rattle.s39_words.proofs.OneReading.{read_from_spelled, same_reading}
 use Rattle.s39_repair.specs.declared.repaired.Repaired.{Repaired}
 use Rattle.s39_repair.specs.declared.repair_error.RepairError.{RepairError}
 use Rattle.s39_repair.specs.declared.repair_error.RepairError.TheVariants.{UnknownWord, WordCount, UnreadableWords, NoMnemonic, WrongWord}
 use Rattle.s39_repair.specs.declared.repair_error.RepairError.TheVariants.{BadChecksum, BadPadding, GroupThreshold}
 use Rattle.s39_repair.specs.Answer.{firsts, AreAll, ComesBefore, IsWhole, Repairs, RepairsWhole}
 use Rattle.s39_repair.specs.Marks.{spelling, is_open_range, AreClosed, AreMarks, IsRange, HasWords, Fits, FitsRanges}
-use Rattle.s39_repair.proofs.Candidates.{no_range, one_word, firsts-in_list, spelled_indices}
+use Rattle.s39_repair.proofs.Candidates.{no_range, one_word, spelled_indices}
 use Rattle.s39_repair.proofs.MarksRead.{readable, chosen_words, open_count_is, fits_line, fits_ranges}
 
 -- ---- ranges with one word each
 
-length_firsts : (ranges : List WordRange) → length (firsts ranges) ≡ length ranges
+pub length_firsts : (ranges : List WordRange) → length (firsts ranges) ≡ length ranges
 length_firsts ranges = length-map ranges (λ (r : WordRange). r.first)
 
 first_at : (ranges : List WordRange) (k : ℕ) (d : WordRange) → k < length ranges → get_or (firsts ranges) k 0 ≡ (get_or ranges k d).first
@@ -53,20 +54,15 @@ whole_fits ranges share all closed spells = record {
   others = λ other found fits. only_firsts ranges other closed fits.words;
 }
 
-pub no_unknown : (ranges : List WordRange) (position : ℕ) → All IsRange ranges → Reads (spelling (firsts ranges)) (Err (words_UnknownWord position)) → ⊥
-no_unknown ranges position all reads =
-    unknown_excludes_indices (words_of (spelling (firsts ranges))) position (firsts ranges) reads (spelled_indices (firsts ranges) (firsts-in_list ranges all))
+pub no_unknown : (words : List ℕ) (position : ℕ) → All IsIndex words → Reads (spelling words) (Err (words_UnknownWord position)) → ⊥
+no_unknown words position all reads = unknown_excludes_indices (words_of (spelling words)) position words reads (spelled_indices words all)
 
-pub no_other_count : (ranges : List WordRange) (n : ℕ) → All IsRange ranges → IsWordCount (length ranges)
-    → Reads (spelling (firsts ranges)) (Err (words_WordCount n)) → ⊥
-no_other_count ranges n all count reads =
-    let same = indices_same (words_of (spelling (firsts ranges))) reads.0 (firsts ranges) reads.1
-    (spelled_indices (firsts ranges) (firsts-in_list ranges all)) in
-    reads.3 (subst IsWordCount (sym (reads.2 ∙ ap length same ∙ length_firsts ranges)) count)
+pub no_other_count : (words : List ℕ) (n : ℕ) → All IsIndex words → IsWordCount (length words) → Reads (spelling words) (Err (words_WordCount n)) → ⊥
+no_other_count words n all count reads = count_isn't_refused (words_of (spelling words)) n words reads (spelled_indices words all) count
 
 pub bad_spells_none : (text : List ℕ) (share : ShareFields) → Reads text (Err words_BadChecksum) → Spells text share → ⊥
 bad_spells_none text share reads spells =
-    let same : Err words_BadChecksum ≡ Ok share = same_reading text (Err words_BadChecksum) (Ok share) reads spells in
+    let same : Err words_BadChecksum ≡ Ok share = same_reading text (Err words_BadChecksum) (Ok share) reads (read_from_spelled text share spells) in
     cc
 
 -- ---- no open place

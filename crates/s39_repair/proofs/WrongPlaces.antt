@@ -1,113 +1,74 @@
 -- The words of which one is wrong: two at most.
-use Rattle.std.proofs.Common.{◌≡◌, ◌≢◌, ℕ, suc, ◌+◌, ◌-◌, ◌<◌, ◌≤◌, ◌⊎◌, inl, inr, Bool, true, false, Option, Some, None, List, [], ◌∷◌, ◌++◌, length}
-use Rattle.std.proofs.Common.{get_or, refl, sym, ap, subst, ◌∙◌, ⊎_elim, arith}
-use Rattle.std.specs.Prelude.{◌↔◌, All, AllPairs, Contains, IsTrue, IfSome, is_some}
-use Rattle.std.specs.Option.{ForNone}
-use Rattle.std.proofs.Math.ListN.{set, get_or-eq_default}
-use Rattle.std.proofs.lemmas.Bool.{cases_lt, cases_eq, false≢true}
-use Rattle.std.proofs.lemmas.List.{length-map, length-set, get_or-map, get_or-set_same, get_or-set_other, get_or_default, ext_get_or}
-use Rattle.std.proofs.lemmas.List.Elements.{All-nil, All-cons, All-get_or, All-set}
+use Rattle.std.proofs.Common.{◌≡◌, ◌≢◌, ℕ, suc, ◌+◌, ◌-◌, ◌<◌, ◌≤◌, ◌⊎◌, inl, inr, Bool, true, false, List, [], ◌∷◌, ◌++◌, length}
+use Rattle.std.proofs.Common.{get_or, refl, sym, ap, ap₂, subst, ◌∙◌, ⊎_elim, arith}
+use Rattle.std.specs.Prelude.{All, AllPairs, Contains}
+use Rattle.std.proofs.Math.ListN.{set}
+use Rattle.std.proofs.lemmas.Bool.{cases_lt, cases_eq}
+use Rattle.std.proofs.lemmas.List.{length-set, get_or-set_other, get_or_default, ext_get_or}
+use Rattle.std.proofs.lemmas.List.Elements.{All-nil, All-cons, All-set}
 use Rattle.s39_lists.proofs.Sublists.{AllPairs-append, Contains-nil, Contains-head, Contains-cons, Contains-cases}
 use Rattle.s39_words.specs.Checksum.{IsValidChecksum}
 use Rattle.s39_words.specs.Layout.{IsIndex, most_words}
+use Rattle.s39_words.specs.Mistyping.{most_wrong_words}
 use Rattle.s39_words.specs.Spelling.{Spells}
-use Rattle.s39_words.specs.declared.prefix.WordRange.{WordRange}
 use Rattle.s39_words.specs.declared.share.ShareFields.{ShareFields}
-use Rattle.s39_repair.specs.Answer.{firsts, AreAll, IsWrongWord, AreWrongWords}
-use Rattle.s39_repair.specs.declared.repaired.Repaired.{Repaired}
-use Rattle.s39_repair.specs.Marks.{every_word, spelling, AreClosed, FitsRanges, IsRange}
+use Rattle.s39_repair.specs.Answer.{IsWrongWord, AreWrongWords}
+use Rattle.s39_repair.specs.declared.wrong_words.Search.{Search}
+use Rattle.s39_repair.specs.Marks.{spelling}
+use Rattle.s39_repair.specs.Searching.{IsAt}
 use Rattle.s39_repair.specs.Sums.{locator, sum_with, value_of_sums, ArePlaces, AgreeElsewhere}
 use Rattle.s39_field.specs.FieldProduct.{word_field}
-use Rattle.s39_repair.proofs.Candidates.{no_range, one_word, spelled_checksum, words_in_list}
-use Rattle.s39_repair.proofs.LostWords.{only_words}
+use Rattle.s39_repair.proofs.Candidates.{spelled_checksum, spells_lost}
+use Rattle.s39_repair.proofs.LostWords.{changed, next_sum, one_changed, only_words, set_one}
 
--- ---- a line with one place opened
+-- ---- another word at one place
 
-pub opened-all : (ranges : List WordRange) (place : ℕ) → All IsRange ranges → All IsRange (set ranges place every_word)
-opened-all ranges place all = All-set IsRange ranges place every_word (record { some = omega arith; in_list = omega arith }) all
+-- if the words then spell a share, the word was wrong
+pub wrong_from_spelled : (ws : List ℕ) (place w : ℕ) (share : ShareFields) → All IsIndex ws → place < length ws → IsIndex w
+    → Spells (spelling (set ws place w)) share → IsWrongWord ws (suc place)
+wrong_from_spelled ws place w share all within below spells = record {
+  mnemonic = set ws place w;
+  share = share;
+  in_list = All-set IsIndex ws place w below all;
+  spells = spells;
+  positive = omega arith;
+  within = omega arith;
+  same_count = sym (length-set ws place w);
+  elsewhere = λ p off. sym (get_or-set_other ws place p w 0 (λ e. off (ap suc e)));
+}
 
-firsts-at : (ranges : List WordRange) (p : ℕ) → p < length ranges → get_or (firsts ranges) p 0 ≡ (get_or ranges p no_range).first
-firsts-at ranges p within = get_or-map (λ (r : WordRange). r.first) ranges p no_range 0 within
+module _ (ws : List ℕ) (place : ℕ) (is : IsWrongWord ws (suc place)) where
+  same_elsewhere : (p : ℕ) → p ≢ place → get_or ws p 0 ≡ get_or is.mnemonic p 0
+  same_elsewhere p off = is.elsewhere p (λ e. off (omega (arith, e)))
 
--- a mnemonic that fits then shows a wrong word
-pub wrong_from_fits : (ranges : List WordRange) (place : ℕ) (mnemonic : List ℕ) (share : ShareFields) → AreClosed ranges → place < length ranges
-    → All IsIndex mnemonic → FitsRanges (set ranges place every_word) mnemonic share → IsWrongWord (firsts ranges) (suc place)
-wrong_from_fits ranges place mnemonic share closed within in_list fits =
-    let n : length (firsts ranges) ≡ length ranges = length-map ranges (λ (r : WordRange). r.first) in
-    let m : length (set ranges place every_word) ≡ length ranges = length-set ranges place every_word in
-    let count = fits.words.same_count in
-    record {
-      mnemonic = mnemonic;
-      share = share;
-      in_list = in_list;
-      spells = fits.spells;
-      positive = omega arith;
-      within = omega (arith, n);
-      same_count = omega (arith, n, m, count);
-      elsewhere = λ p other. ⊎_elim
-          (λ inside.
-          let off : p ≢ place = λ e. other (ap suc e) in
-          let same : get_or (set ranges place every_word) p no_range ≡ get_or ranges p no_range = get_or-set_other ranges place p every_word no_range off in
-          let each = fits.words.each p no_range (omega (arith, m)) in
-          let low : (get_or ranges p no_range).first ≤ get_or mnemonic p 0 = subst (λ (r : WordRange). r.first ≤ get_or mnemonic p 0) same each.0 in
-          let high : get_or mnemonic p 0 < (get_or ranges p no_range).end = subst (λ (r : WordRange). get_or mnemonic p 0 < r.end) same each.1 in
-          firsts-at ranges p inside
-          ∙ one_word (get_or ranges p no_range).first (get_or ranges p no_range).end (get_or mnemonic p 0) (closed p no_range inside) low high)
-          (λ past.
-          let none : get_or (firsts ranges) p 0 ≡ 0 = get_or-eq_default (firsts ranges) 0 (omega (arith, n)) in
-          let none' : get_or mnemonic p 0 ≡ 0 = get_or-eq_default mnemonic 0 (omega (arith, m, count)) in
-          none ∙ sym none')
-          (cases_lt p (length ranges));
-    }
+  -- and if it was wrong, they then are those of the mnemonic
+  pub mended_is : set ws place (get_or is.mnemonic place 0) ≡ is.mnemonic
+  mended_is = let within = is.within in set_one ws is.mnemonic place is.same_count (omega arith) same_elsewhere
 
--- and a wrong word shows a mnemonic that fits
-pub fits_from_wrong : (ranges : List WordRange) (place : ℕ) → All IsRange ranges → place < length ranges → (w : IsWrongWord (firsts ranges) (suc place))
-    → FitsRanges (set ranges place every_word) w.mnemonic w.share
-fits_from_wrong ranges place all within w =
-    let n : length (firsts ranges) ≡ length ranges = length-map ranges (λ (r : WordRange). r.first) in
-    let m : length (set ranges place every_word) ≡ length ranges = length-set ranges place every_word in
-    let count = w.same_count in
-    record {
-      words = record {
-        same_count = m ∙ sym n ∙ count;
-        each = λ p d below. ⊎_elim
-            (λ at.
-            let here : get_or (set ranges place every_word) p d ≡ every_word =
-            ap (λ q. get_or (set ranges place every_word) q d) at ∙ get_or-set_same ranges place every_word d within in
-            let index : get_or w.mnemonic p 0 < 1024 = All-get_or IsIndex w.mnemonic p 0 (omega (arith, n, m, count)) w.in_list in
-            subst (λ (r : WordRange). (r.first ≤ get_or w.mnemonic p 0) × (get_or w.mnemonic p 0 < r.end)) (sym here) (omega arith, index))
-            (λ off.
-            let inside : p < length ranges = omega (arith, m) in
-            let here : get_or (set ranges place every_word) p d ≡ get_or ranges p d = get_or-set_other ranges place p every_word d off in
-            let same : get_or (firsts ranges) p 0 ≡ get_or w.mnemonic p 0 = w.elsewhere p (λ e. off (suc_same p place e)) in
-            let first : (get_or ranges p d).first ≡ get_or w.mnemonic p 0 = sym (get_or-map (λ (r : WordRange). r.first) ranges p d 0 inside) ∙ same in
-            let range = all p d inside in
-            subst (λ (r : WordRange). (r.first ≤ get_or w.mnemonic p 0) × (get_or w.mnemonic p 0 < r.end)) (sym here)
-            (omega (arith, first), omega (arith, first, range.some)))
-            (cases_eq p place);
-      };
-      spells = w.spells;
-    }
-  where
-    suc_same : (a b : ℕ) → suc a ≡ suc b → a ≡ b
-    suc_same a b e = omega arith
+-- the search finds it
+module _ (ws : List ℕ) (place : ℕ) (search : Search) (all : All IsIndex ws) (short : length ws ≤ most_words) (within : place < length ws)
+    (at : IsAt ws place search) (is : IsWrongWord ws (suc place)) (flag : is.share.extendable ≡ search.extendable) where
+  valid : IsValidChecksum search.extendable is.mnemonic
+  valid = spelled_checksum is.mnemonic is.share search.extendable is.in_list is.spells flag
 
--- whether the place is wrong, as an option says it
-pub wrong_iff : (ranges marks : List WordRange) (place : ℕ) (r : Option Repaired) (b : Bool) → All IsRange ranges → AreClosed ranges → place < length ranges
-    → marks ≡ set ranges place every_word → IfSome r (λ x. AreAll (FitsRanges marks) x)
-    → ForNone r ((mnemonic : List ℕ) (share : ShareFields) → FitsRanges marks mnemonic share → ⊥) → b ≡ is_some r
-    → IsTrue b ↔ IsWrongWord (firsts ranges) (suc place)
-wrong_iff ranges marks place (Some x) b all closed within is some none b_is = (
-  λ _.
-      let fits = subst (λ ms. FitsRanges ms some.mnemonic x.first) is some.first in
-      wrong_from_fits ranges place some.mnemonic x.first closed within
-      (words_in_list (set ranges place every_word) some.mnemonic (opened-all ranges place all) fits.words) fits,
-  λ _. b_is,
-)
-wrong_iff ranges marks place None b all closed within is some none b_is = (
-  λ yes. absurd (false≢true (sym b_is ∙ yes)),
-  λ w. absurd (none refl w.mnemonic w.share (subst (λ ms. FitsRanges ms w.mnemonic w.share) (sym is) (fits_from_wrong ranges place all within w))),
-)
+  pub is_one_change : (search.sums.second ≡ word_field.mul search.sums.first search.x)
+      × (search.sums.third ≡ word_field.mul search.sums.second search.x)
+  is_one_change =
+      let times = λ (m : ℕ) (low : 1 ≤ m) (high : m < most_wrong_words).
+      next_sum search.extendable ws is.mnemonic place within short is.same_count (same_elsewhere ws place is) all is.in_list valid m low high in (
+        at.second ∙ times 1 (omega arith) (omega arith) ∙ sym (ap₂ word_field.mul at.first at.locator_is),
+        at.third ∙ times 2 (omega arith) (omega arith) ∙ sym (ap₂ word_field.mul at.second at.locator_is),
+      )
+
+  pub mended_spells : (text found : List ℕ) (inverse by : ℕ) → text ≡ spelling found → found ≡ set ws place (changed ws place by)
+      → by ≡ word_field.mul search.sums.first inverse → inverse ≡ word_field.inv search.x → Spells text is.share
+  mended_spells text found inverse by text_is found_is by_is inverse_is =
+      let mnemonic : found ≡ is.mnemonic =
+      found_is
+      ∙ ap (λ b. set ws place (changed ws place b)) (by_is ∙ ap (word_field.mul search.sums.first) inverse_is)
+      ∙ ap₂ (λ s x. set ws place (changed ws place (word_field.mul s (word_field.inv x)))) at.first at.locator_is
+      ∙ one_changed search.extendable ws is.mnemonic place within short is.same_count (same_elsewhere ws place is) all is.in_list valid in
+      spells_lost text found is.mnemonic is.share text_is mnemonic is.spells
 
 -- ---- no third one
 
@@ -197,6 +158,14 @@ contains_push (z ∷ zs) x y has = ⊎_elim
     (λ e. inl (subst (λ w. Contains (z ∷ zs) w) e (Contains-head z zs)))
     (λ later. ⊎_elim (λ h. inl (Contains-cons z zs y h)) (λ e. inr e) (contains_push zs x y later))
     (Contains-cases z (zs ++ x ∷ []) y has)
+
+pub wrong_none : (ws : List ℕ) → WrongUpTo ws [] 0
+wrong_none ws = record {
+  ascending = λ i j d less within. absurd (omega arith);
+  wrong = λ at has. absurd (Contains-nil at has);
+  below = λ at has. absurd (Contains-nil at has);
+  all = λ at is low. let positive = is.positive in absurd (omega arith);
+}
 
 -- one more place, which is wrong
 pub wrong_more : (ws xs : List ℕ) (n : ℕ) → WrongUpTo ws xs n → IsWrongWord ws (suc n) → WrongUpTo ws (xs ++ (n + 1) ∷ []) (n + 1)

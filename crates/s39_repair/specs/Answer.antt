@@ -84,19 +84,23 @@ Repairs line (Err BadChecksum) = (words : List ℕ) × IsWhole line words × Rea
 Repairs line (Err BadPadding) = (words : List ℕ) × IsWhole line words × Reads (spelling words) (Err words_BadPadding)
 Repairs line (Err GroupThreshold) = (words : List ℕ) × IsWhole line words × Reads (spelling words) (Err words_GroupThreshold)
 
--- the first words of ranges; no public contract cites this and the next
+-- the first words of ranges; no public contract cites this and the next two
 abbrev pub firsts : List WordRange → List ℕ
 firsts ranges = map (λ range. range.first) ranges
+
+-- words of the list, as many as a mnemonic may have, are refused for this cause
+abbrev pub RefusesWords : List ℕ → RepairError → Type 0
+RefusesWords words (WrongWord first second) =
+    Reads (spelling words) (Err words_BadChecksum) × AreWrongWords words (first ∷ option_to_list second)
+RefusesWords words BadChecksum = Reads (spelling words) (Err words_BadChecksum) × AreWrongWords words []
+RefusesWords words BadPadding = Reads (spelling words) (Err words_BadPadding)
+RefusesWords words GroupThreshold = Reads (spelling words) (Err words_GroupThreshold)
+RefusesWords words _ = ⊥
 
 -- this is what ranges with one word each say
 abbrev pub RepairsWhole : List WordRange → Result Repaired RepairError → Type 0
 RepairsWhole ranges (Ok repaired) = AreAll (FitsRanges ranges) repaired
-RepairsWhole ranges (Err (WrongWord first second)) =
-    Reads (spelling (firsts ranges)) (Err words_BadChecksum) × AreWrongWords (firsts ranges) (first ∷ option_to_list second)
-RepairsWhole ranges (Err BadChecksum) = Reads (spelling (firsts ranges)) (Err words_BadChecksum) × AreWrongWords (firsts ranges) []
-RepairsWhole ranges (Err BadPadding) = Reads (spelling (firsts ranges)) (Err words_BadPadding)
-RepairsWhole ranges (Err GroupThreshold) = Reads (spelling (firsts ranges)) (Err words_GroupThreshold)
-RepairsWhole ranges (Err _) = ⊥
+RepairsWhole ranges (Err error) = RefusesWords (firsts ranges) error
 
 -- the contents of each refusal
 abbrev pub cause_of : RepairError → Cause

@@ -2,3 +2,5 @@ pub mod Marks
 pub mod Sums
 pub mod Answer
 pub mod Misread
+pub mod Unread
+pub mod Searching

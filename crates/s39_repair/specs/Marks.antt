@@ -83,10 +83,6 @@ abbrev pub IsClosedElsewhere : List WordRange → ℕ → ℕ → ℕ → Type 0
 IsClosedElsewhere ranges i j k =
     (p : ℕ) (d : WordRange) → p < length ranges → p ≢ i → p ≢ j → p ≢ k → is_open_range (slice_index_or ranges p d) ≡ false
 
--- all words of the list
-abbrev pub every_word : WordRange
-every_word = record { first = 0; end = word_list_length }
-
 -- each range has one word
 abbrev pub AreClosed : List WordRange → Type 0
 AreClosed ranges = All (λ range. is_open_range range ≡ false) ranges

@@ -1,9 +1,9 @@
 //! The answer to a line of marks.
-ghost use Rattle.std.specs.Prelude.{◌≡◌, ℕ, false, List, [], ◌∷◌, All, Err, length};
-ghost use Rattle.std.specs.Option.{option_to_list};
+ghost use Rattle.std.specs.Prelude.{All, Err, length};
+ghost use Rattle.s39_words.specs.Layout.{IsIndex};
 ghost use Rattle.s39_words.specs.Reading.{IsWordCount, Reads};
 ghost use Rattle.s39_words.specs.declared.word_error.WordError.{WordError as Cause};
-ghost use Rattle.s39_repair.specs.Answer.{firsts, Repairs, RepairsWhole, AreWrongWords};
+ghost use Rattle.s39_repair.specs.Answer.{Repairs, RepairsWhole, RefusesWords};
 ghost use Rattle.s39_repair.specs.Marks.{spelling, AreClosed, IsRange};
 
 use crate::candidate::first_words;
@@ -15,14 +15,13 @@ use crate::wrong_words::wrong_words;
 use s39_words::{WordError, WordRange, parse, text_of};
 
 /// The refusal of words with a wrong checksum.
-fn bad_checksum(ranges: &[WordRange]) -> RepairError
-    requires all { All IsRange ranges.now }
-    requires count { IsWordCount (length ranges.now) }
-    requires closed { AreClosed ranges.now }
-    requires bad { Reads (spelling (firsts ranges.now)) (Err Cause.BadChecksum) }
-    ensures { RepairsWhole ranges.now (Err result) }
+fn bad_checksum(words: &[u16]) -> RepairError
+    requires in_list { All IsIndex words.now }
+    requires count { IsWordCount (length words.now) }
+    requires bad { Reads (spelling words.now) (Err Cause.BadChecksum) }
+    ensures { RefusesWords words.now result }
 {
-    let positions = wrong_words(ranges);
+    let positions = wrong_words(words);
     match positions.first() {
         None => RepairError::BadChecksum,
         Some(first) => RepairError::WrongWord {
@@ -33,17 +32,16 @@ fn bad_checksum(ranges: &[WordRange]) -> RepairError
 }
 
 /// The refusal of words that are no mnemonic. All are in the list, and a mnemonic may have as many.
-fn refusal(ranges: &[WordRange], error: WordError) -> RepairError
-    requires all { All IsRange ranges.now }
-    requires count { IsWordCount (length ranges.now) }
-    requires closed { AreClosed ranges.now }
-    requires reading { Reads (spelling (firsts ranges.now)) (Err error) }
-    ensures { RepairsWhole ranges.now (Err result) }
+fn refusal(words: &[u16], error: WordError) -> RepairError
+    requires in_list { All IsIndex words.now }
+    requires count { IsWordCount (length words.now) }
+    requires reading { Reads (spelling words.now) (Err error) }
+    ensures { RefusesWords words.now result }
 {
     match error {
         WordError::UnknownWord { position } => RepairError::UnknownWord { position },
         WordError::WordCount { words } => RepairError::WordCount { words },
-        WordError::BadChecksum => bad_checksum(ranges),
+        WordError::BadChecksum => bad_checksum(words),
         WordError::BadPadding => RepairError::BadPadding,
         WordError::GroupThreshold => RepairError::GroupThreshold,
     }
@@ -62,7 +60,7 @@ fn whole(ranges: &[WordRange]) -> Result<Repaired, RepairError>
             first: share,
             second: None,
         }),
-        Err(error) => Err(refusal(ranges, error)),
+        Err(error) => Err(refusal(&words, error)),
     }
 }
 

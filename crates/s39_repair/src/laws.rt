@@ -1,15 +1,18 @@
 //! Facts about the definitions. Each is the contract of a function that does nothing.
-ghost use Rattle.std.specs.Prelude.{◌≡◌, ◌≢◌, ◌<◌, ◌≤◌, ◌⊎◌, ℕ, suc, false, List, [], ◌∷◌, All, Contains, Ok, Err, Option, None, Some, Result, length, slice_index, slice_index_or};
+ghost use Rattle.std.specs.Prelude.{◌≡◌, ◌≢◌, ◌+◌, ◌<◌, ◌≤◌, ◌⊎◌, ℕ, suc, false, List, [], ◌∷◌, All, Contains, Ok, Err, Option, None, Some, Result, length, slice_index, slice_index_or, slice_set};
 ghost use Rattle.std.specs.Option.{option_to_list};
 ghost use Rattle.s39_words.specs.Layout.{IsIndex, most_words};
+ghost use Rattle.s39_words.specs.Mistyping.{count_of_differences};
+ghost use Rattle.s39_words.specs.Printing.{IsPrinted};
 ghost use Rattle.s39_words.specs.Reading.{flag_of, Reads};
 ghost use Rattle.s39_words.specs.declared.word_error.WordError.{WordError as Cause};
-ghost use Rattle.s39_words.specs.Spelling.{words_of, Spells};
+ghost use Rattle.s39_words.specs.Spelling.{words_of, HaveIndices, Spells};
 ghost use Rattle.s39_words.specs.declared.share.ShareFields.{ShareFields};
 ghost use Rattle.s39_repair.specs.Answer.{most_open, AreWrongWords, Repairs};
 ghost use Rattle.s39_repair.specs.Marks.{is_open, open_count, spelling, Fits};
 ghost use Rattle.s39_repair.specs.Misread.{HasWrongWords, IsMisreadLine};
 ghost use Rattle.s39_repair.specs.Sums.{ArePlaces, AgreeElsewhere};
+ghost use Rattle.s39_repair.specs.Unread.{unread_count, IsReadAs};
 ghost use Rattle.s39_repair.specs.declared.repair_error.RepairError.{RepairError};
 ghost use Rattle.s39_repair.specs.declared.repaired.Repaired.{Repaired};
 
@@ -19,12 +22,49 @@ pub fn one_answer()
         → Repairs line answer → Repairs line other → answer ≡ other }
 {}
 
+/// Every line has an answer.
+pub fn some_answer()
+    ensures { (line : List ℕ) → (answer : Result Repaired RepairError) × Repairs line answer }
+{}
+
 /// What was lost comes back: if at most three places of a line are open, a mnemonic that fits is in the answer.
 pub fn lost_words_come_back()
     ensures { (line mnemonic : List ℕ) (share : ShareFields) (answer : Result Repaired RepairError)
         → Fits line mnemonic share → open_count line ≤ most_open → Repairs line answer
         → (repaired : Repaired) × (answer ≡ Ok repaired)
         × ((share ≡ repaired.first) ⊎ (Some share ≡ repaired.second)) }
+{}
+
+/// The words of a text that spells a share are those of a mnemonic, given as indices in the list.
+pub fn accepted_words()
+    ensures { (text : List ℕ) (share : ShareFields) → Spells text share
+        → (mnemonic : List ℕ) × All IsIndex mnemonic × HaveIndices (words_of text) mnemonic
+        × Spells (spelling mnemonic) share }
+{}
+
+/// What was lost comes back, word for word. Take a mnemonic, and write letters and a question mark for up to three of its
+/// words. Then its share is in the answer, and it's the only one if the second place isn't open. For any words and any
+/// number of letters there is such a line.
+pub fn unread_words_come_back()
+    ensures some { (words : List ℕ) (read : List (Option ℕ)) → All IsIndex words
+        → length read ≡ length words → (line : List ℕ) × IsReadAs line words read }
+    ensures back { (line mnemonic : List ℕ) (read : List (Option ℕ)) (share : ShareFields)
+        (answer : Result Repaired RepairError) → All IsIndex mnemonic → Spells (spelling mnemonic) share
+        → IsReadAs line mnemonic read → unread_count read ≤ most_open → Repairs line answer
+        → (repaired : Repaired) × (answer ≡ Ok repaired)
+        × ((share ≡ repaired.first) ⊎ (Some share ≡ repaired.second)) }
+    ensures alone { (line mnemonic : List ℕ) (read : List (Option ℕ)) (share : ShareFields)
+        (answer : Result Repaired RepairError) → All IsIndex mnemonic → Spells (spelling mnemonic) share
+        → IsReadAs line mnemonic read → unread_count read ≤ most_open
+        → is_open (slice_index_or (words_of line) 1 []) ≡ false → Repairs line answer
+        → answer ≡ Ok (record { first = share; second = None }) }
+{}
+
+/// The words of a mnemonic, with single spaces between them, are the printed form of its share. So the mnemonic that
+/// comes back is written as its words.
+pub fn mnemonics_are_printed()
+    ensures { (mnemonic : List ℕ) (share : ShareFields) → All IsIndex mnemonic
+        → Spells (spelling mnemonic) share → IsPrinted (spelling mnemonic) share }
 {}
 
 /// One mnemonic fits a line at most, if at most three places are open and the second isn't.
@@ -61,6 +101,29 @@ pub fn nothing_false_is_written()
         → IsMisreadLine line mnemonic share → Repairs line answer → open_count line ≡ 0
         → (answer ≡ Err RepairError.BadChecksum)
         ⊎ ((first : ℕ) × (second : Option ℕ) × (answer ≡ Err (RepairError.WrongWord first second))) }
+{}
+
+/// Every mnemonic can be misread. Take one, and write other words of the list for some of its words. Of further words write
+/// letters and a question mark, all together for up to three words, but not for the second. If one of the other words is
+/// written out, such a line is misread.
+pub fn every_mnemonic_can_be_misread()
+    ensures { (line words mnemonic : List ℕ) (read : List (Option ℕ)) (share : ShareFields) (place : ℕ)
+        → All IsIndex mnemonic → Spells (spelling mnemonic) share
+        → All IsIndex words → length words ≡ length mnemonic → IsReadAs line words read
+        → count_of_differences words mnemonic + unread_count read ≤ most_open
+        → place < length words → slice_index_or read place None ≡ None
+        → slice_index words place ≢ slice_index mnemonic place
+        → slice_index_or read 1 None ≡ None → slice_index words 1 ≡ slice_index mnemonic 1
+        → IsMisreadLine line mnemonic share }
+{}
+
+/// Every mnemonic can have wrong words: any two words of the list, in any two places or in one.
+pub fn every_mnemonic_can_have_wrong_words()
+    ensures { (mnemonic : List ℕ) (share : ShareFields) (place other first second : ℕ)
+        → All IsIndex mnemonic → Spells (spelling mnemonic) share
+        → place < length mnemonic → other < length mnemonic → IsIndex first → IsIndex second
+        → HasWrongWords (spelling (slice_set (slice_set mnemonic place first) other second))
+        (slice_set (slice_set mnemonic place first) other second) mnemonic share place other }
 {}
 
 /// One wrong word is found: if another word in one place gives a mnemonic, the position of this place is among those of

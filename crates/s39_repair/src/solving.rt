@@ -29,14 +29,14 @@ type Coefficients = ArrayVec<u16, MAX_COEFFICIENTS>;
 
 /// The values of that polynomial at the first three powers of a half.
 #[derive(Clone, Copy)]
-struct Sums {
-    first: Gf1024,
-    second: Gf1024,
-    third: Gf1024,
+pub(crate) struct Sums {
+    pub(crate) first: Gf1024,
+    pub(crate) second: Gf1024,
+    pub(crate) third: Gf1024,
 }
 
 /// A number as an element of the field.
-fn element(number: u16) -> Gf1024
+pub(crate) fn element(number: u16) -> Gf1024
     requires { IsIndex number }
     ensures { result ≡ number }
 {
@@ -96,7 +96,7 @@ fn value_at(coefficients: &[u16], x: Gf1024) -> Gf1024
 }
 
 /// The inverse of 2 in the field.
-const HALF: u16 = 516;
+pub(crate) const HALF: u16 = 516;
 
 /// The inverse of 2, to the power of n.
 fn power_of_half(n: usize) -> Gf1024
@@ -111,7 +111,7 @@ fn power_of_half(n: usize) -> Gf1024
 }
 
 /// The power of a half that belongs to the coefficient of a word.
-fn locator(extendable: bool, place: usize) -> Gf1024
+pub(crate) fn locator(extendable: bool, place: usize) -> Gf1024
     requires { place ≤ most_words + 3 }
     ensures { result ≡ locator extendable place }
 {
@@ -120,7 +120,7 @@ fn locator(extendable: bool, place: usize) -> Gf1024
 }
 
 /// The values of the polynomial with these words.
-fn sums_with(extendable: bool, words: &[u16]) -> Sums
+pub(crate) fn sums_with(extendable: bool, words: &[u16]) -> Sums
     requires in_list { All IsIndex words.now }
     requires short { length words.now ≤ most_words }
     ensures first { result.first ≡ sum_with extendable words.now 1 }
@@ -151,7 +151,7 @@ fn value_of_sums(sums: &Sums, x: Gf1024, y: Gf1024, z: Gf1024) -> u16
 }
 
 /// Writes a word with this change, if there is a word at this place.
-fn change(found: &mut Indices, words: &[u16], place: usize, change: u16)
+pub(crate) fn change(found: &mut Indices, words: &[u16], place: usize, change: u16)
     requires { length found.old.items ≡ length words.now }
     ensures { found.new.items
         ≡ slice_set found.old.items place (bit_xor (slice_index words.now place) change) }

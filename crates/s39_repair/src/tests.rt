@@ -72,6 +72,17 @@ fn refused_lines(rt: HostRuntime) {
             RepairError::UnknownWord { position: 7 },
         ),
         (
+            "duckling enlarge academic academic agency result lengt solution fridge kidney coal piece deal husband erode duke ajar critical decision keyboard",
+            RepairError::UnknownWord { position: 7 },
+        ),
+        (
+            "duckling evil academic academic agency result length solution fridge kidney coal piece deal husband erode duke ajar critical decision keyboard",
+            RepairError::WrongWord {
+                first: 2,
+                second: None,
+            },
+        ),
+        (
             "duckling enlarge academic academic agency result ?? solution fridge kidney coal piece deal husband erode duke ajar critical decision keyboard",
             RepairError::UnknownWord { position: 7 },
         ),

@@ -24,18 +24,6 @@ module _ (chosen : List (ℕ × List ℕ)) (secret digest : List ℕ) where
     refused = λ other. absurd (other same);
   }
 
-  -- a digest share that is not accepted refuses them
-  pub combines_refused : InterpolatesBytes chosen secret_place secret → InterpolatesBytes chosen digest_place digest
-      → take digest_length digest ≢ digest_of (drop digest_length digest) secret → CombinesSeveral chosen None
-  combines_refused at_secret at_digest other = record {
-    secret = secret;
-    digest = digest;
-    secret_interpolated = at_secret;
-    digest_interpolated = at_digest;
-    accepted = λ same. absurd (other same);
-    refused = λ _. refl;
-  }
-
   module _ (distinct : AreDistinct chosen) (places : All (λ s. s.0 < 256) chosen) (some : 0 < length chosen) where
     -- they give nothing else
     pub accepted_once : InterpolatesBytes chosen secret_place secret → InterpolatesBytes chosen digest_place digest
@@ -45,15 +33,6 @@ module _ (chosen : List (ℕ × List ℕ)) (secret digest : List ℕ) where
         let s : c.secret ≡ secret = strings_have_one_value chosen secret_place c.secret secret some places distinct c.secret_interpolated at_secret in
         let d : c.digest ≡ digest = strings_have_one_value chosen digest_place c.digest digest some places distinct c.digest_interpolated at_digest in
         c.accepted (rw (d, s) same) ∙ ap Some s
-
-    -- nor are they accepted after all
-    pub refused_once : InterpolatesBytes chosen secret_place secret → InterpolatesBytes chosen digest_place digest
-        → take digest_length digest ≢ digest_of (drop digest_length digest) secret
-        → (outcome : Option (List ℕ)) → CombinesSeveral chosen outcome → outcome ≡ None
-    refused_once at_secret at_digest other outcome c =
-        let s : c.secret ≡ secret = strings_have_one_value chosen secret_place c.secret secret some places distinct c.secret_interpolated at_secret in
-        let d : c.digest ≡ digest = strings_have_one_value chosen digest_place c.digest digest some places distinct c.digest_interpolated at_digest in
-        c.refused (rw (d, s) other)
 
 module _ (threshold : ℕ) (secret random key : List ℕ) (shares : List (List ℕ)) (several : 1 < threshold)
     (base : SplitBase threshold secret random shares key) (few : length shares ≤ most_shares)

@@ -1,6 +1,7 @@
 -- Points of a split, as many as its threshold, complete to its shares.
 use Rattle.std.proofs.Common.{◌≡◌, ◌≢◌, ◌⊎◌, ℕ, ◌<◌, ◌≤◌, List, [], ◌∷◌, Option, Some, None, length, get_or, slice_index, refl, sym, ap, ◌∙◌, inl, inr, arith}
 use Rattle.std.specs.List.{All, slice_get}
+use Rattle.std.specs.Option.{option_map}
 use Rattle.std.proofs.lemmas.List.Elements.{All-nil, All-cons}
 use Rattle.std.proofs.lemmas.List.Kept.{AllPairs-cons}
 use Rattle.std.proofs.lemmas.Option.{slice_get_within, get_or_from_slice_get}
@@ -10,17 +11,16 @@ use Rattle.s39_field.specs.Polynomial.{value_at}
 use Rattle.s39_field.specs.Interpolation.{InterpolatesBytes}
 use Rattle.s39_field.specs.Theory.Powers.{byte_field_is_field}
 use Rattle.s39_field.proofs.Values.{value_at-cons, mul-zero_left}
-use Rattle.s39_field.proofs.Strings.{strings_have_one_value}
 use Rattle.s39_kdf.specs.Bytes.{AreBytes}
 use Rattle.s39_split.specs.Sharing.{most_shares, digest_place, secret_place, digest_share, IsSplit}
-use Rattle.s39_split.specs.Recovery.{Combines}
-use Rattle.s39_split.specs.Completion.{Completes, ArePointsOf, SharesArePoints, AnyPointsComplete, PointsCompleteOnce, PointsComplete}
+use Rattle.s39_split.specs.Recovery.{Combines, interpolated, combined}
+use Rattle.s39_split.specs.Completion.{Completes, completed, ArePointsOf, SharesArePoints, AnyPointsComplete, PointsCompleteOnce, PointsComplete}
 use Rattle.s39_split.proofs.Interpolations.{interpolates_by_others}
 use Rattle.s39_split.proofs.SplitPoints.{base_of, SplitBase, split_base}
 use Rattle.s39_split.proofs.Choices.{combines_accepted, one_combines_to, several_combine_to}
 use Rattle.s39_lists.proofs.Pairs.{All-from_same}
-use Rattle.s39_split.proofs.SplitLaws.{ArePoints, value_at_place, value_interpolated}
-use Rattle.s39_split.proofs.OneOutcome.{combine_once, shares_combine}
+use Rattle.s39_split.proofs.SplitLaws.{ArePoints}
+use Rattle.s39_split.proofs.OneOutcome.{interpolates, interpolated_once, combine_once, shares_combine}
 
 -- a polynomial of one coefficient has its value everywhere
 constant_value : (c x : ℕ) → c < 256 → value_at byte_field (c ∷ []) x ≡ c
@@ -46,17 +46,13 @@ one_point place x string bytes = record {
       };
 }
 
--- points complete to at most one outcome
+-- points complete to nothing else than what is computed
 pub complete_once : PointsCompleteOnce
-complete_once threshold points index None None some places distinct a b = refl
-complete_once threshold points index None (Some other) some places distinct a b =
-    let same = combine_once threshold points None (Some b.0.0) some places distinct a b.0.1 in
-    absurd (cc)
-complete_once threshold points index (Some share) None some places distinct a b =
-    let same = combine_once threshold points None (Some a.0.0) some places distinct b a.0.1 in
-    absurd (cc)
-complete_once threshold points index (Some share) (Some other) some places distinct a b =
-    ap Some (strings_have_one_value points index share other some places distinct a.1 b.1)
+complete_once threshold points index None some places distinct c =
+    ap (option_map (λ secret. interpolated points index)) (combine_once threshold points None some places distinct c)
+complete_once threshold points index (Some share) some places distinct c =
+    ap Some (interpolated_once points index share some places distinct c.1)
+    ∙ ap (option_map (λ secret. interpolated points index)) (combine_once threshold points (Some c.0.0) some places distinct c.0.1)
 
 -- the places of a split's points
 module _ (secret : List ℕ) (shares : List (List ℕ)) (chosen : List (ℕ × List ℕ)) (choice : ArePointsOf secret shares chosen)
@@ -139,26 +135,24 @@ any_points_complete threshold count secret random shares chosen index share byte
       | inr one ↦
           let threshold_is : threshold ≡ 1 = omega (arith, split.positive) in
           rw threshold_is (one_completes secret shares chosen index share bytes (split.one_needed threshold_is).1 choice (as_many ∙ threshold_is) is)
-    ] in (
-      completes,
-      λ outcome other. complete_once threshold chosen index outcome (Some share) (omega (arith, split.positive))
-          (point_places secret shares chosen choice few) choice.distinct other completes,
-    )
+    ] in
+    let once : (outcome : Option (List ℕ)) → Completes threshold chosen index outcome → outcome ≡ completed chosen index =
+    λ outcome. complete_once threshold chosen index outcome (omega (arith, split.positive))
+    (point_places secret shares chosen choice few) choice.distinct in
+    (completes, λ outcome other. once outcome other ∙ sym (once (Some share) completes))
 
--- what combines completes, and what is refused doesn't
-outcome_of : (threshold : ℕ) (points : List (ℕ × List ℕ)) (index n : ℕ) → ArePoints n points → (combined : Option (List ℕ))
-    → Combines threshold points combined → (outcome : Option (List ℕ)) × Completes threshold points index outcome
-outcome_of threshold points index n are None c = (None, c)
-outcome_of threshold points index n are (Some secret) c =
-    (Some (value_at_place n points are index), ((secret, c), value_interpolated n points are index))
-
--- points of bytes, equally long and at distinct places, complete to an outcome
+-- points of bytes, equally long and at distinct places, complete to it
 pub points_complete : PointsComplete
 points_complete threshold points index positive number places bytes one_length distinct =
-    let combined = shares_combine threshold points positive number places bytes one_length distinct in
-    let same = All-from_same (λ s. length s.1) points one_length in
-    let are : ArePoints same.0 points = record { places = places; bytes = bytes; lengths = same.1; distinct = distinct } in
-    outcome_of threshold points index same.0 are combined.0 combined.1
+    by (combined points) (shares_combine threshold points positive number places bytes one_length distinct)
+  where
+    by : (outcome : Option (List ℕ)) → Combines threshold points outcome
+        → Completes threshold points index (option_map (λ secret. interpolated points index) outcome)
+    by None c = c
+    by (Some secret) c =
+        let same = All-from_same (λ s. length s.1) points one_length in
+        let are : ArePoints same.0 points = record { places = places; bytes = bytes; lengths = same.1; distinct = distinct } in
+        ((secret, c), interpolates same.0 points index are (omega arith))
 
 -- shares are points, and no share has the secret's place
 pub shares_are_points : SharesArePoints

@@ -1,5 +1,5 @@
 -- The digest of a secret.
-use Rattle.std.proofs.Common.{◌≡◌, ℕ, ◌-◌, ◌+◌, List, [], ◌++◌, length, take, drop, sym, ap, ◌∙◌, inl, inr, arith, length-append}
+use Rattle.std.proofs.Common.{◌≡◌, ℕ, ◌-◌, ◌+◌, List, [], ◌∷◌, ◌++◌, length, take, drop, get_or, refl, sym, ap, ◌∙◌, inl, inr, arith, length-append}
 use Rattle.std.proofs.lemmas.List.{take_at, drop_at, take_all, drop_all, append-nil, nil_from_length}
 use Rattle.std.proofs.lemmas.Bool.{cases_lt}
 use Rattle.s39_split.specs.Sharing.{digest_length, digest_of, digest_share}
@@ -20,3 +20,12 @@ digest_share-is_accepted key secret n whole rest =
           let four : length digest ≡ digest_length = omega arith in
           take_at digest key digest_length four ∙ ap (λ k. digest_of k secret) (sym (drop_at digest key digest_length four))
     ]
+
+-- four bytes, one by one
+pub one_by_one : (bytes : List ℕ) → length bytes ≡ 4 → get_or bytes 0 0 ∷ get_or bytes 1 0 ∷ get_or bytes 2 0 ∷ get_or bytes 3 0 ∷ [] ≡ bytes
+one_by_one [] four = absurd (omega arith)
+one_by_one (a ∷ []) four = absurd (omega arith)
+one_by_one (a ∷ b ∷ []) four = absurd (omega arith)
+one_by_one (a ∷ b ∷ c ∷ []) four = absurd (omega arith)
+one_by_one (a ∷ b ∷ c ∷ d ∷ []) four = refl
+one_by_one (a ∷ b ∷ c ∷ d ∷ e ∷ rest) four = absurd (omega arith)

@@ -10,7 +10,7 @@ use Rattle.std.proofs.lemmas.Option.{slice_get-get_or, slice_get_within, get_or_
 use Rattle.std.proofs.lemmas.Bool.{cases_lt}
 use Rattle.std.proofs.lemmas.Bool.Decides.{eqb_tells}
 use Rattle.s39_field.specs.FieldProduct.{byte_field}
-use Rattle.s39_field.specs.Interpolation.{InterpolatesBytes}
+use Rattle.s39_field.specs.Interpolation.{InterpolatesBytes, interpolated_bytes}
 use Rattle.s39_field.specs.Theory.Powers.{byte_field_is_field}
 use Rattle.s39_field.proofs.Values.{value_at-element}
 use Rattle.s39_field.proofs.Strings.{strings_have_a_value, strings_have_one_value}
@@ -86,11 +86,11 @@ pub record ArePoints (n : ℕ) (points : List (ℕ × List ℕ)) : Type 0 where
 
 -- what they interpolate at a place
 pub value_at_place : (n : ℕ) (points : List (ℕ × List ℕ)) → ArePoints n points → ℕ → List ℕ
-value_at_place n points are x = (strings_have_a_value points x n are.places are.bytes are.lengths are.distinct).0
+value_at_place n points are x = interpolated_bytes points x n
 
 pub value_interpolated : (n : ℕ) (points : List (ℕ × List ℕ)) (are : ArePoints n points) (x : ℕ) → InterpolatesBytes points x (value_at_place n points are x)
 unfolding value_at_place
-value_interpolated n points are x = (strings_have_a_value points x n are.places are.bytes are.lengths are.distinct).3
+value_interpolated n points are x = (strings_have_a_value points x n are.places are.bytes are.lengths are.distinct).2
 
 -- random shares, the digest share and the secret are such points
 pub are_base_points : (random_shares : List (List ℕ)) (key secret : List ℕ) → length random_shares + 2 ≤ most_shares

@@ -1,12 +1,12 @@
 //! Computing shares of a split from others (SLIP-0039, "Shamir's secret sharing").
-ghost use Rattle.std.specs.Prelude.{◌≡◌, ◌⊎◌, ℕ, ◌<◌, ◌≤◌, Some, None, List, Option, length, All, IsOkAnd, IfOk, OnErr};
+ghost use Rattle.std.specs.Prelude.{◌≡◌, ◌⊎◌, ℕ, ◌<◌, ◌≤◌, Some, List, length, All, IsOkAnd, IfOk};
 ghost use Rattle.std.specs.List.{slice_get};
 ghost use Rattle.std.specs.Option.{option_map};
 ghost use Rattle.std.specs.Result.{result_ok};
 ghost use Rattle.arrayvec.specs.ArrayVec.{array_vec_len};
 ghost use Rattle.s39_kdf.specs.Limits.{shortest_secret};
 ghost use Rattle.s39_split.specs.Sharing.{most_shares, secret_place, IsSplit};
-ghost use Rattle.s39_split.specs.Completion.{Completes, ArePointsOf};
+ghost use Rattle.s39_split.specs.Completion.{completed, ArePointsOf};
 ghost use Rattle.s39_split.specs.Shares.{indexed_bytes, AreDistinct, HaveOneLength};
 
 use crate::interpolation::interpolate;
@@ -39,11 +39,8 @@ pub fn complete(t: u8, points: &[(u8, &Bytes)], index: u8) -> Result<Bytes, Dige
         (indexed_bytes points.now) }
     requires one_length { HaveOneLength (indexed_bytes points.now) }
     requires long { All (λ point. shortest_secret ≤ length point.1) (indexed_bytes points.now) }
-    ensures share { IfOk result
-        (λ share. Completes t (indexed_bytes points.now) index (Some share.items)) }
-    ensures refused { OnErr result (Completes t (indexed_bytes points.now) index None) }
-    ensures only { (outcome : Option (List ℕ)) → Completes t (indexed_bytes points.now) index outcome
-        → outcome ≡ option_map (λ share. share.items) (result_ok result) }
+    ensures completed { option_map (λ share. share.items) (result_ok result)
+        ≡ completed (indexed_bytes points.now) index }
     ensures of_a_split { (count : ℕ) (secret random : List ℕ) (shares : List (List ℕ)) (share : List ℕ)
         → IsSplit t count secret random shares
         → ArePointsOf secret shares (indexed_bytes points.now) → slice_get shares index ≡ Some share

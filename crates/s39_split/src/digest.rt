@@ -1,5 +1,5 @@
 //! The digest of a secret, by which wrong shares are detected (SLIP-0039, "Shamir's secret sharing").
-ghost use Rattle.std.specs.Prelude.{◌≡◌, ◌+◌, length};
+ghost use Rattle.std.specs.Prelude.{◌≡◌, ◌↔◌, ◌+◌, length, IsTrue};
 ghost use Rattle.arrayvec.specs.ArrayVec.{array_vec_len};
 ghost use Rattle.s39_split.specs.Sharing.{digest_length, digest_of, digest_share};
 ghost use Rattle.s39_kdf.specs.Bytes.{AreBytes};
@@ -14,6 +14,25 @@ pub(crate) fn digest_of(key: &[u8], secret: &[u8]) -> [u8; DIGEST_BYTES]
 {
     let mac = hmac(&[key], &[secret]);
     [mac[0], mac[1], mac[2], mac[3]]
+}
+
+/// Whether two digests are equal. They are compared as numbers, in one step, so that the time doesn't tell which bytes
+/// differ.
+fn are_equal(a: [u8; DIGEST_BYTES], b: [u8; DIGEST_BYTES]) -> bool
+    ensures { IsTrue result ↔ (a ≡ b) }
+{
+    u32::from_be_bytes(a) == u32::from_be_bytes(b)
+}
+
+/// Whether four bytes are the digest of a secret under a key.
+pub(crate) fn is_digest(bytes: &[u8], key: &[u8], secret: &[u8]) -> bool
+    requires { length bytes.now ≡ digest_length }
+    ensures { IsTrue result ↔ (bytes.now ≡ digest_of key.now secret.now) }
+{
+    are_equal(
+        [bytes[0], bytes[1], bytes[2], bytes[3]],
+        digest_of(key, secret),
+    )
 }
 
 /// The digest of the secret, followed by its key.

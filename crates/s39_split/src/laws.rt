@@ -46,13 +46,13 @@ pub fn any_shares_combine()
     ensures { AnySharesCombine }
 {}
 
-/// Shares combine to some outcome, a secret or a refusal, if they have different indices and one length and are as
-/// many as the threshold, at least one.
+/// Shares combine to what `combined` computes, a secret or a refusal, if they have different indices and one length and
+/// are as many as the threshold, at least one.
 pub fn shares_combine()
     ensures { SharesCombine }
 {}
 
-/// Shares with different indices combine to at most one outcome.
+/// Shares with different indices combine to at most one outcome, which is what `combined` computes.
 pub fn shares_combine_once()
     ensures { SharesCombineOnce }
 {}
@@ -68,8 +68,8 @@ pub fn any_points_complete()
     ensures { AnyPointsComplete }
 {}
 
-/// Points of bytes complete to some outcome if they have different places and one length and are as many as the
-/// threshold, at least one. Points at different places complete to at most one outcome.
+/// Points of bytes complete to what `completed` computes if they have different places and one length and are as many as
+/// the threshold, at least one. Points at different places complete to at most one outcome, which is that one.
 pub fn points_complete()
     ensures some { PointsComplete }
     ensures one { PointsCompleteOnce }

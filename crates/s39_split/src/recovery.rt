@@ -1,15 +1,15 @@
 //! Combining shares (SLIP-0039, "Recovery of the secret").
-ghost use Rattle.std.specs.Prelude.{◌≡◌, ℕ, ◌<◌, ◌≤◌, Some, None, List, Option, length, All, IsOkAnd, IfOk, OnErr};
+ghost use Rattle.std.specs.Prelude.{◌≡◌, ℕ, ◌<◌, ◌≤◌, List, length, All, IsOkAnd, IfOk};
 ghost use Rattle.std.specs.Option.{option_map};
 ghost use Rattle.std.specs.Result.{result_ok};
 ghost use Rattle.arrayvec.specs.ArrayVec.{array_vec_len};
 ghost use Rattle.s39_kdf.specs.Limits.{shortest_secret};
 ghost use Rattle.s39_split.specs.Mismatch.{mismatch_cause};
 ghost use Rattle.s39_split.specs.Sharing.{most_shares, IsSplit};
-ghost use Rattle.s39_split.specs.Recovery.{Combines, AreSharesOf};
+ghost use Rattle.s39_split.specs.Recovery.{combined, AreSharesOf};
 ghost use Rattle.s39_split.specs.Shares.{indexed_bytes, AreDistinct, HaveByteIndices, HaveOneLength};
 
-use crate::digest::digest_of;
+use crate::digest::is_digest;
 use crate::interpolation::interpolate;
 use crate::laws::any_shares_combine;
 use crate::places::{DIGEST_BYTES, DIGEST_PLACE, SECRET_PLACE};
@@ -62,11 +62,8 @@ pub fn combine(t: u8, shares: &[(u8, &Bytes)]) -> Result<Bytes, DigestMismatch>
     requires indices { All (λ share. share.0 < most_shares) (indexed_bytes shares.now) }
     requires one_length { HaveOneLength (indexed_bytes shares.now) }
     requires long { All (λ share. shortest_secret ≤ length share.1) (indexed_bytes shares.now) }
-    ensures secret { IfOk result
-        (λ secret. Combines t (indexed_bytes shares.now) (Some secret.items)) }
-    ensures refused { OnErr result (Combines t (indexed_bytes shares.now) None) }
-    ensures only { (outcome : Option (List ℕ)) → Combines t (indexed_bytes shares.now) outcome
-        → outcome ≡ option_map (λ secret. secret.items) (result_ok result) }
+    ensures combined { option_map (λ secret. secret.items) (result_ok result)
+        ≡ combined (indexed_bytes shares.now) }
     ensures of_a_split { (count : ℕ) (secret random : List ℕ) (all_shares : List (List ℕ))
         → IsSplit t count secret random all_shares
         → AreSharesOf all_shares (indexed_bytes shares.now)
@@ -88,11 +85,8 @@ pub(crate) fn combine_points(t: u8, points: &[(u8, &Bytes)]) -> Result<Bytes, Di
     requires places { HaveByteIndices (indexed_bytes points.now) }
     requires one_length { HaveOneLength (indexed_bytes points.now) }
     requires long { All (λ point. shortest_secret ≤ length point.1) (indexed_bytes points.now) }
-    ensures secret { IfOk result
-        (λ secret. Combines t (indexed_bytes points.now) (Some secret.items)) }
-    ensures refused { OnErr result (Combines t (indexed_bytes points.now) None) }
-    ensures only { (outcome : Option (List ℕ)) → Combines t (indexed_bytes points.now) outcome
-        → outcome ≡ option_map (λ secret. secret.items) (result_ok result) }
+    ensures combined { option_map (λ secret. secret.items) (result_ok result)
+        ≡ combined (indexed_bytes points.now) }
     ensures length { (n : ℕ) → All (λ point. length point.1 ≡ n) (indexed_bytes points.now)
         → IfOk result (λ secret. array_vec_len secret ≡ n) }
 {
@@ -102,7 +96,7 @@ pub(crate) fn combine_points(t: u8, points: &[(u8, &Bytes)]) -> Result<Bytes, Di
     let secret = interpolate(points, SECRET_PLACE);
     let digest_share = interpolate(points, DIGEST_PLACE);
     let (digest, key) = digest_share.split_at(DIGEST_BYTES);
-    if digest == &digest_of(key, &secret)[..] {
+    if is_digest(digest, key, &secret) {
         Ok(secret)
     } else {
         Err(DigestMismatch)

@@ -63,10 +63,14 @@ pub enum RefusalText {
     SecretLength(u64),
     #[error("random bytes: {0} needed")]
     RandomLength(u64),
+    #[error("bad fingerprint")]
+    BadFingerprint,
     #[error("digest mismatch in group {0}")]
     DigestMismatchInGroup(u8),
     #[error("digest mismatch of groups")]
     DigestMismatchOfGroups,
+    #[error("other secret")]
+    OtherSecret,
     #[error("cursor is no quorum")]
     NotAQuorum,
     #[error("bad list of names")]
@@ -127,10 +131,12 @@ impl RefusalText {
             code::PASSPHRASE => RefusalText::Passphrase(number),
             code::SECRET_LENGTH => RefusalText::SecretLength(number),
             code::RANDOM_LENGTH => RefusalText::RandomLength(number),
+            code::BAD_FINGERPRINT => RefusalText::BadFingerprint,
             code::DIGEST_MISMATCH if number == code::OF_GROUPS => {
                 RefusalText::DigestMismatchOfGroups
             }
             code::DIGEST_MISMATCH => RefusalText::DigestMismatchInGroup(group?),
+            code::OTHER_SECRET => RefusalText::OtherSecret,
             code::BAD_CURSOR => RefusalText::BadCursor,
             code::NOT_A_QUORUM => RefusalText::NotAQuorum,
             code::BAD_NAMES => RefusalText::BadNames,

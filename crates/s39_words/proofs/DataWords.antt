@@ -1,412 +1,305 @@
 -- The fields of a share and its words determine each other.
-use Rattle.std.proofs.Common.{◌≡◌, ℕ, ◌+◌, ◌-◌, ◌*◌, ◌/◌, ◌%◌, ◌^◌, ◌<◌, ◌≤◌, Bool, true, false, List, ◌++◌, length}
-use Rattle.std.proofs.Common.{take, drop, replicate, refl, sym, ap, ◌∙◌, arith, All, subst}
+use Rattle.std.proofs.Common.{◌≡◌, ℕ, ◌+◌, ◌-◌, ◌*◌, ◌/◌, ◌%◌, ◌^◌, ◌<◌, ◌≤◌, Bool, true, false, List, [], ◌∷◌, ◌++◌, length}
+use Rattle.std.proofs.Common.{get_or, take, drop, refl, sym, ap, ◌∙◌, arith, All, subst}
 use Rattle.std.specs.Prelude.{◌==◌}
-use Rattle.std.specs.Int.Digits.{number_from_digits}
+use Rattle.std.proofs.lemmas.Int.Digits.{number_more}
+use Rattle.std.proofs.Math.Nat.{mod-eq_of_lt, div-eq_of_lt, pow-le-pow_right}
 use Rattle.std.proofs.lemmas.Bool.Decides.{nat_tests}
-use Rattle.std.proofs.lemmas.List.{length-append, length-take-le, length-drop, take-append-drop, take_at, drop_at}
-use Rattle.std.proofs.Math.Seq.{take-add}
-use Rattle.std.proofs.lemmas.List.{append_assoc, length-replicate, append-nil, take_all}
-use Rattle.std.proofs.lemmas.List.Concat.{flat_map-append}
-use Rattle.std.proofs.lemmas.List.Elements.{All-append, All-take, All-drop, All-replicate}
+use Rattle.std.proofs.lemmas.Nat.{pow-add, pow_pos, mod-pow-add, mod_below, mul-add-lt, shr_high, shr_split, shr-shr}
+use Rattle.std.proofs.lemmas.List.{length-append, length-take-le, length-drop, take-append-drop, take_all, get_or_append_left}
+use Rattle.std.proofs.lemmas.List.Elements.{All-take, All-drop, All-tail}
 use Rattle.s39_words.specs.Layout.{IsIndex}
 use Rattle.s39_words.specs.declared.share.ShareFields.{ShareFields}
-use Rattle.s39_words.specs.Bits.{bits, cut_in_tens}
-use Rattle.s39_words.specs.Share.{IsValue, IsShare, flag_bit, header_bits, value_bits, padding_bits, data_words}
-use Rattle.s39_words.specs.Reading.{IsWordCount, padding_length, bits_of_words, number_at, flag_of, stored_group_threshold, stored_group_count, padding_of}
-use Rattle.s39_words.specs.FieldsAt.{pieces, byte_count, share_value_at, fields_at}
-use Rattle.s39_words.proofs.Digits.{bits-below, number-bits-below, number-below, bits-number, zeros_from_number, number_from_zeros, bits-zeros}
-use Rattle.s39_words.proofs.Pieces.{length-pieces, length-joined, joined-below, pieces-below, joined-pieces}
-use Rattle.s39_words.proofs.Pieces.{pieces-joined, cut-joined, joined-cut, length-cut, cut-below, take-joined}
-use Rattle.s39_words.proofs.Pieces.{all_zeros}
+use Rattle.s39_words.specs.Digits.{digits, number_of}
+use Rattle.s39_words.specs.Share.{IsValue, IsShare, flag_bit, header_number, value_words, with_field, share_number, data_words}
+use Rattle.s39_words.specs.Reading.{IsWordCount, padding_length, number_at, flag_of, padding_of, stored_group_threshold, stored_group_count}
+use Rattle.s39_words.specs.Written.{Bits, bits_with}
+use Rattle.s39_words.specs.Reading.{byte_count, share_value_at, fields_at}
+use Rattle.s39_words.proofs.Digits.{length-digits, digits-below, number-below, number-digits, digits-number, digit_at, low_field, number_at-part, number_at-inner, number-append}
 
--- fields that are equal one by one
-same_fields : (f g : ShareFields) → f.id ≡ g.id → f.extendable ≡ g.extendable → f.exponent ≡ g.exponent → f.group_index ≡ g.group_index
-    → f.group_threshold ≡ g.group_threshold → f.group_count ≡ g.group_count → f.member_index ≡ g.member_index → f.member_threshold ≡ g.member_threshold
-    → f.value.items ≡ g.value.items → f ≡ g
-same_fields f g a b c d e h i j k =
-    ap (λ x. record f { id = x }) a
-    ∙ ap (λ x. record f { id = g.id; extendable = x }) b
-    ∙ ap (λ x. record f { id = g.id; extendable = g.extendable; exponent = x }) c
-    ∙ ap (λ x. record f { id = g.id; extendable = g.extendable; exponent = g.exponent; group_index = x }) d
-    ∙ ap (λ x. record g {
-      group_threshold = x;
-      group_count = f.group_count;
-      member_index = f.member_index;
-      member_threshold = f.member_threshold;
-      value = f.value;
-    }) e
-    ∙ ap (λ x. record g { group_count = x; member_index = f.member_index; member_threshold = f.member_threshold; value = f.value }) h
-    ∙ ap (λ x. record g { member_index = x; member_threshold = f.member_threshold; value = f.value }) i
-    ∙ ap (λ x. record g { member_threshold = x; value = f.value }) j
-    ∙ ap (λ x. record g { value = record { items = x } }) k
+pub data_words-below : (f : ShareFields) → All IsIndex (data_words f)
+data_words-below f = digits-below 10 (4 + value_words (length f.value.items)) (share_number f)
+
+bit_of : (flag : Bool) → (flag_bit flag < 2) × ((flag_bit flag == 1) ≡ flag)
+bit_of true = (omega arith, refl)
+bit_of false = (omega arith, refl)
+
+flag-bit : (n : ℕ) → n < 2 → flag_bit (n == 1) ≡ n
+flag-bit n l = grind (arith, nat_tests)
 
 -- ---- from a share to its words
 
--- all digits of a share
-abbrev pub digits : ShareFields → List ℕ
-digits f = header_bits f ++ padding_bits (length (value_bits f.value.items)) ++ value_bits f.value.items
+module _ (f : ShareFields) (ok : IsShare f) where
+  abbrev size : ℕ
+  size = length f.value.items
 
--- the number of padding bits before a value of so many bytes
-abbrev pub padding_before : ℕ → ℕ
-padding_before bytes = (10 - 8 * bytes % 10) % 10
+  abbrev rest : ℕ
+  rest = value_words size
 
-length-header : (f : ShareFields) → length (header_bits f) ≡ 40
-length-header f = refl
+  abbrev value : ℕ
+  value = number_of 8 f.value.items
 
-header-below : (f : ShareFields) → All (λ b. b < 2) (header_bits f)
-header-below f =
-    let P : ℕ → Type 0 = λ b. b < 2 in
-    let more : (xs : List ℕ) (w n : ℕ) → All (λ b. b < 2) xs → All (λ b. b < 2) (xs ++ bits w n) =
-    λ xs w n h. All-append (λ b. b < 2) xs (bits w n) h (bits-below w n) in
-    let a = bits 15 f.id ++ bits 1 (flag_bit f.extendable) in
-    let b = a ++ bits 4 f.exponent in
-    let c = b ++ bits 4 f.group_index in
-    let d = c ++ bits 4 (f.group_threshold - 1) in
-    let e = d ++ bits 4 (f.group_count - 1) in
-    let g = e ++ bits 4 f.member_index in
-    more g 4 (f.member_threshold - 1) (more e 4 f.member_index (more d 4 (f.group_count - 1) (more c 4 (f.group_threshold - 1)
-    (more b 4 f.group_index (more a 4 f.exponent (more (bits 15 f.id) 1 (flag_bit f.extendable) (bits-below 15 f.id)))))))
+  value-below : value < 2 ^ (8 * size)
+  value-below = number-below 8 f.value.items ok.value.bytes
 
-module _ (f : ShareFields) where
-  length-value : length (value_bits f.value.items) ≡ 8 * length f.value.items
-  length-value = length-joined 8 f.value.items
+  value-fits : value < 2 ^ (10 * rest)
+  value-fits =
+      let more : 2 ^ (8 * size) ≤ 2 ^ (10 * rest) = pow-le-pow_right (omega arith) (omega arith) in
+      omega (arith, value-below)
 
-  length-padding : length (padding_bits (length (value_bits f.value.items))) ≡ padding_before (length f.value.items)
-  length-padding = length-replicate ((10 - length (value_bits f.value.items) % 10) % 10) 0 ∙ ap (λ n. (10 - n % 10) % 10) length-value
+  -- the highest bits are those of the fields before the value
+  header-at : (k : ℕ) → share_number f / 2 ^ (10 * rest + k) ≡ header_number f / 2 ^ k
+  header-at k = sym (shr-shr (share_number f) (10 * rest) k) ∙ ap (λ n. n / 2 ^ k) (shr_high (header_number f) (10 * rest) value value-fits)
 
-  length-digits : length (digits f) ≡ 40 + padding_before (length f.value.items) + 8 * length f.value.items
-  length-digits =
-      length-append (header_bits f ++ padding_bits (length (value_bits f.value.items))) (value_bits f.value.items)
-      ∙ ap (λ n. length (header_bits f ++ padding_bits (length (value_bits f.value.items))) + n) length-value
-      ∙ ap (λ n. n + 8 * length f.value.items) (length-append (header_bits f) (padding_bits (length (value_bits f.value.items)))
-      ∙ ap (λ n. 40 + n) length-padding)
+  module _ (checksum : List ℕ) (three : length checksum ≡ 3) where
+    abbrev words : List ℕ
+    words = data_words f ++ checksum
 
-  digits-below : All (λ b. b < 2) (digits f)
-  digits-below =
-      let P : ℕ → Type 0 = λ b. b < 2 in
-      All-append P (header_bits f ++ padding_bits (length (value_bits f.value.items))) (value_bits f.value.items)
-      (All-append P (header_bits f) (padding_bits (length (value_bits f.value.items))) (header-below f)
-      (All-replicate P ((10 - length (value_bits f.value.items) % 10) % 10) 0 (omega arith)))
-      (joined-below 8 f.value.items)
+    length-data_words : length (data_words f) ≡ 4 + rest
+    length-data_words = length-digits 10 (4 + rest) (share_number f)
 
-  -- the number of data words
-  abbrev pub word_count : ℕ
-  word_count = 4 + (padding_before (length f.value.items) + 8 * length f.value.items) / 10
+    length-words : length words ≡ 4 + rest + 3
+    length-words = omega (arith, length-append (data_words f) checksum, length-data_words)
 
-  whole_words : length (digits f) ≡ 10 * word_count
-  whole_words = omega (arith, length-digits)
+    pub padding_length-is : padding_length (length words) ≡ 10 * rest - 8 * size
+    padding_length-is = let even = ok.value.count.0 in omega (arith, length-words)
 
-  pub data_bits : bits_of_words (data_words f) ≡ digits f
-  data_bits = joined-cut word_count (digits f) digits-below whole_words
+    byte_count-is : byte_count (length words) ≡ size
+    byte_count-is = let even = ok.value.count.0 in omega (arith, length-words, padding_length-is)
 
-  pub length-data_words : length (data_words f) ≡ word_count
-  length-data_words = length-cut word_count (digits f) digits-below whole_words
+    pub is_word_count : IsWordCount (length words)
+    is_word_count =
+        let value = ok.value.count in
+        record {
+          padding = omega (arith, length-words, value);
+          at_least = omega (arith, length-words, value);
+          at_most = omega (arith, length-words, value);
+        }
 
-  pub data_words-below : All IsIndex (data_words f)
-  data_words-below = cut-below word_count (digits f) digits-below whole_words
+    pub flag-is : flag_of words ≡ f.extendable
+    flag-is =
+        let bit = bit_of f.extendable in
+        let e : 10 * (4 + rest - 1 - 1) ≡ 10 * rest + 20 = omega arith in
+        let second : get_or words 1 0 ≡ header_number f / 2 ^ 20 % 2 ^ 10 =
+        get_or_append_left (data_words f) checksum 0 1 (omega (arith, length-data_words)) ∙ digit_at 10 (4 + rest) (share_number f) 1 (omega arith)
+        ∙ ap (λ k. share_number f / 2 ^ k % 2 ^ 10) e ∙ ap (λ n. n % 2 ^ 10) (header-at 20) in
+        let here : header_number f / 2 ^ 20 % 2 ^ 10 / 2 ^ 4 % 2 ≡ flag_bit f.extendable = omega (arith, ok, bit.0) in
+        ap (λ w. w / 2 ^ 4 % 2 == 1) second ∙ ap (λ n. n == 1) here ∙ bit.1
 
-stored_flag : (flag : Bool) → (number_from_digits 2 (bits 1 (flag_bit flag)) == 1) ≡ flag
-stored_flag true = refl
-stored_flag false = refl
+    module _ (below : All IsIndex checksum) where
+      number-is : number_of 10 words / 2 ^ 30 ≡ share_number f
+      number-is =
+          let e : 10 * (4 + rest) ≡ 10 * rest + 40 = omega arith in
+          let header : header_number f < 2 ^ 40 = omega (arith, ok, (bit_of f.extendable).0) in
+          let small : share_number f < 2 ^ (10 * (4 + rest)) =
+          rw (e, pow-add 2 (10 * rest) 40) (mul-add-lt (header_number f) (2 ^ (10 * rest)) value (2 ^ 40) header value-fits) in
+          let back : number_of 10 checksum < 2 ^ 30 = subst (λ k. number_of 10 checksum < 2 ^ (10 * k)) three (number-below 10 checksum below) in
+          ap (λ n. n / 2 ^ 30) (number-append 10 (data_words f) checksum ∙ ap (λ k. number_of 10 (data_words f) * 2 ^ (10 * k) + number_of 10 checksum) three)
+          ∙ shr_high (number_of 10 (data_words f)) 30 (number_of 10 checksum) back
+          ∙ number-digits 10 (4 + rest) (share_number f) ∙ mod-eq_of_lt small
 
--- what a data word and the words behind it leave
-module _ (f : ShareFields) (ok : IsShare f) (checksum : List ℕ) (three : length checksum ≡ 3) where
-  length-words : length (data_words f ++ checksum) ≡ word_count f + 3
-  length-words = length-append (data_words f) checksum ∙ ap (λ n. n + length checksum) (length-data_words f) ∙ ap (λ n. word_count f + n) three
+      -- the number in some bits of the data words
+      at : (place width k : ℕ) → place + width + k ≡ 40 + 10 * rest → number_at words place width ≡ share_number f / 2 ^ k % 2 ^ width
+      at place width k e =
+          let whole : 10 * length words - place - width ≡ 30 + k = omega (arith, length-words) in
+          ap (λ j. number_of 10 words / 2 ^ j % 2 ^ width) whole ∙ ap (λ n. n % 2 ^ width) (sym (shr-shr (number_of 10 words) 30 k)
+          ∙ ap (λ n. n / 2 ^ k) number-is)
 
-  pub padding_length-is : padding_length (length (data_words f ++ checksum)) ≡ padding_before (length f.value.items)
-  padding_length-is =
-      let even : length f.value.items % 2 ≡ 0 = ok.value.count.0 in
-      omega (arith, length-words)
+      header_field : (place width k : ℕ) → place + width + k ≡ 40 → number_at words place width ≡ header_number f / 2 ^ k % 2 ^ width
+      header_field place width k e = at place width (10 * rest + k) (omega arith) ∙ ap (λ n. n % 2 ^ width) (header-at k)
 
-  byte_count-is : byte_count (length (data_words f ++ checksum)) ≡ length f.value.items
-  byte_count-is =
-      let even : length f.value.items % 2 ≡ 0 = ok.value.count.0 in
-      omega (arith, length-words, padding_length-is)
+      pub padding_zero : padding_of words ≡ 0
+      padding_zero =
+          let p = 10 * rest - 8 * size in
+          ap (number_at words 40) padding_length-is ∙ at 40 p (8 * size) (omega arith)
+          ∙ low_field (header_number f) (10 * rest) value (8 * size) p (omega arith) ∙ rw (div-eq_of_lt value-below) (omega arith)
 
-  pub is_word_count : IsWordCount (length (data_words f ++ checksum))
-  is_word_count =
-      let even : length f.value.items % 2 ≡ 0 = ok.value.count.0 in
-      let low : 16 ≤ length f.value.items = ok.value.count.1 in
-      let high : length f.value.items ≤ 128 = ok.value.count.2 in
-      record {
-        padding = omega (arith, length-words);
-        at_least = omega (arith, length-words);
-        at_most = omega (arith, length-words);
-      }
+      at_value : share_value_at words ≡ f.value.items
+      at_value =
+          let p = 10 * rest - 8 * size in
+          let number : number_at words (40 + p) (8 * size) ≡ value =
+          at (40 + p) (8 * size) 0 (omega arith) ∙ low_field (header_number f) (10 * rest) value 0 (8 * size) (omega arith)
+          ∙ ap (λ n. n % 2 ^ (8 * size)) (omega arith) ∙ mod-eq_of_lt value-below in
+          rw (byte_count-is, padding_length-is, number) (digits-number 8 f.value.items ok.value.bytes)
 
-  all_bits : bits_of_words (data_words f ++ checksum) ≡ header_bits f ++ (padding_bits
-      (length (value_bits f.value.items)) ++ (value_bits f.value.items ++ bits_of_words checksum))
-  all_bits =
-      flat_map-append (bits 10) (data_words f) checksum
-      ∙ ap (λ xs. xs ++ bits_of_words checksum) (data_bits f)
-      ∙ append_assoc (header_bits f ++ padding_bits (length (value_bits f.value.items))) (value_bits f.value.items) (bits_of_words checksum)
-      ∙ append_assoc (header_bits f) (padding_bits (length (value_bits f.value.items))) (value_bits f.value.items ++ bits_of_words checksum)
-
-  at_id : number_at (data_words f ++ checksum) 0 15 ≡ f.id
-  at_id = ap (λ ds. number_from_digits 2 (take 15 (drop 0 ds))) all_bits ∙ number-bits-below 15 f.id ok.id
-
-  pub flag-is : flag_of (data_words f ++ checksum) ≡ f.extendable
-  flag-is = ap (λ ds. number_from_digits 2 (take 1 (drop 15 ds)) == 1) all_bits ∙ stored_flag f.extendable
-
-  at_exponent : number_at (data_words f ++ checksum) 16 4 ≡ f.exponent
-  at_exponent = ap (λ ds. number_from_digits 2 (take 4 (drop 16 ds))) all_bits ∙ number-bits-below 4 f.exponent ok.exponent
-
-  at_group_index : number_at (data_words f ++ checksum) 20 4 ≡ f.group_index
-  at_group_index = ap (λ ds. number_from_digits 2 (take 4 (drop 20 ds))) all_bits ∙ number-bits-below 4 f.group_index ok.group_index
-
-  pub at_group_threshold : stored_group_threshold (data_words f ++ checksum) ≡ f.group_threshold - 1
-  at_group_threshold =
-      let a = ok.threshold_in_count in
-      let b = ok.group_count in
-      ap (λ ds. number_from_digits 2 (take 4 (drop 24 ds))) all_bits ∙ number-bits-below 4 (f.group_threshold - 1) (omega arith)
-
-  pub at_group_count : stored_group_count (data_words f ++ checksum) ≡ f.group_count - 1
-  at_group_count =
-      let b = ok.group_count in
-      ap (λ ds. number_from_digits 2 (take 4 (drop 28 ds))) all_bits ∙ number-bits-below 4 (f.group_count - 1) (omega arith)
-
-  at_member_index : number_at (data_words f ++ checksum) 32 4 ≡ f.member_index
-  at_member_index = ap (λ ds. number_from_digits 2 (take 4 (drop 32 ds))) all_bits ∙ number-bits-below 4 f.member_index ok.member_index
-
-  at_member_threshold : number_at (data_words f ++ checksum) 36 4 ≡ f.member_threshold - 1
-  at_member_threshold =
-      let b = ok.member_threshold_in_range in
-      ap (λ ds. number_from_digits 2 (take 4 (drop 36 ds))) all_bits ∙ number-bits-below 4 (f.member_threshold - 1) (omega arith)
-
-  at_padding : padding_of (data_words f ++ checksum) ≡ padding_bits (length (value_bits f.value.items))
-  at_padding =
-      ap (λ n. take n (drop 40 (bits_of_words (data_words f ++ checksum)))) padding_length-is
-      ∙ ap (λ ds. take (padding_before (length f.value.items)) (drop 40 ds)) all_bits
-      ∙ take_at (padding_bits (length (value_bits f.value.items))) (value_bits f.value.items ++ bits_of_words checksum)
-      (padding_before (length f.value.items)) (length-padding f)
-
-  pub padding_zero : All (λ b. b ≡ 0) (padding_of (data_words f ++ checksum))
-  padding_zero =
-      let P : List ℕ → Type 0 = All (λ b. b ≡ 0) in
-      subst P (sym at_padding) (All-replicate (λ b. b ≡ 0) ((10 - length (value_bits f.value.items) % 10) % 10) 0 refl)
-
-  before_value : length (header_bits f ++ padding_bits (length (value_bits f.value.items))) ≡ 40 + padding_before (length f.value.items)
-  before_value = length-append (header_bits f) (padding_bits (length (value_bits f.value.items))) ∙ ap (λ n. 40 + n) (length-padding f)
-
-  at_value : share_value_at (data_words f ++ checksum) ≡ f.value.items
-  at_value =
-      ap (λ k. pieces 8 k (drop (40 + padding_length (length (data_words f ++ checksum))) (bits_of_words (data_words f ++ checksum)))) byte_count-is
-      ∙ ap (λ p. pieces 8 (length f.value.items) (drop (40 + p) (bits_of_words (data_words f ++ checksum)))) padding_length-is
-      ∙ ap (λ ds. pieces 8 (length f.value.items) (drop (40 + padding_before (length f.value.items)) ds))
-      (all_bits ∙ sym (append_assoc (header_bits f) (padding_bits (length (value_bits f.value.items)))
-      (value_bits f.value.items ++ bits_of_words checksum)))
-      ∙ ap (pieces 8 (length f.value.items)) (drop_at (header_bits f ++ padding_bits (length (value_bits f.value.items)))
-      (value_bits f.value.items ++ bits_of_words checksum) (40 + padding_before (length f.value.items)) before_value)
-      ∙ pieces-joined 8 f.value.items (bits_of_words checksum) ok.value.bytes
-
-  -- the fields are those in the words
-  pub fields-are : fields_at (data_words f ++ checksum) ≡ f
-  fields-are =
-      let a = ok.group_threshold in
-      let b = ok.threshold_in_count in
-      let c = ok.member_threshold in
-      same_fields (fields_at (data_words f ++ checksum)) f at_id flag-is at_exponent at_group_index (omega (arith, at_group_threshold))
-      (omega (arith, at_group_count)) at_member_index (omega (arith, at_member_threshold)) at_value
-
--- the words are those of one share alone
-pub same_from_data_words : (f g : ShareFields) (c d : List ℕ) → IsShare f → IsShare g → length c ≡ 3 → length d ≡ 3
-    → data_words f ++ c ≡ data_words g ++ d → f ≡ g
-same_from_data_words f g c d p q k l e = sym (fields-are f p c k) ∙ ap fields_at e ∙ fields-are g q d l
+      -- the fields are those in the words
+      pub fields-are : fields_at words ≡ f
+      fields-are =
+          let bit = (bit_of f.extendable).0 in
+          let id : number_at words 0 15 ≡ f.id = header_field 0 15 25 refl ∙ omega (arith, ok, bit) in
+          let exponent : number_at words 16 4 ≡ f.exponent = header_field 16 4 20 refl ∙ omega (arith, ok, bit) in
+          let group : number_at words 20 4 ≡ f.group_index = header_field 20 4 16 refl ∙ omega (arith, ok, bit) in
+          let group_threshold : number_at words 24 4 + 1 ≡ f.group_threshold = ap (λ n. n + 1) (header_field 24 4 12 refl) ∙ omega (arith, ok, bit) in
+          let group_count : number_at words 28 4 + 1 ≡ f.group_count = ap (λ n. n + 1) (header_field 28 4 8 refl) ∙ omega (arith, ok, bit) in
+          let member : number_at words 32 4 ≡ f.member_index = header_field 32 4 4 refl ∙ omega (arith, ok, bit) in
+          let member_threshold : number_at words 36 4 + 1 ≡ f.member_threshold = ap (λ n. n + 1) (header_field 36 4 0 refl) ∙ omega (arith, ok, bit) in
+          rw (id, flag-is, exponent, group, group_threshold, group_count, member, member_threshold, at_value) refl
 
 -- ---- from words to their share
 
-chained : (ds a b c d e f g h : List ℕ) → a ≡ take 15 ds → take 15 ds ++ b ≡ take 16 ds → take 16 ds ++ c ≡ take 20 ds → take 20 ds ++ d ≡ take 24 ds
-    → take 24 ds ++ e ≡ take 28 ds → take 28 ds ++ f ≡ take 32 ds → take 32 ds ++ g ≡ take 36 ds → take 36 ds ++ h ≡ take 40 ds
-    → a ++ b ++ c ++ d ++ e ++ f ++ g ++ h ≡ take 40 ds
-chained ds a b c d e f g h p1 p2 p3 p4 p5 p6 p7 p8 =
-    ap (λ x. x ++ b ++ c ++ d ++ e ++ f ++ g ++ h) p1
-    ∙ ap (λ x. x ++ c ++ d ++ e ++ f ++ g ++ h) p2
-    ∙ ap (λ x. x ++ d ++ e ++ f ++ g ++ h) p3
-    ∙ ap (λ x. x ++ e ++ f ++ g ++ h) p4
-    ∙ ap (λ x. x ++ f ++ g ++ h) p5
-    ∙ ap (λ x. x ++ g ++ h) p6
-    ∙ ap (λ x. x ++ h) p7
-    ∙ p8
+-- the flag is the bit behind the identifier
+pub flag_at : (ws : List ℕ) → All IsIndex ws → 2 ≤ length ws → flag_of ws ≡ (number_at ws 15 1 == 1)
+flag_at [] all two = absurd (omega arith)
+flag_at (v ∷ []) all two = absurd (omega arith)
+flag_at (v ∷ x ∷ ws) all two =
+    let behind = All-tail IsIndex x ws (All-tail IsIndex v (x ∷ ws) all) in
+    ap (λ n. n == 1) (omega arith ∙ sym (number_at-part (v ∷ []) (x ∷ []) ws 15 5 1 behind (omega arith) (omega arith)))
+
+pub length-value : (ws : List ℕ) → length (share_value_at ws) ≡ byte_count (length ws)
+length-value ws = length-digits 8 (byte_count (length ws)) (number_at ws (40 + padding_length (length ws)) (8 * byte_count (length ws)))
 
 module _ (ws : List ℕ) (count : IsWordCount (length ws)) where
-  length-bits_of_words : length (bits_of_words ws) ≡ 10 * length ws
-  length-bits_of_words = length-joined 10 ws
-
-  -- the digits of the number at a place are the digits there
-  bits-at : (place width : ℕ) → place + width ≤ 10 * length ws → bits width (number_at ws place width) ≡ take width (drop place (bits_of_words ws))
-  bits-at place width h =
-      let l : length (take width (drop place (bits_of_words ws))) ≡ width =
-      length-take-le width (drop place (bits_of_words ws)) (omega (arith, length-drop place (bits_of_words ws), length-bits_of_words)) in
-      let b : All (λ b. b < 2) (take width (drop place (bits_of_words ws))) =
-      All-take (λ b. b < 2) width (drop place (bits_of_words ws)) (All-drop (λ b. b < 2) place (bits_of_words ws) (joined-below 10 ws)) in
-      subst (λ w. bits w (number_at ws place width) ≡ take width (drop place (bits_of_words ws))) l (bits-number (take width (drop place (bits_of_words ws))) b)
-
-  pub number_at-below : (place width : ℕ) → place + width ≤ 10 * length ws → number_at ws place width < 2 ^ width
-  number_at-below place width h =
-      let l : length (take width (drop place (bits_of_words ws))) ≡ width =
-      length-take-le width (drop place (bits_of_words ws)) (omega (arith, length-drop place (bits_of_words ws), length-bits_of_words)) in
-      let b : All (λ b. b < 2) (take width (drop place (bits_of_words ws))) =
-      All-take (λ b. b < 2) width (drop place (bits_of_words ws)) (All-drop (λ b. b < 2) place (bits_of_words ws) (joined-below 10 ws)) in
-      subst (λ w. number_at ws place width < 2 ^ w) l (number-below (take width (drop place (bits_of_words ws))) b)
-
-  joins : (place width n : ℕ) → place + width ≤ 10 * length ws → n ≡ number_at ws place width
-      → take place (bits_of_words ws) ++ bits width n ≡ take (place + width) (bits_of_words ws)
-  joins place width n h e =
-      ap (λ k. take place (bits_of_words ws) ++ bits width k) e
-      ∙ ap (λ xs. take place (bits_of_words ws) ++ xs) (bits-at place width h)
-      ∙ sym (take-add place width (bits_of_words ws))
-
   pub words-at_least : 20 ≤ length ws
   words-at_least = let a = count.at_least in let b = count.padding in omega arith
 
-  -- what is left of the digits behind the padding is whole bytes
+  -- the value takes the words behind the first four, and before the last three
   value-whole : padding_length (length ws) + 8 * byte_count (length ws) ≡ 10 * (length ws - 7)
   value-whole = let a = count.at_least in let b = count.padding in omega arith
 
-  count-even : byte_count (length ws) % 2 ≡ 0
-  count-even = let a = count.at_least in let b = count.padding in omega arith
+  -- a byte of the value
+  pub value_byte : (i : ℕ) → i < length (share_value_at ws) → get_or (share_value_at ws) i 0 ≡ number_at ws (40 + padding_length (length ws) + 8 * i) 8
+  value_byte i within =
+      let p = padding_length (length ws) in
+      let m = byte_count (length ws) in
+      let e : 8 * (m - 1 - i) ≡ 8 * m - 8 * i - 8 = omega arith in
+      digit_at 8 m (number_at ws (40 + p) (8 * m)) i (omega (arith, length-value ws))
+      ∙ ap (λ k. number_at ws (40 + p) (8 * m) / 2 ^ k % 2 ^ 8) e
+      ∙ number_at-inner ws (40 + p) (8 * m) (8 * i) 8 (omega (arith, length-value ws)) (omega (arith, value-whole, words-at_least))
 
-  value-room : 8 * byte_count (length ws) ≤ length (drop (40 + padding_length (length ws)) (bits_of_words ws))
-  value-room = omega (arith, length-drop (40 + padding_length (length ws)) (bits_of_words ws), length-bits_of_words, value-whole, words-at_least)
+  value_words-is : value_words (length (share_value_at ws)) ≡ length ws - 7
+  value_words-is = let b = count.padding in omega (arith, length-value ws, value-whole)
 
-  pub length-share_value_at : length (share_value_at ws) ≡ byte_count (length ws)
-  length-share_value_at = length-pieces 8 (byte_count (length ws)) (drop (40 + padding_length (length ws)) (bits_of_words ws))
-
-  pub is_value : IsValue (share_value_at ws)
+  is_value : IsValue (share_value_at ws)
   is_value =
       let a = count.at_least in
       let b = count.at_most in
       let c = count.padding in
       record {
-        bytes = pieces-below 8 (byte_count (length ws)) (drop (40 + padding_length (length ws)) (bits_of_words ws))
-            (All-drop (λ b. b < 2) (40 + padding_length (length ws)) (bits_of_words ws) (joined-below 10 ws)) value-room;
+        bytes = digits-below 8 (byte_count (length ws)) (number_at ws (40 + padding_length (length ws)) (8 * byte_count (length ws)));
         count = (
-          ap (λ n. n % 2) length-share_value_at ∙ count-even,
-          omega (arith, length-share_value_at, value-whole),
-          omega (arith, length-share_value_at, value-whole),
+          omega (arith, length-value ws, value-whole),
+          omega (arith, length-value ws, value-whole),
+          omega (arith, length-value ws, value-whole),
         );
       }
 
+  at-below : (place width : ℕ) → number_at ws place width < 2 ^ width
+  at-below place width = mod_below (number_of 10 ws / 2 ^ (10 * length ws - place - width)) (2 ^ width) (pow_pos width)
+
   -- the fields in the words are in their ranges, but for the thresholds
   pub is_share : stored_group_threshold ws ≤ stored_group_count ws → IsShare (fields_at ws)
-  is_share le =
-      let room = words-at_least in
-      record {
-        id = number_at-below 0 15 (omega arith);
-        exponent = number_at-below 16 4 (omega arith);
-        group_index = number_at-below 20 4 (omega arith);
-        group_threshold = omega arith;
-        threshold_in_count = omega arith;
-        group_count = omega (arith, number_at-below 28 4 (omega arith));
-        member_index = number_at-below 32 4 (omega arith);
-        member_threshold = omega arith;
-        member_threshold_in_range = omega (arith, number_at-below 36 4 (omega arith));
-        value = is_value;
-      }
+  is_share le = record {
+    id = at-below 0 15;
+    exponent = at-below 16 4;
+    group_index = at-below 20 4;
+    group_threshold = omega arith;
+    threshold_in_count = omega arith;
+    group_count = omega (arith, at-below 28 4);
+    member_index = at-below 32 4;
+    member_threshold = omega arith;
+    member_threshold_in_range = omega (arith, at-below 36 4);
+    value = is_value;
+  }
 
-  flag-bit : (n : ℕ) → n < 2 → flag_bit (n == 1) ≡ n
-  flag-bit n l = grind (arith, nat_tests)
+  module _ (all : All IsIndex ws) where
+    abbrev number : ℕ
+    number = number_of 10 ws
 
-  module _ (padding : All (λ b. b ≡ 0) (padding_of ws)) where
-    header-is : header_bits (fields_at ws) ≡ take 40 (bits_of_words ws)
+    -- the number down to some bit, from that down to a higher one and a field
+    down_to : (place width x a : ℕ) → place + width ≤ 10 * length ws → a ≡ number / 2 ^ (10 * length ws - place) → x ≡ number_at ws place width
+        → a * 2 ^ width + x ≡ number / 2 ^ (10 * length ws - (place + width))
+    down_to place width x a within p q =
+        let j = 10 * length ws - (place + width) in
+        let above : 10 * length ws - place ≡ j + width = omega arith in
+        let here : 10 * length ws - place - width ≡ j = omega arith in
+        let high = p ∙ ap (λ k. number / 2 ^ k) above ∙ sym (shr-shr number j width) in
+        let low = q ∙ ap (λ k. number / 2 ^ k % 2 ^ width) here in
+        ap (λ n. n * 2 ^ width + x) high ∙ ap (λ n. number / 2 ^ j / 2 ^ width * 2 ^ width + n) low ∙ shr_split (number / 2 ^ j) width
+
+    header-is : header_number (fields_at ws) ≡ number / 2 ^ (10 * length ws - 40)
     header-is =
-        let room = words-at_least in
-        let B = bits_of_words ws in
-        chained B (bits 15 (number_at ws 0 15)) (bits 1 (flag_bit (flag_of ws))) (bits 4 (number_at ws 16 4)) (bits 4 (number_at ws 20 4))
-        (bits 4 (stored_group_threshold ws + 1 - 1)) (bits 4 (stored_group_count ws + 1 - 1)) (bits 4 (number_at ws 32 4))
-        (bits 4 (number_at ws 36 4 + 1 - 1))
-        (joins 0 15 (number_at ws 0 15) (omega arith) refl)
-        (joins 15 1 (flag_bit (flag_of ws)) (omega arith) (flag-bit (number_at ws 15 1) (number_at-below 15 1 (omega arith))))
-        (joins 16 4 (number_at ws 16 4) (omega arith) refl)
-        (joins 20 4 (number_at ws 20 4) (omega arith) refl)
-        (joins 24 4 (stored_group_threshold ws + 1 - 1) (omega arith) (omega arith))
-        (joins 28 4 (stored_group_count ws + 1 - 1) (omega arith) (omega arith))
-        (joins 32 4 (number_at ws 32 4) (omega arith) refl)
-        (joins 36 4 (number_at ws 36 4 + 1 - 1) (omega arith) (omega arith))
+        let long = words-at_least in
+        let whole : 10 * length ws ≡ 10 * length ws - 0 = omega arith in
+        let none = sym (div-eq_of_lt (number-below 10 ws all)) ∙ ap (λ k. number / 2 ^ k) whole in
+        let flag : flag_bit (flag_of ws) ≡ number_at ws 15 1 =
+        ap flag_bit (flag_at ws all (omega arith)) ∙ flag-bit (number_at ws 15 1) (at-below 15 1) in
+        down_to 36 4 _ _ (omega arith) (down_to 32 4 _ _ (omega arith) (down_to 28 4 _ _ (omega arith) (down_to 24 4 _ _ (omega arith)
+        (down_to 20 4 _ _ (omega arith) (down_to 16 4 _ _ (omega arith) (down_to 15 1 _ _ (omega arith) (down_to 0 15 _ _ (omega arith) none refl) flag)
+        refl) refl) (omega arith)) (omega arith)) refl) (omega arith)
 
-    padding-count : padding_before (length (share_value_at ws)) ≡ padding_length (length ws)
-    padding-count =
-        let a = count.padding in
-        let e : padding_before (length (share_value_at ws)) ≡ padding_before (byte_count (length ws)) = ap padding_before length-share_value_at in
-        e ∙ omega (arith, value-whole, words-at_least)
+    module _ (padding : padding_of ws ≡ 0) where
+      value-is : number_of 8 (share_value_at ws) ≡ number_at ws 40 (10 * (length ws - 7))
+      value-is =
+          let p = padding_length (length ws) in
+          let size = byte_count (length ws) in
+          let j = 10 * length ws - (40 + p) - 8 * size in
+          let whole : 10 * (length ws - 7) ≡ p + 8 * size = sym value-whole in
+          let low : 10 * length ws - 40 - (p + 8 * size) ≡ j = omega arith in
+          let high : j + 8 * size ≡ 10 * length ws - 40 - p = omega (arith, value-whole, words-at_least) in
+          let zero : 0 * 2 ^ (8 * size) + number / 2 ^ j % 2 ^ (8 * size) ≡ number / 2 ^ j % 2 ^ (8 * size) = omega arith in
+          let none : number / 2 ^ j / 2 ^ (8 * size) % 2 ^ p ≡ 0 =
+          ap (λ n. n % 2 ^ p) (shr-shr number j (8 * size) ∙ ap (λ k. number / 2 ^ k) high) ∙ padding in
+          number-digits 8 size (number_at ws (40 + p) (8 * size)) ∙ mod-eq_of_lt (at-below (40 + p) (8 * size))
+          ∙ sym (ap (λ b. number / 2 ^ (10 * length ws - 40 - b) % 2 ^ b) whole ∙ ap (λ k. number / 2 ^ k % 2 ^ (p + 8 * size)) low
+          ∙ mod-pow-add (number / 2 ^ j) p (8 * size) ∙ ap (λ n. n * 2 ^ (8 * size) + number / 2 ^ j % 2 ^ (8 * size)) none ∙ zero)
 
-    length-padding_of : length (padding_of ws) ≡ padding_length (length ws)
-    length-padding_of =
-        let a = count.padding in
-        length-take-le (padding_length (length ws)) (drop 40 (bits_of_words ws))
-        (omega (arith, length-drop 40 (bits_of_words ws), length-bits_of_words, words-at_least))
+      -- the words are the data words of those fields, and the last three
+      pub data_words-are : data_words (fields_at ws) ++ drop (length ws - 3) ws ≡ ws
+      data_words-are =
+          let long = words-at_least in
+          let front = take (length ws - 3) ws in
+          let back = drop (length ws - 3) ws in
+          let length-front : length front ≡ length ws - 3 = length-take-le (length ws - 3) ws (omega arith) in
+          let three : 10 * length back ≡ 30 = omega (arith, length-drop (length ws - 3) ws) in
+          let below : number_of 10 back < 2 ^ 30 = subst (λ k. number_of 10 back < 2 ^ k) three (number-below 10 back (All-drop IsIndex (length ws - 3) ws all)) in
+          let size : 4 + value_words (length (share_value_at ws)) ≡ length front = omega (arith, value_words-is, length-front) in
+          let bits : 10 * value_words (length (share_value_at ws)) ≡ 10 * (length ws - 7) = ap (λ k. 10 * k) value_words-is in
+          let end : 10 * length ws - (40 + 10 * (length ws - 7)) ≡ 30 = omega arith in
+          let same : share_number (fields_at ws) ≡ number_of 10 front =
+          ap (λ b. header_number (fields_at ws) * 2 ^ b + number_of 8 (share_value_at ws)) bits
+          ∙ down_to 40 (10 * (length ws - 7)) _ _ (omega arith) header-is value-is ∙ ap (λ k. number / 2 ^ k) end
+          ∙ ap (λ xs. number_of 10 xs / 2 ^ 30) (sym (take-append-drop (length ws - 3) ws)) ∙ ap (λ n. n / 2 ^ 30) (number-append 10 front back
+          ∙ ap (λ k. number_of 10 front * 2 ^ k + number_of 10 back) three)
+          ∙ shr_high (number_of 10 front) 30 (number_of 10 back) below in
+          ap (λ xs. xs ++ back) (ap (λ k. digits 10 k (share_number (fields_at ws))) size ∙ ap (digits 10 (length front)) same
+          ∙ digits-number 10 front (All-take IsIndex (length ws - 3) ws all))
+          ∙ take-append-drop (length ws - 3) ws
 
-    padding-is : padding_bits (length (value_bits (share_value_at ws))) ≡ padding_of ws
-    padding-is =
-        ap padding_bits (length-joined 8 (share_value_at ws))
-        ∙ ap (λ n. replicate n 0) (padding-count ∙ sym length-padding_of)
-        ∙ sym (all_zeros (padding_of ws) padding)
+-- ---- the words, written one field after another
 
-    value-is : value_bits (share_value_at ws) ≡ take (8 * byte_count (length ws)) (drop (40 + padding_length (length ws)) (bits_of_words ws))
-    value-is = joined-pieces 8 (byte_count (length ws)) (drop (40 + padding_length (length ws)) (bits_of_words ws))
-        (All-drop (λ b. b < 2) (40 + padding_length (length ws)) (bits_of_words ws) (joined-below 10 ws)) value-room
+-- what is written once the first i bytes of the value are
+abbrev pub written_until : ShareFields → ℕ → Bits
+written_until f i =
+    let padding = 10 * value_words (length f.value.items) - 8 * length f.value.items in
+    bits_with (record { count = 40; number = header_number f }) (padding + 8 * i) (number_of 8 (take i f.value.items))
 
-    digits-are : digits (fields_at ws) ≡ take (10 * (length ws - 3)) (bits_of_words ws)
-    digits-are =
-        let n : 40 + padding_length (length ws) + 8 * byte_count (length ws) ≡ 10 * (length ws - 3) = omega (arith, value-whole, words-at_least) in
-        ap (λ xs. xs ++ padding_bits (length (value_bits (share_value_at ws))) ++ value_bits (share_value_at ws)) header-is
-        ∙ ap (λ xs. take 40 (bits_of_words ws) ++ xs ++ value_bits (share_value_at ws)) padding-is
-        ∙ ap (λ xs. xs ++ value_bits (share_value_at ws)) (sym (take-add 40 (padding_length (length ws)) (bits_of_words ws)))
-        ∙ ap (λ xs. take (40 + padding_length (length ws)) (bits_of_words ws) ++ xs) value-is
-        ∙ sym (take-add (40 + padding_length (length ws)) (8 * byte_count (length ws)) (bits_of_words ws))
-        ∙ ap (λ k. take k (bits_of_words ws)) n
+-- two fields are as good as one
+bits_with-more : (bits : Bits) (v w x y : ℕ) → bits_with (bits_with bits v x) w y ≡ bits_with bits (v + w) (x * 2 ^ w + y)
+bits_with-more bits v w x y =
+    let count : bits.count + v + w ≡ bits.count + (v + w) = omega arith in
+    let number : (bits.number * 2 ^ v + x) * 2 ^ w + y ≡ bits.number * 2 ^ (v + w) + (x * 2 ^ w + y) = rw (pow-add 2 v w) (omega arith) in
+    ap (λ n. record { count = n; number = (bits.number * 2 ^ v + x) * 2 ^ w + y }) count
+    ∙ ap (λ n. record { count = bits.count + (v + w); number = n }) number
 
-    -- the words are the data words of those fields, and the last three
-    pub data_words-are : All IsIndex ws → data_words (fields_at ws) ++ drop (length ws - 3) ws ≡ ws
-    data_words-are h =
-        ap (λ ds. cut_in_tens ds ++ drop (length ws - 3) ws) (digits-are ∙ take-joined 10 (length ws - 3) ws (omega arith))
-        ∙ ap (λ xs. xs ++ drop (length ws - 3) ws) (cut-joined (take (length ws - 3) ws) (All-take IsIndex (length ws - 3) ws h))
-        ∙ take-append-drop (length ws - 3) ws
+pub written_more : (f : ShareFields) (i byte : ℕ) → i < length f.value.items → byte ≡ get_or f.value.items i 0
+    → bits_with (written_until f i) 8 byte ≡ written_until f (i + 1)
+written_more f i byte within is =
+    let padding = 10 * value_words (length f.value.items) - 8 * length f.value.items in
+    let header : Bits = record { count = 40; number = header_number f } in
+    let e : padding + 8 * i + 8 ≡ padding + 8 * (i + 1) = omega arith in
+    bits_with-more header (padding + 8 * i) 8 (number_of 8 (take i f.value.items)) byte
+    ∙ ap (λ n. bits_with header n (number_of 8 (take i f.value.items) * 2 ^ 8 + byte)) e
+    ∙ ap (λ b. bits_with header (padding + 8 * (i + 1)) (number_of 8 (take i f.value.items) * 2 ^ 8 + b)) is
+    ∙ ap (bits_with header (padding + 8 * (i + 1))) (sym (number_more 256 f.value.items i within))
 
--- ---- the padding, as one number
-module _ (ws : List ℕ) where
-  padding-below : All (λ b. b < 2) (padding_of ws)
-  padding-below = All-take (λ b. b < 2) (padding_length (length ws)) (drop 40 (bits_of_words ws))
-      (All-drop (λ b. b < 2) 40 (bits_of_words ws) (joined-below 10 ws))
-
-  pub padding_from_number : number_at ws 40 (padding_length (length ws)) ≡ 0 → All (λ b. b ≡ 0) (padding_of ws)
-  padding_from_number e = zeros_from_number (padding_of ws) padding-below e
-
-  pub number_from_padding : All (λ b. b ≡ 0) (padding_of ws) → number_at ws 40 (padding_length (length ws)) ≡ 0
-  number_from_padding h = number_from_zeros (padding_of ws) h
-
--- ---- the digits of a share, written one field after another
-module _ (f : ShareFields) where
-  written-padding : (n : ℕ) → n ≡ length f.value.items → bits ((10 - 8 * n % 10) % 10) 0 ≡ padding_bits (length (value_bits f.value.items))
-  written-padding n e =
-      bits-zeros ((10 - 8 * n % 10) % 10) ∙ ap (λ k. replicate ((10 - k % 10) % 10) 0) (ap (λ k. 8 * k) e ∙ sym (length-value f))
-
-  -- what is written before the value
-  abbrev pub before : List ℕ
-  before = header_bits f ++ padding_bits (length (value_bits f.value.items))
-
-  -- what is written once the first i bytes of the value are
-  abbrev pub written_until : ℕ → List ℕ
-  written_until i = before ++ value_bits (take i f.value.items)
-
-  pub written-none : (digits : List ℕ) (n : ℕ) → n ≡ length f.value.items → digits ≡ header_bits f ++ bits ((10 - 8 * n % 10) % 10) 0 → digits ≡ written_until 0
-  written-none digits n e d = d ∙ ap (λ ds. header_bits f ++ ds) (written-padding n e) ∙ sym (append-nil (before))
-
-  pub written-room : (i : ℕ) → IsShare f → i < length f.value.items → length (written_until i) + 8 ≤ 1070
-  written-room i ok l =
-      let high : length f.value.items ≤ 128 = ok.value.count.2 in
-      omega (
-        arith,
-        length-append (before) (value_bits (take i f.value.items)),
-        length-append (header_bits f)
-            (padding_bits (length (value_bits f.value.items))),
-        length-header f,
-        length-padding f,
-        length-joined 8 (take i f.value.items),
-        length-take-le i f.value.items (omega arith),
-      )
-
-  pub written-all : (i : ℕ) → length f.value.items ≤ i → cut_in_tens (written_until i) ≡ data_words f
-  written-all i l = ap (λ bs. cut_in_tens (before ++ value_bits bs)) (take_all i f.value.items l)
+pub written-all : (f : ShareFields) (i : ℕ) → i ≡ length f.value.items
+    → digits 10 ((written_until f i).count / 10) (written_until f i).number ≡ data_words f
+written-all f i all =
+    let rest = value_words (length f.value.items) in
+    let padding = 10 * rest - 8 * length f.value.items in
+    let e : padding + 8 * i ≡ 10 * rest = omega arith in
+    let count : (40 + 10 * rest) / 10 ≡ 4 + rest = omega arith in
+    ap (λ xs. digits 10 ((40 + (padding + 8 * i)) / 10) (with_field (header_number f) (padding + 8 * i, number_of 8 xs)))
+    (take_all i f.value.items (omega arith))
+    ∙ ap (λ k. digits 10 ((40 + k) / 10) (with_field (header_number f) (k, number_of 8 f.value.items))) e
+    ∙ ap (λ n. digits 10 n (share_number f)) count

@@ -1,110 +1,115 @@
--- Lists of binary digits: the number that they write, and their pieces of one width.
-use Rattle.std.proofs.Common.{◌≡◌, ℕ, zero, suc, ◌+◌, ◌*◌, ◌/◌, ◌%◌, ◌^◌, ◌<◌, List, [], ◌∷◌, ◌++◌, length, replicate}
-use Rattle.std.proofs.Common.{refl, sym, ap, ◌∙◌, arith, one-add, All, subst}
-use Rattle.std.proofs.Math.Nat.{pow-zero, pow-suc, mod-eq_of_lt}
-use Rattle.std.specs.Int.{bit_at}
-use Rattle.std.specs.Int.Digits.{number_from_digits, number_from_digits_after}
-use Rattle.std.proofs.lemmas.Int.Digits.{number_lt}
-use Rattle.std.proofs.lemmas.Nat.{mod-pow-add, shr-shr, shr_high}
-use Rattle.std.proofs.lemmas.Nat.Bits.{bit_at_cat_low, bit_at-lt, bit_at-zero}
-use Rattle.std.proofs.lemmas.List.Elements.{All-cons, All-nil, All-head, All-tail, recursion_from_All}
-use Rattle.s39_words.specs.Bits.{bits}
+-- Digits of some bits each, and the number that they write.
+use Rattle.std.proofs.Common.{◌≡◌, ℕ, zero, suc, ◌+◌, ◌-◌, ◌*◌, ◌/◌, ◌%◌, ◌^◌, ◌<◌, ◌≤◌, List, [], ◌∷◌, ◌++◌, length}
+use Rattle.std.proofs.Common.{get_or, refl, sym, ap, ◌∙◌, arith, All, subst}
+use Rattle.std.specs.Int.Digits.{number_from_digits_after}
+use Rattle.std.proofs.lemmas.Int.Digits.{number_after_append}
+use Rattle.std.proofs.lemmas.Nat.{pow-add, pow_pos, mod-pow-add, mod_below, mul-add-lt, same_from_place, shr-shr, shr_high, shr_split, field_of}
+use Rattle.std.proofs.lemmas.List.{length-append}
+use Rattle.std.proofs.Math.Nat.{mod-eq_of_lt, mul-add-mod_self_right}
+use Rattle.std.proofs.lemmas.List.Elements.{All-cons, All-nil, All-head, All-tail}
+use Rattle.s39_words.specs.Layout.{IsIndex}
+use Rattle.s39_words.specs.Digits.{digits, number_of}
+use Rattle.s39_words.specs.Reading.{number_at}
 
--- ---- the digits of one number
+pub length-digits : (w k n : ℕ) → length (digits w k n) ≡ k
+length-digits w zero n = refl
+length-digits w (suc k) n = ap suc (length-digits w k n)
 
-pub length-bits : (w n : ℕ) → length (bits w n) ≡ w
-length-bits zero n = refl
-length-bits (suc w) n = ap suc (length-bits w n)
+pub digits-below : (w k n : ℕ) → All (λ d. d < 2 ^ w) (digits w k n)
+digits-below w zero n = All-nil (λ d. d < 2 ^ w)
+digits-below w (suc k) n = All-cons (λ d. d < 2 ^ w) _ (digits w k n) (mod_below (n / 2 ^ (w * k)) (2 ^ w) (pow_pos w)) (digits-below w k n)
 
-pub bits-below : (w n : ℕ) → All (λ b. b < 2) (bits w n)
-bits-below zero n = All-nil (λ b. b < 2)
-bits-below (suc w) n = All-cons (λ b. b < 2) (bit_at n w) (bits w n) (bit_at-lt n w) (bits-below w n)
+-- one digit more has w bits more
+shift : (w k n : ℕ) → n * 2 ^ (w * suc k) ≡ n * 2 ^ w * 2 ^ (w * k)
+shift w k n = let e : w * suc k ≡ w + w * k = omega arith in rw (e, pow-add 2 w (w * k)) (omega arith)
 
--- digits that are the same at each place
-bits_same : (w a b : ℕ) → ((i : ℕ) → i < w → bit_at a i ≡ bit_at b i) → bits w a ≡ bits w b
-bits_same zero a b h = refl
-bits_same (suc w) a b h =
-    ap (λ d. d ∷ bits w a) (h w (omega arith)) ∙ ap (λ ds. bit_at b w ∷ ds) (bits_same w a b (λ i l. h i (omega arith)))
+-- digits behind a number
+number_behind : (w n : ℕ) (ds : List ℕ) → number_from_digits_after (2 ^ w) n ds ≡ n * 2 ^ (w * length ds) + number_of w ds
+number_behind w n [] = let e : w * 0 ≡ 0 = omega arith in rw e (omega arith)
+number_behind w n (d ∷ ds) =
+    omega (arith, number_behind w (n * 2 ^ w + d) ds, number_behind w (0 * 2 ^ w + d) ds, shift w (length ds) n)
 
--- digits in two parts
-pub bits_parts : (w v n : ℕ) → bits (w + v) n ≡ bits w (n / 2 ^ v) ++ bits v n
-bits_parts zero v n = let e : 0 + v ≡ v = omega arith in ap (λ k. bits k n) e
-bits_parts (suc w) v n =
-    let e : suc w + v ≡ suc (w + v) = omega arith in
-    let s : v + w ≡ w + v = omega arith in
-    let at : bit_at n (w + v) ≡ bit_at (n / 2 ^ v) w = sym (ap (λ x. x % 2) (shr-shr n v w ∙ ap (λ k. n / 2 ^ k) s)) in
-    ap (λ k. bits k n) e ∙ ap (λ d. d ∷ bits (w + v) n) at ∙ ap (λ ds. bit_at (n / 2 ^ v) w ∷ ds) (bits_parts w v n)
+pub number-append : (w : ℕ) (xs ys : List ℕ) → number_of w (xs ++ ys) ≡ number_of w xs * 2 ^ (w * length ys) + number_of w ys
+number-append w xs ys = number_after_append (2 ^ w) 0 xs ys ∙ number_behind w (number_of w xs) ys
 
--- the lowest digits do not depend on the others
-pub bits_low : (v a b : ℕ) → bits v (a * 2 ^ v + b) ≡ bits v b
-bits_low v a b = bits_same v (a * 2 ^ v + b) b (λ i l. bit_at_cat_low a v b i l)
+pub number-cons : (w d : ℕ) (ds : List ℕ) → number_of w (d ∷ ds) ≡ d * 2 ^ (w * length ds) + number_of w ds
+number-cons w d ds = let e : 0 * 2 ^ w + d ≡ d = omega arith in rw e at (number-append w (d ∷ []) ds)
 
--- the digits of a number shifted and added to
-pub bits_join : (w v a b : ℕ) → b < 2 ^ v → bits (w + v) (a * 2 ^ v + b) ≡ bits w a ++ bits v b
-bits_join w v a b h =
-    bits_parts w v (a * 2 ^ v + b) ∙ ap (λ n. bits w n ++ bits v (a * 2 ^ v + b)) (shr_high a v b h) ∙ ap (λ ds. bits w a ++ ds) (bits_low v a b)
+pub number-below : (w : ℕ) (ds : List ℕ) → All (λ d. d < 2 ^ w) ds → number_of w ds < 2 ^ (w * length ds)
+number-below w [] all = let e : w * 0 ≡ 0 = omega arith in rw e (omega arith)
+number-below w (d ∷ ds) all =
+    let e : w * suc (length ds) ≡ w * length ds + w = omega arith in
+    rw (number-cons w d ds, e, pow-add 2 (w * length ds) w)
+    (mul-add-lt d (2 ^ (w * length ds)) (number_of w ds) (2 ^ w) (All-head (λ d. d < 2 ^ w) d ds all) (number-below w ds (All-tail (λ d. d < 2 ^ w) d ds all)))
 
--- ---- the number that digits write
+pub number-digits : (w k n : ℕ) → number_of w (digits w k n) ≡ n % 2 ^ (w * k)
+number-digits w zero n = let e : w * 0 ≡ 0 = omega arith in rw e (omega arith)
+number-digits w (suc k) n =
+    let e : w * suc k ≡ w + w * k = omega arith in
+    rw (number-cons w _ (digits w k n), length-digits w k n, number-digits w k n, e) (sym (mod-pow-add n w (w * k)))
 
-number_after : (b n : ℕ) (ds : List ℕ) → number_from_digits_after b n ds ≡ n * b ^ length ds + number_from_digits b ds
-number_after b n [] = let e : n ≡ n * b ^ 0 + 0 = omega (arith, ap (λ x. n * x) (pow-zero b)) in e
-number_after b n (d ∷ ds) =
-    let p : number_from_digits_after b (n * b + d) ds ≡ (n * b + d) * b ^ length ds + number_from_digits b ds = number_after b (n * b + d) ds in
-    let q : number_from_digits_after b (0 * b + d) ds ≡ (0 * b + d) * b ^ length ds + number_from_digits b ds = number_after b (0 * b + d) ds in
-    let m : n * b ^ suc (length ds) ≡ n * b * b ^ length ds = ap (λ x. n * x) (pow-suc b (length ds)) ∙ omega arith in
-    let e : number_from_digits_after b (n * b + d) ds ≡ n * b ^ suc (length ds) + number_from_digits_after b (0 * b + d) ds = omega (arith, p, q, m) in
-    e
+-- as many digits, each of w bits, that write one number are the same
+same_digits : (w : ℕ) (xs ys : List ℕ) → length xs ≡ length ys → All (λ d. d < 2 ^ w) xs → All (λ d. d < 2 ^ w) ys → number_of w xs ≡ number_of w ys → xs ≡ ys
+same_digits w [] [] n p q e = refl
+same_digits w [] (y ∷ ys) n p q e = absurd (omega arith)
+same_digits w (x ∷ xs) [] n p q e = absurd (omega arith)
+same_digits w (x ∷ xs) (y ∷ ys) n p q e =
+    let P : ℕ → Type 0 = λ d. d < 2 ^ w in
+    let m : length xs ≡ length ys = omega arith in
+    let below : number_of w xs < 2 ^ (w * length ys) = subst (λ k. number_of w xs < 2 ^ (w * k)) m (number-below w xs (All-tail P x xs p)) in
+    let both = same_from_place x (number_of w xs) y (number_of w ys) (2 ^ (w * length ys)) below (number-below w ys (All-tail P y ys q))
+    (ap (λ k. x * 2 ^ (w * k) + number_of w xs) (sym m) ∙ sym (number-cons w x xs) ∙ e ∙ number-cons w y ys) in
+    let rest = same_digits w xs ys m (All-tail P x xs p) (All-tail P y ys q) both.1 in
+    cc
 
-number-cons : (b d : ℕ) (ds : List ℕ) → number_from_digits b (d ∷ ds) ≡ d * b ^ length ds + number_from_digits b ds
-number-cons b d ds = number_after b (0 * b + d) ds ∙ ap (λ x. x * b ^ length ds + number_from_digits b ds) (omega arith)
+-- digits are those of the number that they write
+pub digits-number : (w : ℕ) (ds : List ℕ) → All (λ d. d < 2 ^ w) ds → digits w (length ds) (number_of w ds) ≡ ds
+digits-number w ds all =
+    same_digits w (digits w (length ds) (number_of w ds)) ds (length-digits w (length ds) (number_of w ds)) (digits-below w (length ds) (number_of w ds)) all
+    (number-digits w (length ds) (number_of w ds) ∙ mod-eq_of_lt (number-below w ds all))
 
-pub number-bits : (w n : ℕ) → number_from_digits 2 (bits w n) ≡ n % 2 ^ w
-number-bits zero n = let e : n % 2 ^ 0 ≡ 0 = omega arith in sym e
-number-bits (suc w) n =
-    number-cons 2 (bit_at n w) (bits w n)
-    ∙ ap (λ k. bit_at n w * 2 ^ k + number_from_digits 2 (bits w n)) (length-bits w n)
-    ∙ ap (λ x. bit_at n w * 2 ^ w + x) (number-bits w n)
-    ∙ sym (mod-pow-add n 1 w)
-    ∙ ap (λ k. n % 2 ^ k) (one-add w)
+-- ---- the number at a place
 
-pub number-bits-below : (w n : ℕ) → n < 2 ^ w → number_from_digits 2 (bits w n) ≡ n
-number-bits-below w n h = number-bits w n ∙ mod-eq_of_lt h
+-- bits from some place up don't reach those below
+pub low_field : (a k y m w : ℕ) → w + m ≤ k → (a * 2 ^ k + y) / 2 ^ m % 2 ^ w ≡ y / 2 ^ m % 2 ^ w
+low_field a k y m w within =
+    let e : k ≡ k - (w + m) + (w + m) = omega arith in
+    let whole : a * 2 ^ k ≡ a * 2 ^ (k - (w + m)) * 2 ^ (w + m) = ap (λ n. a * 2 ^ n) e ∙ rw (pow-add 2 (k - (w + m)) (w + m)) (omega arith) in
+    sym (field_of (a * 2 ^ k + y) w m)
+    ∙ ap (λ n. (n + y) % 2 ^ (w + m) / 2 ^ m) whole
+    ∙ ap (λ n. n / 2 ^ m) (mul-add-mod_self_right (a * 2 ^ (k - (w + m))) (2 ^ (w + m)) y)
+    ∙ field_of y w m
 
--- a number of so many digits
-pub number-below : (ds : List ℕ) → All (λ b. b < 2) ds → number_from_digits 2 ds < 2 ^ length ds
-number-below ds h = number_lt 2 ds (recursion_from_All (λ b. b < 2) ds h)
+-- the number at a place in some of the words is that of these words alone
+pub number_at-part : (xs ys zs : List ℕ) (at place width : ℕ) → All IsIndex zs → at ≡ 10 * length xs + place → place + width ≤ 10 * length ys
+    → number_at (xs ++ ys ++ zs) at width ≡ number_at ys place width
+number_at-part xs ys zs at place width below here within =
+    let m = 10 * length ys - place - width in
+    let b = 10 * length zs in
+    let e : 10 * length (xs ++ ys ++ zs) - at - width ≡ b + m = omega (arith, length-append (xs ++ ys) zs, length-append xs ys) in
+    let front : number_of 10 (xs ++ ys ++ zs) / 2 ^ b ≡ number_of 10 xs * 2 ^ (10 * length ys) + number_of 10 ys =
+    ap (λ n. n / 2 ^ b) (number-append 10 (xs ++ ys) zs) ∙ shr_high (number_of 10 (xs ++ ys)) b (number_of 10 zs) (number-below 10 zs below)
+    ∙ number-append 10 xs ys in
+    ap (λ k. number_of 10 (xs ++ ys ++ zs) / 2 ^ k % 2 ^ width) e
+    ∙ ap (λ n. n % 2 ^ width) (sym (shr-shr (number_of 10 (xs ++ ys ++ zs)) b m) ∙ ap (λ n. n / 2 ^ m) front)
+    ∙ low_field (number_of 10 xs) (10 * length ys) (number_of 10 ys) m width (omega arith)
 
--- the digits of the number that digits write are those digits
-pub bits-number : (ds : List ℕ) → All (λ b. b < 2) ds → bits (length ds) (number_from_digits 2 ds) ≡ ds
-bits-number [] h = refl
-bits-number (d ∷ ds) h =
-    let head = All-head (λ b. b < 2) d ds h in
-    let tail = All-tail (λ b. b < 2) d ds h in
-    let one : bits 1 d ≡ d ∷ [] = ap (λ x. x ∷ []) (omega arith) in
-    ap (bits (suc (length ds))) (number-cons 2 d ds)
-    ∙ ap (λ k. bits k (d * 2 ^ length ds + number_from_digits 2 ds)) (sym (one-add (length ds)))
-    ∙ bits_join 1 (length ds) d (number_from_digits 2 ds) (number-below ds tail)
-    ∙ ap (λ xs. xs ++ bits (length ds) (number_from_digits 2 ds)) one
-    ∙ ap (λ xs. d ∷ xs) (bits-number ds tail)
+-- the digit at a place
+pub digit_at : (w k n i : ℕ) → i < k → get_or (digits w k n) i 0 ≡ n / 2 ^ (w * (k - 1 - i)) % 2 ^ w
+digit_at w zero n i within = absurd (omega arith)
+digit_at w (suc k) n zero within = let e : k ≡ suc k - 1 - 0 = omega arith in ap (λ j. n / 2 ^ (w * j) % 2 ^ w) e
+digit_at w (suc k) n (suc i) within =
+    let e : k - 1 - i ≡ suc k - 1 - suc i = omega arith in
+    digit_at w k n i (omega arith) ∙ ap (λ j. n / 2 ^ (w * j) % 2 ^ w) e
 
--- ---- digits that are all 0
-
-bits-zero : (w : ℕ) → All (λ b. b ≡ 0) (bits w 0)
-bits-zero zero = All-nil (λ b. b ≡ 0)
-bits-zero (suc w) = All-cons (λ b. b ≡ 0) (bit_at 0 w) (bits w 0) (bit_at-zero w) (bits-zero w)
-
-pub zeros_from_number : (ds : List ℕ) → All (λ b. b < 2) ds → number_from_digits 2 ds ≡ 0 → All (λ b. b ≡ 0) ds
-zeros_from_number ds h e =
-    let same : bits (length ds) 0 ≡ ds = ap (bits (length ds)) (sym e) ∙ bits-number ds h in
-    let P : List ℕ → Type 0 = All (λ b. b ≡ 0) in
-    subst P same (bits-zero (length ds))
-
-pub number_from_zeros : (ds : List ℕ) → All (λ b. b ≡ 0) ds → number_from_digits 2 ds ≡ 0
-number_from_zeros [] h = refl
-number_from_zeros (d ∷ ds) h =
-    let e : 0 * 2 + d ≡ 0 = omega (arith, All-head (λ b. b ≡ 0) d ds h) in
-    ap (λ n. number_from_digits_after 2 n ds) e ∙ number_from_zeros ds (All-tail (λ b. b ≡ 0) d ds h)
-
-pub bits-zeros : (w : ℕ) → bits w 0 ≡ replicate w 0
-bits-zeros zero = refl
-bits-zeros (suc w) = ap (λ d. d ∷ bits w 0) (bit_at-zero w) ∙ ap (λ ds. 0 ∷ ds) (bits-zeros w)
+-- the number at a place of a number at a place
+pub number_at-inner : (ws : List ℕ) (at room place width : ℕ) → place + width ≤ room → at + room ≤ 10 * length ws
+    → number_at ws at room / 2 ^ (room - place - width) % 2 ^ width ≡ number_at ws (at + place) width
+number_at-inner ws at room place width within inside =
+    let m = room - place - width in
+    let e = 10 * length ws - at - room in
+    let n = number_of 10 ws / 2 ^ e in
+    let s : e + m ≡ 10 * length ws - (at + place) - width = omega arith in
+    sym (low_field (n / 2 ^ room) room (n % 2 ^ room) m width (omega arith))
+    ∙ ap (λ k. k / 2 ^ m % 2 ^ width) (shr_split n room)
+    ∙ ap (λ k. k % 2 ^ width) (shr-shr (number_of 10 ws) e m ∙ ap (λ k. number_of 10 ws / 2 ^ k) s)

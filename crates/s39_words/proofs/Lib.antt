@@ -1,4 +1,5 @@
 pub mod WordTable
+pub mod RowNumbers
 pub mod WordSearch
 pub mod Beginnings
 pub mod Prefixes
@@ -9,16 +10,13 @@ pub mod CubicDivision
 pub mod Remainders
 pub mod Registers
 pub mod Digits
-pub mod Pieces
 pub mod DataWords
 pub mod TwoWords
 pub mod Written
 pub mod OneReading
-pub mod SharesRead
 pub mod Listed
 pub mod Joined
 pub mod Printed
-pub mod Existence
 pub mod WrongWords
 pub mod Mnemonics
 pub mod PrintedForms

@@ -1,9 +1,9 @@
--- The printed form of a share: that a text is it, and that there is one alone.
+-- The printed form of a share: that a text is it, that there is one, and that there is one alone.
 use Rattle.std.proofs.Common.{◌≡◌, ℕ, Bool, List, ◌++◌, length, refl, sym, ap, subst, ◌∙◌}
 use Rattle.std.specs.Prelude.{All, map}
 use Rattle.std.specs.List.{join_with_byte}
-use Rattle.std.proofs.lemmas.List.{take_at, drop_at}
-use Rattle.std.proofs.lemmas.List.Elements.{All-append, All-take, All-drop}
+use Rattle.std.proofs.lemmas.List.Elements.{All-append}
+use Rattle.s39_lists.proofs.Orders.{All-append_right}
 use Rattle.s39_words.specs.Layout.{IsIndex}
 use Rattle.s39_words.specs.declared.share.ShareFields.{ShareFields}
 use Rattle.s39_words.specs.Share.{IsShare, data_words}
@@ -11,7 +11,8 @@ use Rattle.s39_words.specs.Checksum.{IsValidChecksum}
 use Rattle.s39_words.specs.Spelling.{words_of, HaveIndices}
 use Rattle.s39_words.specs.Printing.{listed_word, IsPrinted}
 use Rattle.s39_words.proofs.Indices.{indices_below}
-use Rattle.s39_words.proofs.Remainders.{one_checksum}
+use Rattle.s39_words.proofs.DataWords.{data_words-below}
+use Rattle.s39_words.proofs.Remainders.{one_checksum, checksum_found}
 use Rattle.s39_words.proofs.Listed.{listed_words, HaveIndices-listed_words, words_from_indices}
 use Rattle.s39_words.proofs.Joined.{words_of-joined}
 
@@ -45,20 +46,20 @@ IsPrinted-from share flag words indices checksum text is_share flag_is data_is d
     (subst (λ (f : Bool). IsValidChecksum f (words ++ checksum)) flag_is valid))
     (text_is ∙ ap (λ (is : List ℕ). join_with_byte 32 (map listed_word is)) (indices_are ∙ ap (λ (d : List ℕ). d ++ checksum) data_is))
 
--- the parts of a list whose elements all fit
-All-parts : (xs ys : List ℕ) → All IsIndex (xs ++ ys) → All IsIndex xs × All IsIndex ys
-All-parts xs ys all = (
-  subst (λ (zs : List ℕ). All IsIndex zs) (take_at xs ys (length xs) refl) (All-take IsIndex (length xs) (xs ++ ys) all),
-  subst (λ (zs : List ℕ). All IsIndex zs) (drop_at xs ys (length xs) refl) (All-drop IsIndex (length xs) (xs ++ ys) all),
-)
+pub some_printed_form : (share : ShareFields) → IsShare share → (text : List ℕ) × IsPrinted text share
+some_printed_form share is =
+    let checksum = checksum_found share.extendable (data_words share) (data_words-below share) in
+    let text = join_with_byte 32 (map listed_word (data_words share ++ checksum.0)) in
+    (text, IsPrinted-joined share checksum.0 text is checksum.1 (data_words-below share) checksum.2 checksum.3 refl)
 
 pub one_printed_form : (share : ShareFields) (text other : List ℕ) → IsPrinted text share → IsPrinted other share → text ≡ other
 one_printed_form share text other p q =
     let a = words_from_indices (words_of text) (data_words share ++ p.spells.checksum) p.spells.words in
     let b = words_from_indices (words_of other) (data_words share ++ q.spells.checksum) q.spells.words in
-    let x = All-parts (data_words share) p.spells.checksum (indices_below (words_of text) (data_words share ++ p.spells.checksum) p.spells.words) in
-    let y = All-parts (data_words share) q.spells.checksum (indices_below (words_of other) (data_words share ++ q.spells.checksum) q.spells.words) in
-    let same = one_checksum share.extendable (data_words share) p.spells.checksum q.spells.checksum x.0 p.spells.checksum_words q.spells.checksum_words
-    x.1 y.1 p.spells.valid q.spells.valid in
+    let below = λ (c t : List ℕ) (h : HaveIndices (words_of t) (data_words share ++ c)). All-append_right IsIndex (data_words share) c
+    (indices_below (words_of t) (data_words share ++ c) h) in
+    let same = one_checksum share.extendable (data_words share) p.spells.checksum q.spells.checksum (data_words-below share)
+    p.spells.checksum_words q.spells.checksum_words (below p.spells.checksum text p.spells.words) (below q.spells.checksum other q.spells.words)
+    p.spells.valid q.spells.valid in
     let words : words_of text ≡ words_of other = a ∙ ap (λ (c : List ℕ). map listed_word (data_words share ++ c)) same ∙ sym b in
     p.single_spaces ∙ ap (join_with_byte 32) words ∙ sym q.single_spaces

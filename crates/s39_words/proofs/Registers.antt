@@ -1,6 +1,6 @@
 -- Division by the generator in one number: the register of thirty binary digits.
 use Rattle.std.proofs.Common.{◌≡◌, ℕ, zero, suc, ◌+◌, ◌*◌, ◌/◌, ◌%◌, ◌^◌, ◌<◌, [], ◌∷◌, get_or, refl, sym, ap, subst, ◌∙◌, ⊎_elim, arith, bit_and}
-use Rattle.std.specs.Prelude.{◌↔◌, All, bit_xor}
+use Rattle.std.specs.Prelude.{All, bit_xor}
 use Rattle.std.proofs.lemmas.Nat.{xor_block, xor_lt, and_mask, mod-pow-add, mod_below, pow_pos}
 use Rattle.std.proofs.lemmas.Bool.{cases_eq}
 use Rattle.std.proofs.lemmas.List.Elements.{All-nil, All-cons}
@@ -11,7 +11,7 @@ use Rattle.s39_field.specs.Field.{IsField}
 use Rattle.s39_field.specs.Theory.Powers.{word_field_is_field}
 use Rattle.s39_words.specs.declared.checksum.TheConstants.{GENERATOR_TIMES}
 use Rattle.s39_words.specs.Layout.{IsIndex, word_bits}
-use Rattle.s39_words.specs.Division.{Remainder, packed, unpacked, generator_times, next_remainder, one_remainder}
+use Rattle.s39_words.specs.Division.{Remainder, packed, unpacked, generator_times, next_remainder}
 use Rattle.s39_words.proofs.Remainders.{AreElements, AreElements-next}
 
 axioms : IsField word_field
@@ -182,9 +182,6 @@ module _ (bits c : ℕ) (l : bits < 2 ^ 30) (k : IsIndex c) (sum : ℕ) (e : sum
   stepped-below = subst (λ n. n < 2 ^ 30) (sym next-is) (packed-below (next_remainder (unpacked bits) c) next-elements)
 
 -- ---- what the code reads from a register
-
-pub holds_one : (bits : ℕ) → (bits ≡ 1) ↔ (unpacked bits ≡ one_remainder)
-holds_one bits = (λ e. ap unpacked e, λ e. sym (packed-unpacked bits) ∙ ap packed e)
 
 -- the three words of a checksum
 pub words-are : (bits : ℕ) → (bits / 1048576 ∷ bit_and (bits / 1024) 1023 ∷ bit_xor (bit_and bits 1023) 1 ∷ [])

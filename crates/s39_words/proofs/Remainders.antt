@@ -104,13 +104,6 @@ valid_from_remainder extendable words all =
     (All-append IsIndex (customization_string extendable) words k.1 all) in
     (λ m. last.0 (one.1 m), λ is. one.0 (last.1 is))
 
--- The same, with the two parts of the list divided one after the other.
-pub valid_after : (extendable : Bool) (words : List ℕ) (r : Remainder)
-    → r ≡ fold next_remainder (fold next_remainder one_remainder (customization_string extendable)) words → All IsIndex words
-    → IsValidChecksum extendable words ↔ (r ≡ one_remainder)
-valid_after extendable words r r-is all =
-    rw (r-is, ← fold-append next_remainder one_remainder (customization_string extendable) words) (valid_from_remainder extendable words all)
-
 xor_assoc : (a b c : ℕ) → bit_xor (bit_xor a b) c ≡ bit_xor a (bit_xor b c)
 xor_assoc a b c = word_axioms.add_associates a b c
 

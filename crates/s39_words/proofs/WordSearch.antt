@@ -1,7 +1,7 @@
 -- The index of a word in the list, from a binary search among the rows.
 use Rattle.std.proofs.Common.{◌≡◌, ℕ, zero, suc, ◌-◌, ◌<◌, List, [], ◌∷◌, ◌++◌, length, get_or, replicate, Some, None}
 use Rattle.std.proofs.Common.{Ok, Err, Result, refl, sym, ap, subst, ◌∙◌, ⊎_elim, arith}
-use Rattle.std.specs.Prelude.{◌≢◌, map, All, IsSome, position, bytes_eq}
+use Rattle.std.specs.Prelude.{◌≢◌, map, All, position, bytes_eq}
 use Rattle.std.specs.Str.{str_to_ascii_lowercase}
 use Rattle.std.specs.List.{position_or_len, AllWithin}
 use Rattle.std.specs.List.Sorted.{IsNonDecreasingBy, IsBinarySearchResult, IsSearchInRange}
@@ -15,7 +15,7 @@ use Rattle.std.proofs.lemmas.Bool.Decides.{nat_tests}
 use Rattle.std.proofs.lemmas.Nat.{be_bytes_8}
 use Rattle.std.specs.Int.{w64, from_be_bytes, to_be_bytes}
 use Rattle.std.proofs.lemmas.List.{get_or-map, length-map, length-append}
-use Rattle.std.proofs.lemmas.List.Elements.{All-nil, All-head, All-tail}
+use Rattle.std.proofs.lemmas.List.Elements.{All-head, All-tail}
 use Rattle.std.proofs.lemmas.List.Sorted.{searchable_from_sorted}
 use Rattle.std.proofs.lemmas.List.Sums.{position_or_len_is}
 use Rattle.std.proofs.lemmas.Slice.Eq.{bytes_eq-Decides}
@@ -23,7 +23,6 @@ use Rattle.s39_words.specs.Layout.{IsIndex, word_list_length}
 use Rattle.s39_words.specs.WordList.{word_list, index_of, IsLetter}
 use Rattle.s39_words.specs.Rows.{row_of, number_of_row, FitsRow}
 use Rattle.s39_words.specs.FirstWord.{BeginsInWord, BeginsWith}
-use Rattle.s39_words.specs.Reading.{IsFirstUnknown}
 use Rattle.s39_words.specs.Spelling.{words_of}
 use Rattle.s39_words.proofs.Rows.{length-row, row-bytes}
 use Rattle.s39_words.proofs.TextWords.{words_of_first, begins_somehow, some_from_begins}
@@ -159,22 +158,22 @@ found_in_list rows (Err j) i rows_are within e = cc
 
 -- ---- the first word of a text
 
--- a word that a text begins with, of which no index is known, is the first unknown one
+-- the first word of the text, of which no index is known
+abbrev BeginsUnknown : List ℕ → Type 0
+BeginsUnknown text = (word : List ℕ) × (later : List (List ℕ)) × (words_of text ≡ word ∷ later) × (index_of word ≡ None)
+
 first_is_unknown : (text word rest : List ℕ) → BeginsWith text word rest → BeginsInWord text → 0 < length text
-    → index_of (str_to_ascii_lowercase word) ≡ None → IsFirstUnknown (words_of text) 1
-first_is_unknown text word rest h begins some none = record {
-  before = [];
-  word = str_to_ascii_lowercase word;
-  after = words_of rest;
-  parts = words_of_first text word rest h (some_from_begins text word rest h begins some);
-  position_is = refl;
-  known = All-nil (λ w. IsSome (index_of w));
-  unknown = none;
-}
+    → index_of (str_to_ascii_lowercase word) ≡ None → BeginsUnknown text
+first_is_unknown text word rest h begins some none = (
+  str_to_ascii_lowercase word,
+  words_of rest,
+  words_of_first text word rest h (some_from_begins text word rest h begins some),
+  none,
+)
 
 -- it fits in no row
 pub unfit_is_unknown : (text : List ℕ) → BeginsInWord text → 0 < length text
-    → ((word rest : List ℕ) → BeginsWith text word rest → FitsRow (str_to_ascii_lowercase word) → ⊥) → IsFirstUnknown (words_of text) 1
+    → ((word rest : List ℕ) → BeginsWith text word rest → FitsRow (str_to_ascii_lowercase word) → ⊥) → BeginsUnknown text
 unfit_is_unknown text begins some unfit =
     let first = begins_somehow text in
     first_is_unknown text first.0 first.1 first.2 begins some (index_of_none (str_to_ascii_lowercase first.0) (unfit first.0 first.1 first.2))
@@ -182,7 +181,7 @@ unfit_is_unknown text begins some unfit =
 -- or isn't in the list
 pub unlisted_is_unknown : (text rest : List ℕ) (number : ℕ) → BeginsInWord text → 0 < length text
     → (word : List ℕ) × BeginsWith text word rest × FitsRow (str_to_ascii_lowercase word) × (number ≡ number_of_row (row_of (str_to_ascii_lowercase word)))
-    → ((word : List ℕ) → FitsRow word → number ≡ number_of_row (row_of word) → None ≡ index_of word) → IsFirstUnknown (words_of text) 1
+    → ((word : List ℕ) → FitsRow word → number ≡ number_of_row (row_of word) → None ≡ index_of word) → BeginsUnknown text
 unlisted_is_unknown text rest number begins some row none =
     first_is_unknown text row.0 rest row.1 begins some (sym (none (str_to_ascii_lowercase row.0) row.2 row.3))
 

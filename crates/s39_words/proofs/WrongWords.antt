@@ -1,6 +1,6 @@
 -- Two lists of words with a valid checksum that differ in three places at most are the same.
 use Rattle.std.proofs.Common.{◌≡◌, ◌≢◌, ℕ, zero, suc, ◌+◌, ◌-◌, ◌<◌, ◌≤◌, Bool, true, false, List, [], ◌∷◌, ◌++◌}
-use Rattle.std.proofs.Common.{length, refl, sym, ap, ap₂, subst, ◌∙◌, arith, Err}
+use Rattle.std.proofs.Common.{length, refl, sym, ap, ap₂, subst, ◌∙◌, arith, Result, Err}
 use Rattle.std.specs.Prelude.{All, AllPairs, bit_xor, ◌==◌, if◌then◌else◌}
 use Rattle.std.proofs.lemmas.Bool.{eqb-true, eq-eqb}
 use Rattle.std.proofs.lemmas.List.{length-append}
@@ -19,11 +19,14 @@ use Rattle.s39_field.specs.Theory.Powers.{word_field_is_field}
 use Rattle.s39_field.proofs.Values.{add_of_sums, same_from_sum, mul-zero_left, value_at-sum}
 use Rattle.s39_words.specs.Layout.{IsIndex, most_words}
 use Rattle.s39_words.specs.Checksum.{generator, customization_string, one_added_to_last, checked_polynomial, IsValidChecksum}
-use Rattle.s39_words.specs.Reading.{IsWordCount, flag_of, Reads}
+use Rattle.s39_words.specs.Reading.{IsWordCount, flag_of, reading, Reads}
+use Rattle.s39_words.specs.declared.share.ShareFields.{ShareFields}
+use Rattle.s39_words.specs.declared.word_error.WordError.{WordError}
 use Rattle.s39_words.specs.declared.word_error.WordError.TheVariants.{BadChecksum}
 use Rattle.s39_words.specs.Mistyping.{most_wrong_words, count_of_differences, IsMnemonic, IsMistyped}
 use Rattle.s39_words.specs.Spelling.{words_of}
 use Rattle.s39_words.proofs.Indices.{indices_below, at_most_words}
+use Rattle.s39_words.proofs.OneReading.{read_invalid}
 use Rattle.s39_words.proofs.Remainders.{customization}
 
 axioms : IsField word_field
@@ -236,11 +239,12 @@ module _ (extendable : Bool) (vs ws : List ℕ) (same_count : length vs ≡ leng
 -- A mistyped mnemonic is read as one with a bad checksum.
 pub bad_checksum : (text mnemonic : List ℕ) → IsMnemonic mnemonic → IsMistyped text mnemonic → Reads text (Err BadChecksum)
 bad_checksum text mnemonic is m =
-    let count = subst IsWordCount (sym m.same_count) is.count in (
-      m.words,
-      record { known = m.known; count = count },
-      λ valid.
-          not_both_valid (flag_of mnemonic) m.words mnemonic m.same_count (indices_below (words_of text) m.words m.known) is.in_list
-          (subst (λ f. IsValidChecksum f m.words) m.same_flag valid) is.checksum
-          (at_most_words (length m.words) count) m.wrong m.few,
-    )
+    let count = subst IsWordCount (sym m.same_count) is.count in
+    read_invalid text m.words m.known count (λ valid.
+    not_both_valid (flag_of mnemonic) m.words mnemonic m.same_count (indices_below (words_of text) m.words m.known) is.in_list
+    (subst (λ f. IsValidChecksum f m.words) m.same_flag valid) is.checksum
+    (at_most_words (length m.words) count) m.wrong m.few)
+
+pub found_mistyped : {text : List ℕ} {r : Result ShareFields WordError} → reading text ≡ r → (mnemonic : List ℕ) → IsMnemonic mnemonic
+    → IsMistyped text mnemonic → r ≡ Err BadChecksum
+found_mistyped {text} read mnemonic is mistyped = sym read ∙ bad_checksum text mnemonic is mistyped

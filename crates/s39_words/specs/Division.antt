@@ -1,8 +1,8 @@
 -- Long division of a list of coefficients by the generator of the checksum, and its remainder as one number. A law
 -- cites `generator_times` and `packed`; no other public contract cites any of these.
-use Rattle.std.specs.Prelude.{ℕ, ◌+◌, ◌*◌, ◌/◌, ◌%◌, ◌^◌}
+use Rattle.std.specs.Prelude.{ℕ, ◌+◌, ◌*◌, ◌/◌, ◌%◌, ◌^◌, List, ◌++◌, Bool, ◌==◌, fold}
 use Rattle.s39_field.specs.FieldProduct.{word_field}
-use Rattle.s39_words.specs.Checksum.{generator_square, generator_linear, generator_constant}
+use Rattle.s39_words.specs.Checksum.{customization_string, generator_square, generator_linear, generator_constant}
 use Rattle.s39_words.specs.Layout.{word_list_length, word_bits}
 
 -- the remainder of the division: its coefficients of x^2 and of x, and the constant one
@@ -42,3 +42,8 @@ unpacked n = record {
   linear = n / 2 ^ word_bits % 2 ^ word_bits;
   constant = n % 2 ^ word_bits;
 }
+
+-- Whether the last three of these words are a valid checksum of those before them: the words behind the customization
+-- string and a first coefficient 1 leave the remainder 1.
+abbrev pub has_valid_checksum : Bool → List ℕ → Bool
+has_valid_checksum extendable words = packed (fold next_remainder one_remainder (customization_string extendable ++ words)) == 1

@@ -1,5 +1,5 @@
 pub mod Layout
-pub mod Bits
+pub mod Digits
 pub mod Share
 pub mod Checksum
 pub mod Division
@@ -9,6 +9,6 @@ pub mod Rows
 pub mod Spelling
 pub mod Reading
 pub mod Mistyping
-pub mod FieldsAt
+pub mod Written
 pub mod Printing
 pub mod FirstWord

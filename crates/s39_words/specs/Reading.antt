@@ -1,30 +1,19 @@
 -- The reading of a text: the share that it spells, or the first cause for which it spells none.
-use Rattle.std.specs.Prelude.{◌≡◌, ℕ, suc, ◌+◌, ◌-◌, ◌*◌, ◌/◌, ◌%◌, ◌<◌, ◌≤◌, List, ◌∷◌, ◌++◌, All, length, take, drop}
-use Rattle.std.specs.Prelude.{None, IsSome, Result, Ok, Err, Bool, ◌==◌}
-use Rattle.std.specs.List.{flat_map}
-use Rattle.std.specs.Int.Digits.{number_from_digits}
+use Rattle.std.specs.Prelude.{◌≡◌, ℕ, suc, ◌+◌, ◌-◌, ◌*◌, ◌/◌, ◌%◌, ◌^◌, ◌≤◌, List, [], ◌∷◌, length, slice_index_or}
+use Rattle.std.specs.Prelude.{Option, Some, None, Result, Ok, Err, Bool, not, ◌&&◌, ◌==◌, nat_lt, nat_le, if◌then◌else◌}
 use Rattle.s39_refusal.specs.declared.cause.Cause.{Cause}
 use Rattle.s39_refusal.specs.Causes.{cause}
-use Rattle.s39_kdf.specs.Limits.{shortest_secret, longest_secret}
+use Rattle.s39_kdf.specs.Limits.{id_bits, exponent_bits, shortest_secret, longest_secret}
 use Rattle.s39_words.specs.declared.share.ShareFields.{ShareFields}
 use Rattle.s39_words.specs.declared.word_error.WordError.{WordError}
 use Rattle.s39_words.specs.declared.word_error.WordError.TheVariants.{UnknownWord, WordCount, BadChecksum, BadPadding, GroupThreshold}
 use Rattle.s39_words.specs.Layout.{word_bits, count_bits, byte_pair_bits, header_length, most_padding, checksum_length}
-use Rattle.s39_words.specs.Layout.{flag_place, group_threshold_place, group_count_place}
-use Rattle.s39_words.specs.Bits.{bits}
-use Rattle.s39_words.specs.Checksum.{IsValidChecksum}
+use Rattle.s39_words.specs.Layout.{flag_place, exponent_place, group_index_place, group_threshold_place, group_count_place}
+use Rattle.s39_words.specs.Layout.{member_index_place, member_threshold_place}
+use Rattle.s39_words.specs.Digits.{digits, number_of}
+use Rattle.s39_words.specs.Division.{has_valid_checksum}
 use Rattle.s39_words.specs.WordList.{index_of}
-use Rattle.s39_words.specs.Spelling.{words_of, HaveIndices, Spells}
-
--- the first word that isn't in the word list has this position, counted from 1
-pub record IsFirstUnknown (words : List (List ℕ)) (position : ℕ) : Type 0 where
-  pub before : List (List ℕ)
-  pub word : List ℕ
-  pub after : List (List ℕ)
-  pub parts : words ≡ before ++ word ∷ after
-  pub position_is : position ≡ suc (length before)
-  pub known : All (λ w. IsSome (index_of w)) before
-  pub unknown : index_of word ≡ None
+use Rattle.s39_words.specs.Spelling.{words_of}
 
 -- the number of bits of padding and value in a mnemonic of n words; they stand between the other fields and the checksum
 abbrev pub value_field_length : ℕ → ℕ
@@ -40,17 +29,20 @@ pub record IsWordCount (n : ℕ) : Type 0 where
   pub at_least : padding_length n + 8 * shortest_secret ≤ value_field_length n
   pub at_most : value_field_length n ≤ padding_length n + 8 * longest_secret
 
--- the bits of these words, ten each
-abbrev pub bits_of_words : List ℕ → List ℕ
-bits_of_words indices = flat_map (bits word_bits) indices
+-- whether a mnemonic may have n words
+abbrev pub has_word_count : ℕ → Bool
+has_word_count n =
+    nat_le (padding_length n) most_padding
+    && nat_le (padding_length n + 8 * shortest_secret) (value_field_length n)
+    && nat_le (value_field_length n) (padding_length n + 8 * longest_secret)
 
--- the number in `width` bits from this place on
+-- the number in `width` bits of these words, from this place on: their number without the bits behind and before
 abbrev pub number_at : List ℕ → ℕ → ℕ → ℕ
-number_at indices place width = number_from_digits 2 (take width (drop place (bits_of_words indices)))
+number_at indices place width = number_of word_bits indices / 2 ^ (word_bits * length indices - place - width) % 2 ^ width
 
--- the extendable flag
+-- the extendable flag, which stands right before the exponent at the end of its word
 abbrev pub flag_of : List ℕ → Bool
-flag_of indices = number_at indices flag_place 1 == 1
+flag_of indices = slice_index_or indices (flag_place / word_bits) 0 / 2 ^ exponent_bits % 2 == 1
 
 -- the group threshold as it is stored, less one
 abbrev pub stored_group_threshold : List ℕ → ℕ
@@ -60,35 +52,73 @@ stored_group_threshold indices = number_at indices group_threshold_place count_b
 abbrev pub stored_group_count : List ℕ → ℕ
 stored_group_count indices = number_at indices group_count_place count_bits
 
--- the padding bits, which stand right before the value
-abbrev pub padding_of : List ℕ → List ℕ
-padding_of indices = take (padding_length (length indices)) (drop header_length (bits_of_words indices))
+-- the padding bits, which stand right before the value, as one number
+abbrev pub padding_of : List ℕ → ℕ
+padding_of indices = number_at indices header_length (padding_length (length indices))
 
--- ---- the tests of a mnemonic, in their order
+-- the number of bytes of the value in a mnemonic of n words
+abbrev pub byte_count : ℕ → ℕ
+byte_count n = (value_field_length n - padding_length n) / 8
 
--- all words are in the list, with these indices, and a mnemonic may have that many
-pub record PassesCount (text indices : List ℕ) : Type 0 where
-  pub known : HaveIndices (words_of text) indices
-  pub count : IsWordCount (length indices)
+-- the bytes of the value, which follow the padding
+abbrev pub share_value_at : List ℕ → List ℕ
+share_value_at indices =
+    let bytes = byte_count (length indices) in
+    digits 8 bytes (number_at indices (header_length + padding_length (length indices)) (8 * bytes))
 
--- and the checksum is valid for the flag that the words hold
-pub record PassesChecksum (text indices : List ℕ) : Type 0 where
-  pub earlier : PassesCount text indices
-  pub checksum : IsValidChecksum (flag_of indices) indices
+-- the fields in these words
+abbrev pub fields_at : List ℕ → ShareFields
+fields_at indices = record {
+  id = number_at indices 0 id_bits;
+  extendable = flag_of indices;
+  exponent = number_at indices exponent_place exponent_bits;
+  group_index = number_at indices group_index_place count_bits;
+  group_threshold = stored_group_threshold indices + 1;
+  group_count = stored_group_count indices + 1;
+  member_index = number_at indices member_index_place count_bits;
+  member_threshold = number_at indices member_threshold_place count_bits + 1;
+  value = record { items = share_value_at indices };
+}
 
--- and all padding bits are 0
-pub record PassesPadding (text indices : List ℕ) : Type 0 where
-  pub earlier : PassesChecksum text indices
-  pub padding : All (λ b. b ≡ 0) (padding_of indices)
+-- ---- the reading of a text
 
--- This is the reading of the text: a share that it spells, or the first cause that applies.
+-- an index and those of the later words; without an index, the word has this position among all
+abbrev pub with_first : Option ℕ → ℕ → Result (List ℕ) WordError → Result (List ℕ) WordError
+with_first None position later = Err (UnknownWord position)
+with_first (Some index) position (Ok indices) = Ok (index ∷ indices)
+with_first (Some index) position (Err error) = Err error
+
+-- the indices of words in the word list, or the position of the first that isn't in the list; the first of these words
+-- has this position
+abbrev pub indices_from : ℕ → List (List ℕ) → Result (List ℕ) WordError
+indices_from position [] = Ok []
+indices_from position (word ∷ words) = with_first (index_of word) position (indices_from (suc position) words)
+
+-- what words of the list are read as, which have these indices
+abbrev pub reading_of : List ℕ → Result ShareFields WordError
+reading_of indices =
+    if not (has_word_count (length indices)) then Err (WordCount (length indices))
+    else if not (has_valid_checksum (flag_of indices) indices) then Err BadChecksum
+    else if not (padding_of indices == 0) then Err BadPadding
+    else if nat_lt (stored_group_count indices) (stored_group_threshold indices) then Err GroupThreshold
+    else Ok (fields_at indices)
+
+-- the reading of words, if they have indices
+abbrev pub reading_if_known : Result (List ℕ) WordError → Result ShareFields WordError
+reading_if_known (Ok indices) = reading_of indices
+reading_if_known (Err error) = Err error
+
+-- the reading of words
+unfoldable pub reading_of_words : List (List ℕ) → Result ShareFields WordError
+reading_of_words words = reading_if_known (indices_from 1 words)
+
+-- the reading of a text: the share that it spells, or the first cause for which it spells none
+abbrev pub reading : List ℕ → Result ShareFields WordError
+reading text = reading_of_words (words_of text)
+
+-- this is the reading of the text
 abbrev pub Reads : List ℕ → Result ShareFields WordError → Type 0
-Reads text (Ok share) = Spells text share
-Reads text (Err (UnknownWord position)) = IsFirstUnknown (words_of text) position
-Reads text (Err (WordCount n)) = (indices : List ℕ) × HaveIndices (words_of text) indices × (n ≡ length indices) × ¬ IsWordCount n
-Reads text (Err BadChecksum) = (indices : List ℕ) × PassesCount text indices × ¬ IsValidChecksum (flag_of indices) indices
-Reads text (Err BadPadding) = (indices : List ℕ) × PassesChecksum text indices × ¬ All (λ b. b ≡ 0) (padding_of indices)
-Reads text (Err GroupThreshold) = (indices : List ℕ) × PassesPadding text indices × (stored_group_count indices < stored_group_threshold indices)
+Reads text result = reading text ≡ result
 
 -- the contents of each refusal
 abbrev pub cause_of : WordError → Cause

@@ -1,11 +1,10 @@
 -- A share, and its data words (SLIP-0039, "Format of the share mnemonic").
-use Rattle.std.specs.Prelude.{ℕ, ◌-◌, ◌%◌, ◌^◌, ◌<◌, ◌≤◌, List, ◌++◌, Bool, length, replicate, if◌then◌else◌}
-use Rattle.std.specs.List.{flat_map}
+use Rattle.std.specs.Prelude.{ℕ, ◌+◌, ◌-◌, ◌*◌, ◌/◌, ◌^◌, ◌<◌, ◌≤◌, List, [], ◌∷◌, Bool, length, fold, if◌then◌else◌}
 use Rattle.s39_kdf.specs.Bytes.{AreBytes}
 use Rattle.s39_kdf.specs.Limits.{IsSecretLength, id_bits, exponent_bits}
 use Rattle.s39_words.specs.declared.share.ShareFields.{ShareFields}
-use Rattle.s39_words.specs.Layout.{count_bits, most_groups, most_members, word_bits}
-use Rattle.s39_words.specs.Bits.{bits, cut_in_tens}
+use Rattle.s39_words.specs.Layout.{count_bits, header_length, most_groups, most_members, word_bits}
+use Rattle.s39_words.specs.Digits.{digits, number_of}
 
 -- these are bytes, as many as a master secret may have
 pub record IsValue (value : List ℕ) : Type 0 where
@@ -29,21 +28,30 @@ pub record IsShare (f : ShareFields) : Type 0 where
 abbrev pub flag_bit : Bool → ℕ
 flag_bit flag = if flag then 1 else 0
 
--- the fields before the value, 40 digits; thresholds and the group count are stored less one
-abbrev pub header_bits : ShareFields → List ℕ
-header_bits f =
-    bits id_bits f.id ++ bits 1 (flag_bit f.extendable) ++ bits exponent_bits f.exponent
-    ++ bits count_bits f.group_index ++ bits count_bits (f.group_threshold - 1) ++ bits count_bits (f.group_count - 1)
-    ++ bits count_bits f.member_index ++ bits count_bits (f.member_threshold - 1)
+-- the fields of a share before its value, each with its number of bits; thresholds and the group count are stored less one
+abbrev pub header_fields : ShareFields → List (ℕ × ℕ)
+header_fields f =
+    (id_bits, f.id) ∷ (1, flag_bit f.extendable) ∷ (exponent_bits, f.exponent) ∷ (count_bits, f.group_index)
+    ∷ (count_bits, f.group_threshold - 1) ∷ (count_bits, f.group_count - 1) ∷ (count_bits, f.member_index)
+    ∷ (count_bits, f.member_threshold - 1) ∷ []
 
--- the value's bytes, eight digits each
-abbrev pub value_bits : List ℕ → List ℕ
-value_bits value = flat_map (bits 8) value
+-- the number whose bits are those of a number and, behind them, those of a field
+abbrev pub with_field : ℕ → ℕ × ℕ → ℕ
+with_field number field = number * 2 ^ field.0 + field.1
 
--- the fewest zeros that complete n digits to whole words
-abbrev pub padding_bits : ℕ → List ℕ
-padding_bits n = replicate ((word_bits - n % word_bits) % word_bits) 0
+-- the fields before the value as one number
+abbrev pub header_number : ShareFields → ℕ
+header_number f = fold with_field 0 (header_fields f)
 
--- all fields except the checksum, joined and cut in tens
+-- the number of words of a value of so many bytes: the fewest that hold its bits
+abbrev pub value_words : ℕ → ℕ
+value_words bytes = (8 * bytes + (word_bits - 1)) / word_bits
+
+-- All fields except the checksum as one number. The value stands at the end of its words; the bits of padding before it
+-- are 0.
+abbrev pub share_number : ShareFields → ℕ
+share_number f = with_field (header_number f) (word_bits * value_words (length f.value.items), number_of 8 f.value.items)
+
+-- that number in base 1,024
 abbrev pub data_words : ShareFields → List ℕ
-data_words f = cut_in_tens (header_bits f ++ padding_bits (length (value_bits f.value.items)) ++ value_bits f.value.items)
+data_words f = digits word_bits (header_length / word_bits + value_words (length f.value.items)) (share_number f)

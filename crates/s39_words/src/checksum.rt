@@ -1,8 +1,8 @@
 //! The checksum of a mnemonic, RS1024 (SLIP-0039, "Checksum").
-ghost use Rattle.std.specs.Prelude.{◌≡◌, ◌↔◌, ℕ, ◌*◌, ◌^◌, ◌<◌, List, ◌++◌, All, IsTrue, length, fold};
+ghost use Rattle.std.specs.Prelude.{◌≡◌, ℕ, ◌*◌, ◌^◌, ◌<◌, List, ◌++◌, All, length, fold};
 ghost use Rattle.s39_words.specs.Layout.{IsIndex, checksum_length, word_bits};
 ghost use Rattle.s39_words.specs.Checksum.{IsValidChecksum, customization_string};
-ghost use Rattle.s39_words.specs.Division.{packed, unpacked, generator_times, next_remainder, one_remainder};
+ghost use Rattle.s39_words.specs.Division.{packed, unpacked, generator_times, next_remainder, one_remainder, has_valid_checksum};
 
 use crate::size::{CHECKSUM_WORDS, WORD_BITS};
 
@@ -101,7 +101,7 @@ fn generator_times(element: u32) -> u32
 /// Whether these words, given as indices in the word list, end with their checksum.
 pub(crate) fn is_valid_checksum(extendable: bool, words: &[u16]) -> bool
     requires { All IsIndex words.now }
-    ensures { IsTrue result ↔ IsValidChecksum extendable words.now }
+    ensures { result ≡ has_valid_checksum extendable words.now }
 {
     let register = Register::after_customization_string(extendable).after_words(words);
     register.bits == 1

@@ -1,5 +1,5 @@
 //! Facts about the definitions. Each is the contract of a function that does nothing, except that of `read_back`.
-ghost use Rattle.std.specs.Prelude.{◌≡◌, ◌≢◌, ℕ, ◌^◌, ◌<◌, ◌≤◌, Bool, List, [], ◌∷◌, ◌++◌, All, AllPairs, Contains, Result, length};
+ghost use Rattle.std.specs.Prelude.{◌≡◌, ◌≢◌, ◌↔◌, ℕ, ◌^◌, ◌<◌, ◌≤◌, Bool, List, [], ◌∷◌, ◌++◌, All, AllPairs, Contains, IsTrue, Result, length};
 ghost use Rattle.std.specs.Prelude.{◌⊎◌, slice_index, take};
 ghost use Rattle.s39_field.specs.FieldProduct.{word_field};
 ghost use Rattle.s39_field.specs.Polynomial.{power, product_of};
@@ -11,10 +11,10 @@ ghost use Rattle.s39_words.specs.Layout.{most_groups, most_members, most_padding
 ghost use Rattle.s39_words.specs.declared.share.ShareFields.{ShareFields};
 ghost use Rattle.s39_words.specs.declared.word_error.WordError.{WordError as Cause};
 ghost use Rattle.s39_words.specs.Checksum.{generator, IsValidChecksum};
-ghost use Rattle.s39_words.specs.Division.{packed, generator_times};
+ghost use Rattle.s39_words.specs.Division.{packed, generator_times, has_valid_checksum};
 ghost use Rattle.s39_words.specs.Mistyping.{count_of_differences, most_wrong_words, IsMnemonic, IsMistyped};
 ghost use Rattle.s39_words.specs.Printing.{IsPrinted};
-ghost use Rattle.s39_words.specs.Reading.{IsWordCount, flag_of, Reads};
+ghost use Rattle.s39_words.specs.Reading.{IsWordCount, has_word_count, flag_of, reading, Reads};
 ghost use Rattle.s39_words.specs.Share.{IsShare};
 ghost use Rattle.s39_words.specs.Spelling.{words_of, HaveIndices, Spells};
 ghost use Rattle.s39_words.specs.WordList.{word_list, IsLetter, ComesBefore};
@@ -57,11 +57,12 @@ pub fn numbers()
     ensures wrong { most_wrong_words ≡ 3 }
 {}
 
-/// A mnemonic has 20 to 110 words: 20 and 110 are allowed, and fewer or more are not.
+/// A mnemonic has 20 to 110 words: 20 and 110 are allowed, and fewer or more are not. A reading tests this number.
 pub fn word_counts()
     ensures least { IsWordCount fewest_words }
     ensures greatest { IsWordCount most_words }
     ensures between { (n : ℕ) → IsWordCount n → (fewest_words ≤ n) × (n ≤ most_words) }
+    ensures tested { (n : ℕ) → IsTrue (has_word_count n) ↔ IsWordCount n }
 {}
 
 /// The word list has 1,024 words of four to eight lower-case letters, in alphabetical order.
@@ -95,6 +96,18 @@ pub fn generator_is_a_product()
 pub fn register_constants()
     ensures { (i : ℕ) → i < word_bits
         → slice_index GENERATOR_TIMES i ≡ packed (generator_times (2 ^ i)) }
+{}
+
+/// A text is read as a share exactly if it spells this share.
+pub fn spelled_texts_are_read()
+    ensures { (text : List ℕ) (share : ShareFields)
+        → (reading text ≡ Ok share) ↔ Spells text share }
+{}
+
+/// The remainder by which a reading tests a checksum tells whether the checksum is valid.
+pub fn remainders_test_checksums()
+    ensures { (extendable : Bool) (words : List ℕ) → All IsIndex words
+        → IsTrue (has_valid_checksum extendable words) ↔ IsValidChecksum extendable words }
 {}
 
 /// No text spells two shares.

@@ -1,9 +1,9 @@
 //! The words of a mnemonic as the fields of a share, and the fields as words.
-ghost use Rattle.std.specs.Prelude.{◌≡◌, ◌≢◌, ℕ, ◌+◌, ◌*◌, ◌/◌, ◌%◌, ◌^◌, ◌<◌, ◌≤◌, ◌↔◌, All, length, IsTrue, IsSome, IfSome};
+ghost use Rattle.std.specs.Prelude.{◌≡◌, ◌+◌, ◌*◌, ◌/◌, ◌%◌, ◌^◌, ◌<◌, ◌≤◌, ◌↔◌, All, length, IsSome, IfSome};
 ghost use Rattle.s39_words.specs.Layout.{IsIndex};
 ghost use Rattle.s39_words.specs.Reading.{IsWordCount, number_at as number_in, flag_of, padding_of};
-ghost use Rattle.s39_words.specs.FieldsAt.{share_value_at, fields_at};
-ghost use Rattle.s39_words.specs.Share.{IsShare, header_bits, data_words};
+ghost use Rattle.s39_words.specs.Reading.{share_value_at, fields_at};
+ghost use Rattle.s39_words.specs.Share.{IsShare, header_number, data_words};
 
 use crate::share::{Share, ShareFields};
 use crate::size::{
@@ -43,7 +43,7 @@ pub(crate) fn has_flag(words: &[u16]) -> bool
 pub(crate) fn fields_of(words: &[u16]) -> Option<ShareFields>
     requires indices { All IsIndex words.now }
     requires count { IsWordCount (length words.now) }
-    ensures padding { IsSome result ↔ All (λ b. b ≡ 0) (padding_of words.now) }
+    ensures padding { IsSome result ↔ (padding_of words.now ≡ 0) }
     ensures fields { IfSome result (λ fields. fields ≡ fields_at words.now) }
 {
     Some(ShareFields {
@@ -63,7 +63,7 @@ pub(crate) fn fields_of(words: &[u16]) -> Option<ShareFields>
 fn value_of(words: &[u16]) -> Option<Bytes>
     requires indices { All IsIndex words.now }
     requires count { IsWordCount (length words.now) }
-    ensures padding { IsSome result ↔ All (λ b. b ≡ 0) (padding_of words.now) }
+    ensures padding { IsSome result ↔ (padding_of words.now ≡ 0) }
     ensures value { IfSome result (λ value. value.items ≡ share_value_at words.now) }
 {
     let digits = WORD_BITS * (words.len() - OTHER_WORDS);
@@ -97,7 +97,7 @@ pub(crate) fn data_words_of(share: &Share) -> ArrayVec<u16, MAX_DATA_WORDS>
 /// The fields before the value, written.
 fn header_of(fields: &ShareFields) -> WordWriter
     requires { IsShare fields.now }
-    ensures { result ≡ header_bits fields.now }
+    ensures { result ≡ record { count = HEADER_BITS; number = header_number fields.now } }
 {
     let mut words = WordWriter::new();
     words.write(fields.id, ID_BITS);

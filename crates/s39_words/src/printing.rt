@@ -1,15 +1,27 @@
 //! The printed form of a share.
-ghost use Rattle.std.specs.Prelude.{◌≡◌, ◌<◌, ◌≤◌, All, length, map};
+ghost use Rattle.std.specs.Prelude.{◌≡◌, ◌<◌, ◌≤◌, ℕ, List, All, length, map};
 ghost use Rattle.std.specs.List.{join_with_byte};
 ghost use Rattle.s39_words.specs.Layout.{IsIndex};
 ghost use Rattle.s39_words.specs.Printing.{listed_word, IsPrinted};
+ghost use Rattle.s39_words.specs.Rows.{FitsRow, row_of};
 
 use crate::checksum::checksum_of;
 use crate::packing::data_words_of;
 use crate::share::Share;
 use crate::size::{MAX_LETTERS, MAX_TEXT_BYTES, MAX_WORDS};
-use crate::word_list::rows;
+use crate::word_list::{Row, row_at, rows};
 use arrayvec::ArrayVec;
+
+/// The letters of a row.
+fn letters_of(row: &Row) -> &[u8]
+    ensures { (word : List ℕ) → FitsRow word → row.now ≡ row_of word → result.now ≡ word }
+{
+    let len = row
+        .iter()
+        .position(|byte| *byte == b' ')
+        .unwrap_or(MAX_LETTERS);
+    &row[..len]
+}
 
 /// Returns the word at an index of the list, 0 to 1023.
 ///
@@ -20,15 +32,11 @@ pub fn word_at(index: u16) -> &'static [u8]
     requires { IsIndex index }
     ensures { result.now ≡ listed_word index }
 {
-    let row = &rows()[index as usize];
-    let len = row
-        .iter()
-        .position(|byte| *byte == b' ')
-        .unwrap_or(MAX_LETTERS);
-    &row[..len]
+    letters_of(&rows()[index as usize])
 }
 
-/// Returns the words at these indices of the list, with single spaces between them. There may be at most 110.
+/// Returns the words at these indices of the list, with single spaces between them. There may be at most 110. The time
+/// depends on the lengths of the words, and on nothing else that the indices tell.
 ///
 /// ```rust
 /// assert_eq!(rt; text_of(&[0, 1023]).as_slice(), b"academic zero".as_slice());
@@ -43,7 +51,8 @@ pub fn text_of(indices: &[u16]) -> ArrayVec<u8, MAX_TEXT_BYTES>
         if i > 0 {
             text.push(b' ');
         }
-        text.try_extend_from_slice(word_at(*index)).unwrap();
+        let row = row_at(*index);
+        text.try_extend_from_slice(letters_of(&row)).unwrap();
     }
     text
 }

@@ -1,9 +1,8 @@
 //! The text of a mnemonic.
-ghost use Rattle.std.specs.Prelude.{◌≡◌, ◌↔◌, ℕ, List, All, IsTrue, IfOk, IfErr, Result};
+ghost use Rattle.std.specs.Prelude.{◌≡◌, ◌↔◌, ℕ, List, All, IsTrue, IfOk, IfErr, length};
 ghost use Rattle.s39_words.specs.Layout.{IsIndex};
-ghost use Rattle.s39_words.specs.declared.share.ShareFields.{ShareFields};
-ghost use Rattle.s39_words.specs.declared.word_error.WordError.{WordError as Cause};
-ghost use Rattle.s39_words.specs.Reading.{Reads, PassesCount, IsWordCount};
+ghost use Rattle.s39_words.specs.Reading.{IsWordCount, indices_from, reading};
+ghost use Rattle.s39_words.specs.Spelling.{words_of};
 ghost use Rattle.s39_words.specs.Mistyping.{IsMnemonic, IsMistyped};
 
 use crate::checksum::is_valid_checksum;
@@ -32,10 +31,7 @@ use arrayvec::ArrayVec;
 /// assert_eq!(rt; refusal, Some(WordError::UnknownWord { position: 2 }));
 /// ```
 pub fn parse(line: &[u8]) -> Result<Share, WordError>
-    ensures reading { Reads line.now result }
-    // Nothing else is what the text reads as.
-    ensures only { (reading : Result ShareFields Cause)
-        → Reads line.now reading → result ≡ reading }
+    ensures reading { reading line.now ≡ result }
     // One, two or three wrong words of a mnemonic are found.
     ensures mistyped { (mnemonic : List ℕ) → IsMnemonic mnemonic → IsMistyped line.now mnemonic
         → result ≡ Err WordError.BadChecksum }
@@ -57,9 +53,11 @@ pub(crate) type Indices = ArrayVec<u16, MAX_WORDS>;
 
 /// The indices of a text's words, if all are in the word list and a mnemonic may have that many.
 pub(crate) fn indices_of(line: &[u8]) -> Result<Indices, WordError>
-    ensures found { IfOk result (λ indices. PassesCount line.now indices.items) }
+    ensures found { IfOk result (λ indices.
+        indices_from 1 (words_of line.now) ≡ Ok indices.items) }
+    ensures count { IfOk result (λ indices. IsWordCount (length indices.items)) }
     ensures in_list { IfOk result (λ indices. All IsIndex indices.items) }
-    ensures refused { IfErr result (λ e. Reads line.now (Err e)) }
+    ensures refused { IfErr result (λ e. reading line.now ≡ Err e) }
 {
     let mut indices = ArrayVec::new();
     let mut words = 0;

@@ -1,7 +1,8 @@
 //! The word list of SLIP-0039.
-ghost use Rattle.std.specs.Prelude.{◌≡◌, ℕ, List, map, IfSome};
+ghost use Rattle.std.specs.Prelude.{◌≡◌, ℕ, List, false, map, true, IfSome};
 ghost use Rattle.s39_words.specs.Layout.{IsIndex};
 ghost use Rattle.s39_words.specs.WordList.{word_list, index_of};
+ghost use Rattle.s39_words.specs.Printing.{listed_word};
 ghost use Rattle.s39_words.specs.Rows.{FitsRow, row_of, number_of_row};
 
 use crate::size::MAX_LETTERS;
@@ -154,6 +155,27 @@ fn number_of(row: &Row) -> u64
     ensures { result ≡ number_of_row row.now }
 {
     u64::from_be_bytes(*row)
+}
+
+/// The number if it is the one that is looked for, and else what was found. No branch depends on which of them it is.
+fn picked(found: u64, number: u64, is_sought: bool) -> u64
+    ensures found { is_sought ≡ false → result ≡ found }
+    ensures number { is_sought ≡ true → found ≡ 0 → result ≡ number }
+{
+    if is_sought { found | number } else { found }
+}
+
+/// The row of the word at an index, 0 to 1023. All rows are read, so that no address depends on the index.
+#[inline(never)]
+pub(crate) fn row_at(index: u16) -> Row
+    requires { IsIndex index }
+    ensures { result ≡ row_of (listed_word index) }
+{
+    let mut found = 0;
+    for (i, row) in rows().iter().enumerate() {
+        found = picked(found, number_of(row), i == usize::from(index));
+    }
+    found.to_be_bytes()
 }
 
 /// The index of a word in the list, 0 to 1023, by the number of its row, or `None` if the list doesn't have it.

@@ -1,11 +1,10 @@
 //! The words of a text, each found and looked up in one pass over its bytes.
-ghost use Rattle.std.specs.Prelude.{◌≡◌, ℕ, ◌-◌, ◌<◌, ◌≤◌, ◌↔◌, List, ◌∷◌, ◌++◌, [], length, All, Some, IsSome, IfSome, IsTrue};
+ghost use Rattle.std.specs.Prelude.{◌≡◌, ℕ, ◌-◌, ◌<◌, ◌≤◌, ◌↔◌, List, ◌∷◌, ◌++◌, [], length, All, Some, None, IsSome, IfSome, IsTrue};
 ghost use Rattle.std.specs.Char.{is_ascii_alphabetic, to_ascii_lowercase};
 ghost use Rattle.std.specs.Option.{ForNone};
 ghost use Rattle.std.specs.Str.{str_to_ascii_lowercase};
 ghost use Rattle.s39_words.specs.Layout.{IsIndex, longest_word};
 ghost use Rattle.s39_words.specs.FirstWord.{BeginsInWord, BeginsWith};
-ghost use Rattle.s39_words.specs.Reading.{IsFirstUnknown};
 ghost use Rattle.s39_words.specs.Spelling.{is_separator, words_of};
 ghost use Rattle.s39_words.specs.WordList.{index_of, IsLetter};
 ghost use Rattle.s39_words.specs.Rows.{FitsRow, row_of, number_of_row};
@@ -118,7 +117,8 @@ pub(crate) fn first_word(text: &[u8]) -> Option<FirstWord<'_>>
     ensures known { IfSome result (λ first. (word : List ℕ) × (index_of word ≡ Some first.index)
         × (words_of text.now ≡ word ∷ words_of first.rest.now)) }
     ensures short { IfSome result (λ first. length first.rest.now < length text.now) }
-    ensures unknown { ForNone result (IsFirstUnknown (words_of text.now) 1) }
+    ensures unknown { ForNone result ((word : List ℕ) × (later : List (List ℕ))
+        × (words_of text.now ≡ word ∷ later) × (index_of word ≡ None)) }
 {
     let row = first_row(text)?;
     let index = index_of_number(row.number)?;

@@ -1,6 +1,7 @@
 //! Packing binary digits into words of ten digits.
-ghost use Rattle.std.specs.Prelude.{◌≡◌, ◌+◌, ◌*◌, ◌%◌, ◌^◌, ◌<◌, ◌≤◌, [], ◌++◌, length};
-ghost use Rattle.s39_words.specs.Bits.{bits, cut_in_tens};
+ghost use Rattle.std.specs.Prelude.{◌≡◌, ◌+◌, ◌*◌, ◌/◌, ◌%◌, ◌^◌, ◌<◌, ◌≤◌};
+ghost use Rattle.s39_words.specs.Digits.{digits};
+ghost use Rattle.s39_words.specs.Written.{no_bits, bits_with};
 
 use crate::size::{ID_BITS, MAX_DATA_WORDS, WORD_BITS};
 use arrayvec::ArrayVec;
@@ -16,14 +17,17 @@ pub(crate) struct WordWriter {
 }
 
 impl Model for WordWriter {
-    ghost use Rattle.std.specs.Prelude.{ℕ, ◌^◌, ◌<◌, List, ◌++◌, All};
+    ghost use Rattle.std.specs.Prelude.{ℕ, ◌+◌, ◌*◌, ◌^◌, ◌<◌, All, length};
     ghost use Rattle.s39_words.specs.Layout.{IsIndex, word_bits};
-    ghost use Rattle.s39_words.specs.Bits.{bits};
-    ghost use Rattle.s39_words.specs.Reading.{bits_of_words};
+    ghost use Rattle.s39_words.specs.Digits.{number_of};
+    ghost use Rattle.s39_words.specs.Written.{Bits, bits_with};
 
-    ghost Value = { List ℕ };
+    ghost Value = { Bits };
 
-    ghost view = { λ w. bits_of_words w.words.items ++ bits w.held w.rest };
+    ghost view = { λ w. bits_with (record {
+      count = word_bits * length w.words.items;
+      number = number_of word_bits w.words.items;
+    }) w.held w.rest };
 
     ghost invariant = { λ w. (w.held < word_bits) × (w.rest < 2 ^ w.held)
         × All IsIndex w.words.items };
@@ -32,7 +36,7 @@ impl Model for WordWriter {
 impl WordWriter {
     /// A writer without digits.
     pub(crate) fn new() -> WordWriter
-        ensures { result ≡ [] }
+        ensures { result ≡ no_bits }
     {
         WordWriter {
             words: ArrayVec::new(),
@@ -45,8 +49,8 @@ impl WordWriter {
     pub(crate) fn write(&mut self, number: u16, width: usize)
         requires width { width ≤ ID_BITS }
         requires digits { number < 2 ^ width }
-        requires room { length self.old + width ≤ WORD_BITS * MAX_DATA_WORDS }
-        ensures { self.new ≡ self.old ++ bits width number }
+        requires room { self.old.count + width ≤ WORD_BITS * MAX_DATA_WORDS }
+        ensures { self.new ≡ bits_with self.old width number }
     {
         self.rest = self.rest << width | u32::from(number);
         self.held += width;
@@ -59,8 +63,8 @@ impl WordWriter {
 
     /// The words, provided that the digits make whole words.
     pub(crate) fn into_words(self) -> ArrayVec<u16, MAX_DATA_WORDS>
-        requires { length self % WORD_BITS ≡ 0 }
-        ensures { result.items ≡ cut_in_tens self }
+        requires { self.count % WORD_BITS ≡ 0 }
+        ensures { result.items ≡ digits WORD_BITS (self.count / WORD_BITS) self.number }
     {
         let WordWriter {
             words,

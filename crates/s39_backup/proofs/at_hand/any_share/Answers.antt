@@ -2,7 +2,7 @@ use Rattle.std.proofs.Common.{◌/◌, ◌%◌, sym, arith}
 use Rattle.s39_set.specs.Names.{most_members}
 use Rattle.s39_set.specs.ShareSet.{has_name}
 use Rattle.s39_lists.proofs.Finds.{Contains-find}
-use Rattle.s39_backup.proofs.Determined.{none_at_places}
+use Rattle.s39_backup.proofs.AtHand.{none_at_places}
 use Rattle.s39_backup.proofs.at_hand.any_share.Goals as goal
 
 pub returns-in-Some : goal.returns-in-Some

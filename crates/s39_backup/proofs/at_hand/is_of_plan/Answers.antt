@@ -5,7 +5,7 @@ use Rattle.s39_set.specs.Names.{most_members}
 use Rattle.s39_set.specs.ShareSet.{has_name}
 use Rattle.s39_lists.proofs.Finds.{Contains-find}
 use Rattle.s39_backup.specs.Reissue.{IsOfPlan}
-use Rattle.s39_backup.proofs.Determined.{all_from_places}
+use Rattle.s39_backup.proofs.AtHand.{all_from_places}
 use Rattle.s39_backup.proofs.at_hand.is_of_plan.Goals as goal
 
 pub returns-then-not-may_have : goal.returns-then-not-may_have

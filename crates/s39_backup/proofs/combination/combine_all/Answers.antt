@@ -1,4 +1,6 @@
-use Rattle.s39_backup.proofs.Levels.{level-one_length, level-long}
+use Rattle.std.proofs.Common.{ap, ◌∙◌}
+use Rattle.s39_split.specs.Recovery.{combined}
+use Rattle.s39_backup.proofs.Combining.{level-points, points-one_length, points-long}
 use Rattle.s39_backup.proofs.combination.combine_all.Goals as goal
 
 pub combine-requires-clause-distinct : goal.combine-requires-clause-distinct
@@ -8,10 +10,12 @@ pub combine-requires-clause-indices : goal.combine-requires-clause-indices
 combine-requires-clause-indices c = rw c.as_slice.ensures c.requires.1.indices
 
 pub combine-requires-clause-one_length : goal.combine-requires-clause-one_length
-combine-requires-clause-one_length c = rw c.as_slice.ensures (level-one_length c.requires.0 c.args.shares.now c.requires.1)
+combine-requires-clause-one_length c =
+    rw c.as_slice.ensures (points-one_length c.requires.0 c.args.shares.now (level-points c.requires.0 c.args.shares.now c.requires.1))
 
 pub combine-requires-clause-long : goal.combine-requires-clause-long
-combine-requires-clause-long c = rw c.as_slice.ensures (level-long c.requires.0 c.args.shares.now c.requires.1)
+combine-requires-clause-long c =
+    rw c.as_slice.ensures (points-long c.requires.0 c.args.shares.now (level-points c.requires.0 c.args.shares.now c.requires.1))
 
-pub returns-clause-length : goal.returns-clause-length
-returns-clause-length c = λ bytes lengths. c.combine.ensures.length bytes (rw c.as_slice.ensures lengths)
+pub returns : goal.returns
+returns c = c.combine.ensures.combined ∙ ap combined c.as_slice.ensures

@@ -1,8 +1,12 @@
-use Rattle.std.proofs.Common.{◌≡◌, ◌+◌, ◌<◌, ◌≤◌, length, Some, None, refl, sym, ap, subst, ◌∙◌, arith}
+use Rattle.std.proofs.Common.{◌≡◌, ◌<◌, ◌≤◌, length, Ok, sym, ap, ◌∙◌, arith}
+use Rattle.std.proofs.lemmas.List.{map_push}
 use Rattle.s39_set.specs.Names.{most_groups}
-use Rattle.s39_backup.specs.GroupShares.{indexed_group_shares, value_bytes_of, groups_below, AreGroupShares}
-use Rattle.s39_backup.proofs.Levels.{group_shares_without, mismatches}
-use Rattle.s39_backup.proofs.Combined.{length-members, members_can, members_combine, few_shares, shares_more, some_from_test, none_from_test}
+use Rattle.s39_split.specs.Recovery.{combined}
+use Rattle.s39_backup.specs.declared.combination.Mismatch.TheVariants.{InGroup}
+use Rattle.s39_backup.specs.Combination.{share_or_mismatch}
+use Rattle.s39_backup.specs.GroupShares.{indexed_group_shares, value_bytes_of}
+use Rattle.s39_backup.proofs.Levels.{few_group_shares, with_group, without_group, stops_at_group}
+use Rattle.s39_backup.proofs.Combined.{length-indexed_group_shares, length-members, members_can, some_from_test, none_from_test}
 use Rattle.s39_backup.proofs.combination.group_shares.Goals as goal
 use Rattle.s39_backup.proofs.combination.group_shares.Goals.{then-not-is_empty+in-Ok, else-not-is_empty}
 
@@ -15,23 +19,23 @@ combine_all-requires c =
           (some_from_test c.is_empty.result (length members) c.is_empty.ensures c.if-not-is_empty.true),
     )
 
-pub returns-in_default-clause-mismatch : goal.returns-in_default-clause-mismatch
-returns-in_default-clause-mismatch c =
+pub returns-in_default : goal.returns-in_default
+returns-in_default c =
     let set = c.args.set.now in
     let names = c.args.names.now in
     let group = c.loop-group.group in
     let members = c.member_shares-members.result in
-    let some : 0 < length members = some_from_test c.is_empty.result (length members) c.is_empty.ensures c.if-not-is_empty.true in (
-      group,
-      refl,
-      mismatches set names c.requires (indexed_group_shares c.loop-group.shares.items) group c.loop-group-test.true c.loop-group.invariant
-          (omega (arith, length-members set names c.requires group members c.member_shares-members.ensures))
-          (members_combine set names c.requires group members c.member_shares-members.ensures None some c.in_default.ensures.refused),
-    )
+    let some : 0 < length members = some_from_test c.is_empty.result (length members) c.is_empty.ensures c.if-not-is_empty.true in
+    stops_at_group set names c.requires group (indexed_group_shares c.loop-group.shares.items) c.loop-group.invariant (InGroup group)
+    c.loop-group-test.true (omega (arith, length-members set names c.requires group members c.member_shares-members.ensures))
+    (ap (share_or_mismatch group) (ap combined (sym c.member_shares-members.ensures) ∙ sym c.in_default.ensures))
 
 pub push-requires : goal.push-requires
 push-requires c =
-    let few = few_shares c.args.set.now c.args.names.now c.requires c.loop-group.group c.loop-group.shares.items c.loop-group.invariant in
+    let shares = c.loop-group.shares.items in
+    let few : length (indexed_group_shares shares) ≤ c.loop-group.group =
+    few_group_shares c.args.set.now c.args.names.now c.requires c.loop-group.group (indexed_group_shares shares) c.loop-group.invariant in
+    let room : length shares < most_groups = omega (arith, few, length-indexed_group_shares shares) in
     (omega arith, omega arith)
 
 pub loop-group-preserved : goal.loop-group-preserved
@@ -40,24 +44,24 @@ loop-group-preserved c =
     let names = c.args.names.now in
     let group = c.loop-group.group in
     let members = c.member_shares-members.result in
+    let shares = c.loop-group.shares.items in
     elim c.if-not-is_empty.branch [
       | then-not-is_empty+in-Ok w ↦ (
           let some : 0 < length members = some_from_test c.is_empty.result (length members) c.is_empty.ensures w.if-not-is_empty.true in
-          let can = members_can set names c.requires group members c.member_shares-members.ensures some in
-          shares_more set names c.requires group c.loop-group.shares.items c.loop-group.invariant w.in-Ok.share c.if-not-is_empty.shares.items
-          (ap (λ v. v.items) w.shares-is ∙ w.push.ensures.items)
+          with_group set names c.requires group (indexed_group_shares shares) c.loop-group.invariant (group, w.in-Ok.share.items)
           (omega (arith, length-members set names c.requires group members c.member_shares-members.ensures))
-          (members_combine set names c.requires group members c.member_shares-members.ensures (Some w.in-Ok.share.items) some w.in-Ok.ensures.secret)
-          (w.in-Ok.ensures.length (value_bytes_of set) can.lengths))
+          (ap (share_or_mismatch group) (ap combined (sym c.member_shares-members.ensures) ∙ sym w.in-Ok.ensures))
+          ∙ sym (ap (λ v. Ok (indexed_group_shares v.items)) w.shares-is
+          ∙ ap (λ items. Ok (indexed_group_shares items)) w.push.ensures.items
+          ∙ ap (λ pairs. Ok pairs) (map_push (λ s. (s.0, s.1.items)) shares (group, w.in-Ok.share))))
       | else-not-is_empty w ↦ (
           let none : length members ≤ 0 = none_from_test c.is_empty.result (length members) c.is_empty.ensures w.if-not-is_empty.false in
-          subst (λ v. AreGroupShares set names (groups_below names (group + 1)) (indexed_group_shares v.items)) (sym w.shares-is)
-          (group_shares_without set names c.requires (indexed_group_shares c.loop-group.shares.items) group c.loop-group.invariant
-          (omega (arith, length-members set names c.requires group members c.member_shares-members.ensures))))
+          without_group set names c.requires group (indexed_group_shares shares) c.loop-group.invariant
+          (omega (arith, length-members set names c.requires group members c.member_shares-members.ensures))
+          ∙ sym (ap (λ v. Ok (indexed_group_shares v.items)) w.shares-is))
     ]
 
-pub returns-clause-shares : goal.returns-clause-shares
-returns-clause-shares c =
+pub returns : goal.returns
+returns c =
     let all : c.loop-group.group ≡ most_groups = omega arith in
-    subst (λ n. AreGroupShares c.args.set.now c.args.names.now (groups_below c.args.names.now n) (indexed_group_shares c.loop-group.shares.items)) all
-    c.loop-group.invariant
+    rw all at c.loop-group.invariant

@@ -6,5 +6,4 @@ returns-clause-of_plan c = λ set passphrase secret is backup. set_of_plan set i
 
 pub returns-clause-right : goal.returns-clause-right
 returns-clause-right c = λ set passphrase secret name result is backup.
-    right set is passphrase secret backup c.any_shares_combine.ensures c.secrets_are_like_their_shares.ensures c.any_points_complete.ensures
-    c.shares_are_points.ensures name result
+    right set is passphrase secret backup c.any_shares_combine.ensures c.any_points_complete.ensures c.shares_are_points.ensures name result

@@ -1,7 +1,7 @@
-use Rattle.s39_backup.proofs.EveryOutcome.{outcome_exists}
+use Rattle.s39_backup.proofs.OneRecovery.{outcome_exists}
 use Rattle.s39_backup.proofs.laws.every_quorum_has_an_outcome.Goals as goal
 
 pub returns : goal.returns
 returns c = λ set names passphrase is quorum.
-    outcome_exists set names (record { is_set = is; exact = (c.quorums_are_exact.ensures set names is).0 quorum })
-    c.shares_combine.ensures c.secrets_are_like_their_shares.ensures c.one_encryption.ensures.of_texts passphrase
+    outcome_exists set names (record { is_set = is; exact = (c.quorums_are_exact.ensures set names is).0 quorum }) c.one_encryption.ensures.of_texts
+    passphrase

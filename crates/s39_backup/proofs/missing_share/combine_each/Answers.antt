@@ -1,11 +1,14 @@
-use Rattle.std.proofs.Common.{◌≡◌, ℕ, List, ◌∷◌, [], ◌++◌, ◌+◌, length, get_or, take, All, refl, sym, ap, ◌∙◌, subst, arith}
+use Rattle.std.proofs.Common.{◌≡◌, ℕ, get_or, Ok, sym, ap, ◌∙◌, subst, arith}
 use Rattle.std.proofs.lemmas.Bool.{leb-true}
-use Rattle.std.proofs.lemmas.List.{map_push, length-map, length-take-le, take_all}
-use Rattle.std.proofs.lemmas.List.Elements.{All-push}
+use Rattle.std.proofs.lemmas.List.{map_push, take_all}
+use Rattle.s39_lists.specs.Each.{each}
+use Rattle.s39_lists.proofs.Each.{each-more, each-stops, each-few}
 use Rattle.s39_backup.specs.declared.plan.Members.{Members}
-use Rattle.s39_backup.specs.GroupShares.{indexed_group_shares, value_bytes_of}
-use Rattle.s39_backup.specs.Reissue.{EachCombines}
-use Rattle.s39_backup.proofs.OtherGroups.{each_more, refused_first, each_length}
+use Rattle.s39_backup.specs.declared.combination.Mismatch.TheVariants.{InGroup}
+use Rattle.s39_backup.specs.Combination.{share_or_mismatch}
+use Rattle.s39_backup.specs.GroupShares.{indexed_group_shares}
+use Rattle.s39_backup.specs.Reissue.{least_share}
+use Rattle.s39_backup.proofs.Combined.{length-indexed_group_shares}
 use Rattle.s39_backup.proofs.missing_share.combine_each.Goals as goal
 
 abbrev blank : ℕ × Members
@@ -21,42 +24,32 @@ pub push-requires : goal.push-requires
 push-requires c =
     let few = c.requires.few in
     let within = c.loop-group-test.true in
-    let number = each_length c.args.set.now _ _ c.loop-group.invariant.combine in
+    let shares = c.loop-group.shares.items in
     omega (
       arith,
-      length-map {B = ℕ × List ℕ} c.loop-group.shares.items (λ s. (s.0, s.1.items)),
-      length-take-le c.loop-group.group-index c.args.groups.now (omega arith),
+      length-indexed_group_shares shares,
+      each-few (least_share c.args.set.now) c.args.groups.now c.loop-group.group-index (indexed_group_shares shares) within c.loop-group.invariant,
     )
 
-pub returns-in_default-clause-mismatch : goal.returns-in_default-clause-mismatch
-returns-in_default-clause-mismatch c =
+pub returns-in_default : goal.returns-in_default
+returns-in_default c =
     let groups = c.args.groups.now in
-    let i = c.loop-group.group-index in (
-      (get_or groups i blank).0,
-      refl,
-      refused_first c.args.set.now groups i blank (indexed_group_shares c.loop-group.shares.items) c.loop-group-test.true c.loop-group.invariant.combine
-          c.in_default.ensures.refused,
-    )
+    let i = c.loop-group.group-index in
+    each-stops (least_share c.args.set.now) groups i blank (indexed_group_shares c.loop-group.shares.items) (InGroup (get_or groups i blank).0)
+    c.loop-group-test.true c.loop-group.invariant (ap (share_or_mismatch (get_or groups i blank).0) (sym c.in_default.ensures))
 
 pub loop-group-preserved : goal.loop-group-preserved
 loop-group-preserved c =
-    let set = c.args.set.now in
     let groups = c.args.groups.now in
     let i = c.loop-group.group-index in
     let shares = c.loop-group.shares.items in
     let index = (get_or groups i blank).0 in
-    let pushed : indexed_group_shares c.push.new.self.items ≡ indexed_group_shares shares ++ (index, c.in-Ok.share.items) ∷ [] =
-    ap indexed_group_shares c.push.ensures.items ∙ map_push (λ s. (s.0, s.1.items)) shares (index, c.in-Ok.share) in
-    record {
-      combine = subst (EachCombines set (take (i + 1) groups)) (sym pushed)
-          (each_more set groups i blank (indexed_group_shares shares) c.in-Ok.share.items c.loop-group-test.true c.loop-group.invariant.combine
-          c.in-Ok.ensures.share);
-      lengths = subst (All (λ s. length s.1 ≡ value_bytes_of set)) (sym pushed)
-          (All-push (λ s. length s.1 ≡ value_bytes_of set) (indexed_group_shares shares) (index, c.in-Ok.share.items) c.loop-group.invariant.lengths
-          c.in-Ok.ensures.length);
-    }
+    each-more (least_share c.args.set.now) groups i blank (indexed_group_shares shares) (index, c.in-Ok.share.items) c.loop-group-test.true
+    c.loop-group.invariant (ap (share_or_mismatch index) (sym c.in-Ok.ensures))
+    ∙ sym (ap (λ items. Ok (indexed_group_shares items)) c.push.ensures.items
+    ∙ ap (λ pairs. Ok pairs) (map_push (λ s. (s.0, s.1.items)) shares (index, c.in-Ok.share)))
 
-pub returns-clause-shares : goal.returns-clause-shares
-returns-clause-shares c =
-    subst (λ gs. EachCombines c.args.set.now gs (indexed_group_shares c.loop-group.shares.items))
-    (take_all c.loop-group.group-index c.args.groups.now c.loop-group-test.false) c.loop-group.invariant.combine
+pub returns : goal.returns
+returns c =
+    subst (λ gs. each (least_share c.args.set.now) gs ≡ Ok (indexed_group_shares c.loop-group.shares.items))
+    (take_all c.loop-group.group-index c.args.groups.now c.loop-group-test.false) c.loop-group.invariant

@@ -1,4 +1,6 @@
-use Rattle.s39_backup.proofs.MembersAtHand.{points-one_length, points-long}
+use Rattle.std.proofs.Common.{ap, ◌∙◌}
+use Rattle.s39_split.specs.Completion.{completed}
+use Rattle.s39_backup.proofs.Combining.{points-one_length, points-long}
 use Rattle.s39_backup.proofs.missing_share.complete_all.Goals as goal
 
 pub complete-requires-clause-distinct : goal.complete-requires-clause-distinct
@@ -13,5 +15,5 @@ complete-requires-clause-one_length c = rw c.as_slice.ensures (points-one_length
 pub complete-requires-clause-long : goal.complete-requires-clause-long
 complete-requires-clause-long c = rw c.as_slice.ensures (points-long c.requires.0 c.args.points.now c.requires.1)
 
-pub returns-clause-length : goal.returns-clause-length
-returns-clause-length c = λ bytes lengths. c.complete.ensures.length bytes (rw c.as_slice.ensures lengths)
+pub returns : goal.returns
+returns c = c.complete.ensures.completed ∙ ap (λ points. completed points c.args.index) c.as_slice.ensures

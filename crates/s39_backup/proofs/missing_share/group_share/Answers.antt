@@ -1,41 +1,39 @@
-use Rattle.std.proofs.Common.{length, Some, None, sym, subst, arith}
-use Rattle.s39_split.specs.Completion.{Completes}
-use Rattle.s39_backup.specs.GroupShares.{indexed_group_shares, value_bytes_of}
-use Rattle.s39_backup.specs.Reissuing.{ArePointsOfOneLevel}
-use Rattle.s39_backup.proofs.OtherGroups.{groups_level, groups_long, tell}
+use Rattle.std.proofs.Common.{◌≡◌, Ok, sym, ap, ◌∙◌}
+use Rattle.std.specs.Option.{ok_or}
+use Rattle.std.proofs.lemmas.Result.{err_from_is_err_and}
+use Rattle.s39_lists.specs.Each.{and_then, each}
+use Rattle.s39_split.specs.Completion.{completed}
+use Rattle.s39_backup.specs.declared.combination.Mismatch.TheVariants.{OfGroups}
+use Rattle.s39_backup.specs.GroupShares.{value_bytes_of}
+use Rattle.s39_backup.specs.Reissue.{least_share, share_by_others}
+use Rattle.s39_backup.proofs.OtherGroups.{shares_level}
 use Rattle.s39_backup.proofs.missing_share.group_share.Goals as goal
 use Rattle.s39_backup.proofs.missing_share.group_share.Goals.{After-lend}
 
-level : (c : After-lend) → ArePointsOfOneLevel (value_bytes_of c.args.set.now) c.lend.result
-level c =
-    let set = c.args.set.now in
-    let others = c.args.others.now in
-    subst (ArePointsOfOneLevel (value_bytes_of set)) (sym c.lend.ensures)
-    (groups_level set others (indexed_group_shares c.in_ok-shares.shares.items) c.requires.complete c.requires.some c.in_ok-shares.ensures.shares
-    c.in_ok-shares.ensures.lengths (groups_long set others c.are_a_share_set.ensures c.requires.complete c.requires.some))
+all : (c : After-lend) → each (least_share c.args.set.now) c.args.others.now ≡ Ok c.lend.result
+all c = c.in_ok-shares.ensures ∙ ap (λ pairs. Ok pairs) (sym c.lend.ensures)
 
 pub complete_all-requires : goal.complete_all-requires
-complete_all-requires c = (value_bytes_of c.args.set.now, level (goal.at.complete_all-requires c).After-lend)
+complete_all-requires c =
+    let d = (goal.at.complete_all-requires c).After-lend in (
+      value_bytes_of c.args.set.now,
+      shares_level c.args.set.now c.are_a_share_set.ensures c.args.others.now c.requires.complete c.requires.some c.lend.result (all d),
+    )
 
-pub returns-in-Ok-clause-share : goal.returns-in-Ok-clause-share
-returns-in-Ok-clause-share c =
-    tell c.args.set.now c.args.others.now (indexed_group_shares c.in_ok-shares.shares.items) c.args.group (Some c.in-Ok.share.items)
-    c.in_ok-shares.ensures.shares
-    (subst (λ s. Completes (length s) s c.args.group (Some c.in-Ok.share.items)) c.lend.ensures c.in-Ok.ensures.share)
+pub returns-in_err-shares : goal.returns-in_err-shares
+unfolding share_by_others
+returns-in_err-shares c =
+    let error = err_from_is_err_and c.from_residual.result c.from_residual.ensures.1 in
+    rw (error.1, error.2) (ap (and_then (λ shares. ok_or (completed shares c.args.group) OfGroups)) c.in_err-shares.ensures)
 
-pub returns-in-Ok-clause-length : goal.returns-in-Ok-clause-length
-returns-in-Ok-clause-length c =
-    let d = (goal.at.returns-in-Ok-clause-length c).After-lend in
-    c.in-Ok.ensures.length (value_bytes_of c.args.set.now) (level d).lengths
+pub returns-in-Ok : goal.returns-in-Ok
+unfolding share_by_others
+returns-in-Ok c =
+    let d = (goal.at.returns-in-Ok c).After-lend in
+    ap (and_then (λ shares. ok_or (completed shares c.args.group) OfGroups)) (all d) ∙ ap (λ o. ok_or o OfGroups) (sym c.in-Ok.ensures)
 
-pub returns-in-Ok-clause-long : goal.returns-in-Ok-clause-long
-returns-in-Ok-clause-long c =
-    let d = (goal.at.returns-in-Ok-clause-long c).After-lend in
-    let long = (level d).long in
-    let same = c.in-Ok.ensures.length (value_bytes_of c.args.set.now) (level d).lengths in
-    omega arith
-
-pub returns-in-Err-clause-mismatch : goal.returns-in-Err-clause-mismatch
-returns-in-Err-clause-mismatch c =
-    tell c.args.set.now c.args.others.now (indexed_group_shares c.in_ok-shares.shares.items) c.args.group None c.in_ok-shares.ensures.shares
-    (subst (λ s. Completes (length s) s c.args.group None) c.lend.ensures c.in-Err.ensures.refused)
+pub returns-in-Err : goal.returns-in-Err
+unfolding share_by_others
+returns-in-Err c =
+    let d = (goal.at.returns-in-Err c).After-lend in
+    ap (and_then (λ shares. ok_or (completed shares c.args.group) OfGroups)) (all d) ∙ ap (λ o. ok_or o OfGroups) (sym c.in-Err.ensures)

@@ -5,7 +5,7 @@ use Rattle.std.proofs.lemmas.Option.{slice_get_read}
 use Rattle.s39_set.specs.Names.{most_groups, most_members}
 use Rattle.s39_backup.specs.declared.plan.Members.{Members}
 use Rattle.s39_backup.specs.Plan.{IsGroup}
-use Rattle.s39_backup.proofs.MissingValues.{low_name}
+use Rattle.s39_backup.proofs.Points.{low_name}
 use Rattle.s39_backup.proofs.missing_share.members_of.Goals as goal
 use Rattle.s39_backup.proofs.missing_share.members_of.Goals.{In-Some}
 

@@ -1,43 +1,53 @@
-use Rattle.std.proofs.Common.{sym, ◌∙◌, arith}
+use Rattle.std.proofs.Common.{◌≤◌, ℕ, length, sym, ap, ◌∙◌, subst, arith}
 use Rattle.s39_backup.specs.GroupShares.{value_bytes_of}
-use Rattle.s39_backup.proofs.MissingValues.{points_level, value_ok, value_err, all_counted}
+use Rattle.s39_backup.specs.Reissue.{value_at}
+use Rattle.s39_backup.specs.Reissuing.{ArePointsOfOneLevel}
+use Rattle.s39_backup.proofs.Combining.{level-points}
+use Rattle.s39_backup.proofs.MembersAtHand.{taken_all, taken_few}
+use Rattle.s39_backup.proofs.OtherGroups.{group_level}
+use Rattle.s39_backup.proofs.Points.{value_from, are_enough}
+use Rattle.s39_backup.specs.Reissue.{members_at_hand, least_members}
 use Rattle.s39_backup.proofs.missing_share.missing_value.Goals as goal
+use Rattle.s39_backup.proofs.missing_share.missing_value.Goals.{Then-at_hand-needed, Else-at_hand-needed}
+
+enough : (c : Then-at_hand-needed) → c.args.group.1.threshold ≤ length (members_at_hand c.args.set.now c.args.group.0)
+enough c =
+    taken_all c.args.group.1.threshold (members_at_hand c.args.set.now c.args.group.0)
+    (ap length (sym c.least_members-points.ensures) ∙ sym c.len-at_hand.ensures ∙ c.if-at_hand-needed.true ∙ c.from-needed.ensures)
 
 pub value_at-requires : goal.value_at-requires
-value_at-requires c = (
-  value_bytes_of c.args.set.now,
-  points_level c.args.set.now c.args.plan.now.group_threshold c.args.plan.now.groups.items c.args.group c.args.member c.least_members-points.result
-      c.least_members-points.ensures (sym c.len-at_hand.ensures ∙ c.if-at_hand-needed.true ∙ c.from-needed.ensures) c.are_a_share_set.ensures c.requires,
-)
+value_at-requires c =
+    let set = c.args.set.now in
+    let d = (goal.at.value_at-requires c).Then-at_hand-needed in (
+      value_bytes_of set,
+      subst (ArePointsOfOneLevel (value_bytes_of set)) (sym c.least_members-points.ensures)
+          (level-points (value_bytes_of set) (least_members set c.args.group)
+          (group_level set c.are_a_share_set.ensures c.args.group c.requires (enough d))),
+    )
 
-pub returns-then-at_hand-needed-clause-value : goal.returns-then-at_hand-needed-clause-value
-returns-then-at_hand-needed-clause-value c =
-    value_ok c.args.set.now c.args.plan.now.group_threshold c.args.plan.now.groups.items c.args.group c.args.member c.least_members-points.result
-    c.least_members-points.ensures (sym c.len-at_hand.ensures ∙ c.if-at_hand-needed.true ∙ c.from-needed.ensures) c.value_at.result c.value_at.ensures.value
-
-pub returns-then-at_hand-needed-clause-refused : goal.returns-then-at_hand-needed-clause-refused
-returns-then-at_hand-needed-clause-refused c =
-    value_err c.args.set.now c.args.plan.now.group_threshold c.args.plan.now.groups.items c.args.group c.args.member c.least_members-points.result
-    c.least_members-points.ensures (sym c.len-at_hand.ensures ∙ c.if-at_hand-needed.true ∙ c.from-needed.ensures) c.value_at.result c.value_at.ensures.refused
-
-pub returns-then-at_hand-needed-clause-length : goal.returns-then-at_hand-needed-clause-length
-returns-then-at_hand-needed-clause-length c =
-    c.value_at.ensures.length (value_bytes_of c.args.set.now)
-    (points_level c.args.set.now c.args.plan.now.group_threshold c.args.plan.now.groups.items c.args.group c.args.member c.least_members-points.result
-    c.least_members-points.ensures (sym c.len-at_hand.ensures ∙ c.if-at_hand-needed.true ∙ c.from-needed.ensures) c.are_a_share_set.ensures c.requires).lengths
+pub returns-then-at_hand-needed : goal.returns-then-at_hand-needed
+returns-then-at_hand-needed c =
+    let plan = c.args.plan.now in
+    let d = (goal.at.returns-then-at_hand-needed c).Then-at_hand-needed in
+    let name : ℕ × ℕ = (c.args.group.0, c.args.member) in
+    value_from c.args.set.now plan.group_threshold plan.groups.items name c.args.group.1 _
+    (are_enough c.args.set.now plan.group_threshold plan.groups.items name c.args.group.1 (enough d)).points_are
+    ∙ ap (value_at c.args.group.0 c.args.member) (sym c.least_members-points.ensures) ∙ c.value_at.ensures
 
 pub value_from_others-requires-clause-at_hand : goal.value_from_others-requires-clause-at_hand
 value_from_others-requires-clause-at_hand c =
-    c.len-at_hand.ensures ∙ (all_counted c.args.set.now c.args.plan.now.group_threshold c.args.plan.now.groups.items c.args.group c.args.member
-    c.least_members-points.result c.least_members-points.ensures
-    (λ same. c.if-at_hand-needed.false (c.len-at_hand.ensures ∙ same ∙ sym c.from-needed.ensures))).0
+    let members = members_at_hand c.args.set.now c.args.group.0 in
+    c.len-at_hand.ensures ∙ ap length c.least_members-points.ensures
+    ∙ (taken_few c.args.group.1.threshold members
+    (λ same. c.if-at_hand-needed.false
+    (c.len-at_hand.ensures ∙ ap length c.least_members-points.ensures ∙ same ∙ sym c.from-needed.ensures))).0
 
 pub value_from_others-requires-clause-few : goal.value_from_others-requires-clause-few
 value_from_others-requires-clause-few c =
-    let counted = all_counted c.args.set.now c.args.plan.now.group_threshold c.args.plan.now.groups.items c.args.group c.args.member
-    c.least_members-points.result c.least_members-points.ensures
-    (λ same. c.if-at_hand-needed.false (c.len-at_hand.ensures ∙ same ∙ sym c.from-needed.ensures)) in
-    let first = counted.0 in
-    let second = counted.1 in
-    let number = c.len-at_hand.ensures in
-    omega arith
+    let members = members_at_hand c.args.set.now c.args.group.0 in
+    let few = taken_few c.args.group.1.threshold members
+    (λ same. c.if-at_hand-needed.false
+    (c.len-at_hand.ensures ∙ ap length c.least_members-points.ensures ∙ same ∙ sym c.from-needed.ensures)) in
+    let first = few.0 in
+    let second = few.1 in
+    omega (arith, c.len-at_hand.ensures, ap length c.least_members-points.ensures)

@@ -4,12 +4,6 @@ use Rattle.s39_backup.specs.Plan.{IsNameOfPlan}
 use Rattle.s39_backup.specs.Reissue.{IsReissue}
 use Rattle.s39_backup.proofs.missing_share.reissue.Goals as goal
 
-pub returns-clause-only : goal.returns-clause-only
-returns-clause-only c = λ other is.
-    let plan = c.args.plan.now in
-    c.one_reissue.ensures c.args.set.now plan.group_threshold plan.groups.items (c.args.group, c.args.member) other c.share_of_name.result
-    c.are_a_share_set.ensures plan.is_plan is c.share_of_name.ensures
-
 pub returns-clause-created : goal.returns-clause-created
 returns-clause-created c = λ passphrase secret backup threshold groups.
     let set = c.args.set.now in

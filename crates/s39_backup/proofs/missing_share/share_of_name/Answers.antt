@@ -1,8 +1,9 @@
-use Rattle.std.proofs.Common.{◌≡◌, ◌≤◌, Ok, length, sym, ap, ◌∙◌, subst}
+use Rattle.std.proofs.Common.{◌≡◌, ◌≤◌, Some, Ok, length, sym, ap, ◌∙◌, subst}
 use Rattle.s39_words.specs.declared.share.ShareFields.{ShareFields}
 use Rattle.s39_set.specs.Names.{most_members}
 use Rattle.s39_backup.specs.Reissue.{IsReissue}
-use Rattle.s39_backup.proofs.Determined.{at_hand_is, missing_is, is_share, low_group, low_member, like_itself}
+use Rattle.s39_backup.proofs.AtHand.{is_share, low_group, low_member, like_itself}
+use Rattle.s39_backup.proofs.Reissues.{reissue_found, reissue_missing}
 use Rattle.s39_backup.proofs.missing_share.share_of_name.Goals as goal
 
 pub like-requires-clause-group : goal.like-requires-clause-group
@@ -37,11 +38,10 @@ returns-in-Some c =
     let same : c.like.result ≡ share =
     c.like.ensures ∙ rw (threshold, value) (like_itself set c.are_a_share_set.ensures c.args.group c.args.member share found) in
     subst (λ (s : ShareFields). IsReissue set plan.group_threshold plan.groups.items (c.args.group, c.args.member) (Ok s)) (sym same)
-    (at_hand_is set c.are_a_share_set.ensures plan.group_threshold plan.groups.items c.args.group c.args.member share (sym found))
+    (reissue_found set plan.group_threshold plan.groups.items (c.args.group, c.args.member) share found)
 
 pub returns-in-None : goal.returns-in-None
 returns-in-None c =
     let plan = c.args.plan.now in
-    let (members, at, missing) = c.missing_share.ensures in
-    missing_is c.args.set.now c.are_a_share_set.ensures plan.group_threshold plan.groups.items c.args.group c.args.member members
-    c.missing_share.result c.in-None.ensures.share at missing
+    reissue_missing c.args.set.now plan.group_threshold plan.groups.items (c.args.group, c.args.member) (Some c.missing_share.result)
+    (sym c.in-None.ensures.share) c.missing_share.ensures

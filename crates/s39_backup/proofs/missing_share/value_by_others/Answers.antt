@@ -1,29 +1,29 @@
-use Rattle.std.proofs.Common.{◌≡◌, ◌∷◌, Some, None, Ok, Err, inl, inr, refl, sym, subst}
-use Rattle.std.proofs.lemmas.Result.{IfOk-weaker, IfErr-weaker}
+use Rattle.std.proofs.Common.{◌∷◌, ap, ◌∙◌, arith}
+use Rattle.std.specs.Result.{result_map_both}
+use Rattle.s39_lists.specs.Each.{and_then}
 use Rattle.s39_split.specs.Sharing.{secret_place}
-use Rattle.s39_split.specs.Completion.{Completes}
-use Rattle.s39_backup.specs.declared.combination.Mismatch.TheVariants.{InGroup}
-use Rattle.s39_backup.specs.declared.reissue_error.ReissueError.{ReissueError}
 use Rattle.s39_backup.specs.declared.reissue_error.ReissueError.TheVariants.{DigestMismatch}
-use Rattle.s39_backup.specs.Reissue.{members_at_hand}
-use Rattle.s39_backup.specs.Reissuing.{IsValueBy}
+use Rattle.s39_backup.specs.Reissue.{members_at_hand, value_at}
+use Rattle.s39_backup.proofs.OtherGroups.{share_like_values}
 use Rattle.s39_backup.proofs.missing_share.value_by_others.Goals as goal
 
-pub returns-in-Ok-clause-value : goal.returns-in-Ok-clause-value
-returns-in-Ok-clause-value c =
-    let known = (secret_place, c.in-Ok.share.items) ∷ members_at_hand c.args.set.now c.args.group.0 in
-    IfOk-weaker c.value_by.result (λ v. Completes c.args.group.1.threshold known c.args.member (Some v.items))
-    (λ v. IsValueBy c.args.set.now c.args.others.now c.args.group c.args.member (Ok v.items))
-    (λ v completes. (c.in-Ok.share.items, c.in-Ok.ensures.share, completes)) c.value_by.ensures.value
+pub value_by-requires-clause-length : goal.value_by-requires-clause-length
+value_by-requires-clause-length c =
+    (share_like_values c.args.set.now c.are_a_share_set.ensures c.args.others.now c.requires.complete c.requires.some c.args.group.0 c.in-Ok.share.items
+    (omega arith) c.in-Ok.ensures).0.0
 
-pub returns-in-Ok-clause-refused : goal.returns-in-Ok-clause-refused
-returns-in-Ok-clause-refused c =
-    let known = (secret_place, c.in-Ok.share.items) ∷ members_at_hand c.args.set.now c.args.group.0 in
-    IfErr-weaker c.value_by.result
-    (λ e. (e ≡ DigestMismatch (InGroup c.args.group.0)) × Completes c.args.group.1.threshold known c.args.member None)
-    (λ e. IsValueBy c.args.set.now c.args.others.now c.args.group c.args.member (Err e))
-    (λ e h. subst (λ (x : ReissueError). IsValueBy c.args.set.now c.args.others.now c.args.group c.args.member (Err x)) (sym h.0)
-    (inr (refl, (c.in-Ok.share.items, c.in-Ok.ensures.share, h.1)))) c.value_by.ensures.refused
+pub value_by-requires-clause-long : goal.value_by-requires-clause-long
+value_by-requires-clause-long c =
+    (share_like_values c.args.set.now c.are_a_share_set.ensures c.args.others.now c.requires.complete c.requires.some c.args.group.0 c.in-Ok.share.items
+    (omega arith) c.in-Ok.ensures).1
 
-pub returns-in-Err-clause-refused : goal.returns-in-Err-clause-refused
-returns-in-Err-clause-refused c = inl c.in-Err.ensures.mismatch
+pub returns-in-Ok : goal.returns-in-Ok
+returns-in-Ok c =
+    ap (λ r. and_then (value_at c.args.group.0 c.args.member)
+    (result_map_both (λ share. (secret_place, share) ∷ members_at_hand c.args.set.now c.args.group.0) (λ mismatch. DigestMismatch mismatch) r)) c.in-Ok.ensures
+    ∙ c.value_by.ensures
+
+pub returns-in-Err : goal.returns-in-Err
+returns-in-Err c =
+    ap (λ r. and_then (value_at c.args.group.0 c.args.member)
+    (result_map_both (λ share. (secret_place, share) ∷ members_at_hand c.args.set.now c.args.group.0) (λ mismatch. DigestMismatch mismatch) r)) c.in-Err.ensures

@@ -15,7 +15,7 @@ returns-clause-created c = λ secret backup.
     let recovers : Recovers set names passphrase c.decrypt.result.items = record {
       encrypted = c.in_ok-encrypted.encrypted.items;
       params = c.params_of.result;
-      combined = c.in_ok-encrypted.ensures.encrypted;
+      combined = c.in_ok-encrypted.ensures.combination;
       params_are = c.params_of.ensures;
       secret_is = c.decrypt.ensures.value;
     } in

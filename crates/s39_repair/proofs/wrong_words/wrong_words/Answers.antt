@@ -1,40 +1,48 @@
 use Rattle.std.proofs.Common.{◌<◌, ◌+◌, ℕ, List, length, sym, ap, subst, ◌∙◌, arith}
 use Rattle.std.proofs.lemmas.Bool.{false≢true}
-use Rattle.std.proofs.lemmas.List.{length-map}
-use Rattle.s39_words.specs.declared.prefix.WordRange.{WordRange}
-use Rattle.s39_words.proofs.Indices.{at_most_words}
-use Rattle.s39_repair.specs.Answer.{firsts}
-use Rattle.s39_repair.proofs.Candidates.{firsts-in_list}
-use Rattle.s39_repair.proofs.WrongPlaces.{WrongUpTo, wrong_more, right_more, wrong_room, wrong_all}
+use Rattle.s39_repair.proofs.WrongPlaces.{WrongUpTo, wrong_none, wrong_more, right_more, wrong_room, wrong_all}
 use Rattle.s39_repair.proofs.wrong_words.wrong_words.Goals as goal
 use Rattle.s39_repair.proofs.wrong_words.wrong_words.Goals.{then-is_wrong_word, else-is_wrong_word}
 
+pub loop-place-init : goal.loop-place-init
+loop-place-init c = record {
+  found = subst (λ xs. WrongUpTo c.args.words.now xs 0) (sym c.new-positions.ensures) (wrong_none c.args.words.now);
+  plain = c.begin-plain.ensures.at;
+  extendable = c.begin-extendable.ensures.at;
+  flags = (c.begin-plain.ensures.flag, c.begin-extendable.ensures.flag);
+}
+
 pub push-requires : goal.push-requires
 push-requires c =
-    let ranges = c.args.ranges.now in
-    let short = at_most_words (length ranges) c.requires.count in
     let room : length c.loop-place.positions.items < 2 =
-    wrong_room (firsts ranges) c.loop-place.positions.items c.loop-place.place (firsts-in_list ranges c.requires.all)
-    (omega (arith, short, length-map ranges (λ (r : WordRange). r.first))) c.requires.bad c.loop-place.invariant
-    (c.is_wrong_word.ensures.0 c.if-is_wrong_word.true) in
+    wrong_room c.args.words.now c.loop-place.positions.items c.loop-place.place c.requires.in_list c.requires.short c.requires.bad
+    c.loop-place.invariant.found (c.is_wrong_word.ensures.0 c.if-is_wrong_word.true) in
     (omega arith, room)
 
 pub loop-place-preserved : goal.loop-place-preserved
 loop-place-preserved c =
-    let words = firsts c.args.ranges.now in
+    let words = c.args.words.now in
     let n = c.loop-place.place in
-    elim c.if-is_wrong_word.branch [
-      | then-is_wrong_word w ↦
-          subst (λ (xs : List ℕ). WrongUpTo words xs (n + 1)) (sym (ap (λ (v : _). v.items) w.positions-is ∙ w.push.ensures.items))
-          (wrong_more words c.loop-place.positions.items n c.loop-place.invariant (c.is_wrong_word.ensures.0 w.if-is_wrong_word.true))
-      | else-is_wrong_word w ↦
-          subst (λ (xs : List ℕ). WrongUpTo words xs (n + 1)) (sym (ap (λ (v : _). v.items) w.positions-is))
-          (right_more words c.loop-place.positions.items n c.loop-place.invariant
-          (λ is. false≢true (sym w.if-is_wrong_word.false ∙ c.is_wrong_word.ensures.1 is)))
-    ]
+    record {
+      found =
+          elim c.if-is_wrong_word.branch [
+            | then-is_wrong_word w ↦
+                subst (λ (xs : List ℕ). WrongUpTo words xs (n + 1)) (sym (ap (λ (v : _). v.items) w.positions-is ∙ w.push.ensures.items))
+                (wrong_more words c.loop-place.positions.items n c.loop-place.invariant.found (c.is_wrong_word.ensures.0 w.if-is_wrong_word.true))
+            | else-is_wrong_word w ↦
+                subst (λ (xs : List ℕ). WrongUpTo words xs (n + 1)) (sym (ap (λ (v : _). v.items) w.positions-is))
+                (right_more words c.loop-place.positions.items n c.loop-place.invariant.found
+                (λ is. false≢true (sym w.if-is_wrong_word.false ∙ c.is_wrong_word.ensures.1 is)))
+          ];
+      plain = c.step-plain.ensures.at words n c.loop-place.invariant.plain;
+      extendable = c.step-extendable.ensures.at words n c.loop-place.invariant.extendable;
+      flags = (
+        c.step-plain.ensures.flag ∙ c.loop-place.invariant.flags.0,
+        c.step-extendable.ensures.flag ∙ c.loop-place.invariant.flags.1,
+      );
+    }
 
 pub returns : goal.returns
 returns c =
-    let ranges = c.args.ranges.now in
-    wrong_all (firsts ranges) c.loop-place.positions.items c.loop-place.place c.loop-place.invariant
-    (omega (arith, c.loop-place-test.false, length-map ranges (λ (r : WordRange). r.first)))
+    wrong_all c.args.words.now c.loop-place.positions.items c.loop-place.place c.loop-place.invariant.found
+    (omega (arith, c.loop-place-test.false))

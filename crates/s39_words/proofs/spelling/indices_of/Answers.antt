@@ -1,7 +1,18 @@
-use Rattle.std.proofs.Common.{◌≡◌, [], refl, subst, arith, rules}
+use Rattle.std.proofs.Common.{◌≡◌, [], refl, sym, subst, arith, rules}
 use Rattle.std.proofs.lemmas.Bool.{false≢true}
-use Rattle.s39_words.proofs.Indices.{KeepsWords, first_unknown, keeps_word, kept_below, passes_count, no_word_count}
+use Rattle.s39_words.proofs.Indices.{KeepsWords, keeps_none, first_unknown, keeps_word, kept_below, all_kept, no_word_count}
 use Rattle.s39_words.proofs.spelling.indices_of.Goals as goal
+
+pub loop-rest-init : goal.loop-rest-init
+loop-rest-init c =
+    let rest = c.after_separators-rest.ensures in
+    record {
+      begins = rest.begins;
+      short = omega (arith, rest.short);
+      keeps =
+          subst (λ kept. KeepsWords c.args.line.now c.after_separators-rest.result.now kept 0) (sym c.new-indices.ensures)
+          (keeps_none c.args.line.now c.after_separators-rest.result.now rest.same_words);
+    }
 
 pub returns-in_default-clause-refused : goal.returns-in_default-clause-refused
 returns-in_default-clause-refused c =
@@ -21,18 +32,20 @@ loop-rest-preserved c =
           c.loop-rest.invariant.keeps known.2 next.ensures.same_words known.1 c.try_push.ensures.ok c.try_push.ensures.err c.try_push.ensures.variant;
     }
 
-pub returns-then-is_word_count-clause-found : goal.returns-then-is_word_count-clause-found
-returns-then-is_word_count-clause-found c =
-    let none : c.loop-rest.rest.now ≡ [] = search rules in
-    let all = subst (λ rest. KeepsWords c.args.line.now rest c.loop-rest.indices.items c.loop-rest.words) none c.loop-rest.invariant.keeps in
-    passes_count c.args.line.now c.loop-rest.indices.items c.loop-rest.words all (c.if-is_word_count.ensures.0 refl)
-
-pub returns-then-is_word_count-clause-in_list : goal.returns-then-is_word_count-clause-in_list
-returns-then-is_word_count-clause-in_list c = kept_below c.loop-rest.invariant.keeps.done c.loop-rest.indices.items c.loop-rest.words
-    c.loop-rest.invariant.keeps.keeps
+pub returns-then-is_word_count : goal.returns-then-is_word_count
+returns-then-is_word_count c =
+    let ended : c.loop-rest.rest.now ≡ [] = search rules in
+    let keeps = c.loop-rest.invariant.keeps in
+    let all = all_kept c.args.line.now c.loop-rest.rest.now c.loop-rest.indices.items c.loop-rest.words keeps ended (c.if-is_word_count.ensures.0 refl) in
+    record {
+      found = all.0;
+      count = all.1;
+      in_list = kept_below c.args.line.now c.loop-rest.rest.now c.loop-rest.indices.items c.loop-rest.words keeps;
+      refused = tt;
+    }
 
 pub returns-else-is_word_count-clause-refused : goal.returns-else-is_word_count-clause-refused
 returns-else-is_word_count-clause-refused c =
-    let none : c.loop-rest.rest.now ≡ [] = search rules in
-    let all = subst (λ rest. KeepsWords c.args.line.now rest c.loop-rest.indices.items c.loop-rest.words) none c.loop-rest.invariant.keeps in
-    no_word_count c.args.line.now c.loop-rest.indices.items c.loop-rest.words all (λ h. false≢true (c.if-is_word_count.ensures.1 h))
+    let ended : c.loop-rest.rest.now ≡ [] = search rules in
+    no_word_count c.args.line.now c.loop-rest.rest.now c.loop-rest.indices.items c.loop-rest.words c.loop-rest.invariant.keeps ended (λ h.
+    false≢true (c.if-is_word_count.ensures.1 h))

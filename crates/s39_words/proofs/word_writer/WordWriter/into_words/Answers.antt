@@ -1,3 +1,5 @@
+use Rattle.std.proofs.Common.{ap}
+use Rattle.s39_words.specs.Written.{Bits}
 use Rattle.s39_words.proofs.Written.{whole-words}
 use Rattle.s39_words.proofs.word_writer.WordWriter.into_words.Goals as goal
 
@@ -7,5 +9,6 @@ returns c =
     whole-words w.words.items w.held w.rest c.args.self (record {
       words_below = c.self.invariant.2;
       rest_below = c.self.invariant.1;
-      joined = c.self.view_is;
+      count = ap (λ (b : Bits). b.count) c.self.view_is;
+      number = ap (λ (b : Bits). b.number) c.self.view_is;
     }) c.self.invariant.0 c.requires

@@ -1,10 +1,8 @@
 use Rattle.std.proofs.Common.{◌≡◌, ◌+◌, ◌-◌, ◌*◌, ◌/◌, ◌%◌, ◌^◌, ◌<◌, [], ◌∷◌, ◌++◌, length, sym, ap, ◌∙◌, subst, arith, bit_or, bit_and}
-use Rattle.std.proofs.lemmas.List.{length-append}
 use Rattle.std.proofs.lemmas.Nat.{shr_below}
 use Rattle.s39_words.specs.Layout.{most_words, checksum_length}
-use Rattle.s39_words.specs.Bits.{bits}
-use Rattle.s39_words.proofs.Digits.{length-bits}
-use Rattle.s39_words.proofs.Written.{AreDigits, length-digits, written, shifted-is, word_more, masked-is}
+use Rattle.s39_words.specs.Written.{Bits, bits_with}
+use Rattle.s39_words.proofs.Written.{AreBits, written, shifted-is, word_more, masked-is}
 use Rattle.s39_words.proofs.word_writer.WordWriter.write.Goals as goal
 
 pub loop-self-init : goal.loop-self-init
@@ -12,14 +10,19 @@ loop-self-init c =
     let w = c.self.inside in
     let n = c.args.number in
     let width = c.args.width in
-    let made = written w.words.items w.held w.rest width n c.self.invariant.2 c.self.invariant.1 c.requires.digits in
+    let are : AreBits w.words.items w.held w.rest c.args.self.now = record {
+      words_below = c.self.invariant.2;
+      rest_below = c.self.invariant.1;
+      count = ap (λ (b : Bits). b.count) c.self.view_is;
+      number = ap (λ (b : Bits). b.number) c.self.view_is;
+    } in
     let rest : bit_or (w.rest * 2 ^ width % 4294967296) c.from.result ≡ w.rest * 2 ^ width + n =
     ap (λ m. bit_or (w.rest * 2 ^ width % 4294967296) m) c.from.ensures
     ∙ shifted-is w.rest width n w.held c.self.invariant.1 c.requires.digits c.self.invariant.0 c.requires.width in
     record {
-      digits =
-          subst (λ r. AreDigits w.words.items (w.held + width) r (c.args.self.now ++ bits width n)) (sym rest)
-          (subst (λ ds. AreDigits w.words.items (w.held + width) (w.rest * 2 ^ width + n) (ds ++ bits width n)) c.self.view_is made);
+      bits =
+          subst (λ r. AreBits w.words.items (w.held + width) r (bits_with c.args.self.now width n)) (sym rest)
+          (written w.words.items w.held w.rest width n c.args.self.now are c.requires.digits);
       held = omega (arith, c.self.invariant.0);
     }
 
@@ -28,28 +31,24 @@ pub overflow_cast-self-inside-in-loop-self : goal.overflow_cast-self-inside-in-l
 overflow_cast-self-inside-in-loop-self c =
     let w = c.loop-self.self-inside in
     let e : w.held ≡ 10 + (w.held - 10) = omega arith in
-    let b : w.rest < 2 ^ (10 + (w.held - 10)) = subst (λ k. w.rest < 2 ^ k) e c.loop-self.invariant.digits.rest_below in
+    let b : w.rest < 2 ^ (10 + (w.held - 10)) = subst (λ k. w.rest < 2 ^ k) e c.loop-self.invariant.bits.rest_below in
     omega (arith, shr_below w.rest 10 (w.held - 10) b)
 
 pub push-requires : goal.push-requires
 push-requires c =
-    let w = c.loop-self.self-inside in
-    let n = length-digits w.words.items w.held w.rest _ c.loop-self.invariant.digits in
-    let h : length w.words.items < most_words - checksum_length = omega
-    (arith, n, length-append c.args.self.now (bits c.args.width c.args.number), length-bits c.args.width c.args.number) in
+    let h : length c.loop-self.self-inside.words.items < most_words - checksum_length = omega (arith, c.loop-self.invariant.bits.count) in
     (omega arith, h)
 
 pub loop-self-preserved : goal.loop-self-preserved
 loop-self-preserved c =
     let w = c.loop-self.self-inside in
-    let e : w.held ≡ 10 + (w.held - 10) = omega arith in
-    let all = c.args.self.now ++ bits c.args.width c.args.number in
-    let d : AreDigits w.words.items (10 + (w.held - 10)) w.rest all = subst (λ k. AreDigits w.words.items k w.rest all) e c.loop-self.invariant.digits in
-    let more = word_more w.words.items (w.held - 10) w.rest all d in
+    let after = w.held - 10 in
+    let e : w.held ≡ 10 + after = omega arith in
+    let all = bits_with c.args.self.now c.args.width c.args.number in
+    let more = word_more w.words.items after w.rest all (subst (λ k. AreBits w.words.items k w.rest all) e c.loop-self.invariant.bits) in
     record {
-      digits =
-          subst (λ ws. AreDigits ws (w.held - 10) (bit_and w.rest (1 * 2 ^ (w.held - 10) % 4294967296 - 1)) all) (sym c.push.ensures.items)
-          (subst (λ r. AreDigits (w.words.items ++ w.rest / 2 ^ (w.held - 10) ∷ []) (w.held - 10) r all)
-          (sym (masked-is w.rest (w.held - 10) (omega arith))) more);
+      bits =
+          subst (λ ws. AreBits ws after (bit_and w.rest (1 * 2 ^ after % 4294967296 - 1)) all) (sym c.push.ensures.items)
+          (subst (λ r. AreBits (w.words.items ++ w.rest / 2 ^ after ∷ []) after r all) (sym (masked-is w.rest after (omega arith))) more);
       held = omega arith;
     }
