@@ -4,7 +4,7 @@ ghost use Rattle.std.specs.Prelude.{◌<◌};
 use s39_backup::{Options, Plan};
 use s39_creating::{run_create, run_reissue};
 use s39_drilling::run_drill;
-use s39_input::{Counting, Fault, SecretForm, run_show};
+use s39_input::{Counting, Fault, SecretForm, run_repair, run_show};
 use s39_kdf::check_secret;
 use s39_reading::{run_recover, run_status};
 use s39_set::parse_names;
@@ -90,6 +90,14 @@ const REISSUE: Example = Example {
     status: 0,
 };
 
+const REPAIR: Example = Example {
+    words: &["shamir", "repair"],
+    input: b"? ? ? academic agency result length solution fridge kidney coal piece deal husband erode duke ajar critical decision keyboard\n",
+    output: b"duckling enlarge academic academic agency result length solution fridge kidney coal piece deal husband erode duke ajar critical decision keyboard\ntherapy heat device academic agency result length solution fridge kidney coal piece deal husband erode duke ajar critical decision keyboard\n",
+    errors: b"",
+    status: 1,
+};
+
 const REFUSED_PLAN: Example = Example {
     words: &["shamir", "create", "1of3", "--master-secret", SECRET],
     input: b"",
@@ -115,6 +123,7 @@ pub fn example_of(letter: u8) -> Option<Example> {
         b'd' => Some(DRILL),
         b't' => Some(STATUS),
         b'i' => Some(REISSUE),
+        b'm' => Some(REPAIR),
         b'p' => Some(REFUSED_PLAN),
         b'w' => Some(REFUSED_WORDS),
         _ => None,
@@ -160,7 +169,7 @@ pub fn run_of<R: Read + Drop, W: Write + Drop>(letter: u8, input: R, output: W) 
     let mut output = Counting::new(output);
     match letter {
         b'S' => run_show(&mut input, &mut output).is_ok(),
-        b'R' => run_recover(SecretForm::Digits, b"TREZOR", &mut input, &mut output).is_ok(),
+        b'R' => run_recover(SecretForm::Digits, None, b"TREZOR", &mut input, &mut output).is_ok(),
         b'C' => create_one(&mut input, &mut output).is_ok(),
         b'D' => run_drill(
             SecretForm::Digits,
@@ -173,6 +182,7 @@ pub fn run_of<R: Read + Drop, W: Write + Drop>(letter: u8, input: R, output: W) 
         .is_ok(),
         b'T' => run_status(&mut input, &mut output).is_ok(),
         b'I' => reissue_one(&mut input, &mut output).is_ok(),
+        b'M' => run_repair(&mut input, &mut output).is_ok(),
         _ => false,
     }
 }

@@ -1,6 +1,6 @@
 //! Runs worked examples over arrays, and says how each ended. Its standard input has a letter for each: `s`, `r`, `c`, `d`,
-//! `t` (status) and `i` (reissue) for the commands, `p` for a refused plan and `w` for refused words, each by the program,
-//! and `S`, `R`, `C`, `D`, `T` and `I` for the runs below it.
+//! `t` (status), `i` (reissue) and `m` (repair) for the commands, `p` for a refused plan and `w` for refused words, each by
+//! the program, and `S`, `R`, `C`, `D`, `T`, `I` and `M` for the runs below it.
 //!
 //! It takes no memory itself, so that `make faults` can refuse each allocation of an example in turn. The example then
 //! ends as it does otherwise, or it runs out of memory. In that case it ends with status 4, which this program returns, and

@@ -3,8 +3,8 @@
 //! `kdf E` encrypts a secret at the iteration exponent `E` and prints it in hexadecimal: four rounds of PBKDF2, which take
 //! `10000 * 2^E` iterations. `split N` splits a secret of 32 bytes N times at threshold 8 of 16, and `combine N` combines
 //! eight of its shares N times; both print how often it succeeded. `next G N` takes N steps through the quorums of a
-//! set of G groups of `8of16`, all of which are needed, and prints how many looks they took. With no argument it does
-//! `kdf 0`.
+//! set of G groups of `8of16`, all of which are needed, and prints how many looks they took. `repair N LINE` repairs a
+//! line N times, and prints how often it found a mnemonic or one wrong word. With no argument it does `kdf 0`.
 #![tactic(auto)]
 
 ghost use Rattle.std.specs.Prelude.{◌≡◌, All};
@@ -13,6 +13,7 @@ ghost use Rattle.arrayvec.specs.ArrayVec.{array_vec_len};
 mod steps;
 
 use s39_kdf::{Bytes, MAX_EXPONENT, Params, check_secret, encrypt};
+use s39_repair::{RepairError, repair};
 use s39_split::{combine, split};
 use std::{env, io};
 
@@ -97,6 +98,20 @@ fn combine_often(times: u32) -> u32 {
     agreed
 }
 
+/// Repairs a line as often as asked for, and counts how often that found a mnemonic or one wrong word.
+fn repair_often(line: Option<String>, times: u32) -> u32 {
+    let Some(line) = line else {
+        return 0;
+    };
+    let mut found = 0u32;
+    for _ in 0..times {
+        if let Ok(_) | Err(RepairError::WrongWord { .. }) = repair(line.as_bytes()) {
+            found = found.saturating_add(1);
+        }
+    }
+    found
+}
+
 /// The number that a word of the command line is, 0 where it isn't there.
 fn number_of(word: Option<String>) -> u32 {
     match &word {
@@ -117,6 +132,10 @@ fn main(rt: HostRuntime) -> io::Result<()> {
         Some(work) if work.as_str() == "combine" => {
             let agreed = combine_often(number);
             println!(rt; "{agreed}")
+        }
+        Some(work) if work.as_str() == "repair" => {
+            let found = repair_often(words.next(), number);
+            println!(rt; "{found}")
         }
         Some(work) if work.as_str() == "next" => {
             let groups = u8::try_from(number).unwrap_or(u8::MAX);

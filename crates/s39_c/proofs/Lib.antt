@@ -1,7 +1,8 @@
 mod Outputs
 mod OneAnswer
+mod OneSecret
 mod OneReissue
 mod MostExponents
 mod Rooms
 mod WordLines
-mod RepairedLines
+mod OneRepair

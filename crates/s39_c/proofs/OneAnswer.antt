@@ -1,11 +1,9 @@
 -- What calls give of the same things, and of what was in memory, is one answer and one memory.
-use Rattle.std.proofs.Common.{◌≡◌, ◌≢◌, ◌⊎◌, ℕ, ◌<◌, ◌≤◌, ◌^◌, Bool, true, List, [], ◌∷◌, ◌++◌, length, drop, length-append, refl, sym, ap, ap₂, subst, ◌∙◌, inl, inr}
+use Rattle.std.proofs.Common.{◌≡◌, ◌≢◌, ◌⊎◌, ℕ, ◌<◌, ◌≤◌, ◌^◌, Bool, true, List, [], ◌∷◌, length, length-append, refl, sym, ap, ap₂, subst, ◌∙◌, inl, inr}
 use Rattle.std.proofs.Common.{arith}
 use Rattle.std.proofs.Common.{Option, Some, None, Result, Ok, Err}
 use Rattle.std.proofs.Math.Bridge.{le_prop}
-use Rattle.std.proofs.lemmas.List.{get_or_append_left}
 use Rattle.hex.specs.Hex.{encode_lower}
-use Rattle.s39_kdf.specs.Bytes.{AreBytes}
 use Rattle.s39_kdf.specs.Fingerprint.{fingerprint_of}
 use Rattle.std.specs.Prelude.{◌↔◌}
 use Rattle.std.proofs.lemmas.Bool.{cases_lt, cases_Bool}
@@ -25,21 +23,18 @@ use Rattle.s39_input.specs.declared.fault.Fault.{Fault}
 use Rattle.s39_drilling.specs.declared.listing.Listing.{Listing}
 use Rattle.s39_input.specs.declared.slices.Unwritten.{Unwritten}
 use Rattle.s39_input.specs.declared.slices.Unwritten.TheVariants.{Refused, TooShort as SliceTooShort}
+use Rattle.s39_kdf.specs.declared.noted.BadFingerprint.{BadFingerprint}
 use Rattle.s39_kdf.specs.declared.secret_form.SecretForm.{SecretForm}
-use Rattle.s39_kdf.specs.declared.secret_form.SecretForm.TheVariants.{Digits}
 use Rattle.s39_input.specs.Input.{Input, lines_in, whole}
 use Rattle.s39_input.specs.Create.{IsCreateOutput}
 use Rattle.s39_drilling.specs.Drill.{IsDrillOutput}
-use Rattle.s39_reading.specs.Recover.{secret_line, IsRecoverOutput}
 use Rattle.s39_drilling.specs.Slices.{Lists}
-use Rattle.s39_reading.proofs.Texts.SecretLines.{same_secret, same_size}
 use Rattle.s39_c.specs.declared.answer.ShamirAnswer.{ShamirAnswer}
 use Rattle.s39_c.specs.declared.parsing.ShamirShare.{ShamirShare}
-use Rattle.s39_c.specs.Answers.{GivesAs, Gives, done, created, number, too_short, plan_refused, word_refused, refused, unwritten, listed}
+use Rattle.s39_c.specs.Answers.{GivesAs, Gives, done, created, number, plan_refused, word_refused, refused, unwritten, listed}
 use Rattle.s39_c.specs.Parsing.{HasHeader, GivesShare}
 use Rattle.s39_c.specs.Creating.{Wanted, Asks, GivesMnemonics, GivesBackup, GivesNumber}
-use Rattle.s39_c.specs.Recovering.{GivesSecret}
-use Rattle.s39_c.specs.Drilling.{form_of, GivesListing, IsCursor, GivesDrillAfter, GivesDrill}
+use Rattle.s39_c.specs.Drilling.{form_of, IsCursor, GivesListing, GivesDrillIn, GivesDrillAfter, GivesDrill}
 use Rattle.s39_c.specs.Fingerprinting.{GivesFingerprint}
 
 -- the same bytes are given in one way
@@ -213,46 +208,6 @@ module _ (one_plan_reading : (text : List ℕ) (reading other : Result (ℕ × L
         mnemonics_once asked random old new other answer another gives
         (subst (λ (a : Asked). GivesMnemonics a random old other another) (asked_once wanted asked' asked asks' asks) gives')
 
--- ---- a secret
-
--- what stands in front of bytes are bytes
-front_bytes : (front rest : List ℕ) → AreBytes (front ++ rest) → AreBytes front
-front_bytes front rest bytes k d within =
-    subst (λ (b : ℕ). b < 256) (get_or_append_left front rest d k within) (bytes k d (omega (arith, within, length-append front rest)))
-
-secret_given_once : (s t old new other : List ℕ) (answer another : ShamirAnswer) → AreBytes new → AreBytes other → secret_line Digits s ≡ secret_line Digits t
-    → Gives s old new answer → Gives t old other another → (new ≡ other) × (answer ≡ another)
-secret_given_once s t old new other answer another bytes others same (inl (fits, is, says)) (inl (fits', is', says')) =
-    let secrets : t ≡ s = same_secret t s (front_bytes t (drop (length t) old) (subst AreBytes is' others))
-    (front_bytes s (drop (length s) old) (subst AreBytes is bytes)) (sym same) in
-    gives_once s old new other answer another (inl (fits, is, says))
-    (subst (λ (x : List ℕ). Gives x old other another) secrets (inl (fits', is', says')))
-secret_given_once s t old new other answer another bytes others same (inl (fits, is, says)) (inr (long, is', says')) =
-    absurd (omega (arith, fits, long, same_size s t same))
-secret_given_once s t old new other answer another bytes others same (inr (long, is, says)) (inl (fits, is', says')) =
-    absurd (omega (arith, fits, long, same_size s t same))
-secret_given_once s t old new other answer another bytes others same (inr (long, is, says)) (inr (long', is', says')) =
-    (is ∙ sym is', says ∙ ap too_short (same_size s t same) ∙ sym says')
-
-module _ (one_recover_output : (passphrase : List ℕ) (input : Input) (text other : List ℕ) (answer another : Result (Unit {0}) Fault)
-    → IsRecoverOutput Digits passphrase input text answer → IsRecoverOutput Digits passphrase input other another → (text ≡ other) × (answer ≡ another)) where
-  pub secret_once : (passphrase lines old new other : List ℕ) (answer another : ShamirAnswer) → AreBytes new → AreBytes other
-      → GivesSecret (IsRecoverOutput Digits passphrase (whole lines)) old new answer
-      → GivesSecret (IsRecoverOutput Digits passphrase (whole lines)) old other another → (new ≡ other) × (answer ≡ another)
-  secret_once passphrase lines old new other answer another bytes others (inl (s, output, gives)) (inl (t, output', gives')) =
-      let same = (one_recover_output passphrase (whole lines) (secret_line Digits s) (secret_line Digits t) (Ok tt) (Ok tt) output output').0 in
-      secret_given_once s t old new other answer another bytes others same gives gives'
-  secret_once passphrase lines old new other answer another bytes others (inl (s, output, gives)) (inr (fault, output', is, says)) =
-      let same = (one_recover_output passphrase (whole lines) (secret_line Digits s) [] (Ok tt) (Err fault) output output').1 in
-      absurd (cc)
-  secret_once passphrase lines old new other answer another bytes others (inr (fault, output', is, says)) (inl (s, output, gives)) =
-      let same = (one_recover_output passphrase (whole lines) (secret_line Digits s) [] (Ok tt) (Err fault) output output').1 in
-      absurd (cc)
-  secret_once passphrase lines old new other answer another bytes others (inr (fault, output, is, says)) (inr (fault', output', is', says')) =
-      let same = (one_recover_output passphrase (whole lines) [] [] (Err fault) (Err fault') output output').1 in
-      let faults : fault ≡ fault' = cc in
-      (is ∙ sym is', says ∙ ap refused faults ∙ sym says')
-
 -- ---- a drill
 
 -- the written form of names has a byte
@@ -268,6 +223,9 @@ no_empty_form (name ∷ next ∷ names) is =
       whole,
       length-append (name_text name) (43 ∷ quorum_text (next ∷ names)),
     ))
+
+abbrev form_result : Result SecretForm BadFingerprint → Result SecretForm BadFingerprint
+form_result result = result
 
 -- the answer for what is put into a slice, or isn't
 abbrev answer_of : Result Listing Unwritten → ShamirAnswer
@@ -310,9 +268,28 @@ module _ (one_listing_in_a_slice : (form : SecretForm) (passphrase : List ℕ) (
   no_form cursor None is some none = some is
   no_form cursor (Some names) is some none = none names is
 
-  after_once : (form : SecretForm) (cursor : List ℕ) (limit : ℕ) (old new other : List ℕ) (answer another : ShamirAnswer)
-      → GivesDrillAfter (λ names n. IsDrillOutput form passphrase names n (whole lines)) cursor limit old new answer
-      → GivesDrillAfter (λ names n. IsDrillOutput form passphrase names n (whole lines)) cursor limit old other another
+  -- a form that is read is one, and it isn't read if it is refused
+  kind_once : (form : Result SecretForm BadFingerprint) (kind other : SecretForm) → form ≡ Ok kind → form ≡ Ok other → kind ≡ other
+  kind_once form kind other is also = let same : form_result (Ok kind) ≡ form_result (Ok other) = sym is ∙ also in cc
+
+  not_refused : (form : Result SecretForm BadFingerprint) (kind : SecretForm) (bad : BadFingerprint) → form ≡ Ok kind → form ≡ Err bad → ⊥
+  not_refused form kind bad is refused = let differ : form_result (Ok kind) ≡ form_result (Err bad) = sym is ∙ refused in cc
+
+  in_once : (form : Result SecretForm BadFingerprint) (after : Option Names) (limit : ℕ) (old new other : List ℕ) (answer another : ShamirAnswer)
+      → GivesDrillIn (λ kind n. IsDrillOutput kind passphrase after n (whole lines)) form limit old new answer
+      → GivesDrillIn (λ kind n. IsDrillOutput kind passphrase after n (whole lines)) form limit old other another
+      → (new ≡ other) × (answer ≡ another)
+  in_once form after limit old new other answer another (inl (bad, is, says)) (inl (bad', is', says')) = (is ∙ sym is', says ∙ sym says')
+  in_once form after limit old new other answer another (inl (bad, is, says)) (inr (kind, of, gives)) = absurd (not_refused form kind bad.0 of bad.1)
+  in_once form after limit old new other answer another (inr (kind, of, gives)) (inl (bad, is, says)) = absurd (not_refused form kind bad.0 of bad.1)
+  in_once form after limit old new other answer another (inr (kind, of, gives)) (inr (kind', of', gives')) =
+      listing_once kind after limit old new other answer another gives
+      (subst (λ (k : SecretForm). GivesListing (λ n. IsDrillOutput k passphrase after n (whole lines)) limit old other another)
+      (kind_once form kind' kind of' of) gives')
+
+  after_once : (form : Result SecretForm BadFingerprint) (cursor : List ℕ) (limit : ℕ) (old new other : List ℕ) (answer another : ShamirAnswer)
+      → GivesDrillAfter (λ kind names n. IsDrillOutput kind passphrase names n (whole lines)) form cursor limit old new answer
+      → GivesDrillAfter (λ kind names n. IsDrillOutput kind passphrase names n (whole lines)) form cursor limit old other another
       → (new ≡ other) × (answer ≡ another)
   after_once form cursor limit old new other answer another (inl (full, none, is, says)) (inl (full', none', is', says')) = (is ∙ sym is', says ∙ sym says')
   after_once form cursor limit old new other answer another (inl (full, none, is, says)) (inr (after, is_cursor, gives)) =
@@ -320,28 +297,30 @@ module _ (one_listing_in_a_slice : (form : SecretForm) (passphrase : List ℕ) (
   after_once form cursor limit old new other answer another (inr (after, is_cursor, gives)) (inl (full, none, is, says)) =
       absurd (no_form cursor after is_cursor full none)
   after_once form cursor limit old new other answer another (inr (after, is_cursor, gives)) (inr (after', is_cursor', gives')) =
-      listing_once form after limit old new other answer another gives
-      (subst (λ (a : Option Names). GivesListing (λ n. IsDrillOutput form passphrase a n (whole lines)) limit old other another)
+      in_once form after limit old new other answer another gives
+      (subst (λ (a : Option Names). GivesDrillIn (λ kind n. IsDrillOutput kind passphrase a n (whole lines)) form limit old other another)
       (cursor_once cursor after' after is_cursor' is_cursor) gives')
 
   -- a limit and a number are refused, or they aren't
-  in_range : (limit number : ℕ) (form : SecretForm) → (limit ≡ 0) ⊎ (form_of number ≡ None) → 1 ≤ limit → form_of number ≡ Some form → ⊥
-  in_range limit number form (inl zero) some is = omega (arith, zero, some)
-  in_range limit number form (inr none) some is = let differ : None ≡ Some form = sym none ∙ is in cc
+  in_range : (limit number : ℕ) (text : List ℕ) (form : Result SecretForm BadFingerprint) → (limit ≡ 0) ⊎ (form_of number text ≡ None) → 1 ≤ limit
+      → form_of number text ≡ Some form → ⊥
+  in_range limit number text form (inl zero) some is = omega (arith, zero, some)
+  in_range limit number text form (inr none) some is = let differ : None ≡ Some form = sym none ∙ is in cc
 
-  same_form : (number : ℕ) (form other : SecretForm) → form_of number ≡ Some form → form_of number ≡ Some other → form ≡ other
-  same_form number form other is also = let same : Some form ≡ Some other = sym is ∙ also in cc
+  same_form : (number : ℕ) (text : List ℕ) (form other : Result SecretForm BadFingerprint) → form_of number text ≡ Some form
+      → form_of number text ≡ Some other → form ≡ other
+  same_form number text form other is also = let same : Some form ≡ Some other = sym is ∙ also in cc
 
-  pub drill_once : (cursor : List ℕ) (limit number : ℕ) (old new other : List ℕ) (answer another : ShamirAnswer)
-      → GivesDrill (λ form names n. IsDrillOutput form passphrase names n (whole lines)) cursor limit number old new answer
-      → GivesDrill (λ form names n. IsDrillOutput form passphrase names n (whole lines)) cursor limit number old other another
+  pub drill_once : (cursor : List ℕ) (limit number : ℕ) (text old new other : List ℕ) (answer another : ShamirAnswer)
+      → GivesDrill (λ kind names n. IsDrillOutput kind passphrase names n (whole lines)) cursor limit number text old new answer
+      → GivesDrill (λ kind names n. IsDrillOutput kind passphrase names n (whole lines)) cursor limit number text old other another
       → (new ≡ other) × (answer ≡ another)
-  drill_once cursor limit number old new other answer another (inl (none, is, says)) (inl (none', is', says')) = (is ∙ sym is', says ∙ sym says')
-  drill_once cursor limit number old new other answer another (inl (none, is, says)) (inr (some, form, is_form, gives)) =
-      absurd (in_range limit number form none some is_form)
-  drill_once cursor limit number old new other answer another (inr (some, form, is_form, gives)) (inl (none, is, says)) =
-      absurd (in_range limit number form none some is_form)
-  drill_once cursor limit number old new other answer another (inr (some, form, is_form, gives)) (inr (some', form', is_form', gives')) =
+  drill_once cursor limit number text old new other answer another (inl (none, is, says)) (inl (none', is', says')) = (is ∙ sym is', says ∙ sym says')
+  drill_once cursor limit number text old new other answer another (inl (none, is, says)) (inr (some, form, is_form, gives)) =
+      absurd (in_range limit number text form none some is_form)
+  drill_once cursor limit number text old new other answer another (inr (some, form, is_form, gives)) (inl (none, is, says)) =
+      absurd (in_range limit number text form none some is_form)
+  drill_once cursor limit number text old new other answer another (inr (some, form, is_form, gives)) (inr (some', form', is_form', gives')) =
       after_once form cursor limit old new other answer another gives
-      (subst (λ (f : SecretForm). GivesDrillAfter (λ names n. IsDrillOutput f passphrase names n (whole lines)) cursor limit old other another)
-      (same_form number form' form is_form' is_form) gives')
+      (subst (λ (f : Result SecretForm BadFingerprint). GivesDrillAfter (λ kind names n. IsDrillOutput kind passphrase names n (whole lines)) f cursor limit old
+      other another) (same_form number text form' form is_form' is_form) gives')

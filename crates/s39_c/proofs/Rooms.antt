@@ -27,13 +27,17 @@ use Rattle.s39_backup.specs.declared.plan_error.PlanError.TheVariants.{BadPlan}
 use Rattle.s39_backup.specs.Created.{Asked}
 use Rattle.s39_backup.specs.Plan.{plan_cause_of}
 use Rattle.s39_backup.specs.RecoverError.{mismatch_cause_of}
+use Rattle.s39_kdf.specs.declared.noted.BadFingerprint.{BadFingerprint}
 use Rattle.s39_kdf.specs.declared.secret_form.SecretForm.{SecretForm}
+use Rattle.s39_repair.specs.declared.repair_error.RepairError.{RepairError}
+use Rattle.s39_repair.specs.declared.repair_error.RepairError.TheVariants.{NoMnemonic}
+use Rattle.s39_repair.specs.Answer.{cause_of as marks_cause_of}
 use Rattle.s39_drilling.specs.declared.drill.Done.{Done}
 use Rattle.s39_input.specs.declared.fault.DeviceFailure.{DeviceFailure}
 use Rattle.s39_input.specs.declared.fault.DeviceFailure.TheVariants.{Read}
 use Rattle.s39_input.specs.declared.fault.Fault.{Fault}
 use Rattle.s39_input.specs.declared.fault.LineRefusal.{LineRefusal}
-use Rattle.s39_input.specs.declared.fault.LineRefusal.TheVariants.{Word, Set}
+use Rattle.s39_input.specs.declared.fault.LineRefusal.TheVariants.{Word, Marks, Set}
 use Rattle.s39_input.specs.declared.fault.Refusal.{Refusal}
 use Rattle.s39_input.specs.declared.fault.Refusal.TheVariants.{Line, Lack, DigestMismatch, Device}
 use Rattle.s39_input.specs.Create.{IsCreateOutput}
@@ -46,19 +50,24 @@ use Rattle.s39_reading.specs.Lengths.{longest_status}
 use Rattle.s39_creating.specs.Reissue.{IsReissueOutput}
 use Rattle.s39_reading.specs.Status.{IsStatusOutput}
 use Rattle.s39_c.specs.declared.answer.ShamirAnswer.{ShamirAnswer}
-use Rattle.s39_c.specs.Answers.{Gives, too_short, refusal, refused}
+use Rattle.s39_c.specs.Answers.{Gives, done, too_short, refusal, refused}
 use Rattle.s39_c.specs.Creating.{Wanted, GivesMnemonics, GivesBackup}
-use Rattle.s39_c.specs.Drilling.{GivesListing, GivesDrillAfter, GivesDrill}
+use Rattle.s39_c.specs.Drilling.{GivesListing, GivesDrillIn, GivesDrillAfter, GivesDrill}
 use Rattle.s39_c.specs.Exponents.{UpTo}
 use Rattle.s39_c.specs.Fingerprinting.{GivesFingerprint}
 use Rattle.s39_c.specs.Reissuing.{GivesNamed, GivesReissued}
 use Rattle.s39_c.specs.Status.{GivesStatus}
+use Rattle.s39_c.specs.Telling.{longest_text, GivesText}
 
 -- ---- the numbers of the program's refusals are above that of a slice that is too short
 
 above-word : (error : WordError) → 2 ≤ (word_cause_of error).code
 above-word (UnknownWord position) = omega arith
 above-word _ = omega arith
+
+above-marks : (error : RepairError) → 2 ≤ (marks_cause_of error).code
+above-marks NoMnemonic = omega arith
+above-marks _ = omega arith
 
 above-set : (error : SetError) → 2 ≤ (set_cause_of error).code
 above-set OtherIdentifier = omega arith
@@ -78,6 +87,7 @@ above-device _ = omega arith
 
 above-line : (refusal : LineRefusal) → 2 ≤ (line_cause_of refusal).code
 above-line (Word error) = above-word error
+above-line (Marks error) = above-marks error
 above-line (Set error) = above-set error
 above-line _ = omega arith
 
@@ -95,10 +105,10 @@ above-plan _ = omega arith
 -- ---- other answers aren't that of a slice that is too short
 
 module _ (needed : ℕ) where
-  no_other : (other : ShamirAnswer) → too_short needed ≡ other → other.code ≡ 1
+  pub no_other : (other : ShamirAnswer) → too_short needed ≡ other → other.code ≡ 1
   no_other other same = let code : 1 ≡ other.code = ap (λ (a : ShamirAnswer). a.code) same in omega (arith, code)
 
-  no_refusal : (says : Cause) (line : ℕ) → 2 ≤ says.code → too_short needed ≡ refusal says line → ⊥
+  pub no_refusal : (says : Cause) (line : ℕ) → 2 ≤ says.code → too_short needed ≡ refusal says line → ⊥
   no_refusal says line high same = let code : says.code ≡ 1 = no_other (refusal says line) same in absurd (omega (arith, high, code))
 
   no_fault : (fault : Fault) → too_short needed ≡ refused fault → ⊥
@@ -108,7 +118,7 @@ module _ (needed : ℕ) where
 
 module _ (short : (form : SecretForm) (passphrase : List ℕ) (after : Option Names) (input : Input) (text : List ℕ) (answer : Result Done Fault)
     → IsDrillOutput form passphrase after 1 input text answer → length text ≤ longest_listing)
-    (passphrase lines cursor : List ℕ) (limit number : ℕ) (old new : List ℕ) (needed : ℕ) where
+    (passphrase lines cursor : List ℕ) (limit number : ℕ) (digits old new : List ℕ) (needed : ℕ) where
   listing_fits : (form : SecretForm) (after : Option Names)
       → GivesListing (λ n. IsDrillOutput form passphrase after n (whole lines)) limit old new (too_short needed) → length old < longest_listing
   listing_fits form after (inl (listing, lists, says)) = let code : 0 ≡ 1 = no_other needed _ says in absurd (omega (arith, code))
@@ -116,19 +126,25 @@ module _ (short : (form : SecretForm) (passphrase : List ℕ) (after : Option Na
       omega (arith, less, short form passphrase after (whole lines) text (Ok (record { mismatches = mismatches })) output)
   listing_fits form after (inr (inr (fault, output, same, says))) = absurd (no_fault needed fault says)
 
-  after_fits : (form : SecretForm)
-      → GivesDrillAfter (λ names n. IsDrillOutput form passphrase names n (whole lines)) cursor limit old new (too_short needed)
+  in_fits : (form : Result SecretForm BadFingerprint) (after : Option Names)
+      → GivesDrillIn (λ kind n. IsDrillOutput kind passphrase after n (whole lines)) form limit old new (too_short needed)
+      → length old < longest_listing
+  in_fits form after (inl (bad, same, says)) = let code : 44 ≡ 1 = no_other needed _ says in absurd (omega (arith, code))
+  in_fits form after (inr (kind, is, lists)) = listing_fits kind after lists
+
+  after_fits : (form : Result SecretForm BadFingerprint)
+      → GivesDrillAfter (λ kind names n. IsDrillOutput kind passphrase names n (whole lines)) form cursor limit old new (too_short needed)
       → length old < longest_listing
   after_fits form (inl (given, no_names, same, says)) = let code : 61 ≡ 1 = no_other needed _ says in absurd (omega (arith, code))
-  after_fits form (inr (after, is, lists)) = listing_fits form after lists
+  after_fits form (inr (after, is, lists)) = in_fits form after lists
 
-  drill_fits : GivesDrill (λ form names n. IsDrillOutput form passphrase names n (whole lines)) cursor limit number old new (too_short needed)
+  drill_fits : GivesDrill (λ form names n. IsDrillOutput form passphrase names n (whole lines)) cursor limit number digits old new (too_short needed)
       → length old < longest_listing
   drill_fits (inl (none, same, says)) = let code : 2 ≡ 1 = no_other needed _ says in absurd (omega (arith, code))
   drill_fits (inr (some, form, is, gives)) = after_fits form gives
 
   pub drill_up_to_fits : (most : ℕ) → UpTo most lines old new (too_short needed)
-      (GivesDrill (λ form names n. IsDrillOutput form passphrase names n (whole lines)) cursor limit number old new (too_short needed))
+      (GivesDrill (λ form names n. IsDrillOutput form passphrase names n (whole lines)) cursor limit number digits old new (too_short needed))
       → length old < longest_listing
   drill_up_to_fits most (inl (exponent, has, high, same, says)) = let code : 3 ≡ 1 = no_other needed _ says in absurd (omega (arith, code))
   drill_up_to_fits most (inr (low, gives)) = drill_fits gives
@@ -195,3 +211,17 @@ module _ (short : (group_threshold : ℕ) (groups : List Members) (names : Names
   pub reissue_fits : GivesReissued Is plan listed old new (too_short needed) → length old < longest_backup
   reissue_fits (inl (error, reads, same, says)) = absurd (no_refusal needed (plan_cause_of error) 0 (above-plan error) says)
   reissue_fits (inr (threshold, groups, reads, gives)) = named_fits threshold groups gives
+
+-- ---- the text of an answer
+
+pub text_fits : (old new : List ℕ) (needed : ℕ) → GivesText old new (too_short needed) → (length old < longest_text) × (needed ≤ longest_text)
+text_fits old new needed (text, few, inl (fits, bytes, says)) =
+    let code : 1 ≡ 0 = ap (λ (a : ShamirAnswer). a.code) says in absurd (omega (arith, code))
+text_fits old new needed (text, few, inr (less, same, says)) =
+    let asked : needed ≡ length text = ap (λ (a : ShamirAnswer). a.first) says in (omega (arith, less, few), omega (arith, asked, few))
+
+pub text_written : (old new : List ℕ) (written : ℕ) → GivesText old new (done written) → (written ≤ length old) × (written ≤ longest_text)
+text_written old new written (text, few, inl (fits, bytes, says)) =
+    let told : written ≡ length text = ap (λ (a : ShamirAnswer). a.written) says in (omega (arith, told, fits), omega (arith, told, few))
+text_written old new written (text, few, inr (less, same, says)) =
+    let code : 0 ≡ 1 = ap (λ (a : ShamirAnswer). a.code) says in absurd (omega (arith, code))

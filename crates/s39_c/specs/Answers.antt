@@ -2,7 +2,7 @@
 use Rattle.std.specs.Prelude.{◌≡◌, ◌⊎◌, ℕ, ◌<◌, ◌≤◌, List, [], ◌++◌, length, drop, Option, Some, None, Result, Ok, Err}
 use Rattle.s39_refusal.specs.declared.cause.Cause.{Cause}
 use Rattle.s39_refusal.specs.Causes.{cause}
-use Rattle.s39_kdf.specs.Causes.{length_cause}
+use Rattle.s39_kdf.specs.Causes.{fingerprint_cause, length_cause}
 use Rattle.s39_words.specs.declared.word_error.WordError.{WordError}
 use Rattle.s39_words.specs.Reading.{cause_of as word_cause_of}
 use Rattle.s39_repair.specs.declared.repair_error.RepairError.{RepairError}
@@ -66,6 +66,10 @@ length_refused n = refusal (length_cause n) 0
 abbrev pub cursor_refused : ShamirAnswer
 cursor_refused = refusal cursor_cause 0
 
+-- a text is no fingerprint
+abbrev pub fingerprint_refused : ShamirAnswer
+fingerprint_refused = refusal fingerprint_cause 0
+
 -- a text is no list of names
 abbrev pub names_refused : ShamirAnswer
 names_refused = refusal names_cause 0
@@ -75,7 +79,7 @@ abbrev pub counted : ℕ → Status → ShamirAnswer
 counted n status = record { code = 0; mismatches = 0; line = 0; first = status.complete; second = status.required; written = n }
 
 -- nothing is refused; the numbers are those of the quorums listed, of the bytes before the last line, of the bytes written, and
--- of the quorums that are refused for a digest
+-- of the quorums that are refused for a digest or give another secret than the expected one
 abbrev pub listed : Listing → ShamirAnswer
 listed listing = record { code = 0; mismatches = listing.mismatches; line = 0; first = listing.listed; second = listing.last; written = listing.written }
 

@@ -1,10 +1,11 @@
 //! The answer of a call.
 ghost use Rattle.std.specs.Prelude.{◌≡◌, ℕ};
-ghost use Rattle.s39_c.specs.Answers.{done, number, counted, created, listed, too_short, out_of_range, high_exponent, refusal, plan_refused, cursor_refused, names_refused, word_refused, repair_refused, refused};
+ghost use Rattle.s39_c.specs.Answers.{done, number, counted, created, listed, too_short, out_of_range, high_exponent, refusal, plan_refused, cursor_refused, fingerprint_refused, names_refused, word_refused, repair_refused, refused};
 
 use s39_backup::PlanError;
 use s39_drilling::Listing;
 use s39_input::{Fault, Unwritten, WrittenLines};
+use s39_kdf::BadFingerprint;
 use s39_reading::WrittenStatus;
 use s39_refusal::Cause;
 use s39_repair::RepairError;
@@ -30,7 +31,8 @@ pub(crate) const HIGH_EXPONENT: u8 = 3;
 pub struct ShamirAnswer {
     /// The number of the refusal, or 0 if the call succeeded.
     pub code: u32,
-    /// The number of quorums with a digest mismatch in the listing of a drill. It is 0 for other calls.
+    /// The number of quorums in the listing of a drill with a digest mismatch, or with another secret than the expected
+    /// one. It is 0 for other calls.
     pub mismatches: u32,
     /// The number of the refused line, counted from 1, if a call that takes lines refuses one. Otherwise it is 0.
     pub line: u64,
@@ -138,6 +140,14 @@ impl From<BadCursor> for ShamirAnswer {
     ghost from_gives = { λ error answer. answer ≡ cursor_refused };
 
     fn from(error: BadCursor) -> ShamirAnswer {
+        refusal(error.cause(), 0)
+    }
+}
+
+impl From<BadFingerprint> for ShamirAnswer {
+    ghost from_gives = { λ error answer. answer ≡ fingerprint_refused };
+
+    fn from(error: BadFingerprint) -> ShamirAnswer {
         refusal(error.cause(), 0)
     }
 }

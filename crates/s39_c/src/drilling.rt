@@ -3,7 +3,8 @@ ghost use Rattle.std.specs.Option.{option_copied};
 ghost use Rattle.std.specs.Prelude.{◌≡◌, ◌≤◌};
 ghost use Rattle.s39_drilling.specs.Drill.{IsDrillOutput, DrillsCreated};
 ghost use Rattle.s39_input.specs.Input.{whole};
-ghost use Rattle.s39_c.specs.Drilling.{form_of, GivesListing, GivesDrillAfter, GivesDrill};
+ghost use Rattle.s39_c.specs.Drilling.{expecting, form_of, GivesListing, GivesDrillIn, GivesDrillAfter, GivesDrill};
+ghost use Rattle.s39_kdf.specs.Noted.{noted_in};
 ghost use Rattle.s39_c.specs.Exponents.{UpTo};
 
 use crate::answer::ShamirAnswer;
@@ -11,6 +12,7 @@ use crate::exponent::exponent_above;
 use s39_drilling::drill_lines;
 use s39_drilling::laws::created_backups_drill;
 use s39_input::SecretForm;
+use s39_kdf::{BadFingerprint, parse_fingerprint};
 use s39_set::{Quorum, parse_quorum};
 
 /// Lists what each quorum recovers, in the format of the command `drill`. A quorum is a minimal set of mnemonics that
@@ -18,25 +20,27 @@ use s39_set::{Quorum, parse_quorum};
 /// empty.
 ///
 /// If `form` is 0, a line has the digits of the secret that its quorum recovers. If it is 1, the line has the
-/// fingerprint of that secret instead, and no secret is written.
+/// fingerprint of that secret instead, and no secret is written. If it is 2, the line says whether the secret has the
+/// fingerprint `expected`, which is eight hexadecimal digits in either case. Other forms don't use `expected`.
 ///
 /// The listing goes to the start of `text`; `written` is its length in bytes, and the bytes after it are unchanged. It
 /// has at most `limit` quorums. It ends sooner if the line of the next quorum, with the last line after it, doesn't
 /// fit. The last line is `end`, or `more after` and the names for the next call. `first` is the number of listed
 /// quorums, and `second` is the offset of the last line in `text`. `mismatches` is the number of listed quorums with a
-/// digest mismatch.
+/// digest mismatch, or with another secret than the expected one.
 ///
 /// The call refuses with the first of these that applies, and `text` is then unchanged:
 ///
 /// - 3, if no line is refused, the mnemonics have a quorum, and their exponent is above `max_exponent`; the call then
 ///   derives no key;
-/// - 2 (a limit of 0, or a form above 1), 61 (`after` isn't a list of names), 41 (the passphrase);
+/// - 2 (a limit of 0, or a form above 2), 61 (`after` isn't a list of names), 44 (the form is 2, and `expected` isn't a
+///   fingerprint), 41 (the passphrase);
 /// - the code of the first refused line (11 to 28, 71), then 29, 30, 62 (the names aren't those of a quorum);
 /// - 1, if `text` is too short for one quorum, or for `end` if no quorum is left.
 ///
 /// ```c
 /// shamir_answer answer = shamir_drill(lines, lines_bytes, "", 0, SHAMIR_EXPONENT_MAX, after, after_bytes, 1000,
-///                                     SHAMIR_FORM_FINGERPRINTS, text, sizeof text);
+///                                     SHAMIR_FORM_FINGERPRINTS, NULL, 0, text, sizeof text);
 /// ```
 #[unsafe(no_mangle)]
 pub extern "C" fn shamir_drill(
@@ -46,31 +50,44 @@ pub extern "C" fn shamir_drill(
     after: &[u8],
     limit: u32,
     form: u32,
+    expected: &[u8],
     text: &mut [u8],
 ) -> ShamirAnswer
     ensures drills { UpTo max_exponent lines.now text.old text.new result
         (GivesDrill (λ kind names n. IsDrillOutput kind passphrase.now names n (whole lines.now))
-        after.now limit form text.old text.new result) }
+        after.now limit form expected.now text.old text.new result) }
     // For mnemonics of a created backup and its passphrase, the call lists their quorums and no others, each with the secret
     // in this form. Or the refusal says that they have no quorum, or that the cursor doesn't name one.
     ensures complete { UpTo max_exponent lines.now text.old text.new result
         (GivesDrill (λ kind names n. DrillsCreated kind passphrase.now names n (whole lines.now))
-        after.now limit form text.old text.new result) }
+        after.now limit form expected.now text.old text.new result) }
 {
     match exponent_above(max_exponent, lines) {
         Some(exponent) => ShamirAnswer::high_exponent(exponent),
-        None => drill(lines, passphrase, after, limit, form, text),
+        None => drill(lines, passphrase, after, limit, form, expected, text),
     }
 }
 
-/// The form of secrets that a number stands for, if it stands for one.
-fn form_of(number: u32) -> Option<SecretForm>
-    ensures { result ≡ form_of number }
+/// The form of secrets that a number stands for, if it stands for one. With the number of the form that compares, it is
+/// that of the fingerprint which the text writes.
+fn form_of(number: u32, expected: &[u8]) -> Option<Result<SecretForm, BadFingerprint>>
+    ensures { result ≡ form_of number expected.now }
 {
     match number {
-        0 => Some(SecretForm::Digits),
-        1 => Some(SecretForm::Fingerprint),
+        0 => Some(Ok(SecretForm::Digits)),
+        1 => Some(Ok(SecretForm::Fingerprint)),
+        2 => Some(expecting(expected)),
         _ => None,
+    }
+}
+
+/// The form that says whether a secret has the fingerprint of a text.
+fn expecting(text: &[u8]) -> Result<SecretForm, BadFingerprint>
+    ensures { result ≡ expecting (noted_in text.now) }
+{
+    match parse_fingerprint(text) {
+        Ok(noted) => Ok(SecretForm::Expected(noted)),
+        Err(error) => Err(error),
     }
 }
 
@@ -81,17 +98,18 @@ fn drill(
     after: &[u8],
     limit: u32,
     form: u32,
+    expected: &[u8],
     text: &mut [u8],
 ) -> ShamirAnswer
     ensures drills { GivesDrill (λ kind names n. IsDrillOutput kind passphrase.now names n (whole lines.now))
-        after.now limit form text.old text.new result }
+        after.now limit form expected.now text.old text.new result }
     ensures complete { GivesDrill (λ kind names n. DrillsCreated kind passphrase.now names n (whole lines.now))
-        after.now limit form text.old text.new result }
+        after.now limit form expected.now text.old text.new result }
 {
     if limit == 0 {
         return ShamirAnswer::out_of_range();
     }
-    match form_of(form) {
+    match form_of(form, expected) {
         Some(kind) => drill_after(kind, passphrase, after, limit, lines, text),
         None => ShamirAnswer::out_of_range(),
     }
@@ -99,7 +117,7 @@ fn drill(
 
 /// Drills lines from the quorum on that comes after the one of a cursor, or from the first one on.
 fn drill_after(
-    form: SecretForm,
+    form: Result<SecretForm, BadFingerprint>,
     passphrase: &[u8],
     after: &[u8],
     limit: u32,
@@ -107,18 +125,44 @@ fn drill_after(
     text: &mut [u8],
 ) -> ShamirAnswer
     requires { 1 ≤ limit }
-    ensures drills { GivesDrillAfter (λ names n. IsDrillOutput form passphrase.now names n (whole lines.now))
-        after.now limit text.old text.new result }
-    ensures complete { GivesDrillAfter (λ names n. DrillsCreated form passphrase.now names n (whole lines.now))
-        after.now limit text.old text.new result }
+    ensures drills { GivesDrillAfter
+        (λ kind names n. IsDrillOutput kind passphrase.now names n (whole lines.now))
+        form after.now limit text.old text.new result }
+    ensures complete { GivesDrillAfter
+        (λ kind names n. DrillsCreated kind passphrase.now names n (whole lines.now))
+        form after.now limit text.old text.new result }
 {
-    created_backups_drill();
     if after.is_empty() {
-        return give_listing(form, passphrase, None, limit, lines, text);
+        return drill_in(form, passphrase, None, limit, lines, text);
     }
     match parse_quorum(after) {
-        Ok(quorum) => give_listing(form, passphrase, Some(&quorum), limit, lines, text),
+        Ok(quorum) => drill_in(form, passphrase, Some(&quorum), limit, lines, text),
         Err(error) => ShamirAnswer::from(error),
+    }
+}
+
+/// Drills lines in a form of secrets, if there is one, from the quorum on that comes after a given one, or from the first
+/// one on.
+fn drill_in(
+    form: Result<SecretForm, BadFingerprint>,
+    passphrase: &[u8],
+    after: Option<&Quorum>,
+    limit: u32,
+    lines: &[u8],
+    text: &mut [u8],
+) -> ShamirAnswer
+    requires { 1 ≤ limit }
+    ensures drills { GivesDrillIn
+        (λ kind n. IsDrillOutput kind passphrase.now (option_copied after.entry) n (whole lines.now))
+        form limit text.old text.new result }
+    ensures complete { GivesDrillIn
+        (λ kind n. DrillsCreated kind passphrase.now (option_copied after.entry) n (whole lines.now))
+        form limit text.old text.new result }
+{
+    created_backups_drill();
+    match form {
+        Ok(kind) => give_listing(kind, passphrase, after, limit, lines, text),
+        Err(bad) => ShamirAnswer::from(bad),
     }
 }
 

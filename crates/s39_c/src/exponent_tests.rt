@@ -26,13 +26,13 @@ const fn answer(code: u32, first: u64, second: u64, written: u64) -> ShamirAnswe
 fn recovers_up_to_the_most_exponent(rt: HostRuntime) {
     for (most, passphrase) in [(0, b"TREZOR"), (1, b"TREZOR"), (1, b"TREZ\x07R")] {
         let mut secret = [7; 16];
-        let refused = shamir_recover(TWO, passphrase, most, &mut secret);
+        let refused = shamir_recover(TWO, passphrase, most, b"", &mut secret);
         assert_eq!(rt; refused, answer(3, 2, 0, 0));
         assert_eq!(rt; secret, [7; 16]);
     }
     for most in [2, 15, u32::MAX] {
         let mut secret = [7; 16];
-        let done = shamir_recover(TWO, b"TREZOR", most, &mut secret);
+        let done = shamir_recover(TWO, b"TREZOR", most, b"", &mut secret);
         assert_eq!(rt; done, answer(0, 0, 0, 16));
         assert_eq!(rt; secret, SECRET);
     }
@@ -41,10 +41,10 @@ fn recovers_up_to_the_most_exponent(rt: HostRuntime) {
 #[test]
 fn drills_up_to_the_most_exponent(rt: HostRuntime) {
     let mut text = [7; 45];
-    let refused = shamir_drill(TWO, b"a\x07", 1, b"0.1+", 0, 2, &mut text);
+    let refused = shamir_drill(TWO, b"a\x07", 1, b"0.1+", 0, 2, b"", &mut text);
     assert_eq!(rt; refused, answer(3, 2, 0, 0));
     assert_eq!(rt; text, [7; 45]);
-    let done = shamir_drill(TWO, b"TREZOR", 2, b"", 1, 0, &mut text);
+    let done = shamir_drill(TWO, b"TREZOR", 2, b"", 1, 0, b"", &mut text);
     assert_eq!(rt; done, answer(0, 1, 41, 45));
     assert_eq!(rt; text, *b"0.0+0.2 b43ceb7e57a0ea8766221624d01b0864\nend\n");
 }
@@ -53,8 +53,8 @@ fn drills_up_to_the_most_exponent(rt: HostRuntime) {
 fn looks_at_the_exponent_of_a_quorum_alone(rt: HostRuntime) {
     let mut secret = [7; 16];
     let one = &TWO[..ONE_BYTES];
-    let incomplete = shamir_recover(one, b"TREZOR", 0, &mut secret);
+    let incomplete = shamir_recover(one, b"TREZOR", 0, b"", &mut secret);
     assert_eq!(rt; incomplete, answer(30, 0, 1, 0));
-    let none = shamir_recover(b"", b"", 0, &mut secret);
+    let none = shamir_recover(b"", b"", 0, b"", &mut secret);
     assert_eq!(rt; none, answer(29, 0, 0, 0));
 }

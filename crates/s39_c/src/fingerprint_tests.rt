@@ -66,7 +66,7 @@ fn drills_with_fingerprints(rt: HostRuntime) {
         academic aluminum ceramic leader cylinder decorate mobile devote echo finger program firm starting dwarf grumpy harvest enforce raisin sprinkle phantom\n";
     let listing = b"0.0+0.1+1.0 df41d8fe\n0.0+0.1+2.0 df41d8fe\n1.0+2.0 df41d8fe\nend\n";
     let mut text = [7; 66];
-    let answer = shamir_drill(lines, b"TREZOR", 0, b"", 1000, 1, &mut text);
+    let answer = shamir_drill(lines, b"TREZOR", 0, b"", 1000, 1, b"", &mut text);
     let done = ShamirAnswer {
         second: 59,
         ..answer_of(0, 3, 63)
@@ -75,7 +75,7 @@ fn drills_with_fingerprints(rt: HostRuntime) {
     assert!(rt; text.starts_with(listing));
     assert_eq!(rt; text[63], 7);
     let mut narrow = [7; 43];
-    let answer = shamir_drill(lines, b"TREZOR", 0, b"", 1000, 1, &mut narrow);
+    let answer = shamir_drill(lines, b"TREZOR", 0, b"", 1000, 1, b"", &mut narrow);
     assert_eq!(rt; answer, answer_of(1, 44, 0));
     assert_eq!(rt; narrow, [7; 43]);
 }

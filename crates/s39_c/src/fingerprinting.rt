@@ -7,7 +7,7 @@ ghost use Rattle.s39_c.specs.Fingerprinting.{GivesFingerprint};
 use crate::answer::ShamirAnswer;
 use crate::lengths::FINGERPRINT_BYTES_MAX;
 use crate::memory::give;
-use s39_input::Fault;
+use s39_input::{Fault, write_hex};
 use s39_kdf::{check_secret_length, fingerprint};
 
 /// Computes the fingerprint of a master secret, by which its owner can recognise the secret without seeing it. The
@@ -38,6 +38,6 @@ fn fingerprint_digits(secret: &[u8]) -> [u8; FINGERPRINT_BYTES_MAX]
 {
     let four = fingerprint(secret);
     let mut digits = [0; FINGERPRINT_BYTES_MAX];
-    hex::encode_to_slice(&four[..], &mut digits).unwrap();
+    write_hex(&four, &mut digits);
     digits
 }

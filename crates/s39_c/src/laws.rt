@@ -17,8 +17,9 @@ ghost use Rattle.s39_c.specs.Drilling.{GivesDrill};
 ghost use Rattle.s39_c.specs.Exponents.{UpTo};
 ghost use Rattle.s39_c.specs.Fingerprinting.{GivesFingerprint};
 ghost use Rattle.s39_c.specs.Parsing.{GivesShare};
-ghost use Rattle.s39_c.specs.Recovering.{GivesSecret};
+ghost use Rattle.s39_c.specs.Recovering.{GivesExpectedSecret};
 ghost use Rattle.s39_c.specs.Reissuing.{GivesReissued};
+ghost use Rattle.s39_c.specs.Repairing.{GivesRepaired};
 ghost use Rattle.s39_c.specs.Status.{GivesStatus};
 ghost use Rattle.s39_c.specs.Words.{GivesWords};
 
@@ -28,8 +29,9 @@ use s39_drilling::laws::one_listing_in_a_slice;
 use s39_reading::laws::{
     every_exponent_is_at_most_15, one_exponent, one_recover_output, one_status_output,
 };
+use s39_repair::laws::one_answer;
 use s39_set::laws::written_forms;
-use s39_words::laws::one_reading;
+use s39_words::laws::{one_printed_form, one_reading};
 
 /// A line determines the fields, the buffer of the value and the answer of `shamir_parse`.
 pub fn one_share()
@@ -73,31 +75,32 @@ pub fn one_list_of_words()
         → (new ≡ other) × (answer ≡ another) }
 {}
 
-/// Lines, passphrase and maximum exponent determine the buffer of the secret and the answer of `shamir_recover`.
+/// Lines, passphrase, maximum exponent and the text of a fingerprint determine the buffer of the secret and the answer of
+/// `shamir_recover`.
 pub fn one_secret()
-    ensures { (most : ℕ) (passphrase lines old new other : List ℕ) (answer another : Answer)
+    ensures { (most : ℕ) (passphrase lines digits old new other : List ℕ) (answer another : Answer)
         → AreBytes new → AreBytes other
         → UpTo most lines old new answer
-        (GivesSecret (IsRecoverOutput Digits passphrase (whole lines)) old new answer)
+        (GivesExpectedSecret (λ noted. IsRecoverOutput Digits noted passphrase (whole lines)) digits old new answer)
         → UpTo most lines old other another
-        (GivesSecret (IsRecoverOutput Digits passphrase (whole lines)) old other another)
+        (GivesExpectedSecret (λ noted. IsRecoverOutput Digits noted passphrase (whole lines)) digits old other another)
         → (new ≡ other) × (answer ≡ another) }
 {
     one_exponent();
     one_recover_output();
 }
 
-/// Lines, passphrase, maximum exponent, cursor, limit and the number of the form determine the buffer of the listing and
-/// the answer of `shamir_drill`.
+/// Lines, passphrase, maximum exponent, cursor, limit, the number of the form and the text of a fingerprint determine the
+/// buffer of the listing and the answer of `shamir_drill`.
 pub fn one_drill()
-    ensures { (most : ℕ) (passphrase lines cursor : List ℕ) (limit number : ℕ) (old new other : List ℕ)
+    ensures { (most : ℕ) (passphrase lines cursor : List ℕ) (limit number : ℕ) (digits old new other : List ℕ)
         (answer another : Answer)
         → UpTo most lines old new answer
         (GivesDrill (λ form names n. IsDrillOutput form passphrase names n (whole lines))
-        cursor limit number old new answer)
+        cursor limit number digits old new answer)
         → UpTo most lines old other another
         (GivesDrill (λ form names n. IsDrillOutput form passphrase names n (whole lines))
-        cursor limit number old other another)
+        cursor limit number digits old other another)
         → (new ≡ other) × (answer ≡ another) }
 {
     one_exponent();
@@ -129,19 +132,29 @@ pub fn one_status()
     one_status_output();
 }
 
+/// A line determines the buffer of mnemonics and the answer of `shamir_repair`.
+pub fn one_repair()
+    ensures { (line old new other : List ℕ) (answer another : Answer)
+        → GivesRepaired line old new answer → GivesRepaired line old other another
+        → (new ≡ other) × (answer ≡ another) }
+{
+    one_answer();
+    one_printed_form();
+}
+
 /// A maximum exponent of 15 or more refuses nothing: a recovery and a drill then give what they give without a maximum.
 pub fn a_most_of_15_refuses_nothing()
-    ensures recovers { (most : ℕ) (passphrase lines old new : List ℕ) (answer : Answer) → 15 ≤ most
+    ensures recovers { (most : ℕ) (passphrase lines digits old new : List ℕ) (answer : Answer) → 15 ≤ most
         → UpTo most lines old new answer
-        (GivesSecret (IsRecoverOutput Digits passphrase (whole lines)) old new answer)
-        → GivesSecret (IsRecoverOutput Digits passphrase (whole lines)) old new answer }
-    ensures drills { (most : ℕ) (passphrase lines cursor : List ℕ) (limit number : ℕ) (old new : List ℕ)
+        (GivesExpectedSecret (λ noted. IsRecoverOutput Digits noted passphrase (whole lines)) digits old new answer)
+        → GivesExpectedSecret (λ noted. IsRecoverOutput Digits noted passphrase (whole lines)) digits old new answer }
+    ensures drills { (most : ℕ) (passphrase lines cursor : List ℕ) (limit number : ℕ) (digits old new : List ℕ)
         (answer : Answer) → 15 ≤ most
         → UpTo most lines old new answer
         (GivesDrill (λ form names n. IsDrillOutput form passphrase names n (whole lines))
-        cursor limit number old new answer)
+        cursor limit number digits old new answer)
         → GivesDrill (λ form names n. IsDrillOutput form passphrase names n (whole lines))
-        cursor limit number old new answer }
+        cursor limit number digits old new answer }
 {
     every_exponent_is_at_most_15();
 }

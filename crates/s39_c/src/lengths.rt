@@ -12,21 +12,23 @@ ghost use Rattle.s39_creating.specs.Lengths.{longest_backup};
 ghost use Rattle.s39_reading.specs.Lengths.{longest_status};
 ghost use Rattle.s39_creating.specs.Reissue.{IsReissueOutput};
 ghost use Rattle.s39_reading.specs.Status.{IsStatusOutput};
-ghost use Rattle.s39_c.specs.declared.lengths.TheConstants.{NAMES_BYTES_MAX, LISTING_BYTES_ENOUGH, MNEMONICS_BYTES_MAX, STATUS_BYTES_MAX, FINGERPRINT_BYTES_MAX, WORDS_BYTES_MAX, REPAIRED_BYTES_MAX};
-ghost use Rattle.s39_c.specs.Answers.{too_short};
+ghost use Rattle.s39_c.specs.declared.lengths.TheConstants.{NAMES_BYTES_MAX, LISTING_BYTES_ENOUGH, MNEMONICS_BYTES_MAX, STATUS_BYTES_MAX, FINGERPRINT_BYTES_MAX, WORDS_BYTES_MAX, REPAIRED_BYTES_MAX, TEXT_BYTES_MAX};
+ghost use Rattle.s39_c.specs.Answers.{done, too_short};
 ghost use Rattle.s39_c.specs.Creating.{Wanted, GivesBackup};
 ghost use Rattle.s39_c.specs.Drilling.{GivesDrill};
 ghost use Rattle.s39_c.specs.Exponents.{UpTo};
 ghost use Rattle.s39_c.specs.Fingerprinting.{GivesFingerprint};
 ghost use Rattle.s39_c.specs.Reissuing.{GivesReissued};
-ghost use Rattle.s39_c.specs.Repairing.{longest_repaired};
+ghost use Rattle.s39_c.specs.Repairing.{longest_repaired, GivesRepaired};
 ghost use Rattle.s39_c.specs.Status.{GivesStatus};
+ghost use Rattle.s39_c.specs.Telling.{longest_text, GivesText};
 ghost use Rattle.s39_c.specs.Words.{longest_words, words_text, GivesWords};
 
 use s39_creating::laws::{backups_are_short, reissues_are_short};
 use s39_drilling::laws::first_lines_are_short;
 use s39_input::laws::names_are_short;
 use s39_reading::laws::statuses_are_short;
+use s39_words::laws::printed_forms;
 
 /// The maximum length of a list of names, such as the names of a quorum.
 pub const NAMES_BYTES_MAX: usize = 1_215;
@@ -49,6 +51,9 @@ pub const WORDS_BYTES_MAX: usize = 7_231;
 /// The maximum length of the mnemonics that fit a line, which are two at most, each with its line feed.
 pub const REPAIRED_BYTES_MAX: usize = 1_980;
 
+/// The maximum length of the text of an answer.
+pub const TEXT_BYTES_MAX: usize = 64;
+
 /// The constants equal the numbers of the definitions.
 pub fn lengths()
     ensures names { NAMES_BYTES_MAX ≡ longest_names }
@@ -58,6 +63,7 @@ pub fn lengths()
     ensures status { STATUS_BYTES_MAX ≡ longest_status }
     ensures words { WORDS_BYTES_MAX ≡ longest_words }
     ensures repaired { REPAIRED_BYTES_MAX ≡ longest_repaired }
+    ensures text { TEXT_BYTES_MAX ≡ longest_text }
 {}
 
 /// A list of names, as a listing has it and as a drill takes it, is no longer than the maximum.
@@ -70,10 +76,10 @@ pub fn names_fit()
 
 /// If a drill refuses a buffer as too short, the buffer is shorter than `LISTING_BYTES_ENOUGH`.
 pub fn listings_fit()
-    ensures { (most : ℕ) (passphrase lines cursor : List ℕ) (limit number : ℕ) (old new : List ℕ)
+    ensures { (most : ℕ) (passphrase lines cursor : List ℕ) (limit number : ℕ) (digits old new : List ℕ)
         (needed : ℕ) → UpTo most lines old new (too_short needed)
         (GivesDrill (λ form names n. IsDrillOutput form passphrase names n (whole lines))
-        cursor limit number old new (too_short needed))
+        cursor limit number digits old new (too_short needed))
         → length old < LISTING_BYTES_ENOUGH }
 {
     first_lines_are_short();
@@ -121,4 +127,21 @@ pub fn words_fit()
     ensures most { (letters old new : List ℕ) (needed : ℕ)
         → GivesWords letters old new (too_short needed) → length old < WORDS_BYTES_MAX }
     ensures reached { length (words_text []) ≡ WORDS_BYTES_MAX }
+{}
+
+/// If a buffer is refused as too short for the mnemonics that fit a line, it is shorter than `REPAIRED_BYTES_MAX`.
+pub fn repairs_fit()
+    ensures { (line old new : List ℕ) (needed : ℕ) → GivesRepaired line old new (too_short needed)
+        → length old < REPAIRED_BYTES_MAX }
+{
+    printed_forms();
+}
+
+/// If a buffer is refused as too short for the text of an answer, it is shorter than `TEXT_BYTES_MAX`, and the refusal
+/// asks for at most that length. A text that is written is no longer than that.
+pub fn texts_fit()
+    ensures short { (old new : List ℕ) (needed : ℕ) → GivesText old new (too_short needed)
+        → (length old < TEXT_BYTES_MAX) × (needed ≤ TEXT_BYTES_MAX) }
+    ensures written { (old new : List ℕ) (written : ℕ) → GivesText old new (done written)
+        → (written ≤ length old) × (written ≤ TEXT_BYTES_MAX) }
 {}

@@ -36,6 +36,8 @@ pub use version::shamir_version;
 pub use words::shamir_words;
 
 #[cfg(test)]
+mod expected_tests;
+#[cfg(test)]
 mod exponent_tests;
 #[cfg(test)]
 mod fingerprint_tests;

@@ -1,27 +1,19 @@
 //! The call that repairs a line.
-ghost use Rattle.std.specs.Prelude.{◌≡◌, ℕ, ◌+◌, ◌≤◌, ◌++◌, List, length};
-ghost use Rattle.s39_words.specs.Layout.{longest_text};
-ghost use Rattle.s39_words.specs.Printing.{IsPrinted};
-ghost use Rattle.s39_input.specs.Input.{ended_line};
-ghost use Rattle.s39_c.specs.Repairing.{shares_of, longest_repaired, AreLinesOf, GivesLines, GivesRepaired};
+ghost use Rattle.std.specs.Prelude.{◌≡◌, length};
+ghost use Rattle.s39_input.specs.Repair.{shares_of};
+ghost use Rattle.s39_c.specs.Repairing.{GivesLines, GivesRepaired};
 
 use crate::answer::ShamirAnswer;
-use crate::lengths::REPAIRED_BYTES_MAX;
-use arrayvec::ArrayVec;
-use s39_input::{WrittenLines, put};
+use s39_input::{WrittenLines, lines_of_repaired, put};
 use s39_repair::{Repaired, repair};
-use s39_words::{Share, print};
-
-/// The mnemonics of a line, with a line feed after each.
-type Lines = ArrayVec<u8, REPAIRED_BYTES_MAX>;
 
 /// Finds the mnemonics that fit a line of marks, in ascending order of their words' indices, and writes each with a line
 /// feed after it.
 ///
 /// A mark is a word of the list, or letters followed by one `?`, which stand for every word that begins with them. A
 /// place is open if its mark stands for more than one word. A mnemonic fits if `shamir_parse` accepts it, and it has at
-/// each place a word for which the mark stands. One fits, or two if the second word is open. The mnemonics go to the
-/// start of `mnemonics`, at most 1,980 bytes, and the bytes after them are unchanged. `first` is their number.
+/// each place a word for which the mark stands. At most two fit, and two only if the second word is open. The mnemonics
+/// go to the start of `mnemonics`, at most 1,980 bytes, and the bytes after them are unchanged. `first` is their number.
 ///
 /// The call refuses with the first of these that applies, and `mnemonics` is then unchanged:
 ///
@@ -50,7 +42,7 @@ pub extern "C" fn shamir_repair(line: &[u8], mnemonics: &mut [u8]) -> ShamirAnsw
 fn give_lines(repaired: &Repaired, out: &mut [u8]) -> ShamirAnswer
     ensures { GivesLines repaired.now out.old out.new result }
 {
-    let lines = lines_of(repaired);
+    let lines = lines_of_repaired(repaired);
     if out.len() < lines.len() {
         return ShamirAnswer::too_short(lines.len());
     }
@@ -66,28 +58,4 @@ fn count_of(repaired: &Repaired) -> usize
     ensures { result ≡ length (shares_of repaired.now) }
 {
     if repaired.second.is_some() { 2 } else { 1 }
-}
-
-/// The mnemonics, with a line feed after each.
-fn lines_of(repaired: &Repaired) -> Lines
-    ensures { AreLinesOf (shares_of repaired.now) result.items }
-{
-    let mut lines = Lines::new();
-    add_line(&mut lines, &repaired.first);
-    if let Some(second) = &repaired.second {
-        add_line(&mut lines, second);
-    }
-    lines
-}
-
-/// Adds the mnemonic of a share, and a line feed.
-fn add_line(lines: &mut Lines, share: &Share)
-    requires room { length lines.old.items ≤ longest_text + 1 }
-    ensures line { (text : List ℕ) × IsPrinted text share.now
-        × (lines.new.items ≡ lines.old.items ++ ended_line text) }
-    ensures short { length lines.new.items ≤ length lines.old.items + (longest_text + 1) }
-{
-    let text = print(share);
-    lines.try_extend_from_slice(&text).unwrap();
-    lines.push(b'\n');
 }

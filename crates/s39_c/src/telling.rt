@@ -2,14 +2,12 @@
 ghost use Rattle.s39_c.specs.Telling.{GivesText};
 
 use crate::answer::{HIGH_EXPONENT, OUT_OF_RANGE, ShamirAnswer, TOO_SHORT};
+use crate::lengths::TEXT_BYTES_MAX;
 use crate::memory::give;
 use s39_refusal::{Cause, code};
 use s39_text::RefusalText;
 use std::fmt::InlineText;
 use thiserror::Error;
-
-/// The maximum length of a text in bytes.
-const TEXT_BYTES: usize = 64;
 
 /// The text of an answer. A refusal that the program has too has the program's text.
 #[derive(Debug, Drop, Error)]
@@ -42,7 +40,7 @@ enum AnswerText {
 pub extern "C" fn shamir_text(answer: &ShamirAnswer, text: &mut [u8]) -> ShamirAnswer
     ensures { GivesText text.old text.new result }
 {
-    let said: InlineText<TEXT_BYTES> = InlineText::of(answer_text(answer));
+    let said: InlineText<TEXT_BYTES_MAX> = InlineText::of(answer_text(answer));
     give(said.as_str().as_bytes(), text)
 }
 

@@ -192,10 +192,10 @@ fn recovers(rt: HostRuntime) {
     ];
     for (lines, secret) in cases {
         let mut out = [7; 16];
-        let short = shamir_recover(lines, b"TREZOR", 15, &mut out[..15]);
+        let short = shamir_recover(lines, b"TREZOR", 15, b"", &mut out[..15]);
         assert_eq!(rt; short, refusal(1, 0, 16, 0));
         assert_eq!(rt; out, [7; 16]);
-        let answer = shamir_recover(lines, b"TREZOR", 2, &mut out);
+        let answer = shamir_recover(lines, b"TREZOR", 2, b"", &mut out);
         assert_eq!(rt;
             answer,
             ShamirAnswer {
@@ -233,7 +233,10 @@ fn refuses_lines(rt: HostRuntime) {
     ];
     for (lines, passphrase, refused) in cases {
         let mut out = [7; 16];
-        assert_eq!(rt; shamir_recover(lines, passphrase, 0, &mut out), refused);
+        assert_eq!(rt;
+            shamir_recover(lines, passphrase, 0, b"", &mut out),
+            refused
+        );
         assert_eq!(rt; out, [7; 16]);
     }
 }
@@ -266,7 +269,7 @@ fn drills(rt: HostRuntime) {
     ];
     for (after, limit, quorums, last, listing) in parts {
         let mut text = [7; 150];
-        let answer = shamir_drill(FIVE, b"TREZOR", 0, after, limit, 0, &mut text);
+        let answer = shamir_drill(FIVE, b"TREZOR", 0, after, limit, 0, b"", &mut text);
         assert_eq!(rt; answer, counted(quorums, last, listing.len()));
         assert!(rt; text.starts_with(listing));
         assert_eq!(rt; text[listing.len()], 7);
@@ -301,7 +304,7 @@ fn lists_mismatches(rt: HostRuntime) {
     ];
     for (lines, form, last, listing) in cases {
         let mut text = [7; 40];
-        let answer = shamir_drill(lines, b"", 0, b"", 9, form, &mut text);
+        let answer = shamir_drill(lines, b"", 0, b"", 9, form, b"", &mut text);
         let one = ShamirAnswer {
             mismatches: 1,
             ..counted(1, last, listing.len())
@@ -323,12 +326,12 @@ fn drills_what_fits(rt: HostRuntime) {
         (140, 2, 90, 113),
     ];
     for (room, quorums, last, bytes) in cases {
-        let answer = shamir_drill(FIVE, b"TREZOR", 15, b"", 7, 0, &mut text[..room]);
+        let answer = shamir_drill(FIVE, b"TREZOR", 15, b"", 7, 0, b"", &mut text[..room]);
         assert_eq!(rt; answer, counted(quorums, last, bytes));
         assert!(rt; text[..bytes].ends_with(b"\n"));
     }
     let mut narrow = [7; 67];
-    let answer = shamir_drill(FIVE, b"TREZOR", 15, b"", 7, 0, &mut narrow);
+    let answer = shamir_drill(FIVE, b"TREZOR", 15, b"", 7, 0, b"", &mut narrow);
     assert_eq!(rt; answer, refusal(1, 0, 68, 0));
     assert_eq!(rt; narrow, [7; 67]);
 }
@@ -338,7 +341,7 @@ fn refuses_drills(rt: HostRuntime) {
     let refused: [(&[u8], u32, u32, &[u8], ShamirAnswer); 8] = [
         (b"0.1+", 0, 0, b"a\x07", refusal(2, 0, 0, 0)),
         (b"0.1+", 0, 1, b"a\x07", refusal(2, 0, 0, 0)),
-        (b"0.1+", 1, 2, b"a\x07", refusal(2, 0, 0, 0)),
+        (b"0.1+", 1, 3, b"a\x07", refusal(2, 0, 0, 0)),
         (b"", 1, u32::MAX, b"", refusal(2, 0, 0, 0)),
         (b"0.1+", 1, 1, b"a\x07", refusal(61, 0, 0, 0)),
         (b"0.1", 1, 0, b"a\x07", refusal(41, 0, 2, 0)),
@@ -348,7 +351,7 @@ fn refuses_drills(rt: HostRuntime) {
     for (after, limit, form, passphrase, refused) in refused {
         let mut text = [7; 100];
         assert_eq!(rt;
-            shamir_drill(FIVE, passphrase, 15, after, limit, form, &mut text),
+            shamir_drill(FIVE, passphrase, 15, after, limit, form, b"", &mut text),
             refused
         );
         assert_eq!(rt; text, [7; 100]);

@@ -120,6 +120,7 @@ module _ {R B W : Type 0} (remaining : R → Option (List ℕ)) (held : B → Op
   -- a run whose output is handed on delivers it
   pub delivers : Delivers remaining contents (HasStatus IsOutput) reader.device first (status_of given) read_to.device last
   delivers = record {
+    read = (runs.output.came, runs.output.consumed);
     done = λ other. by_hands other hands;
     failed = λ _. by_reads (none_or_some (read_failures answer));
   }
@@ -155,6 +156,7 @@ pub Delivers-map : {R W : Type 0} (remaining : R → Option (List ℕ)) (content
     → ((input : Input) (text : List ℕ) (full : ℕ) → IsOutput input text full → Follows input text full)
     → Delivers remaining contents Follows reader writer status read_to written_to
 Delivers-map remaining contents IsOutput Follows reader writer status read_to written_to delivered then = record {
+  read = delivered.read;
   done = λ other. (let w = delivered.done other in (w.0, w.1, (w.2.0, then (whole w.0) w.2.0 status w.2.1, w.2.2)));
   failed = λ three. (let w = delivered.failed three in (w.0, w.1, (w.2.0, (w.2.1.0, then w.0 w.2.0 w.2.1.0 w.2.1.1), w.2.2)));
 }

@@ -9,13 +9,10 @@ use Rattle.s39_command.specs.declared.command.NoJob.TheVariants.{Help, Refused, 
 use Rattle.s39_cli.specs.declared.runner.Ended.{Ended}
 use Rattle.s39_cli.specs.declared.runner.Ended.TheVariants.{With, NoMemory}
 use Rattle.s39_cli.specs.declared.runner.Source.{Source}
-use Rattle.s39_cli.specs.declared.work.Unready.{Unready}
-use Rattle.s39_cli.specs.declared.work.Unready.TheVariants as unready
 use Rattle.s39_cli.specs.declared.work.Work.{Work}
 use Rattle.s39_command.specs.Command.{AnswersWords, GivesCall, shamir_app}
-use Rattle.s39_cli.specs.Ending.{Delivers, DoesJob, Ends, EndsAs, EndsUnbegun, EndsUnread, EndsWithoutJob, HasStatus, IsTyped, OnEnd, TakesCall}
-use Rattle.s39_cli.specs.Unready.{IsUnready}
-use Rattle.s39_cli.specs.Values.{FillsJob, LacksValue}
+use Rattle.s39_cli.specs.Ending.{Delivers, DoesJob, Ends, EndsAs, EndsUnread, EndsWithoutJob, HasStatus, IsTyped, OnEnd, TakesCall}
+use Rattle.s39_cli.specs.Values.{FillsJob, HasLong, LacksValue, Told}
 use Rattle.s39_cli.specs.Work.{IsWorkOf, IsWorkOutput}
 use Rattle.s39_cli.proofs.Deliveries.{Delivers-map}
 use Rattle.s39_command.proofs.Jobs.{asks_none}
@@ -27,19 +24,19 @@ module _ {R W : Type 0} (remaining : R → Option (List ℕ)) (contents : W → 
       → OnEnd ended (DoesJob remaining contents job reader writer)
   does_work w status read_to written_to ended is delivers same =
       subst (λ e. OnEnd e (DoesJob remaining contents job reader writer)) (sym same)
-      (inr (inr (inr (inr (
+      (inr (inr (inr (inr (inr (
         ready_of_work job w is,
         Delivers-map remaining contents _ _ reader writer status read_to written_to delivers
             (λ input text full out. (out.0, output_of_job job w is input text out.0 out.1, out.2)),
-      )))))
+      ))))))
 
-module _ {R W : Type 0} (remaining : R → Option (List ℕ)) (contents : W → Option (List ℕ)) (source : Source) (words : List Text) (reader : R)
-    (writer : W) where
+module _ {R W : Type 0} (told : Told) (remaining : R → Option (List ℕ)) (contents : W → Option (List ℕ)) (source : Source) (words : List Text)
+    (reader : R) (writer : W) where
   -- words that give no job
   pub ends_without_job : (no_job : NoJob) (ended : Ended R W) → AnswersWords no_job words
       → (takes shamir_app words ≡ true → (no_job ≡ Memory) ⊎ ((bad : BadValues) × (no_job ≡ Values bad)))
-      → EndsWithoutJob contents no_job reader writer ended → Ends remaining contents source words reader writer ended
-  ends_without_job Memory ended answers wanting none = subst (Ends remaining contents source words reader writer) (sym none) tt
+      → EndsWithoutJob contents no_job reader writer ended → Ends told remaining contents source words reader writer ended
+  ends_without_job Memory ended answers wanting none = subst (Ends told remaining contents source words reader writer) (sym none) tt
   ends_without_job no_job NoMemory answers wanting ends = tt
   ends_without_job (Help text) (With status read_to written_to) answers wanting ends = record {
     asked = λ _. (string_bytes text, ends);
@@ -58,26 +55,33 @@ module _ {R W : Type 0} (remaining : R → Option (List ℕ)) (contents : W → 
   }
 
   module _ (call : Call) (gives : GivesCall words call) (taken : takes shamir_app words ≡ true) (faultless : fault_of shamir_app words ≡ []) where
-    pub ends_by_call : (status : ℕ) (read_to : R) (written_to : W) → TakesCall remaining contents source call reader writer status read_to written_to
-        → EndsAs remaining contents source words reader writer status read_to written_to
+    pub ends_by_call : (status : ℕ) (read_to : R) (written_to : W) → TakesCall told remaining contents source call reader writer status read_to written_to
+        → EndsAs told remaining contents source words reader writer status read_to written_to
     ends_by_call status read_to written_to does = record {
       asked = λ asks. absurd (asks_none words faultless asks);
       refused = λ refused _. absurd (true≢false (sym taken ∙ refused));
       taken = λ _. inr (call, gives, does);
     }
 
-    pub ends_typed : (ended : Ended R W) → IsTyped source call.job → ended ≡ With 2 reader writer → Ends remaining contents source words reader writer ended
+    pub ends_typed : (ended : Ended R W) → IsTyped source call.job → ended ≡ With 2 reader writer → Ends told remaining contents source words reader writer ended
     ends_typed ended typed same =
-        subst (Ends remaining contents source words reader writer) (sym same) (ends_by_call 2 reader writer (inl (typed, (refl, refl, refl))))
+        subst (Ends told remaining contents source words reader writer) (sym same) (ends_by_call 2 reader writer (inl (typed, (refl, refl, refl))))
 
-    pub ends_unread : (behind : R) (ended : Ended R W) → (IsTyped source call.job → ⊥) → LacksValue call.files reader behind
-        → EndsUnread behind writer ended → Ends remaining contents source words reader writer ended
-    ends_unread behind NoMemory untyped lacks ends = tt
-    ends_unread behind (With status read_to written_to) untyped lacks ends =
-        ends_by_call status read_to written_to (inr (inl (untyped, (subst (LacksValue call.files reader) (sym ends.0) lacks, ends.1))))
+    pub ends_unread : (behind : R) (ended : Ended R W) (P : Type 0) → (IsTyped source call.job → ⊥) → LacksValue call.files reader behind
+        → (P → HasLong told remaining call.files reader) → EndsUnread P behind writer ended
+        → Ends told remaining contents source words reader writer ended
+    ends_unread behind NoMemory P untyped lacks long ends = tt
+    ends_unread behind (With status read_to written_to) P untyped lacks long ends =
+        ends_by_call status read_to written_to (inr (inl (
+          untyped,
+          (
+            subst (LacksValue call.files reader) (sym ends.0) lacks,
+            (⊎_elim (λ two. inl (two.0, long two.1)) (λ three. inr three) ends.1.0, ends.1.1),
+          ),
+        )))
 
-    pub ends_by_job : (job : Job) (behind : R) (ended : Ended R W) → (IsTyped source call.job → ⊥) → FillsJob remaining call job reader behind
-        → OnEnd ended (DoesJob remaining contents job behind writer) → Ends remaining contents source words reader writer ended
+    pub ends_by_job : (job : Job) (behind : R) (ended : Ended R W) → (IsTyped source call.job → ⊥) → FillsJob told remaining call job reader behind
+        → OnEnd ended (DoesJob remaining contents job behind writer) → Ends told remaining contents source words reader writer ended
     ends_by_job job behind NoMemory untyped fills does = tt
     ends_by_job job behind (With status read_to written_to) untyped fills does =
         ends_by_call status read_to written_to (inr (inr (untyped, (job, behind, fills, does))))

@@ -11,9 +11,12 @@ use Rattle.s39_backup.specs.declared.options.Options.{Options}
 use Rattle.s39_backup.specs.declared.plan.Members.{Members}
 use Rattle.s39_backup.specs.declared.plan_error.PlanError.{PlanError}
 use Rattle.s39_input.specs.declared.fault.Fault.{Fault}
+use Rattle.s39_command.specs.Command.{text_in}
+use Rattle.s39_kdf.specs.declared.noted.NotedFingerprint.{NotedFingerprint}
 use Rattle.s39_kdf.specs.declared.secret_form.SecretForm.{SecretForm}
 use Rattle.s39_input.specs.Input.{Input}
 use Rattle.s39_input.specs.Show.{IsShowOutput}
+use Rattle.s39_input.specs.Repair.{IsRepairOutput}
 use Rattle.s39_input.specs.Create.{IsCreateOutput}
 use Rattle.s39_reading.specs.Recover.{IsRecoverOutput}
 use Rattle.s39_drilling.specs.Drill.{IsDrillOutput}
@@ -22,7 +25,7 @@ use Rattle.s39_creating.specs.Reissue.{IsReissueOutput}
 use Rattle.s39_command.specs.declared.command.Job.{Job}
 use Rattle.s39_command.specs.declared.command.Job.TheVariants as job
 use Rattle.s39_cli.specs.Headline.{OneOutcome}
-use Rattle.s39_cli.specs.Outcome.{AreOptions, CreatesFrom, IsCursor, IsJobOutput, judged, status_of, where_done, without_mismatches}
+use Rattle.s39_cli.specs.Outcome.{AreOptions, CreatesFrom, IsCursor, IsJobOutput, IsNoted, judged, status_of, told_in, where_done, without_mismatches}
 
 abbrev Plain : Type 0
 Plain = Result (Unit {0}) Fault
@@ -51,6 +54,13 @@ same_options e x a b is also =
     (λ small. ap (λ (r : a.exponent < 2 ^ exponent_bits). of_fields a.exponent a.extendable r) (le_prop a.exponent_in_range small))
     b.exponent_in_range)
 
+-- a text writes one fingerprint
+one_noted : (text : Option (List ℕ)) (a b : Option NotedFingerprint) → IsNoted text a → IsNoted text b → a ≡ b
+one_noted None a b is also = is ∙ sym also
+one_noted (Some text) a b is also =
+    let same : is.0 ≡ also.0 = same_ok (sym is.2 ∙ also.2) in
+    is.1 ∙ ap (λ (n : NotedFingerprint). Some n) same ∙ sym also.1
+
 module _ (names_once : (text : List ℕ) (names others : Names) → IsWrittenForm text names → IsWrittenForm text others → names ≡ others) where
   one_cursor : (after : Option (Bor (List ℕ))) (a b : Option Names) → IsCursor after a → IsCursor after b → a ≡ b
   one_cursor None a b is also = is ∙ sym also
@@ -58,11 +68,12 @@ module _ (names_once : (text : List ℕ) (names others : Names) → IsWrittenFor
       is.1 ∙ ap (λ (n : Names). Some n) (names_once text.now is.0 also.0 is.2 also.2) ∙ sym also.1
 
 module _ (shows : IsOnce IsShowOutput) (creates : (asked : Asked) → IsOnce (IsCreateOutput asked))
-    (recovers : (form : SecretForm) (passphrase : List ℕ) → IsOnce (IsRecoverOutput form passphrase))
+    (recovers : (form : SecretForm) (expected : Option NotedFingerprint) (passphrase : List ℕ) → IsOnce (IsRecoverOutput form expected passphrase))
     (drills : (form : SecretForm) (passphrase : List ℕ) (after : Option Names) (limit : ℕ) → IsOnce (IsDrillOutput form passphrase after limit))
     (statuses : IsOnce IsStatusOutput)
     (reissues : (group_threshold : ℕ) (groups : List Members) (names : Names) → IsPlan group_threshold groups
     → IsOnce (IsReissueOutput group_threshold groups names))
+    (repairs : IsOnce IsRepairOutput)
     (plan_once : (text : List ℕ) (reading other : Result (ℕ × List Members) PlanError) → IsPlanReading text reading → IsPlanReading text other
     → reading ≡ other)
     (names_once : (text : List ℕ) (names others : Names) → IsWrittenForm text names → IsWrittenForm text others → names ≡ others) where
@@ -77,12 +88,25 @@ module _ (shows : IsOnce IsShowOutput) (creates : (asked : Asked) → IsOnce (Is
       (subst (λ (p : ℕ × List Members). IsCreateOutput (asked_for b.secret passphrase p.0 p.1 a.options) input text answer) plans
       (subst (λ (s : List ℕ). IsCreateOutput (asked_for s passphrase a.group_threshold a.groups a.options) input text answer) secrets a.output))) b.output
 
-  drill_once : (passphrase : Bor (List ℕ)) (after : Option (Bor (List ℕ))) (limit : ℕ) (form : SecretForm)
-      → IsOnce (IsJobOutput (job.Drill passphrase after limit form))
-  drill_once passphrase after limit form input text other answer another a b =
+  recover_once : (passphrase : Bor (List ℕ)) (form : SecretForm) (expected : Option (Bor (List ℕ)))
+      → IsOnce (IsJobOutput (job.Recover passphrase form expected))
+  recover_once passphrase form expected input text other answer another a b =
+      let noted = one_noted (text_in expected) a.0 b.0 a.1 b.1 in
+      judged_once where_done (IsRecoverOutput form b.0 passphrase.now) (recovers form b.0 passphrase.now) input text other answer another
+      (a.2.0, subst (λ (n : Option NotedFingerprint). IsRecoverOutput form n passphrase.now input text a.2.0) noted a.2.1, a.2.2) b.2
+
+  drill_once : (passphrase : Bor (List ℕ)) (after : Option (Bor (List ℕ))) (limit : ℕ) (form : SecretForm) (expected : Option (Bor (List ℕ)))
+      → IsOnce (IsJobOutput (job.Drill passphrase after limit form expected))
+  drill_once passphrase after limit form expected input text other answer another a b =
       let cursor = one_cursor names_once after a.0 b.0 a.1 b.1 in
-      judged_once without_mismatches (IsDrillOutput form passphrase.now b.0 limit) (drills form passphrase.now b.0 limit) input text other answer another
-      (a.2.0, subst (λ (o : Option Names). IsDrillOutput form passphrase.now o limit input text a.2.0) cursor a.2.1, a.2.2) b.2
+      let noted = one_noted (text_in expected) a.2.0 b.2.0 a.2.1 b.2.1 in
+      let told = told_in form b.2.0 in
+      judged_once without_mismatches (IsDrillOutput told passphrase.now b.0 limit) (drills told passphrase.now b.0 limit) input text other answer another (
+        a.2.2.0,
+        subst (λ (n : Option NotedFingerprint). IsDrillOutput (told_in form n) passphrase.now b.0 limit input text a.2.2.0) noted
+            (subst (λ (o : Option Names). IsDrillOutput (told_in form a.2.0) passphrase.now o limit input text a.2.2.0) cursor a.2.2.1),
+        a.2.2.2,
+      ) b.2.2
 
   reissue_once : (plan names : Bor (List ℕ)) → IsOnce (IsJobOutput (job.Reissue plan names))
   reissue_once plan names input text other answer another a b =
@@ -100,10 +124,11 @@ module _ (shows : IsOnce IsShowOutput) (creates : (asked : Asked) → IsOnce (Is
   output_once job.Show = judged_once where_done IsShowOutput shows
   output_once (job.Create plan secret passphrase e x) =
       judged_once where_done (CreatesFrom plan.now secret.now passphrase.now e x) (creates_once plan.now secret.now passphrase.now e x)
-  output_once (job.Recover passphrase form) = judged_once where_done (IsRecoverOutput form passphrase.now) (recovers form passphrase.now)
-  output_once (job.Drill passphrase after limit form) = drill_once passphrase after limit form
+  output_once (job.Recover passphrase form expected) = recover_once passphrase form expected
+  output_once (job.Drill passphrase after limit form expected) = drill_once passphrase after limit form expected
   output_once job.Status = judged_once is_enough IsStatusOutput statuses
   output_once (job.Reissue plan names) = reissue_once plan names
+  output_once job.Repair = repairs
 
   pub one_outcome : OneOutcome
   one_outcome j input text other status another a b =

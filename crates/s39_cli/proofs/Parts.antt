@@ -1,5 +1,5 @@
 -- What a reader gives byte by byte, and in a part.
-use Rattle.std.proofs.Common.{◌≡◌, ◌≢◌, ◌∙◌, ◌++◌, ◌≤◌, ◌<◌, ℕ, List, [], ◌∷◌, Option, Some, None, Result, Ok, Err, ap, append-nil, append_assoc, arith, length, IfSome, refl, slice_index_or, subst, sym, take}
+use Rattle.std.proofs.Common.{◌≡◌, ◌≢◌, ◌∙◌, ◌++◌, ◌≤◌, ◌<◌, ℕ, List, [], ◌∷◌, Option, Some, None, Result, Ok, ap, append-nil, append_assoc, arith, length, IfSome, refl, slice_index_or, subst, sym, take}
 use Rattle.std.proofs.Common.{◌+◌, ◌-◌, Bool, true, false, cond, length-append, ⊎_elim}
 use Rattle.std.proofs.lemmas.Bool.{cases_lt}
 use Rattle.std.proofs.KnownBytes.{Consumes-kept, Consumes-trans, Keeps-trans}

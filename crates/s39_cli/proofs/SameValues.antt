@@ -12,7 +12,7 @@ use Rattle.s39_command.specs.declared.command.Job.TheVariants as job
 use Rattle.s39_command.specs.Command.{HaveSameValues, text_in}
 use Rattle.s39_command.proofs.OneCall.{said_same}
 use Rattle.s39_cli.specs.Headline.{SameValuesWriteTheSame}
-use Rattle.s39_cli.specs.Outcome.{CreatesFrom, IsCursor, IsJobOutput, Reissues}
+use Rattle.s39_cli.specs.Outcome.{CreatesFrom, IsCursor, IsJobOutput, IsNoted, Reissues, told_in}
 
 same_cursor : (a b : Option (Bor Text)) → text_in a ≡ text_in b → (names : Option Names) → IsCursor a names → IsCursor b names
 same_cursor None None same names is = is
@@ -32,14 +32,21 @@ same_output (job.Create t s p e x) k (t', s', p', same, plans, secrets, phrases)
           (subst (λ (w : Text). CreatesFrom w s.now p.now e x input text is.0) plans is.1)),
       is.2,
     )
-same_output (job.Recover p f) k (p', same, phrases) input text answer is =
-    subst (λ (other : Job). IsJobOutput other input text answer) (sym same)
-    (is.0, subst (λ (w : Text). IsRecoverOutput f w input text is.0) phrases is.1, is.2)
-same_output (job.Drill p a l f) k (p', a', same, phrases, cursors) input text answer is =
+same_output (job.Recover p f e) k (p', e', same, phrases, noted) input text answer is =
+    subst (λ (other : Job). IsJobOutput other input text answer) (sym same) (
+      is.0,
+      subst (λ (t : Option Text). IsNoted t is.0) noted is.1,
+      (is.2.0, subst (λ (w : Text). IsRecoverOutput f is.0 w input text is.2.0) phrases is.2.1, is.2.2),
+    )
+same_output (job.Drill p a l f e) k (p', a', e', same, phrases, cursors, noted) input text answer is =
     subst (λ (other : Job). IsJobOutput other input text answer) (sym same) (
       is.0,
       same_cursor a a' cursors is.0 is.1,
-      (is.2.0, subst (λ (w : Text). IsDrillOutput f w is.0 l input text is.2.0) phrases is.2.1, is.2.2),
+      (
+        is.2.0,
+        subst (λ (t : Option Text). IsNoted t is.2.0) noted is.2.1,
+        (is.2.2.0, subst (λ (w : Text). IsDrillOutput (told_in f is.2.0) w is.0 l input text is.2.2.0) phrases is.2.2.1, is.2.2.2),
+      ),
     )
 same_output job.Status k same input text answer is = subst (λ (other : Job). IsJobOutput other input text answer) (sym same) is
 same_output (job.Reissue t n) k (t', n', same, plans, names) input text answer is =
@@ -48,6 +55,7 @@ same_output (job.Reissue t n) k (t', n', same, plans, names) input text answer i
       subst (λ (w : Text). Reissues t'.now w input text is.0) names (subst (λ (w : Text). Reissues w n.now input text is.0) plans is.1),
       is.2,
     )
+same_output job.Repair k same input text answer is = subst (λ (other : Job). IsJobOutput other input text answer) (sym same) is
 
 pub same_values_write_the_same : SameValuesWriteTheSame
 same_values_write_the_same j k same input text status is = (is.0, same_output j k same input text is.0 is.1, is.2)

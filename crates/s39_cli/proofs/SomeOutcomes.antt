@@ -1,7 +1,6 @@
 -- A job that can be begun writes something for each input.
-use Rattle.std.proofs.Common.{◌≡◌, ◌<◌, ◌≤◌, ◌^◌, ℕ, suc, zero, Bool, List, Option, Some, None, Result, Ok, refl, subst, arith}
+use Rattle.std.proofs.Common.{◌≡◌, ◌<◌, ◌≤◌, ◌^◌, ℕ, suc, zero, Bool, List, Bor, IfSome, Option, Some, None, Result, refl, subst, arith}
 use Rattle.std.proofs.lemmas.List.{get_or_default}
-use Rattle.hex.specs.Hex.{IsBytes}
 use Rattle.hex.proofs.HexLemmas.{decode_of-ok}
 use Rattle.s39_kdf.specs.Bytes.{AreBytes}
 use Rattle.s39_kdf.specs.Limits.{exponent_bits}
@@ -11,11 +10,13 @@ use Rattle.s39_backup.specs.Created.{Asked, asked_for}
 use Rattle.s39_backup.specs.Plan.{IsPlan}
 use Rattle.s39_backup.specs.declared.options.Options.{Options}
 use Rattle.s39_backup.specs.declared.plan.Members.{Members}
-use Rattle.s39_drilling.specs.declared.drill.Done.{Done}
 use Rattle.s39_input.specs.declared.fault.Fault.{Fault}
+use Rattle.clap.specs.Words.{Text}
+use Rattle.s39_kdf.specs.declared.noted.NotedFingerprint.{NotedFingerprint}
 use Rattle.s39_kdf.specs.declared.secret_form.SecretForm.{SecretForm}
 use Rattle.s39_input.specs.Input.{Input}
 use Rattle.s39_input.specs.Show.{IsShowOutput}
+use Rattle.s39_input.specs.Repair.{IsRepairOutput}
 use Rattle.s39_input.specs.Create.{IsCreateOutput}
 use Rattle.s39_reading.specs.Recover.{IsRecoverOutput}
 use Rattle.s39_drilling.specs.Drill.{IsDrillOutput}
@@ -23,9 +24,10 @@ use Rattle.s39_reading.specs.Status.{IsStatusOutput}
 use Rattle.s39_creating.specs.Reissue.{IsReissueOutput}
 use Rattle.s39_command.specs.declared.command.Job.{Job}
 use Rattle.s39_command.specs.declared.command.Job.TheVariants as job
-use Rattle.s39_command.specs.Command.{IsInRange}
+use Rattle.s39_command.specs.Command.{IsInRange, text_in}
 use Rattle.s39_cli.specs.Headline.{SomeOutcome}
-use Rattle.s39_cli.specs.Outcome.{GivesPlan, IsHexadecimal, IsJobOutput, IsReady, WritesNames, judged, status_of, where_done, without_mismatches}
+use Rattle.s39_cli.specs.Outcome.{IsCursor, IsHexadecimal, IsJobOutput, IsNoted, IsReady, WritesFingerprint, WritesNames, judged, status_of, told_in, where_done}
+use Rattle.s39_cli.specs.Outcome.{without_mismatches}
 
 -- some text is written with some answer
 abbrev Some_of : {T : Type 0} → (List ℕ → T → Type 0) → Type 0
@@ -45,15 +47,26 @@ decoded_bytes text is k d below =
 abbrev options_of : (e : ℕ) → Bool → e < 2 ^ exponent_bits → Options
 options_of e x small = record { exponent = e; extendable = x; exponent_in_range = small }
 
+-- what a text writes, if there is one
+some_noted : (text : Option Text) → IfSome text WritesFingerprint → (noted : Option NotedFingerprint) × IsNoted text noted
+some_noted None writes = (None, refl)
+some_noted (Some text) writes = (Some writes.0, (writes.0, refl, writes.1))
+
+some_cursor : (after : Option (Bor Text)) → IfSome (text_in after) WritesNames → (names : Option Names) × IsCursor after names
+some_cursor None writes = (None, refl)
+some_cursor (Some text) writes = (Some writes.0, (writes.0, refl, writes.1))
+
 module _ (shows : (input : Input) → Some_of (IsShowOutput input))
     (creates : (asked : Asked) (input : Input) → IsPlan asked.group_threshold asked.groups → AreBytes asked.secret → AreBytes input.bytes
     → Some_of (IsCreateOutput asked input))
-    (recovers : (form : SecretForm) (passphrase : List ℕ) (input : Input) → Some_of (IsRecoverOutput form passphrase input))
+    (recovers : (form : SecretForm) (expected : Option NotedFingerprint) (passphrase : List ℕ) (input : Input)
+    → Some_of (IsRecoverOutput form expected passphrase input))
     (drills : (form : SecretForm) (passphrase : List ℕ) (after : Option Names) (limit : ℕ) (input : Input)
     → Some_of (IsDrillOutput form passphrase after (suc limit) input))
     (statuses : (input : Input) → Some_of (IsStatusOutput input))
     (reissues : (group_threshold : ℕ) (groups : List Members) (names : Names) (input : Input) → IsPlan group_threshold groups
-    → Some_of (IsReissueOutput group_threshold groups names input)) where
+    → Some_of (IsReissueOutput group_threshold groups names input))
+    (repairs : (input : Input) → Some_of (IsRepairOutput input)) where
   some_drill : (form : SecretForm) (passphrase : List ℕ) (after : Option Names) (limit : ℕ) (input : Input) → 1 ≤ limit
       → Some_of (IsDrillOutput form passphrase after limit input)
   some_drill form passphrase after zero input low = absurd (omega arith)
@@ -81,15 +94,17 @@ module _ (shows : (input : Input) → Some_of (IsShowOutput input))
           refl,
         ),
       )
-  some_output (job.Recover passphrase form) input ready low bytes =
-      judged_some where_done (IsRecoverOutput form passphrase.now input) (recovers form passphrase.now input)
-  some_output (job.Drill passphrase None limit form) input ready low bytes =
-      let some = judged_some without_mismatches (IsDrillOutput form passphrase.now None limit input) (some_drill form passphrase.now None limit input low) in
-      (some.0, some.1, (None, refl, some.2))
-  some_output (job.Drill passphrase (Some after) limit form) input ready low bytes =
-      let from = Some ready.0 in
-      let some = judged_some without_mismatches (IsDrillOutput form passphrase.now from limit input) (some_drill form passphrase.now from limit input low) in
-      (some.0, some.1, (from, (ready.0, refl, ready.1), some.2))
+  some_output (job.Recover passphrase form expected) input ready low bytes =
+      let noted = some_noted (text_in expected) ready in
+      let some = judged_some where_done (IsRecoverOutput form noted.0 passphrase.now input) (recovers form noted.0 passphrase.now input) in
+      (some.0, some.1, (noted.0, noted.1, some.2))
+  some_output (job.Drill passphrase after limit form expected) input ready low bytes =
+      let from = some_cursor after ready.0 in
+      let noted = some_noted (text_in expected) ready.1 in
+      let told = told_in form noted.0 in
+      let some = judged_some without_mismatches (IsDrillOutput told passphrase.now from.0 limit input)
+      (some_drill told passphrase.now from.0 limit input low) in
+      (some.0, some.1, (from.0, from.1, (noted.0, noted.1, some.2)))
   some_output job.Status input ready low bytes = judged_some is_enough (IsStatusOutput input) (statuses input)
   some_output (job.Reissue plan names) input ready low bytes =
       let some = reissues ready.0.0 ready.0.1 ready.1.0 input ready.0.2.1 in (
@@ -108,6 +123,7 @@ module _ (shows : (input : Input) → Some_of (IsShowOutput input))
           refl,
         ),
       )
+  some_output job.Repair input ready low bytes = repairs input
 
   pub some_outcome : SomeOutcome
   some_outcome j input ready low bytes =

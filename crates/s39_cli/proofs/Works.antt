@@ -1,6 +1,11 @@
 -- What a work writes is what its job writes.
-use Rattle.std.proofs.Common.{◌≡◌, ◌+◌, ◌∙◌, ℕ, Bool, List, Option, None, Some, Result, Ok, Err, ap, refl, sym, subst}
+use Rattle.std.proofs.Common.{◌≡◌, ◌+◌, ◌∙◌, ℕ, Bool, List, Option, None, Some, Result, Ok, Err, Bor, IfSome, IsSomeAnd, ap, refl, sym, subst}
 use Rattle.hex.specs.Hex.{decode_of}
+use Rattle.clap.specs.Words.{Text}
+use Rattle.s39_kdf.specs.declared.noted.BadFingerprint.{BadFingerprint}
+use Rattle.s39_kdf.specs.declared.noted.NotedFingerprint.{NotedFingerprint}
+use Rattle.s39_set.specs.Names.{Names}
+use Rattle.s39_command.specs.Command.{text_in}
 use Rattle.s39_backup.specs.declared.plan.Members.{Members}
 use Rattle.s39_backup.specs.declared.plan_error.PlanError.{PlanError}
 use Rattle.s39_backup.proofs.PlanReadings.{reading_once}
@@ -18,7 +23,8 @@ use Rattle.s39_command.specs.declared.command.Job.{Job}
 use Rattle.s39_command.specs.declared.command.Job.TheVariants as job
 use Rattle.s39_cli.specs.declared.work.Work.{Work}
 use Rattle.s39_backup.specs.Plan.{IsPlanReading}
-use Rattle.s39_cli.specs.Outcome.{GivesPlan, HasNoCause, IsJobOutput, IsReady, judged}
+use Rattle.s39_cli.specs.Outcome.{GivesPlan, HasNoCause, IsCursor, IsJobOutput, IsNoted, IsReady, judged}
+use Rattle.s39_cli.specs.Outcome.{WritesFingerprint, WritesNames, WritesNoFingerprint, WritesNoNames}
 use Rattle.s39_cli.specs.Work.{IsWorkOf, IsWorkOutput}
 
 same_reads : {T : Type 0} (is_well : T → Bool) (answer : Result T Fault) → read_failures (judged is_well answer) ≡ read_failures answer
@@ -62,18 +68,38 @@ plan_or_error text error gives refused =
     reading_once text (Ok (gives.0, gives.1)) (Err error) gives.2 refused in
     cc
 
+-- texts that write names and fingerprints don't write none
+cursor_or_not : (text : Option Text) → IfSome text WritesNames → IsSomeAnd text WritesNoNames → ⊥
+cursor_or_not None writes none = none
+cursor_or_not (Some text) writes none = none writes.0 writes.1
+
+noted_or_not : (text : Option Text) → IfSome text WritesFingerprint → IsSomeAnd text WritesNoFingerprint → ⊥
+noted_or_not None writes none = none
+noted_or_not (Some text) writes none =
+    let differ : ◌≡◌ {A = Result NotedFingerprint BadFingerprint} (Ok writes.0) (Err none.0) = sym writes.1 ∙ none.1 in cc
+
+-- a fingerprint that is expected is one that the text writes
+noted_written : (text : Option Text) (noted : Option NotedFingerprint) → IsNoted text noted → IfSome text WritesFingerprint
+noted_written None noted is = tt
+noted_written (Some text) noted is = (is.0, is.2)
+
+cursor_written : (after : Option (Bor Text)) (names : Option Names) → IsCursor after names → IfSome (text_in after) WritesNames
+cursor_written None names is = tt
+cursor_written (Some text) names is = (is.0, is.2)
+
 -- a job that a work is of can be begun
 pub ready_of_work : (j : Job) (w : Work) → IsWorkOf j w → IsReady j
 ready_of_work (job.Create plan secret passphrase exponent extendable) w is = (
   (is.0.secret.items, is.2.read.secret_is),
   (is.0.plan.group_threshold, is.0.plan.groups.items, is.2.read.plan_is),
 )
-ready_of_work (job.Drill passphrase (Some after) limit form) w is = (is.2.cursor.0, is.2.cursor.2)
+ready_of_work (job.Drill passphrase after limit form expected) w is =
+    (cursor_written after is.0.after is.2.cursor, noted_written (text_in expected) is.2.noted is.2.noted_is)
 ready_of_work (job.Reissue plan names) w is = ((is.0.plan.group_threshold, is.0.plan.groups.items, is.2.plan_is), (is.0.names, is.2.names_are))
+ready_of_work (job.Recover passphrase form expected) w is = noted_written (text_in expected) is.1 is.4
 ready_of_work job.Show w is = tt
-ready_of_work (job.Recover passphrase form) w is = tt
-ready_of_work (job.Drill passphrase None limit form) w is = tt
 ready_of_work job.Status w is = tt
+ready_of_work job.Repair w is = tt
 
 -- and has no cause for which it isn't begun
 pub no_cause : (j : Job) → IsReady j → HasNoCause j
@@ -81,26 +107,51 @@ no_cause (job.Create plan secret passphrase exponent extendable) ready = record 
   no_bad_secret = λ bad. ok_or_err (decode_of secret.now) ready.0.0 bad.0 ready.0.1 bad.1;
   no_bad_plan = λ error bad. plan_or_error plan.now error ready.1 bad.1;
   no_bad_cursor = λ bad. bad;
+  no_bad_fingerprint = λ bad. bad;
   no_bad_names = λ bad. bad;
 }
-no_cause (job.Drill passphrase (Some after) limit form) ready = record {
+no_cause (job.Recover passphrase form expected) ready = record {
   no_bad_secret = λ bad. bad;
   no_bad_plan = λ error bad. bad;
-  no_bad_cursor = λ bad. bad ready.0 ready.1;
+  no_bad_cursor = λ bad. bad;
+  no_bad_fingerprint = noted_or_not (text_in expected) ready;
+  no_bad_names = λ bad. bad;
+}
+no_cause (job.Drill passphrase after limit form expected) ready = record {
+  no_bad_secret = λ bad. bad;
+  no_bad_plan = λ error bad. bad;
+  no_bad_cursor = cursor_or_not (text_in after) ready.0;
+  no_bad_fingerprint = λ bad. noted_or_not (text_in expected) ready.1 bad.1;
   no_bad_names = λ bad. bad;
 }
 no_cause (job.Reissue plan names) ready = record {
   no_bad_secret = λ bad. bad;
   no_bad_plan = λ error bad. plan_or_error plan.now error ready.0 bad;
   no_bad_cursor = λ bad. bad;
+  no_bad_fingerprint = λ bad. bad;
   no_bad_names = λ bad. bad.1 ready.1.0 ready.1.1;
 }
-no_cause job.Show ready = record { no_bad_secret = λ bad. bad; no_bad_plan = λ error bad. bad; no_bad_cursor = λ bad. bad; no_bad_names = λ bad. bad }
-no_cause (job.Recover passphrase form) ready =
-    record { no_bad_secret = λ bad. bad; no_bad_plan = λ error bad. bad; no_bad_cursor = λ bad. bad; no_bad_names = λ bad. bad }
-no_cause (job.Drill passphrase None limit form) ready =
-    record { no_bad_secret = λ bad. bad; no_bad_plan = λ error bad. bad; no_bad_cursor = λ bad. bad; no_bad_names = λ bad. bad }
-no_cause job.Status ready = record { no_bad_secret = λ bad. bad; no_bad_plan = λ error bad. bad; no_bad_cursor = λ bad. bad; no_bad_names = λ bad. bad }
+no_cause job.Show ready = record {
+  no_bad_secret = λ bad. bad;
+  no_bad_plan = λ error bad. bad;
+  no_bad_cursor = λ bad. bad;
+  no_bad_fingerprint = λ bad. bad;
+  no_bad_names = λ bad. bad;
+}
+no_cause job.Status ready = record {
+  no_bad_secret = λ bad. bad;
+  no_bad_plan = λ error bad. bad;
+  no_bad_cursor = λ bad. bad;
+  no_bad_fingerprint = λ bad. bad;
+  no_bad_names = λ bad. bad;
+}
+no_cause job.Repair ready = record {
+  no_bad_secret = λ bad. bad;
+  no_bad_plan = λ error bad. bad;
+  no_bad_cursor = λ bad. bad;
+  no_bad_fingerprint = λ bad. bad;
+  no_bad_names = λ bad. bad;
+}
 
 -- what a work writes is what its job writes
 pub output_of_job : (j : Job) (w : Work) → IsWorkOf j w → (input : Input) (text : List ℕ) (answer : Result Bool Fault) → IsWorkOutput w input text answer
@@ -127,23 +178,28 @@ output_of_job (job.Create plan secret passphrase exponent extendable) w is input
       },
       written.2,
     )
-output_of_job (job.Recover passphrase form) w is input text answer output =
-    let written = subst (λ (x : Work). IsWorkOutput x input text answer) is.1 output in
-    (written.0, subst (λ (given : List ℕ). IsRecoverOutput form given input text written.0) is.2 written.1, written.2)
-output_of_job (job.Drill passphrase after limit form) w is input text answer output =
+output_of_job (job.Recover passphrase form expected) w is input text answer output =
+    let written = subst (λ (x : Work). IsWorkOutput x input text answer) is.2 output in
+    (is.1, is.4, (written.0, subst (λ (given : List ℕ). IsRecoverOutput form is.1 given input text written.0) is.3 written.1, written.2))
+output_of_job (job.Drill passphrase after limit form expected) w is input text answer output =
     let drill = is.0 in
     let written = subst (λ (x : Work). IsWorkOutput x input text answer) is.1 output in (
       drill.after,
       is.2.cursor,
       (
-        written.0,
-        subst (λ (f : SecretForm). IsDrillOutput f passphrase.now drill.after limit input text written.0) is.2.form_is
-            (subst (λ (n : ℕ). IsDrillOutput drill.form passphrase.now drill.after n input text written.0) is.2.limit_is
-            (subst (λ (given : List ℕ). IsDrillOutput drill.form given drill.after drill.limit input text written.0) is.2.passphrase_is written.1)),
-        written.2,
+        is.2.noted,
+        is.2.noted_is,
+        (
+          written.0,
+          subst (λ (f : SecretForm). IsDrillOutput f passphrase.now drill.after limit input text written.0) is.2.form_is
+              (subst (λ (n : ℕ). IsDrillOutput drill.form passphrase.now drill.after n input text written.0) is.2.limit_is
+              (subst (λ (given : List ℕ). IsDrillOutput drill.form given drill.after drill.limit input text written.0) is.2.passphrase_is written.1)),
+          written.2,
+        ),
       ),
     )
 output_of_job job.Status w is input text answer output = subst (λ (x : Work). IsWorkOutput x input text answer) is output
+output_of_job job.Repair w is input text answer output = subst (λ (x : Work). IsWorkOutput x input text answer) is output
 output_of_job (job.Reissue plan names) w is input text answer output =
     let reissue = is.0 in
     let written = subst (λ (x : Work). IsWorkOutput x input text answer) is.1 output in (

@@ -21,8 +21,8 @@ use Rattle.s39_cli.specs.declared.work.Unready.TheVariants as unready
 use Rattle.s39_command.specs.Command.{AsksForText, GivesBadValues, GivesCall, shamir_app}
 use Rattle.s39_command.specs.declared.command.BadValues.{BadValues}
 use Rattle.s39_command.specs.declared.command.Call.{Call}
-use Rattle.s39_cli.specs.Values.{FillsJob, LacksValue}
-use Rattle.s39_cli.specs.Outcome.{HasBadSecret, HasBadPlan, HasBadCursor, HasBadNames, IsJobOutput, IsReady, status_of}
+use Rattle.s39_cli.specs.Values.{FillsJob, HasLong, LacksValue, Told}
+use Rattle.s39_cli.specs.Outcome.{HasBadSecret, HasBadPlan, HasBadCursor, HasBadFingerprint, HasBadNames, IsJobOutput, IsReady, status_of}
 
 -- the text is written for the input by an answer with this exit status
 abbrev pub HasStatus : (Input → List ℕ → Result Bool Fault → Type 0) → Input → List ℕ → ℕ → Type 0
@@ -49,9 +49,9 @@ IsFrom told left input = ((input.ended ≡ true) × AreAllOf told input.bytes) �
 abbrev pub HoldsBeginning : Option (List ℕ) → Option (List ℕ) → List ℕ → Type 0
 HoldsBeginning old new text = (lost : List ℕ) × Keeps (append_known old text) (append_known new lost)
 
--- the exit status is 2 or 3, and nothing is written
-abbrev pub EndsUnwritten : {W : Type 0} → W → ℕ → W → Type 0
-EndsUnwritten writer status written_to = ((status ≡ 2) ⊎ (status ≡ 3)) × (written_to ≡ writer)
+-- nothing is written, and the exit status is 2 for a value that is too long, and 3 for a file or a read that failed
+abbrev pub EndsUnwritten : {W : Type 0} → Type 0 → W → ℕ → W → Type 0
+EndsUnwritten is_long writer status written_to = (((status ≡ 2) × is_long) ⊎ (status ≡ 3)) × (written_to ≡ writer)
 
 module _ {R W : Type 0} where
   -- this holds for the exit status and the devices at the end, unless memory ran out
@@ -81,33 +81,37 @@ module _ {R W : Type 0} (contents : W → Option (List ℕ)) where
       ⊎ ((status ≡ 3) × HoldsBeginning (contents writer) (contents written_to) text))
 
 module _ {R W : Type 0} (remaining : R → Option (List ℕ)) (contents : W → Option (List ℕ)) where
-  -- The text for the reader's bytes goes out. With any exit status except 3, all of it does, for all bytes. Status 3 stands for a
-  -- failed device: a beginning goes out of the text for the bytes that came. If the reader doesn't tell its bytes, this holds for
-  -- some bytes.
+  -- The text for the reader's bytes goes out, and of the reader some of its first bytes are read. With any exit status except 3, all
+  -- of the text goes out, for all bytes. Status 3 stands for a failed device: a beginning goes out of the text for the bytes that
+  -- came. If the reader doesn't tell its bytes, this holds for some bytes.
   pub record Delivers (IsOutput : Input → List ℕ → ℕ → Type 0) (reader : R) (writer : W) (status : ℕ) (read_to : R) (written_to : W) : Type 0 where
+    pub read : (came : List ℕ) × Consumes (remaining reader) (remaining read_to) came
     pub done : status ≢ 3 → (bytes : List ℕ) × AreAllOf (remaining reader) bytes
         × ((text : List ℕ) × IsOutput (whole bytes) text status × Appends (contents writer) (contents written_to) text)
     pub failed : status ≡ 3 → (input : Input) × IsFrom (remaining reader) (remaining read_to) input
         × ((text : List ℕ) × ((full : ℕ) × IsOutput input text full) × HoldsBeginning (contents writer) (contents written_to) text)
 
-  -- The job is done. In this order: a secret that isn't hexadecimal is 2, and a plan, a cursor or a list of names that is none is
-  -- 1, with nothing read or written; else the job's output goes out.
+  -- The job is done. In this order: a secret that isn't hexadecimal is 2, and a plan, a cursor, a fingerprint or a list of names that
+  -- is none is 1, with nothing read or written; else the job's output goes out.
   abbrev pub DoesJob : Job → R → W → ℕ → R → W → Type 0
   DoesJob job reader writer status read_to written_to =
       (HasBadSecret job × EndsAtOnce 2 reader writer status read_to written_to)
       ⊎ (((error : PlanError) × HasBadPlan job error) × EndsAtOnce 1 reader writer status read_to written_to)
       ⊎ (HasBadCursor job × EndsAtOnce 1 reader writer status read_to written_to)
+      ⊎ (HasBadFingerprint job × EndsAtOnce 1 reader writer status read_to written_to)
       ⊎ (HasBadNames job × EndsAtOnce 1 reader writer status read_to written_to)
       ⊎ (IsReady job × Delivers (IsOutcome job) reader writer status read_to written_to)
 
+module _ {R W : Type 0} (told : Told) (remaining : R → Option (List ℕ)) (contents : W → Option (List ℕ)) where
   -- The call is done. In this order: a creation whose random bytes would be typed ends with 2, and nothing is read or written; if a
-  -- value isn't read from its file, the status is 2 or 3, and nothing is written; else the job with the values is done.
+  -- value isn't read, the status is 2 because one is too long, or 3, and nothing is written; else the job with the values is done.
   abbrev pub TakesCall : Source → Call → R → W → ℕ → R → W → Type 0
   TakesCall source call reader writer status read_to written_to =
       (IsTyped source call.job × EndsAtOnce 2 reader writer status read_to written_to)
-      ⊎ ((IsTyped source call.job → ⊥) × (LacksValue call.files reader read_to × EndsUnwritten writer status written_to))
-      ⊎ ((IsTyped source call.job → ⊥) × ((job : Job) × (behind : R) × FillsJob remaining call job reader behind
-      × DoesJob job behind writer status read_to written_to))
+      ⊎ ((IsTyped source call.job → ⊥) × (LacksValue call.files reader read_to
+      × EndsUnwritten (HasLong told remaining call.files reader) writer status written_to))
+      ⊎ ((IsTyped source call.job → ⊥) × ((job : Job) × (behind : R) × FillsJob told remaining call job reader behind
+      × DoesJob remaining contents job behind writer status read_to written_to))
 
   -- How the program ends with these words and this source of its input: with help or the version if they ask for it; with 2 if they
   -- are no command, or a value of it is missing or given twice; and otherwise as the call that they give does.
@@ -149,14 +153,16 @@ module _ {R W : Type 0} (contents : W → Option (List ℕ)) where
   EndsWithoutJob no_job.Memory reader writer ended = ended ≡ NoMemory
 
 module _ {R W : Type 0} where
-  -- how a call ends if one of its values isn't read
-  abbrev pub EndsUnread : R → W → Ended R W → Type 0
-  EndsUnread reader writer ended = OnEnd ended (λ status read_to written_to. (read_to ≡ reader) × EndsUnwritten writer status written_to)
+  -- how a call ends if one of its values isn't read, because it is too long or for another cause
+  abbrev pub EndsUnread : Type 0 → R → W → Ended R W → Type 0
+  EndsUnread is_long reader writer ended =
+      OnEnd ended (λ status read_to written_to. (read_to ≡ reader) × EndsUnwritten is_long writer status written_to)
 
   -- how a job ends that isn't begun
   abbrev pub EndsUnbegun : Unready → R → W → Ended R W → Type 0
   EndsUnbegun unready.Secret reader writer ended = OnEnd ended (EndsAtOnce 2 reader writer)
   EndsUnbegun (unready.Plan error) reader writer ended = OnEnd ended (EndsAtOnce 1 reader writer)
   EndsUnbegun (unready.Cursor error) reader writer ended = OnEnd ended (EndsAtOnce 1 reader writer)
+  EndsUnbegun (unready.Fingerprint error) reader writer ended = OnEnd ended (EndsAtOnce 1 reader writer)
   EndsUnbegun (unready.Names error) reader writer ended = OnEnd ended (EndsAtOnce 1 reader writer)
   EndsUnbegun unready.Memory reader writer ended = ended ≡ NoMemory

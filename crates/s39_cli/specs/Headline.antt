@@ -1,5 +1,5 @@
 -- What is written for the words of a drill, of a recovery and of a creation, all their values given.
-use Rattle.std.specs.Prelude.{◌≡◌, ◌⊎◌, ℕ, List, [], Some, None, Ok}
+use Rattle.std.specs.Prelude.{◌≡◌, ◌≢◌, ◌⊎◌, ℕ, List, [], Some, None, Ok, Err, Contains}
 use Rattle.hex.specs.Hex.{decode_of}
 use Rattle.clap.specs.Words.{Text}
 use Rattle.s39_kdf.specs.Bytes.{AreBytes}
@@ -11,12 +11,15 @@ use Rattle.s39_set.specs.Written.{IsWrittenForm}
 use Rattle.s39_set.specs.declared.set_lack.SetLack.{SetLack}
 use Rattle.s39_drilling.specs.declared.drill.Undrilled.{Undrilled}
 use Rattle.s39_kdf.specs.declared.secret_form.SecretForm.{SecretForm}
-use Rattle.s39_input.specs.Input.{Input, whole}
+use Rattle.s39_input.specs.Input.{Input, lines_of, whole}
 use Rattle.s39_input.specs.Accepted.{IsReadAs}
 use Rattle.s39_input.specs.OfBackup.{HoldsMnemonicsOf}
+use Rattle.s39_input.specs.Repair.{IsRepairOutput, TwoFit}
+use Rattle.s39_input.specs.declared.fault.Fault.{Fault}
 use Rattle.s39_reading.specs.Recover.{secret_line}
 use Rattle.s39_drilling.specs.Drill.{IsUndrilled, ListsSecret}
 use Rattle.s39_command.specs.declared.command.Job.{Job}
+use Rattle.s39_command.specs.declared.command.Job.TheVariants.{Repair}
 use Rattle.s39_command.specs.Command.{GivesCall, HaveSameValues, IsInRange}
 use Rattle.s39_command.specs.Words.{AreCreateWords, AreDrillWords, AreRecoverWords, limit_of}
 use Rattle.s39_cli.specs.Ending.{IsOutcome}
@@ -39,6 +42,16 @@ OneOutcome = (job : Job) (input : Input) (text other : List ℕ) (status another
 abbrev pub SameValuesWriteTheSame : Type 0
 SameValuesWriteTheSame = (job other : Job) → HaveSameValues job other → (input : Input) (text : List ℕ) (status : ℕ)
     → IsOutcome job input text status → IsOutcome other input text status
+
+-- two mnemonics fit some line of the input
+abbrev pub TwoFitSome : Input → Type 0
+TwoFitSome input = (line : List ℕ) × Contains (lines_of input) line × TwoFit line
+
+-- If two mnemonics fit some line, the exit status of a repair isn't 0. If it is 1, two fit some line, or the repair is refused.
+abbrev pub RepairsTellOfTwo : Type 0
+RepairsTellOfTwo = (input : Input) (text : List ℕ) (status : ℕ) → IsOutcome Repair input text status
+    → (TwoFitSome input → status ≢ 0)
+    × (status ≡ 1 → TwoFitSome input ⊎ ((fault : Fault) × IsRepairOutput input text (Err fault)))
 
 -- a job that can be begun, with its numbers in their ranges, writes some text for each input of bytes, with some exit status
 abbrev pub SomeOutcome : Type 0

@@ -1,7 +1,10 @@
 pub mod Ending
+pub mod Fewer
 pub mod Headline
+pub mod Expecting
 pub mod Outcome
 pub mod Terminal
 pub mod Unready
+pub mod Untouched
 pub mod Values
 pub mod Work

@@ -1,9 +1,14 @@
 -- What a job gives of an input: its output, and the exit status.
-use Rattle.std.specs.Prelude.{◌≡◌, ◌==◌, ℕ, Bool, List, Option, Some, None, Result, Ok, Err, if◌then◌else◌, true}
+use Rattle.std.specs.Prelude.{◌≡◌, ◌==◌, ℕ, Bool, List, Option, Some, None, Result, Ok, Err, if◌then◌else◌, true, IfSome, IsSomeAnd}
 use Rattle.std.specs.Borrow.{Bor}
 use Rattle.hex.specs.Hex.{decode_of}
 use Rattle.hex.specs.declared.error.FromHexError.{FromHexError}
 use Rattle.clap.specs.Words.{Text}
+use Rattle.s39_kdf.specs.Noted.{noted_in}
+use Rattle.s39_kdf.specs.declared.noted.BadFingerprint.{BadFingerprint}
+use Rattle.s39_kdf.specs.declared.noted.NotedFingerprint.{NotedFingerprint}
+use Rattle.s39_kdf.specs.declared.secret_form.SecretForm.{SecretForm}
+use Rattle.s39_kdf.specs.declared.secret_form.SecretForm.TheVariants.{Expected}
 use Rattle.s39_set.specs.Names.{Names}
 use Rattle.s39_set.specs.Written.{IsWrittenForm}
 use Rattle.s39_set.specs.Status.{is_enough}
@@ -18,13 +23,15 @@ use Rattle.s39_input.specs.declared.fault.Fault.{Fault}
 use Rattle.s39_drilling.specs.declared.drill.Done.{Done}
 use Rattle.s39_input.specs.Input.{Input}
 use Rattle.s39_input.specs.Show.{IsShowOutput}
+use Rattle.s39_input.specs.Repair.{IsRepairOutput}
 use Rattle.s39_input.specs.Create.{IsCreateOutput}
 use Rattle.s39_reading.specs.Recover.{IsRecoverOutput}
 use Rattle.s39_drilling.specs.Drill.{IsDrillOutput}
 use Rattle.s39_reading.specs.Status.{IsStatusOutput}
 use Rattle.s39_creating.specs.Reissue.{IsReissueOutput}
+use Rattle.s39_command.specs.Command.{text_in}
 use Rattle.s39_command.specs.declared.command.Job.{Job}
-use Rattle.s39_command.specs.declared.command.Job.TheVariants.{Show, Create, Recover, Drill, Status, Reissue}
+use Rattle.s39_command.specs.declared.command.Job.TheVariants.{Show, Create, Recover, Drill, Status, Reissue, Repair}
 
 -- ---- a job that isn't begun
 
@@ -48,6 +55,14 @@ WritesNoNames text = (names : Names) → ¬ IsWrittenForm text names
 abbrev pub GivesPlan : Text → Type 0
 GivesPlan text = (group_threshold : ℕ) × (groups : List Members) × IsPlanReading text (Ok (group_threshold, groups))
 
+-- the text writes a fingerprint
+abbrev pub WritesFingerprint : Text → Type 0
+WritesFingerprint text = (noted : NotedFingerprint) × (noted_in text ≡ Ok noted)
+
+-- the text writes no fingerprint
+abbrev pub WritesNoFingerprint : Text → Type 0
+WritesNoFingerprint text = (bad : BadFingerprint) × (noted_in text ≡ Err bad)
+
 -- the text of the job's secret isn't hexadecimal
 abbrev pub HasBadSecret : Job → Type 0
 HasBadSecret (Create plan secret passphrase exponent extendable) = IsNotHexadecimal secret.now
@@ -61,18 +76,27 @@ HasBadPlan _ error = ⊥
 
 -- the text after whose quorum the job goes on is the written form of no names
 abbrev pub HasBadCursor : Job → Type 0
-HasBadCursor (Drill passphrase (Some after) limit form) = WritesNoNames after.now
+HasBadCursor (Drill passphrase after limit form expected) = IsSomeAnd (text_in after) WritesNoNames
 HasBadCursor _ = ⊥
+
+-- the text after whose quorum the job goes on writes names, if there is one, and that of the fingerprint writes none
+abbrev pub HasBadFingerprint : Job → Type 0
+HasBadFingerprint (Recover passphrase form expected) = IsSomeAnd (text_in expected) WritesNoFingerprint
+HasBadFingerprint (Drill passphrase after limit form expected) =
+    IfSome (text_in after) WritesNames × IsSomeAnd (text_in expected) WritesNoFingerprint
+HasBadFingerprint _ = ⊥
 
 -- the text of the job's plan gives one, and that of its names is the written form of none
 abbrev pub HasBadNames : Job → Type 0
 HasBadNames (Reissue plan names) = GivesPlan plan.now × WritesNoNames names.now
 HasBadNames _ = ⊥
 
--- the job can be begun: each of its texts gives its value, the secret, the plan, the cursor and the names
+-- the job can be begun: each of its texts gives its value, the secret, the plan, the cursor, the fingerprint and the names
 abbrev pub IsReady : Job → Type 0
 IsReady (Create plan secret passphrase exponent extendable) = IsHexadecimal secret.now × GivesPlan plan.now
-IsReady (Drill passphrase (Some after) limit form) = WritesNames after.now
+IsReady (Recover passphrase form expected) = IfSome (text_in expected) WritesFingerprint
+IsReady (Drill passphrase after limit form expected) =
+    IfSome (text_in after) WritesNames × IfSome (text_in expected) WritesFingerprint
 IsReady (Reissue plan names) = GivesPlan plan.now × WritesNames names.now
 IsReady _ = Unit {0}
 
@@ -81,6 +105,7 @@ pub record HasNoCause (job : Job) : Type 0 where
   pub no_bad_secret : HasBadSecret job → ⊥
   pub no_bad_plan : (error : PlanError) → HasBadPlan job error → ⊥
   pub no_bad_cursor : HasBadCursor job → ⊥
+  pub no_bad_fingerprint : HasBadFingerprint job → ⊥
   pub no_bad_names : HasBadNames job → ⊥
 
 -- ---- what is written
@@ -89,6 +114,16 @@ pub record HasNoCause (job : Job) : Type 0 where
 abbrev pub IsCursor : Option (Bor Text) → Option Names → Type 0
 IsCursor None after = after ≡ None
 IsCursor (Some text) after = (names : Names) × (after ≡ Some names) × IsWrittenForm text.now names
+
+-- the fingerprint that is expected: the one that the given text writes, or none if no text is given
+abbrev pub IsNoted : Option Text → Option NotedFingerprint → Type 0
+IsNoted None noted = noted ≡ None
+IsNoted (Some text) noted = (read : NotedFingerprint) × (noted ≡ Some read) × (noted_in text ≡ Ok read)
+
+-- the form in which a drill tells secrets: whether they have the fingerprint that is expected, if one is
+abbrev pub told_in : SecretForm → Option NotedFingerprint → SecretForm
+told_in form None = form
+told_in form (Some noted) = Expected noted
 
 -- what a backup is created from is what these texts give: the secret in hexadecimal digits, and the plan
 pub record AreRead (plan_text secret_text : Text) (secret : List ℕ) (group_threshold : ℕ) (groups : List Members) : Type 0 where
@@ -135,7 +170,7 @@ judged is_well (Err fault) = Err fault
 abbrev pub where_done : Unit {0} → Bool
 where_done _ = true
 
--- all is well with a drill that found no mismatch
+-- all is well with a drill that found no mismatch, and no other secret than the expected one
 abbrev pub without_mismatches : Done → Bool
 without_mismatches done = done.mismatches == 0
 
@@ -147,15 +182,18 @@ IsJobOutput Show input text answer =
 IsJobOutput (Create plan secret passphrase exponent extendable) input text answer =
     (plain : Result (Unit {0}) Fault) × CreatesFrom plan.now secret.now passphrase.now exponent extendable input text plain
     × (answer ≡ judged where_done plain)
-IsJobOutput (Recover passphrase form) input text answer =
-    (plain : Result (Unit {0}) Fault) × IsRecoverOutput form passphrase.now input text plain × (answer ≡ judged where_done plain)
-IsJobOutput (Drill passphrase after limit form) input text answer =
-    (names : Option Names) × IsCursor after names
-    × ((found : Result Done Fault) × IsDrillOutput form passphrase.now names limit input text found × (answer ≡ judged without_mismatches found))
+IsJobOutput (Recover passphrase form expected) input text answer =
+    (noted : Option NotedFingerprint) × IsNoted (text_in expected) noted
+    × ((plain : Result (Unit {0}) Fault) × IsRecoverOutput form noted passphrase.now input text plain × (answer ≡ judged where_done plain))
+IsJobOutput (Drill passphrase after limit form expected) input text answer =
+    (names : Option Names) × IsCursor after names × ((noted : Option NotedFingerprint) × IsNoted (text_in expected) noted
+    × ((found : Result Done Fault) × IsDrillOutput (told_in form noted) passphrase.now names limit input text found
+    × (answer ≡ judged without_mismatches found)))
 IsJobOutput Status input text answer =
     (found : Result SetStatus Fault) × IsStatusOutput input text found × (answer ≡ judged is_enough found)
 IsJobOutput (Reissue plan names) input text answer =
     (plain : Result (Unit {0}) Fault) × Reissues plan.now names.now input text plain × (answer ≡ judged where_done plain)
+IsJobOutput Repair input text answer = IsRepairOutput input text answer
 
 -- the exit status of a refusal: 3 if a device failed, and otherwise 1
 abbrev pub status_of_refusal : Refusal → ℕ

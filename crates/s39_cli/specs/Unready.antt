@@ -1,26 +1,20 @@
 -- Why a job isn't begun. No public contract cites this.
 use Rattle.std.specs.Prelude.{Err}
-use Rattle.hex.specs.declared.error.FromHexError.{FromHexError}
-use Rattle.hex.specs.declared.error.FromHexError.TheVariants.{OutOfMemory}
 use Rattle.clap.specs.Words.{Text}
 use Rattle.s39_backup.specs.Plan.{IsPlanReading}
 use Rattle.s39_command.specs.declared.command.Job.{Job}
 use Rattle.s39_cli.specs.declared.work.Unready.{Unready}
-use Rattle.s39_cli.specs.declared.work.Unready.TheVariants.{Secret, Plan, Cursor, Names, Memory}
-use Rattle.s39_cli.specs.Outcome.{IsNotHexadecimal, HasBadSecret, HasBadPlan, HasBadCursor, HasBadNames, GivesPlan, WritesNoNames}
+use Rattle.s39_cli.specs.declared.work.Unready.TheVariants.{Secret, Plan, Cursor, Fingerprint, Names, Memory}
+use Rattle.s39_cli.specs.Outcome.{IsNotHexadecimal, HasBadSecret, HasBadPlan, HasBadCursor, HasBadFingerprint, HasBadNames, GivesPlan, WritesNoNames}
 
 -- the cause applies to the job
 abbrev pub IsUnready : Job → Unready → Type 0
 IsUnready job Secret = HasBadSecret job
 IsUnready job (Plan error) = HasBadPlan job error
 IsUnready job (Cursor bad) = HasBadCursor job
+IsUnready job (Fingerprint bad) = HasBadFingerprint job
 IsUnready job (Names bad) = HasBadNames job
 IsUnready job Memory = Unit {0}
-
--- why a text that is decoded so gives no secret
-abbrev pub unready_of : FromHexError → Unready
-unready_of OutOfMemory = Memory
-unready_of _ = Secret
 
 -- the cause applies to the text of a secret
 abbrev pub IsNoSecret : Text → Unready → Type 0

@@ -1,5 +1,5 @@
 -- Values of a command that stand in files, or in the first lines of the input.
-use Rattle.std.specs.Prelude.{◌≡◌, ◌≢◌, ◌⊎◌, ◌<◌, ◌≤◌, ℕ, List, [], ◌∷◌, All, Option, Some, None, IfSome, codes, if◌then◌else◌, length, option_map, take}
+use Rattle.std.specs.Prelude.{◌≡◌, ◌≢◌, ◌⊎◌, ◌<◌, ◌≤◌, ℕ, List, [], ◌∷◌, All, Option, Some, None, IfSome, codes, if◌then◌else◌, length, take}
 use Rattle.std.specs.Borrow.{Bor}
 use Rattle.std.specs.Io.BufRead.{ends_with_byte, strip_last, take_through}
 use Rattle.std.specs.Io.KnownBytes.{Consumes, IsAtEnd, Keeps}
@@ -41,14 +41,22 @@ HasLongValue until told = IfSome told (λ known. longest_value < length (without
 abbrev pub input_name : Text
 input_name = codes "-"
 
-module _ {R : Type 0} (remaining : R → Option (List ℕ)) where
+-- the bytes of the file with a name, or `None` if contracts can't name them
+abbrev pub Told : Type 0
+Told = Text → Option (List ℕ)
+
+-- the value stands in the bytes of a file, without the end of their line
+abbrev pub IsValueOf : Option (List ℕ) → List ℕ → Type 0
+IsValueOf told value = (left : Option (List ℕ)) × IsValueIn End told left value
+
+module _ {R : Type 0} (told : Told) (remaining : R → Option (List ℕ)) where
   -- What is read for the file of a value, by two states of the input's reader. With no file it is nothing. The name of the input
-  -- stands for its first line; of another file the input isn't read.
+  -- stands for its first line; for another file the value is that of its bytes, and the input isn't read.
   abbrev pub TakesValue : Option (Bor Text) → Option (List ℕ) → R → R → Type 0
   TakesValue None value old new = (value ≡ None) × (new ≡ old)
-  TakesValue (Some file) value old new = (read : List ℕ) × (value ≡ Some read) × (length read ≤ longest_value)
+  TakesValue (Some file) value old new = (read : List ℕ) × (value ≡ Some read)
       × (((file.now ≡ input_name) × IsValueIn LineEnd (remaining old) (remaining new) read)
-      ⊎ ((file.now ≢ input_name) × (new ≡ old)))
+      ⊎ ((file.now ≢ input_name) × (new ≡ old) × IsValueOf (told file.now) read))
 
   -- what is read for both files: first for the secret's, and then for that of the passphrase
   abbrev pub TakesValues : ValueFiles → Option (List ℕ) → Option (List ℕ) → R → R → Type 0
@@ -64,15 +72,16 @@ IsText (Some read) given text = text.now ≡ read
 abbrev pub IsFilledBy : Option (List ℕ) → Option (List ℕ) → Job → Job → Type 0
 IsFilledBy secret passphrase (Create plan own_secret own exponent extendable) filled = (s p : Bor (List ℕ))
     × (filled ≡ Create plan s p exponent extendable) × IsText secret own_secret s × IsText passphrase own p
-IsFilledBy secret passphrase (Recover own form) filled = (p : Bor (List ℕ)) × (filled ≡ Recover p form) × IsText passphrase own p
-IsFilledBy secret passphrase (Drill own after limit form) filled = (p : Bor (List ℕ))
-    × (filled ≡ Drill p after limit form) × IsText passphrase own p
+IsFilledBy secret passphrase (Recover own form expected) filled = (p : Bor (List ℕ))
+    × (filled ≡ Recover p form expected) × IsText passphrase own p
+IsFilledBy secret passphrase (Drill own after limit form expected) filled = (p : Bor (List ℕ))
+    × (filled ≡ Drill p after limit form expected) × IsText passphrase own p
 IsFilledBy secret passphrase job filled = filled ≡ job
 
-module _ {R : Type 0} (remaining : R → Option (List ℕ)) where
+module _ {R : Type 0} (told : Told) (remaining : R → Option (List ℕ)) where
   -- the job is that of the call, with the values that are read between these two states of the input's reader
   abbrev pub FillsJob : Call → Job → R → R → Type 0
-  FillsJob call job old new = (secret passphrase : Option (List ℕ)) × TakesValues remaining call.files secret passphrase old new
+  FillsJob call job old new = (secret passphrase : Option (List ℕ)) × TakesValues told remaining call.files secret passphrase old new
       × IsFilledBy secret passphrase call.job job
 
 -- the name is that of the input
@@ -85,13 +94,29 @@ abbrev pub LacksValue : {R : Type 0} → ValueFiles → R → R → Type 0
 LacksValue files old new = (((files.secret ≡ None) × (files.passphrase ≡ None)) → ⊥)
     × ((new ≡ old) ⊎ (IsInput files.secret ⊎ IsInput files.passphrase))
 
+-- a file of this name, which isn't that of the input, holds more than a value may have
+abbrev pub IsLongFile : Told → Option (Bor Text) → Type 0
+IsLongFile told None = ⊥
+IsLongFile told (Some file) = (file.now ≢ input_name) × HasLongValue End (told file.now)
+
+module _ {R : Type 0} (told : Told) (remaining : R → Option (List ℕ)) where
+  -- this is the name of the input, whose first line holds more than a value may have
+  abbrev pub IsLongLine : Option (Bor Text) → R → Type 0
+  IsLongLine file reader = IsInput file × HasLongValue LineEnd (remaining reader)
+
+  -- one of the values is too long: that of a file, that of the input's first line, or that of the line behind the secret
+  abbrev pub HasLong : ValueFiles → R → Type 0
+  HasLong files old = (IsLongFile told files.secret ⊎ IsLongFile told files.passphrase)
+      ⊎ (IsLongLine files.secret old
+      ⊎ ((between : R) × ((secret : Option (List ℕ)) × TakesValue told remaining files.secret secret old between) × IsLongLine files.passphrase between))
+
 -- ---- within the program; no public contract cites this
 
 -- the value is in the file of this name, and there is none without a name, and with that of the input
-abbrev pub IsInFile : Option (Bor Text) → Option (List ℕ) → Type 0
-IsInFile None value = value ≡ None
-IsInFile (Some file) value = ((file.now ≡ input_name) × (value ≡ None))
-    ⊎ ((file.now ≢ input_name) × ((read : List ℕ) × (value ≡ Some read) × (length read ≤ longest_value)))
+abbrev pub IsInFile : Told → Option (Bor Text) → Option (List ℕ) → Type 0
+IsInFile told None value = value ≡ None
+IsInFile told (Some file) value = ((file.now ≡ input_name) × (value ≡ None))
+    ⊎ ((file.now ≢ input_name) × ((read : List ℕ) × (value ≡ Some read) × IsValueOf (told file.now) read))
 
 -- a byte is read, or none at the end
 abbrev pub TakesByte : Option (List ℕ) → Option (List ℕ) → Option ℕ → Type 0

@@ -8,14 +8,17 @@ use Rattle.s39_set.specs.declared.status.Status.{Status}
 use Rattle.s39_backup.specs.Plan.{IsPlanReading}
 use Rattle.s39_input.specs.declared.fault.Fault.{Fault}
 use Rattle.s39_drilling.specs.declared.drill.Done.{Done}
+use Rattle.s39_kdf.specs.declared.noted.NotedFingerprint.{NotedFingerprint}
 use Rattle.s39_kdf.specs.declared.secret_form.SecretForm.{SecretForm}
 use Rattle.s39_input.specs.Input.{Input}
 use Rattle.s39_input.specs.Show.{IsShowOutput}
+use Rattle.s39_input.specs.Repair.{IsRepairOutput}
 use Rattle.s39_input.specs.Create.{IsCreateOutput}
 use Rattle.s39_reading.specs.Recover.{IsRecoverOutput}
 use Rattle.s39_drilling.specs.Drill.{IsDrillOutput}
 use Rattle.s39_reading.specs.Status.{IsStatusOutput}
 use Rattle.s39_creating.specs.Reissue.{IsReissueOutput}
+use Rattle.s39_command.specs.Command.{text_in}
 use Rattle.s39_command.specs.declared.command.Job.{Job}
 use Rattle.s39_command.specs.declared.command.Job.TheVariants as job
 use Rattle.s39_cli.specs.declared.work.Creation.{Creation}
@@ -23,7 +26,7 @@ use Rattle.s39_cli.specs.declared.work.Drill.{Drill}
 use Rattle.s39_cli.specs.declared.work.Reissue.{Reissue}
 use Rattle.s39_cli.specs.declared.work.Work.{Work}
 use Rattle.s39_cli.specs.declared.work.Work.TheVariants as work
-use Rattle.s39_cli.specs.Outcome.{AreRead, AreOptions, IsCursor, judged, where_done, without_mismatches}
+use Rattle.s39_cli.specs.Outcome.{AreRead, AreOptions, IsCursor, IsNoted, judged, told_in, where_done, without_mismatches}
 
 -- the creation has what these texts, the exponent and the flag give
 pub record IsCreationOf (plan_text secret_text given_passphrase : Text) (exponent : ℕ) (extendable : Bool) (creation : Creation) : Type 0 where
@@ -32,11 +35,14 @@ pub record IsCreationOf (plan_text secret_text given_passphrase : Text) (exponen
   pub given : AreOptions exponent extendable creation.options
 
 -- the drill has the values that are given
-pub record IsDrillOf (given_passphrase : Text) (given_after : Option (Bor Text)) (given_limit : ℕ) (given_form : SecretForm) (drill : Drill) : Type 0 where
+pub record IsDrillOf (given_passphrase : Text) (given_after : Option (Bor Text)) (given_limit : ℕ) (given_form : SecretForm)
+    (given_expected : Option (Bor Text)) (drill : Drill) : Type 0 where
+  pub noted : Option NotedFingerprint
   pub passphrase_is : drill.passphrase.now ≡ given_passphrase
   pub cursor : IsCursor given_after drill.after
   pub limit_is : drill.limit ≡ given_limit
-  pub form_is : drill.form ≡ given_form
+  pub noted_is : IsNoted (text_in given_expected) noted
+  pub form_is : drill.form ≡ told_in given_form noted
 
 -- what is reissued is what the texts of a plan and of names give
 pub record IsReissueOf (plan_text names_text : Text) (reissue : Reissue) : Type 0 where
@@ -48,10 +54,13 @@ abbrev pub IsWorkOf : Job → Work → Type 0
 IsWorkOf job.Show w = w ≡ work.Show
 IsWorkOf (job.Create plan secret passphrase exponent extendable) w =
     (creation : Creation) × (w ≡ work.Create creation) × IsCreationOf plan.now secret.now passphrase.now exponent extendable creation
-IsWorkOf (job.Recover passphrase form) w = (given : Bor Text) × (w ≡ work.Recover given form) × (given.now ≡ passphrase.now)
-IsWorkOf (job.Drill passphrase after limit form) w = (drill : Drill) × (w ≡ work.Drill drill) × IsDrillOf passphrase.now after limit form drill
+IsWorkOf (job.Recover passphrase form expected) w = (given : Bor Text) × (noted : Option NotedFingerprint)
+    × (w ≡ work.Recover given form noted) × (given.now ≡ passphrase.now) × IsNoted (text_in expected) noted
+IsWorkOf (job.Drill passphrase after limit form expected) w =
+    (drill : Drill) × (w ≡ work.Drill drill) × IsDrillOf passphrase.now after limit form expected drill
 IsWorkOf job.Status w = w ≡ work.Status
 IsWorkOf (job.Reissue plan names) w = (reissue : Reissue) × (w ≡ work.Reissue reissue) × IsReissueOf plan.now names.now reissue
+IsWorkOf job.Repair w = w ≡ work.Repair
 
 -- the work writes this text for the input, and answers so, whether all is well
 abbrev pub IsWorkOutput : Work → Input → List ℕ → Result Bool Fault → Type 0
@@ -65,8 +74,8 @@ IsWorkOutput (work.Create creation) input text answer =
       groups = creation.plan.groups.items;
       options = creation.options;
     }) input text plain × (answer ≡ judged where_done plain)
-IsWorkOutput (work.Recover passphrase form) input text answer =
-    (plain : Result (Unit {0}) Fault) × IsRecoverOutput form passphrase.now input text plain × (answer ≡ judged where_done plain)
+IsWorkOutput (work.Recover passphrase form expected) input text answer =
+    (plain : Result (Unit {0}) Fault) × IsRecoverOutput form expected passphrase.now input text plain × (answer ≡ judged where_done plain)
 IsWorkOutput (work.Drill drill) input text answer =
     (found : Result Done Fault) × IsDrillOutput drill.form drill.passphrase.now drill.after drill.limit input text found
     × (answer ≡ judged without_mismatches found)
@@ -76,3 +85,4 @@ IsWorkOutput (work.Reissue reissue) input text answer =
     (plain : Result (Unit {0}) Fault)
     × IsReissueOutput reissue.plan.group_threshold reissue.plan.groups.items reissue.names input text plain
     × (answer ≡ judged where_done plain)
+IsWorkOutput work.Repair input text answer = IsRepairOutput input text answer

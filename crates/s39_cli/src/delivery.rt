@@ -1,10 +1,11 @@
 //! How the output of a command goes to its writer.
-ghost use Rattle.std.specs.Prelude.{◌≡◌, IsTrue, IfSome, []};
-ghost use Rattle.std.specs.Io.Buffered.{writer_buffer, writer_contents};
+ghost use Rattle.std.specs.Prelude.{◌≡◌, IsTrue, IfSome, [], Err};
+ghost use Rattle.std.specs.Io.Buffered.{writer_buffer, writer_contents, writer_inner};
 ghost use Rattle.std.specs.Io.KnownBytes.{Keeps};
 ghost use Rattle.s39_input.specs.Fault.{fault_of};
 ghost use Rattle.s39_cli.specs.Ending.{Delivers, GoesOut, HandsOn, HasStatus};
 ghost use Rattle.s39_cli.specs.Outcome.{status_of};
+ghost use Rattle.s39_cli.specs.Untouched.{IsAtItsEnd};
 ghost use Rattle.s39_cli.specs.Work.{IsWorkOutput};
 
 use crate::patient::Patient;
@@ -28,9 +29,12 @@ pub(crate) fn by_buffer<R: Read + Drop, W: Write + Drop>(
     input: R,
     output: W,
 ) -> Option<Finished<R, W>>
-    ensures { IfSome result (λ finished.
+    ensures delivers { IfSome result (λ finished.
         Delivers R.remaining W.contents (HasStatus (IsWorkOutput work.now))
         input output (status_of finished.answer) finished.input finished.output) }
+    // Of any devices.
+    ensures untouched { IfSome result (λ finished.
+        IsAtItsEnd work.now → status_of finished.answer ≡ 1 → finished.output ≡ output) }
 {
     let Ok(buffered) = BufWriter::new(alloc, output) else {
         return None;
@@ -51,7 +55,9 @@ fn handed_on<W: Write + Drop>(
     answer: Result<bool, Fault>,
     output: BufWriter<W>,
 ) -> (Result<bool, Fault>, W)
-    ensures { HandsOn (writer_contents W.contents output) (W.contents result.1) answer result.0 }
+    ensures handed { HandsOn (writer_contents W.contents output) (W.contents result.1) answer result.0 }
+    ensures untouched { (fault : Fault) → answer ≡ Err fault → writer_buffer output ≡ []
+        → result.1 ≡ writer_inner output }
 {
     let mut output = output;
     let is_whole = hand_on(&answer, &mut output);
@@ -65,11 +71,15 @@ fn handed_on<W: Write + Drop>(
 }
 
 /// Hands on what a buffer keeps after a run that gave this answer, and says whether all of the output has gone out then. If
-/// nothing was written before a refusal, it doesn't call the writer.
+/// nothing was written before a refusal, or if a write failed, it doesn't call the writer.
 fn hand_on<W: Write + Drop>(answer: &Result<bool, Fault>, output: &mut BufWriter<W>) -> bool
     ensures kept { Keeps (writer_contents W.contents output.old)
         (writer_contents W.contents output.new) }
     ensures whole { IsTrue result → writer_buffer output.new ≡ [] }
+    ensures untouched { (fault : Fault) → answer.now ≡ Err fault → writer_buffer output.old ≡ []
+        → output.new ≡ output.old }
+    ensures failed { (fault : Fault) → answer.now ≡ Err fault
+        → fault.refusal ≡ Refusal.Device DeviceFailure.Write → output.new ≡ output.old }
 {
     if answer.is_err() && output.buffer().is_empty() {
         return true;
@@ -97,9 +107,12 @@ pub(crate) fn by_lines<R: Read + Drop, W: Write + Drop>(
     }
 }
 
-/// Flushes a writer after a run that gave this answer. If that fails, the answer is that the writer failed.
+/// Flushes a writer after a run that gave this answer, unless a write failed. If that fails, the answer is that the writer
+/// failed.
 fn flushed<W: Write>(answer: Result<bool, Fault>, output: Patient<W>) -> (Result<bool, Fault>, W)
-    ensures { HandsOn (W.contents output.output) (W.contents result.1) answer result.0 }
+    ensures handed { HandsOn (W.contents output.output) (W.contents result.1) answer result.0 }
+    ensures failed { (fault : Fault) → answer ≡ Err fault
+        → fault.refusal ≡ Refusal.Device DeviceFailure.Write → result.1 ≡ output.output }
 {
     let mut output = output;
     let is_whole = has_failed(&answer) || output.flush().is_ok();
@@ -112,7 +125,10 @@ fn flushed<W: Write>(answer: Result<bool, Fault>, output: Patient<W>) -> (Result
 }
 
 /// Whether a write failed.
-fn has_failed(answer: &Result<bool, Fault>) -> bool {
+fn has_failed(answer: &Result<bool, Fault>) -> bool
+    ensures { (fault : Fault) → answer.now ≡ Err fault
+        → fault.refusal ≡ Refusal.Device DeviceFailure.Write → IsTrue result }
+{
     match answer {
         Ok(_) => false,
         Err(fault) => matches!(fault.refusal, Refusal::Device(DeviceFailure::Write)),

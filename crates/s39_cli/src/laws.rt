@@ -1,20 +1,34 @@
 //! Facts about the definitions. Each is the contract of a function that does nothing, or only calls other laws.
-ghost use Rattle.std.specs.Prelude.{[], ◌∷◌, codes};
+ghost use Rattle.std.specs.Prelude.{◌≡◌, ◌++◌, ℕ, List, [], ◌∷◌, Some, codes};
 ghost use Rattle.s39_set.specs.Written.{IsWrittenForm};
 ghost use Rattle.s39_command.specs.declared.command.Job.{Job};
+ghost use Rattle.s39_cli.specs.Ending.{AreAllOf, HoldsBeginning};
 ghost use Rattle.s39_cli.specs.Outcome.{HasNoCause, IsReady};
+ghost use Rattle.s39_cli.specs.Fewer.{FewCreatedWordsRecover, FewDrillWordsList, FewRecoverWordsRecover, ReissueWordsReissue};
 ghost use Rattle.s39_cli.specs.Headline.{CreatedWordsRecover, DrillWordsList, OneOutcome, RecoverWordsRecover};
-ghost use Rattle.s39_cli.specs.Headline.{SameValuesWriteTheSame, SomeOutcome};
+ghost use Rattle.s39_cli.specs.Expecting.{ExpectingDrillWordsCompare, ExpectingRecoverWordsGive};
+ghost use Rattle.s39_cli.specs.Headline.{RepairsTellOfTwo, SameValuesWriteTheSame, SomeOutcome};
 
 use s39_backup::laws::one_plan_reading;
-use s39_creating::laws::{one_create_output, one_reissue_output};
+use s39_creating::laws::{created_backups_reissue, one_create_output, one_reissue_output};
 use s39_drilling::laws::{created_backups_drill, one_drill_output, some_drill_output};
-use s39_input::laws::{one_show_output, some_show_output};
+use s39_input::laws::{
+    one_repair_output, one_show_output, some_repair_output, some_show_output,
+    two_mnemonics_are_told,
+};
 use s39_reading::laws::{
     created_backups_recover, one_recover_output, one_status_output, some_recover_output,
     written_mnemonics_recover,
 };
 use s39_set::laws::written_forms;
+
+/// With status 3, a writer that tells its bytes holds what it held and the text up to some place. What a reader that tells its
+/// bytes has is exactly these bytes.
+pub fn told_bytes_are_exact()
+    ensures beginning { (old new text : List ℕ) → HoldsBeginning (Some old) (Some new) text
+        → (lost : List ℕ) × (new ++ lost ≡ old ++ text) }
+    ensures all { (all bytes : List ℕ) → AreAllOf (Some all) bytes → bytes ≡ all }
+{}
 
 /// There is a text that writes names.
 pub fn some_text_writes_names()
@@ -41,6 +55,7 @@ pub fn some_outcome()
     some_drill_output();
     one_status_output();
     one_reissue_output();
+    some_repair_output();
 }
 
 /// A job writes one text for an input, and ends with one exit status.
@@ -53,8 +68,17 @@ pub fn one_outcome()
     one_drill_output();
     one_status_output();
     one_reissue_output();
+    one_repair_output();
     one_plan_reading();
     written_forms();
+}
+
+/// If two mnemonics fit a line, the exit status of a repair isn't 0. If its status is 1, two mnemonics fit some line, or it is
+/// refused.
+pub fn repairs_tell_of_two()
+    ensures { RepairsTellOfTwo }
+{
+    two_mnemonics_are_told();
 }
 
 /// If the input of a drill's words is mnemonics of a backup that was created with their passphrase, exactly the quorums after
@@ -63,6 +87,22 @@ pub fn drill_words_list()
     ensures { DrillWordsList }
 {
     created_backups_drill();
+}
+
+/// If the input of the words of a drill that expects a fingerprint is mnemonics of a backup that was created with their passphrase,
+/// exactly the quorums after the given one are listed, each with whether the backup's secret has this fingerprint.
+pub fn expecting_drill_words_compare()
+    ensures { ExpectingDrillWordsCompare }
+{
+    created_backups_drill();
+}
+
+/// If the input of the words of a recovery that expects a fingerprint is mnemonics of a backup that was created with their
+/// passphrase, and they meet the thresholds, the secret is written if it has this fingerprint, and nothing otherwise.
+pub fn expecting_recover_words_give()
+    ensures { ExpectingRecoverWordsGive }
+{
+    created_backups_recover();
 }
 
 /// If the input of a recovery's words is mnemonics of a backup that was created with their passphrase, and they meet the
@@ -80,4 +120,35 @@ pub fn created_words_recover()
 {
     written_mnemonics_recover();
     one_recover_output();
+}
+
+/// The same for the words of a drill with each option there or not.
+pub fn few_drill_words_list()
+    ensures { FewDrillWordsList }
+{
+    created_backups_drill();
+}
+
+/// The same for the words of a recovery with each option there or not.
+pub fn few_recover_words_recover()
+    ensures { FewRecoverWordsRecover }
+{
+    created_backups_recover();
+}
+
+/// The same for the words of a creation and of a recovery with each option there or not.
+pub fn few_created_words_recover()
+    ensures { FewCreatedWordsRecover }
+{
+    written_mnemonics_recover();
+    one_recover_output();
+}
+
+/// If the input of a reissue's words is mnemonics of a backup that was created by their plan, and the plan has their names, the
+/// backup's mnemonics with these names are written.
+pub fn reissue_words_reissue()
+    ensures { ReissueWordsReissue }
+{
+    one_plan_reading();
+    created_backups_reissue();
 }

@@ -4,9 +4,11 @@
 
 pub mod by_words;
 mod delivery;
+pub mod fewer_words;
 pub mod laws;
 mod patient;
 mod runner;
+mod secret_text;
 mod terminal;
 mod values;
 mod work;

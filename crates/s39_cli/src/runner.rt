@@ -4,6 +4,7 @@ ghost use Rattle.std.specs.IoError.{error_kind};
 ghost use Rattle.s39_command.specs.Command.{IsInRange};
 ghost use Rattle.s39_cli.specs.Ending.{DoesJob, Ends, EndsUnbegun, EndsUnread, EndsWithoutJob, IsSilentAtNone, IsTyped, OnEnd, status_in};
 ghost use Rattle.s39_cli.specs.Outcome.{status_of, status_of_refusal};
+ghost use Rattle.s39_cli.specs.Untouched.{IsUntouchedBy, IsUntouchedIfRefused};
 
 use crate::delivery::{Finished, by_buffer, by_lines, show, write_failed};
 use crate::values::{NoValue, Shelf, Unread, Values};
@@ -70,14 +71,14 @@ impl<R: Drop, W: Drop> Ended<R, W> {
 /// | Status | When |
 /// |---|---|
 /// | 0 | the command is done, or help or the version was asked for and written |
-/// | 1 | a refusal that isn't a device's, a drill that listed a digest mismatch, or a status with too few complete groups |
+/// | 1 | a refusal that isn't a device's, a drill that listed a digest mismatch or another secret than the expected one, a status with too few complete groups, or two mnemonics that fit a line of a repair |
 /// | 2 | the words or their values are refused, the secret isn't hexadecimal, or `create` would read a terminal |
 /// | 3 | a file couldn't be opened, or a read or a write failed |
 /// | 4 | the program is out of memory |
 ///
 /// If the words name files for values, the program reads these values first: those in files of `shelf`, and then those in the
-/// first lines of `input`. Results and help go to `output`: the lines of `drill`, and at a terminal those of `show`, as soon as
-/// each is known. A fault is a line on `errors`, where the text of a refused command line goes too. The program takes all its
+/// first lines of `input`. Results and help go to `output`: the lines of `drill`, and at a terminal those of `show` and `repair`,
+/// as soon as each is known. A fault is a line on `errors`, where the text of a refused command line goes too. The program takes all its
 /// memory before it reads `input`. Only lines that hold values are read before that. A failing `errors` changes no status.
 pub fn program<S: Shelf, R: Read + Drop, W: Write + Drop, E: Write>(
     shelf: &S,
@@ -90,9 +91,10 @@ pub fn program<S: Shelf, R: Read + Drop, W: Write + Drop, E: Write>(
     destination: Destination,
 ) -> Ended<R, W>
     // Of readers and writers that tell their bytes.
-    ensures ends { Ends R.remaining W.contents source (map (λ word. word.now) words.now)
-        input output result }
+    ensures ends { Ends (S.told shelf.now) R.remaining W.contents source
+        (map (λ word. word.now) words.now) input output result }
     // Of any.
+    ensures untouched { IsUntouchedIfRefused (map (λ word. word.now) words.now) result output }
     ensures silent { IsSilentAtNone result errors.old errors.new }
 {
     let Call { job, files } = match read_words(alloc, words) {
@@ -121,6 +123,7 @@ fn by_job<R: Read + Drop, W: Write + Drop, E: Write>(
 ) -> Ended<R, W>
     requires { IsInRange job }
     ensures ends { OnEnd result (DoesJob R.remaining W.contents job.entry input output) }
+    ensures untouched { IsUntouchedBy job.entry result output }
     ensures silent { IsSilentAtNone result errors.old errors.new }
 {
     let work = match Work::of(alloc, job) {
@@ -187,7 +190,7 @@ fn without_value<R: Drop, W: Drop, E: Write>(
     output: W,
     errors: &mut E,
 ) -> Ended<R, W>
-    ensures ends { EndsUnread input output result }
+    ensures ends { EndsUnread (unread.entry.cause ≡ NoValue.TooLong) input output result }
     ensures too_long { unread.entry.cause ≡ NoValue.TooLong
         → OnEnd result (λ status read_to written_to. status ≡ 2) }
     ensures failed { unread.entry.cause ≢ NoValue.TooLong
@@ -255,6 +258,7 @@ fn unbegun<R: Drop, W: Drop, E: Write>(
         }
         Unready::Plan(error) => refuse(error.cause(), errors),
         Unready::Cursor(error) => refuse(error.cause(), errors),
+        Unready::Fingerprint(error) => refuse(error.cause(), errors),
         Unready::Names(error) => refuse(error.cause(), errors),
         Unready::Memory => return no_memory_left(errors),
     };

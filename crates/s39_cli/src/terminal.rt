@@ -1,5 +1,8 @@
 //! A reader at a terminal: what is typed or pasted after a refusal is dropped, so that no shell gets it.
-ghost use Rattle.std.specs.Prelude.{◌≡◌, ◌≢◌};
+ghost use Rattle.std.specs.Prelude.{◌≡◌, ◌≢◌, ◌<◌, IfErr, IfOk, Ok, length};
+ghost use Rattle.std.specs.Io.{ReadsAtMost};
+ghost use Rattle.std.specs.Io.KnownBytes.{ReadConsumes};
+ghost use Rattle.std.specs.IoError.{error_kind};
 ghost use Rattle.s39_cli.specs.Ending.{OnEnd};
 ghost use Rattle.s39_cli.specs.Terminal.{ConsumesMore, EndsAlike};
 
@@ -35,12 +38,19 @@ impl<R: Read> Watched<R> {
             progress: Progress::Unread,
         }
     }
-}
 
-impl<R: Read> Read for Watched<R> {
-    ghost remaining = { λ watched. R.remaining watched.input };
-
-    fn read(&mut self, buf: &mut [u8]) -> io::Result<usize> {
+    /// Reads from the reader below, and notes how far that was read. A read that the system interrupted isn't the end.
+    fn read_on(&mut self, buf: &mut [u8]) -> io::Result<usize>
+        ensures bound { ReadsAtMost result buf.new }
+        ensures bytes { ReadConsumes (R.remaining self.old.input) (R.remaining self.new.input)
+            result buf.new }
+        ensures begun { IfOk result (λ n. 0 < n → self.new.progress ≡ Progress.Begun) }
+        ensures end { result ≡ Ok 0 → 0 < length buf.old → self.new.progress ≡ Progress.Ended }
+        ensures failed { IfErr result (λ error. error_kind error ≢ ErrorKind.Interrupted
+            → self.new.progress ≡ Progress.Ended) }
+        ensures interrupted { IfErr result (λ error. error_kind error ≡ ErrorKind.Interrupted
+            → self.new.progress ≡ Progress.Begun) }
+    {
         let answer = self.input.read(buf);
         self.progress = match answer {
             Ok(0) if !buf.is_empty() => Progress::Ended,
@@ -48,6 +58,14 @@ impl<R: Read> Read for Watched<R> {
             _ => Progress::Begun,
         };
         answer
+    }
+}
+
+impl<R: Read> Read for Watched<R> {
+    ghost remaining = { λ watched. R.remaining watched.input };
+
+    fn read(&mut self, buf: &mut [u8]) -> io::Result<usize> {
+        self.read_on(buf)
     }
 }
 
@@ -68,6 +86,9 @@ pub fn with_rest_dropped<R: Read + Drop, W: Drop, E: Write>(
     // A reader that was read to its end, or that failed, isn't read on.
     ensures ended { OnEnd ended (λ status read_to written_to. read_to.progress ≡ Progress.Ended
         → (result ≡ ended) × (errors.new ≡ errors.old)) }
+    // After any status except 0, nothing is left of an input that was begun.
+    ensures dropped { OnEnd result (λ status read_to written_to. status ≢ 0
+        → read_to.progress ≢ Progress.Begun) }
 {
     match ended {
         Ended::With {
@@ -90,6 +111,7 @@ fn at_end<R: Read, E: Write>(status: u8, input: Watched<R>, errors: &mut E) -> W
     ensures unread { input.progress ≡ Progress.Unread → status ≢ 1
         → (result ≡ input) × (errors.new ≡ errors.old) }
     ensures ended { input.progress ≡ Progress.Ended → (result ≡ input) × (errors.new ≡ errors.old) }
+    ensures dropped { status ≢ 0 → result.progress ≢ Progress.Begun }
 {
     let waits = match input.progress {
         Progress::Unread => status == REFUSED,
@@ -105,16 +127,18 @@ fn at_end<R: Read, E: Write>(status: u8, input: Watched<R>, errors: &mut E) -> W
     input
 }
 
-/// Reads and drops all until the end, or until a read fails.
+/// Reads and drops all until the end, or until a read fails. After 2^64 - 1 reads it takes the input for ended.
 fn drop_rest<R: Read>(input: &mut Watched<R>)
-    ensures { ConsumesMore (R.remaining input.old.input) (R.remaining input.new.input) }
+    ensures further { ConsumesMore (R.remaining input.old.input) (R.remaining input.new.input) }
+    ensures dropped { input.new.progress ≡ Progress.Ended }
 {
     let mut dropped = [0; 1024];
     for _ in 0..u64::MAX {
-        match input.read(&mut dropped) {
+        match input.read_on(&mut dropped) {
             Ok(0) => return,
             Err(error) if error.kind() != ErrorKind::Interrupted => return,
             _ => {}
         }
     }
+    input.progress = Progress::Ended;
 }

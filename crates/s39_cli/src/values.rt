@@ -1,7 +1,7 @@
 //! Values of a command that stand in files or in the first lines of the input.
-ghost use Rattle.std.specs.Prelude.{◌≡◌, ◌≢◌, ◌≤◌, Err, None, IfOk, OnErr, length, option_map};
-ghost use Rattle.s39_cli.specs.Values.{HasLongValue, IsFilledBy, IsInFile, IsInput, IsPart, IsText, IsValueIn, LacksValue, TakesByte};
-ghost use Rattle.s39_cli.specs.Values.{TakesValue, TakesValues, longest_value, without_line_end};
+ghost use Rattle.std.specs.Prelude.{◌≡◌, ◌≢◌, Err, None, IfErr, IfOk, OnErr, option_map};
+ghost use Rattle.s39_cli.specs.Values.{HasLong, HasLongValue, IsFilledBy, IsInFile, IsInput, IsLongFile, IsPart, IsText, IsValueIn, IsValueOf};
+ghost use Rattle.s39_cli.specs.Values.{LacksValue, TakesByte, TakesValue, TakesValues, without_line_end};
 
 use arrayvec::ArrayVec;
 use s39_command::{Job, ValueFiles};
@@ -112,14 +112,21 @@ fn value_in<R: Read>(input: &mut R, until: Until) -> Result<Value, NoValue>
 
 /// Something that opens files by their names, as the system does.
 pub trait Shelf {
+    ghost use Rattle.std.specs.Prelude.{◌≡◌, ℕ, List, Option, None, Some, IfOk, IfSome};
+
     /// An opened file.
     type File: Read + Drop;
+
+    // The bytes of the file with a name, or `None` if contracts can't name them.
+    ghost told: { Self → List ℕ → Option (List ℕ) } = { λ shelf name. None };
 
     /// Opens a file for reading.
     ///
     /// # Errors
     /// It fails if there is no such file, or if the file can't be opened.
-    fn open(&self, name: &str) -> io::Result<Self::File>;
+    fn open(&self, name: &str) -> io::Result<Self::File>
+        ensures { IfOk result (λ file. IfSome (told self.now name.now)
+            (λ bytes. Self.File.remaining file ≡ Some bytes)) };
 }
 
 /// The files of the system.
@@ -152,7 +159,8 @@ pub(crate) struct Unread<'a> {
 
 /// The value in the file of this name.
 fn value_of_file<S: Shelf>(shelf: &S, name: &str) -> Result<Value, NoValue>
-    ensures { IfOk result (λ value. length value.items ≤ longest_value) }
+    ensures value { IfOk result (λ value. IsValueOf (S.told shelf.now name.now) value.items) }
+    ensures long { result ≡ Err NoValue.TooLong → HasLongValue Until.End (S.told shelf.now name.now) }
 {
     let mut file = shelf.open(name)?;
     value_in(&mut file, Until::End)
@@ -160,8 +168,11 @@ fn value_of_file<S: Shelf>(shelf: &S, name: &str) -> Result<Value, NoValue>
 
 /// The value in the file of this name, if there is a name, and it isn't that of the input.
 fn in_file<'a, S: Shelf>(shelf: &S, name: Option<&'a str>) -> Result<Option<Value>, Unread<'a>>
-    ensures value { IfOk result (λ value. IsInFile name.entry (option_map (λ held. held.items) value)) }
+    ensures value { IfOk result (λ value. IsInFile (S.told shelf.now) name.entry
+        (option_map (λ held. held.items) value)) }
     ensures failed { OnErr result (name.entry ≢ None) }
+    ensures long { IfErr result (λ unread. unread.cause ≡ NoValue.TooLong
+        → IsLongFile (S.told shelf.now) name.entry) }
 {
     let name = match name {
         Some(name) if name != INPUT => name,
@@ -174,15 +185,18 @@ fn in_file<'a, S: Shelf>(shelf: &S, name: Option<&'a str>) -> Result<Option<Valu
 }
 
 /// The value in the first line of the input, if this is the input's name, and else the one in the file.
-fn in_line<'a, R: Read>(
+fn in_line<'a, S: Shelf, R: Read>(
+    shelf: &S,
     input: &mut R,
     name: Option<&'a str>,
     in_file: Option<Value>,
 ) -> Result<Option<Value>, Unread<'a>>
-    requires { IsInFile name (option_map (λ held. held.items) in_file) }
-    ensures value { IfOk result (λ value. TakesValue R.remaining name.entry
+    requires { IsInFile (S.told shelf.now) name (option_map (λ held. held.items) in_file) }
+    ensures value { IfOk result (λ value. TakesValue (S.told shelf.now) R.remaining name.entry
         (option_map (λ held. held.items) value) input.old input.new) }
     ensures failed { OnErr result (IsInput name.entry) }
+    ensures long { IfErr result (λ unread. unread.cause ≡ NoValue.TooLong
+        → HasLongValue Until.LineEnd (R.remaining input.old)) }
 {
     let name = match name {
         Some(name) if name == INPUT => name,
@@ -218,16 +232,18 @@ impl Values {
         files: ValueFiles<'a>,
         input: &mut R,
     ) -> Result<Values, Unread<'a>>
-        ensures values { IfOk result (λ values. TakesValues R.remaining files.entry
+        ensures values { IfOk result (λ values. TakesValues (S.told shelf.now) R.remaining files.entry
             (option_map (λ held. held.items) values.secret)
             (option_map (λ held. held.items) values.passphrase) input.old input.new) }
         ensures failed { OnErr result (LacksValue files.entry input.old input.new) }
+        ensures long { IfErr result (λ unread. unread.cause ≡ NoValue.TooLong
+            → HasLong (S.told shelf.now) R.remaining files.entry input.old) }
     {
         let secret = in_file(shelf, files.secret)?;
         let passphrase = in_file(shelf, files.passphrase)?;
         Ok(Values {
-            secret: in_line(input, files.secret, secret)?,
-            passphrase: in_line(input, files.passphrase, passphrase)?,
+            secret: in_line(shelf, input, files.secret, secret)?,
+            passphrase: in_line(shelf, input, files.passphrase, passphrase)?,
         })
     }
 
@@ -250,20 +266,27 @@ impl Values {
                 exponent,
                 extendable,
             },
-            Job::Recover { passphrase, form } => Job::Recover {
+            Job::Recover {
+                passphrase,
+                form,
+                expected,
+            } => Job::Recover {
                 passphrase: text_of(&self.passphrase, passphrase),
                 form,
+                expected,
             },
             Job::Drill {
                 passphrase,
                 after,
                 limit,
                 form,
+                expected,
             } => Job::Drill {
                 passphrase: text_of(&self.passphrase, passphrase),
                 after,
                 limit,
                 form,
+                expected,
             },
             job => job,
         }

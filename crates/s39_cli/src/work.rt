@@ -1,19 +1,20 @@
 //! Commands that are ready to run.
-ghost use Rattle.std.specs.Prelude.{◌≡◌, ◌<◌, ◌≤◌, IfOk, IfErr, IsSomeAnd, Ok};
-ghost use Rattle.hex.specs.Hex.{decode_of};
+ghost use Rattle.std.specs.Prelude.{◌≡◌, ◌<◌, ◌≤◌, IfOk, IfErr, IsSomeAnd, IsTrue, Err};
 ghost use Rattle.s39_set.specs.Status.{is_enough};
 ghost use Rattle.s39_input.specs.Runs.{Runs};
-ghost use Rattle.s39_command.specs.Command.{IsInRange};
-ghost use Rattle.s39_cli.specs.Outcome.{IsCursor, WritesNoNames, judged, where_done, without_mismatches};
-ghost use Rattle.s39_cli.specs.Unready.{IsNoReissue, IsNoSecret, IsUnready};
+ghost use Rattle.s39_command.specs.Command.{IsInRange, text_in};
+ghost use Rattle.s39_cli.specs.Outcome.{IsCursor, IsNoted, WritesNoFingerprint, WritesNoNames};
+ghost use Rattle.s39_cli.specs.Outcome.{judged, status_of, told_in, where_done, without_mismatches};
+ghost use Rattle.s39_cli.specs.Unready.{IsNoReissue, IsUnready};
 
 use crate::runner::Destination;
-use hex::FromHexError;
+use crate::secret_text::secret_of;
 use s39_backup::{Options, Plan, PlanError};
 use s39_command::Job;
 use s39_creating::{run_create, run_reissue};
 use s39_drilling::{Done, run_drill};
-use s39_input::{Counting, Fault, SecretForm, run_show};
+use s39_input::{Counting, Fault, SecretForm, run_repair, run_show};
+use s39_kdf::{BadFingerprint, NotedFingerprint, parse_fingerprint};
 use s39_reading::{run_recover, run_status};
 use s39_set::{BadCursor, BadNames, Quorum, Status, parse_names, parse_quorum};
 use std::alloc::Global;
@@ -56,6 +57,7 @@ pub(crate) enum Work<'a> {
     Recover {
         passphrase: &'a [u8],
         form: SecretForm,
+        expected: Option<NotedFingerprint>,
     },
     /// Tries quorums.
     Drill(Drill<'a>),
@@ -63,6 +65,8 @@ pub(crate) enum Work<'a> {
     Status,
     /// Computes lost mnemonics from others.
     Reissue(Reissue),
+    /// Finds the mnemonics that fit lines in which words can't be read.
+    Repair,
 }
 
 /// Why a command can't be begun.
@@ -74,6 +78,8 @@ pub(crate) enum Unready {
     Plan(PlanError),
     /// The text of a quorum is the written form of no names.
     Cursor(BadCursor),
+    /// The text of a fingerprint writes none.
+    Fingerprint(BadFingerprint),
     /// The text of names is the written form of no names.
     Names(BadNames),
     /// The program is out of memory.
@@ -100,6 +106,16 @@ impl From<BadCursor> for Unready {
     }
 }
 
+impl From<BadFingerprint> for Unready {
+    ghost use Rattle.s39_cli.specs.declared.work.Unready.TheVariants.{Fingerprint};
+
+    ghost from_gives = { λ error unready. unready ≡ Fingerprint error };
+
+    fn from(error: BadFingerprint) -> Unready {
+        Unready::Fingerprint(error)
+    }
+}
+
 impl From<BadNames> for Unready {
     ghost use Rattle.s39_cli.specs.declared.work.Unready.TheVariants.{Names};
 
@@ -110,27 +126,6 @@ impl From<BadNames> for Unready {
     }
 }
 
-impl From<FromHexError> for Unready {
-    ghost use Rattle.s39_cli.specs.Unready.{unready_of};
-
-    ghost from_gives = { λ error unready. unready ≡ unready_of error };
-
-    fn from(error: FromHexError) -> Unready {
-        match error {
-            FromHexError::OutOfMemory => Unready::Memory,
-            _ => Unready::Secret,
-        }
-    }
-}
-
-/// The bytes of the text of a secret.
-fn secret_of(alloc: Global, text: &[u8]) -> Result<Vec<u8>, Unready>
-    ensures secret { IfOk result (λ secret. decode_of text.now ≡ Ok secret.items) }
-    ensures refused { IfErr result (IsNoSecret text.now) }
-{
-    Ok(hex::decode(alloc, text)?)
-}
-
 /// The names after which a drill starts, if a text gives some.
 fn cursor_of(text: Option<&str>) -> Result<Option<Quorum>, BadCursor>
     ensures cursor { IfOk result (IsCursor text.entry) }
@@ -139,6 +134,27 @@ fn cursor_of(text: Option<&str>) -> Result<Option<Quorum>, BadCursor>
     match text {
         Some(text) => Ok(Some(parse_quorum(text.as_bytes())?)),
         None => Ok(None),
+    }
+}
+
+/// The fingerprint that is expected, if a text writes one.
+fn expected_of(text: Option<&str>) -> Result<Option<NotedFingerprint>, BadFingerprint>
+    ensures noted { IfOk result (IsNoted (text_in text.entry)) }
+    ensures refused { IfErr result (λ bad. IsSomeAnd (text_in text.entry) WritesNoFingerprint) }
+{
+    match text {
+        Some(text) => Ok(Some(parse_fingerprint(text.as_bytes())?)),
+        None => Ok(None),
+    }
+}
+
+/// The form in which a drill tells secrets: whether they have the expected fingerprint, if there is one.
+fn told_in(form: SecretForm, expected: Option<NotedFingerprint>) -> SecretForm
+    ensures { result ≡ told_in form expected }
+{
+    match expected {
+        Some(noted) => SecretForm::Expected(noted),
+        None => form,
     }
 }
 
@@ -157,10 +173,11 @@ impl Reissue {
 }
 
 impl<'a> Work<'a> {
+    ghost use Rattle.s39_cli.specs.Untouched.{IsAtItsEnd};
     ghost use Rattle.s39_cli.specs.Work.{IsWorkOf, IsWorkOutput};
 
-    /// The work of a job, whose texts are read here: those of `create` are the secret and then the plan, and those of
-    /// `reissue` the plan and then the names.
+    /// The work of a job, whose texts are read here: those of `create` are the secret and then the plan, those of `drill`
+    /// the cursor and then the fingerprint, and those of `reissue` the plan and then the names.
     pub(crate) fn of(alloc: Global, job: Job<'a>) -> Result<Work<'a>, Unready>
         requires { IsInRange job }
         ensures work { IfOk result (IsWorkOf job.entry) }
@@ -187,37 +204,50 @@ impl<'a> Work<'a> {
                     },
                 }))
             }
-            Job::Recover { passphrase, form } => Ok(Work::Recover { passphrase, form }),
+            Job::Recover {
+                passphrase,
+                form,
+                expected,
+            } => Ok(Work::Recover {
+                passphrase,
+                form,
+                expected: expected_of(expected)?,
+            }),
             Job::Drill {
                 passphrase,
                 after,
                 limit,
                 form,
+                expected,
             } => {
                 let after = cursor_of(after)?;
+                let noted = expected_of(expected)?;
                 Ok(Work::Drill(Drill {
                     passphrase,
                     after,
                     limit,
-                    form,
+                    form: told_in(form, noted),
                 }))
             }
             Job::Status => Ok(Work::Status),
             Job::Reissue { plan, names } => Ok(Work::Reissue(Reissue::of(plan, names)?)),
+            Job::Repair => Ok(Work::Repair),
         }
     }
 
     /// Whether each line of the output goes out as soon as it is known.
-    pub(crate) fn goes_by_lines(&self, destination: Destination) -> bool {
+    pub(crate) fn goes_by_lines(&self, destination: Destination) -> bool
+        ensures { IsTrue result → IsAtItsEnd self.now → ⊥ }
+    {
         match self {
-            Work::Show => destination == Destination::Terminal,
+            Work::Show | Work::Repair => destination == Destination::Terminal,
             Work::Drill(_) => true,
             Work::Create(_) | Work::Recover { .. } | Work::Status | Work::Reissue(_) => false,
         }
     }
 
-    /// Runs the command, and gives whether all is well: no quorum was refused, and enough groups are complete, if the command
-    /// looks for that.
+    /// Runs the command, and gives whether all is well: no quorum was refused or gives another secret than the expected one,
+    /// enough groups are complete, and one mnemonic fits each line, if the command looks for that.
     pub(crate) fn run<R: Read, W: Write>(
         &self,
         input: &mut Counting<R>,
@@ -225,8 +255,11 @@ impl<'a> Work<'a> {
     ) -> Result<bool, Fault>
         requires readable { input.old.failures < u64.MAX }
         requires writable { output.old.failures < u64.MAX }
-        ensures { Runs R.remaining W.contents (IsWorkOutput self.now)
+        ensures runs { Runs R.remaining W.contents (IsWorkOutput self.now)
             input.old input.new output.old output.new result }
+        // Of any devices.
+        ensures untouched { IsAtItsEnd self.now → status_of result ≡ 1
+            → ((fault : Fault) × (result ≡ Err fault)) × (output.new ≡ output.old) }
     {
         match self {
             Work::Show => where_done(run_show(input, output)),
@@ -238,9 +271,11 @@ impl<'a> Work<'a> {
                 input,
                 output,
             )),
-            Work::Recover { passphrase, form } => {
-                where_done(run_recover(*form, passphrase, input, output))
-            }
+            Work::Recover {
+                passphrase,
+                form,
+                expected,
+            } => where_done(run_recover(*form, *expected, passphrase, input, output)),
             Work::Drill(drill) => without_mismatches(run_drill(
                 drill.form,
                 drill.passphrase,
@@ -253,6 +288,7 @@ impl<'a> Work<'a> {
             Work::Reissue(reissue) => {
                 where_done(run_reissue(&reissue.plan, &reissue.names, input, output))
             }
+            Work::Repair => run_repair(input, output),
         }
     }
 }

@@ -27,7 +27,7 @@ use Rattle.s39_clap.proofs.Agreement.{faultless_taken, one_request_or_mistakes, 
 use Rattle.s39_clap.proofs.Entered.{enters_some, taken_enters_one}
 use Rattle.s39_clap.proofs.Values.{flag_said, has_value, number_read}
 use Rattle.s39_command.specs.Command.{AnswersKind, AnswersWords, AsksForText, IsFormSaid, commands, exponent_rule, extendable_rule, fingerprint_rule, flag_text}
-use Rattle.s39_command.specs.Command.{is_fingerprint, limit_rule, names_rule}
+use Rattle.s39_command.specs.Command.{limit_rule, names_rule}
 use Rattle.s39_command.specs.Command.{plan_rule}
 use Rattle.s39_command.specs.Command.{IsGiven, IsHelp, SaysHelp, shamir_app, text_or_empty}
 use Rattle.s39_kdf.specs.declared.secret_form.SecretForm.{SecretForm}
@@ -104,7 +104,8 @@ create_filled rows (inr (inr (inl recover))) = absurd (other_name (codes "create
 create_filled rows (inr (inr (inr (inl drill)))) = absurd (other_name (codes "create") (codes "drill") refl (same_entered _ _ drill.1).0)
 create_filled rows (inr (inr (inr (inr (inl status))))) = absurd (other_name (codes "create") (codes "status") refl (same_entered _ _ status.1).0)
 create_filled rows (inr (inr (inr (inr (inr (inl reissue)))))) = absurd (other_name (codes "create") (codes "reissue") refl (same_entered _ _ reissue.1).0)
-create_filled rows (inr (inr (inr (inr (inr (inr none)))))) = absurd none
+create_filled rows (inr (inr (inr (inr (inr (inr (inl repair))))))) = absurd (other_name (codes "create") (codes "repair") refl (same_entered _ _ repair.1).0)
+create_filled rows (inr (inr (inr (inr (inr (inr (inr none))))))) = absurd none
 
 -- and those that enter `recover`
 recover_filled : (rows : List Row) → EntersOne commands (Some (codes "recover", rows)) → IsFilled recover_rules rows
@@ -115,7 +116,8 @@ recover_filled rows (inr (inr (inl recover))) = subst (IsFilled recover_rules) (
 recover_filled rows (inr (inr (inr (inl drill)))) = absurd (other_name (codes "recover") (codes "drill") refl (same_entered _ _ drill.1).0)
 recover_filled rows (inr (inr (inr (inr (inl status))))) = absurd (other_name (codes "recover") (codes "status") refl (same_entered _ _ status.1).0)
 recover_filled rows (inr (inr (inr (inr (inr (inl reissue)))))) = absurd (other_name (codes "recover") (codes "reissue") refl (same_entered _ _ reissue.1).0)
-recover_filled rows (inr (inr (inr (inr (inr (inr none)))))) = absurd none
+recover_filled rows (inr (inr (inr (inr (inr (inr (inl repair))))))) = absurd (other_name (codes "recover") (codes "repair") refl (same_entered _ _ repair.1).0)
+recover_filled rows (inr (inr (inr (inr (inr (inr (inr none))))))) = absurd none
 
 -- and those that enter `drill`
 drill_filled : (rows : List Row) → EntersOne commands (Some (codes "drill", rows)) → IsFilled drill_rules rows
@@ -126,7 +128,8 @@ drill_filled rows (inr (inr (inl recover))) = absurd (other_name (codes "drill")
 drill_filled rows (inr (inr (inr (inl drill)))) = subst (IsFilled drill_rules) (sym (same_entered _ _ drill.1).1) drill.2
 drill_filled rows (inr (inr (inr (inr (inl status))))) = absurd (other_name (codes "drill") (codes "status") refl (same_entered _ _ status.1).0)
 drill_filled rows (inr (inr (inr (inr (inr (inl reissue)))))) = absurd (other_name (codes "drill") (codes "reissue") refl (same_entered _ _ reissue.1).0)
-drill_filled rows (inr (inr (inr (inr (inr (inr none)))))) = absurd none
+drill_filled rows (inr (inr (inr (inr (inr (inr (inl repair))))))) = absurd (other_name (codes "drill") (codes "repair") refl (same_entered _ _ repair.1).0)
+drill_filled rows (inr (inr (inr (inr (inr (inr (inr none))))))) = absurd none
 
 -- and those that enter `reissue`
 reissue_filled : (rows : List Row) → EntersOne commands (Some (codes "reissue", rows)) → IsFilled reissue_rules rows
@@ -137,7 +140,8 @@ reissue_filled rows (inr (inr (inl recover))) = absurd (other_name (codes "reiss
 reissue_filled rows (inr (inr (inr (inl drill)))) = absurd (other_name (codes "reissue") (codes "drill") refl (same_entered _ _ drill.1).0)
 reissue_filled rows (inr (inr (inr (inr (inl status))))) = absurd (other_name (codes "reissue") (codes "status") refl (same_entered _ _ status.1).0)
 reissue_filled rows (inr (inr (inr (inr (inr (inl reissue)))))) = subst (IsFilled reissue_rules) (sym (same_entered _ _ reissue.1).1) reissue.2
-reissue_filled rows (inr (inr (inr (inr (inr (inr none)))))) = absurd none
+reissue_filled rows (inr (inr (inr (inr (inr (inr (inl repair))))))) = absurd (other_name (codes "reissue") (codes "repair") refl (same_entered _ _ repair.1).0)
+reissue_filled rows (inr (inr (inr (inr (inr (inr (inr none))))))) = absurd none
 
 -- what was found enters `create`
 abbrev EntersCreate : Found → Type 0
@@ -197,8 +201,8 @@ extendable_there f said enters is_true is_false =
 form_said : (rows : List Row) (form : SecretForm) → (one_of (codes "fingerprint") rows ≡ Some (codes "true"))
     ⊎ (one_of (codes "fingerprint") rows ≡ Some (codes "false")) → (one_of (codes "fingerprint") rows ≡ Some (codes "true") → form ≡ Fingerprint)
     → (one_of (codes "fingerprint") rows ≡ Some (codes "false") → form ≡ Digits) → IsFormSaid rows form
-form_said rows form (inl said) is_true is_false = said ∙ ap (λ (f : SecretForm). Some (flag_text (is_fingerprint f))) (sym (is_true said))
-form_said rows form (inr unsaid) is_true is_false = unsaid ∙ ap (λ (f : SecretForm). Some (flag_text (is_fingerprint f))) (sym (is_false unsaid))
+form_said rows form (inl said) is_true is_false = subst (IsFormSaid rows) (sym (is_true said)) said
+form_said rows form (inr unsaid) is_true is_false = subst (IsFormSaid rows) (sym (is_false unsaid)) unsaid
 
 module _ (f : Found) (form : SecretForm) where
   -- a getter of the flag reads the form
@@ -257,6 +261,19 @@ pub missing_of_rows : (f : Found) (id : Text) (got : Option (Bor Text)) → opti
     → first_of id (rows_of f) ≡ None
 missing_of_rows f id None given none = sym (first_value-rows f id) ∙ sym given
 missing_of_rows f id (Some text) given none = absurd (true≢false none)
+
+-- a text is found, and it is this one, where a getter has it
+pub said_of_rows : (f : Found) (id wanted : Text) (got : Option (Bor Text)) (text : Bor Text) → option_map (λ t. t.now) got ≡ first_value f id → got ≡ Some text
+    → bytes_eq text.now wanted ≡ true → first_of id (rows_of f) ≡ Some wanted
+said_of_rows f id wanted got text given some is =
+    found_of_rows f id got text given some ∙ ap (λ (t : Text). Some t) ((bytes_eq-Decides text.now wanted).0 is)
+
+-- and none that is it where a getter has another
+pub unsaid_of_rows : (f : Found) (id wanted : Text) (got : Option (Bor Text)) (text : Bor Text) → option_map (λ t. t.now) got ≡ first_value f id
+    → got ≡ Some text → bytes_eq text.now wanted ≡ false → first_of id (rows_of f) ≡ Some wanted → ⊥
+unsaid_of_rows f id wanted got text given some other is =
+    let same : text.now ≡ wanted = let both : Some text.now ≡ Some wanted = sym (found_of_rows f id got text given some) ∙ is in cc in
+    other_name text.now wanted other same
 
 -- what a parse met is what the words give
 rows_given : (a : App) (words : List Text) (m : ArgMatches) → a ≡ shamir_app → HasMatchesOf a words m → subcommand_rows_of m ≡ subcommand_of shamir_app words

@@ -5,11 +5,13 @@ use Rattle.clap.specs.declared.builder.value_parser.ValueParser.TheVariants as v
 use Rattle.clap.proofs.ValueTestLemmas.{accepts-Accepts}
 use Rattle.s39_clap.specs.Options.{HasNoDash}
 use Rattle.s39_kdf.specs.declared.secret_form.SecretForm.TheVariants.{Digits, Fingerprint}
-use Rattle.s39_command.specs.Words.{ApartDrill, AreCreateWords, AreDrillWords, AreRecoverWords, IsLimit, JoinedDrill, drill_apart}
+use Rattle.s39_command.specs.Words.{ApartDrill, AreCreateWords, AreDrillWords, AreExpectingDrillWords, AreExpectingRecoverWords, AreRecoverWords, IsLimit, JoinedDrill, drill_apart}
 
 pub joined_drill : JoinedDrill
 joined_drill program p q n = record {
   program = program;
+  form_words = [];
+  form_asked = refl;
   passphrase_words = (codes "--passphrase=" ++ p) ∷ [];
   after_words = (codes "--after=" ++ q) ∷ [];
   limit_words = (codes "--limit=" ++ n) ∷ [];
@@ -22,6 +24,8 @@ joined_drill program p q n = record {
 pub apart_drill : ApartDrill
 apart_drill program p q n no_p no_q no_n = record {
   program = program;
+  form_words = [];
+  form_asked = refl;
   passphrase_words = codes "--passphrase" ∷ p ∷ [];
   after_words = codes "--after" ∷ q ∷ [];
   limit_words = codes "--limit" ∷ n ∷ [];
@@ -36,7 +40,7 @@ abbrev begins : Text → ℕ
 begins [] = 0
 begins (x ∷ xs) = x
 
-no_dash : (text : Text) → (begins text == 45) ≡ false → HasNoDash text
+pub no_dash : (text : Text) → (begins text == 45) ≡ false → HasNoDash text
 no_dash text differs rest same = true≢false (sym (ap (λ (t : Text). begins t == 45) same) ∙ differs)
 
 pub drill_literal : AreDrillWords Digits (codes "TREZOR") (codes "0.0") (codes "5")
@@ -48,6 +52,8 @@ drill_literal =
 pub recover_literal : AreRecoverWords Digits (codes "TREZOR") (codes "shamir" ∷ codes "recover" ∷ codes "--passphrase" ∷ codes "TREZOR" ∷ [])
 recover_literal = record {
   program = codes "shamir";
+  form_words = [];
+  form_asked = refl;
   passphrase_words = codes "--passphrase" ∷ codes "TREZOR" ∷ [];
   passphrase_given = inr (no_dash (codes "TREZOR") refl, refl);
   words_are = refl;
@@ -57,6 +63,8 @@ pub fingerprints_literal : AreDrillWords Fingerprint (codes "TREZOR") (codes "0.
     (codes "shamir" ∷ codes "drill" ∷ codes "--fingerprint" ∷ codes "--passphrase=TREZOR" ∷ codes "--after=0.0" ∷ codes "--limit=5" ∷ [])
 fingerprints_literal = record {
   program = codes "shamir";
+  form_words = codes "--fingerprint" ∷ [];
+  form_asked = refl;
   passphrase_words = codes "--passphrase=TREZOR" ∷ [];
   after_words = codes "--after=0.0" ∷ [];
   limit_words = codes "--limit=5" ∷ [];
@@ -70,7 +78,37 @@ pub fingerprint_literal : AreRecoverWords Fingerprint (codes "TREZOR")
     (codes "shamir" ∷ codes "recover" ∷ codes "--fingerprint" ∷ codes "--passphrase" ∷ codes "TREZOR" ∷ [])
 fingerprint_literal = record {
   program = codes "shamir";
+  form_words = codes "--fingerprint" ∷ [];
+  form_asked = refl;
   passphrase_words = codes "--passphrase" ∷ codes "TREZOR" ∷ [];
+  passphrase_given = inr (no_dash (codes "TREZOR") refl, refl);
+  words_are = refl;
+}
+
+pub expecting_drill_literal : AreExpectingDrillWords (codes "DF41d8fe") (codes "TREZOR") (codes "0.0") (codes "5")
+    (codes "shamir" ∷ codes "drill" ∷ codes "--expect" ∷ codes "DF41d8fe" ∷ codes "--passphrase=TREZOR" ∷ codes "--after=0.0" ∷ codes "--limit=5" ∷ [])
+expecting_drill_literal = record {
+  program = codes "shamir";
+  expect_words = codes "--expect" ∷ codes "DF41d8fe" ∷ [];
+  passphrase_words = codes "--passphrase=TREZOR" ∷ [];
+  after_words = codes "--after=0.0" ∷ [];
+  limit_words = codes "--limit=5" ∷ [];
+  expected_given = inr (no_dash (codes "DF41d8fe") refl, refl);
+  passphrase_given = inl refl;
+  after_given = inl refl;
+  limit_given = inl refl;
+  words_are = refl;
+}
+
+pub expecting_recover_literal : AreExpectingRecoverWords Digits (codes "DF41d8fe") (codes "TREZOR")
+    (codes "shamir" ∷ codes "recover" ∷ codes "--expect=DF41d8fe" ∷ codes "--passphrase" ∷ codes "TREZOR" ∷ [])
+expecting_recover_literal = record {
+  program = codes "shamir";
+  form_words = [];
+  expect_words = codes "--expect=DF41d8fe" ∷ [];
+  passphrase_words = codes "--passphrase" ∷ codes "TREZOR" ∷ [];
+  form_asked = refl;
+  expected_given = inl refl;
   passphrase_given = inr (no_dash (codes "TREZOR") refl, refl);
   words_are = refl;
 }

@@ -5,7 +5,7 @@ use Rattle.std.proofs.lemmas.Slice.Eq.{bytes_eq-Decides}
 use Rattle.clap.specs.Words.{Row, Text, first_of, one_of, subcommand_of}
 use Rattle.s39_clap.specs.Found.{HasNumber}
 use Rattle.s39_kdf.specs.declared.secret_form.SecretForm.{SecretForm}
-use Rattle.s39_kdf.specs.declared.secret_form.SecretForm.TheVariants.{Digits, Fingerprint}
+use Rattle.s39_kdf.specs.declared.secret_form.SecretForm.TheVariants.{Digits, Fingerprint, Expected}
 use Rattle.s39_command.specs.declared.command.Call.{Call}
 use Rattle.s39_command.specs.declared.command.Job.{Job}
 use Rattle.s39_command.specs.declared.command.Job.TheVariants as job
@@ -24,23 +24,32 @@ one_form rows Digits Digits is also = refl
 one_form rows Fingerprint Fingerprint is also = refl
 one_form rows Digits Fingerprint is also = absurd (other_text (codes "true") (codes "false") refl (said_same (sym also ∙ is)))
 one_form rows Fingerprint Digits is also = absurd (other_text (codes "true") (codes "false") refl (said_same (sym is ∙ also)))
+one_form rows (Expected noted) given is also = absurd is
+one_form rows Digits (Expected noted) is also = absurd also
+one_form rows Fingerprint (Expected noted) is also = absurd also
 
 -- the name of a job's command
-abbrev name_of : Job → Text
+abbrev pub name_of : Job → Text
 name_of job.Show = codes "show"
 name_of (job.Create t s p e x) = codes "create"
-name_of (job.Recover p f) = codes "recover"
-name_of (job.Drill p a l f) = codes "drill"
+name_of (job.Recover p f e) = codes "recover"
+name_of (job.Drill p a l f e) = codes "drill"
 name_of job.Status = codes "status"
 name_of (job.Reissue t n) = codes "reissue"
+name_of job.Repair = codes "repair"
 
 name_given : (name : Text) (rows : List Row) (j : Job) → Gives name rows j → name ≡ name_of j
 name_given name rows job.Show is = is
 name_given name rows (job.Create t s p e x) is = is.0
-name_given name rows (job.Recover p f) is = is.0
-name_given name rows (job.Drill p a l f) is = is.0
+name_given name rows (job.Recover p f e) is = is.0
+name_given name rows (job.Drill p a l f e) is = is.0
 name_given name rows job.Status is = is
 name_given name rows (job.Reissue t n) is = is.0
+name_given name rows job.Repair is = is
+
+-- what is found for another command's words gives no such job
+pub other_job : (wanted name : Text) (rows : List Row) (j : Job) → bytes_eq wanted (name_of j) ≡ false → name ≡ wanted → Gives name rows j → ⊥
+other_job wanted name rows j differ is gives = other_text wanted (name_of j) differ (sym is ∙ name_given name rows j gives)
 
 same_flag : (o : Option Text) (x y : Bool) → o ≡ Some (flag_text x) → o ≡ Some (flag_text y) → x ≡ y
 same_flag o true true is also = refl
@@ -65,44 +74,24 @@ module _ (name : Text) (rows : List Row) where
         is.1.secret_or_empty ∙ sym also.1.secret_or_empty,
         is.1.passphrase_or_empty ∙ sym also.1.passphrase_or_empty,
       )
-  same_values (job.Recover p f) (job.Recover p' f') same is also =
-      (p', ap (λ (g : SecretForm). job.Recover p' g) (one_form rows f f' is.2 also.2), is.1 ∙ sym also.1)
-  same_values (job.Drill p a l f) (job.Drill p' a' l' f') same is also =
+  same_values (job.Recover p f e) (job.Recover p' f' e') same is also =
+      (p', e', ap (λ (g : SecretForm). job.Recover p' g e') (one_form rows f f' is.2 also.2), is.1 ∙ sym also.1, is.3 ∙ sym also.3)
+  same_values (job.Drill p a l f e) (job.Drill p' a' l' f' e') same is also =
       let limits = same_number (codes "limit") rows l' l also.3 is.3 in
-      (p', a', ap₂ (λ (n : ℕ) (g : SecretForm). job.Drill p' a' n g) limits (one_form rows f f' is.4 also.4), is.1 ∙ sym also.1, is.2 ∙ sym also.2)
+      let forms = one_form rows f f' is.4 also.4 in (
+        p',
+        a',
+        e',
+        ap₂ (λ (n : ℕ) (g : SecretForm). job.Drill p' a' n g e') limits forms,
+        is.1 ∙ sym also.1,
+        is.2 ∙ sym also.2,
+        is.5 ∙ sym also.5,
+      )
   same_values job.Status job.Status same is also = refl
   same_values (job.Reissue t n) (job.Reissue t' n') same is also =
       (t', n', refl, said_same (sym is.1 ∙ also.1), said_same (sym is.2 ∙ also.2))
-  same_values job.Show (job.Create t' s' p' e' x') same is also = cc same
-  same_values job.Show (job.Recover p' f') same is also = cc same
-  same_values job.Show (job.Drill p' a' l' f') same is also = cc same
-  same_values job.Show job.Status same is also = cc same
-  same_values job.Show (job.Reissue t' n') same is also = cc same
-  same_values (job.Create t s p e x) job.Show same is also = cc same
-  same_values (job.Create t s p e x) (job.Recover p' f') same is also = cc same
-  same_values (job.Create t s p e x) (job.Drill p' a' l' f') same is also = cc same
-  same_values (job.Create t s p e x) job.Status same is also = cc same
-  same_values (job.Create t s p e x) (job.Reissue t' n') same is also = cc same
-  same_values (job.Recover p f) job.Show same is also = cc same
-  same_values (job.Recover p f) (job.Create t' s' p' e' x') same is also = cc same
-  same_values (job.Recover p f) (job.Drill p' a' l' f') same is also = cc same
-  same_values (job.Recover p f) job.Status same is also = cc same
-  same_values (job.Recover p f) (job.Reissue t' n') same is also = cc same
-  same_values (job.Drill p a l f) job.Show same is also = cc same
-  same_values (job.Drill p a l f) (job.Create t' s' p' e' x') same is also = cc same
-  same_values (job.Drill p a l f) (job.Recover p' f') same is also = cc same
-  same_values (job.Drill p a l f) job.Status same is also = cc same
-  same_values (job.Drill p a l f) (job.Reissue t' n') same is also = cc same
-  same_values job.Status job.Show same is also = cc same
-  same_values job.Status (job.Create t' s' p' e' x') same is also = cc same
-  same_values job.Status (job.Recover p' f') same is also = cc same
-  same_values job.Status (job.Drill p' a' l' f') same is also = cc same
-  same_values job.Status (job.Reissue t' n') same is also = cc same
-  same_values (job.Reissue t n) job.Show same is also = cc same
-  same_values (job.Reissue t n) (job.Create t' s' p' e' x') same is also = cc same
-  same_values (job.Reissue t n) (job.Recover p' f') same is also = cc same
-  same_values (job.Reissue t n) (job.Drill p' a' l' f') same is also = cc same
-  same_values (job.Reissue t n) job.Status same is also = cc same
+  same_values job.Repair job.Repair same is also = refl
+  same_values _ _ same is also = cc same
 
 one_found : (o : Option (Text × List Row)) (x y : Text × List Row) → o ≡ Some x → o ≡ Some y → x ≡ y
 one_found o x y is also = cc

@@ -10,15 +10,15 @@ use Rattle.clap.specs.declared.error.kind.ErrorKind.TheVariants.{DisplayHelp, Di
 use Rattle.s39_clap.specs.Found.{HasNumber}
 use Rattle.s39_kdf.specs.Limits.{exponent_bits}
 use Rattle.s39_kdf.specs.declared.secret_form.SecretForm.{SecretForm}
-use Rattle.s39_kdf.specs.declared.secret_form.SecretForm.TheVariants.{Digits, Fingerprint}
+use Rattle.s39_kdf.specs.declared.secret_form.SecretForm.TheVariants.{Digits, Fingerprint, Expected}
 use Rattle.s39_command.specs.declared.command.Job.{Job}
-use Rattle.s39_command.specs.declared.command.Job.TheVariants.{Show, Create, Recover, Drill, Status, Reissue}
+use Rattle.s39_command.specs.declared.command.Job.TheVariants.{Show, Create, Recover, Drill, Status, Reissue, Repair}
 use Rattle.s39_command.specs.declared.command.NoJob.{NoJob}
 use Rattle.s39_command.specs.declared.command.NoJob.TheVariants.{Help, Refused, Values, Memory}
 use Rattle.s39_command.specs.declared.command.Call.{Call}
 use Rattle.s39_command.specs.declared.command.ValueFiles.{ValueFiles}
 use Rattle.s39_command.specs.declared.command.BadValues.{BadValues}
-use Rattle.s39_command.specs.declared.command.BadValues.TheVariants.{NoSecret, TwoSecrets, TwoPassphrases}
+use Rattle.s39_command.specs.declared.command.BadValues.TheVariants.{NoSecret, TwoSecrets, TwoPassphrases, TwoForms}
 
 -- the command `show`
 abbrev pub show_app : App
@@ -81,9 +81,14 @@ create_app = with_rule (with_rule (with_rule (with_rule (with_rule (with_rule (w
 abbrev pub fingerprint_rule : Rule
 fingerprint_rule = flag_rule (codes "fingerprint")
 
--- the command `recover`, with the options of the passphrase and this flag
+-- the option `--expect FINGERPRINT`
+abbrev pub expect_rule : Rule
+expect_rule = option_rule (codes "expect")
+
+-- the command `recover`, with the options of the passphrase, the flag and this option
 abbrev pub recover_app : App
-recover_app = with_rule (with_rule (with_rule (new_app (codes "recover")) passphrase_rule) passphrase_file_rule) fingerprint_rule
+recover_app = with_rule (with_rule (with_rule (with_rule (new_app (codes "recover")) passphrase_rule) passphrase_file_rule)
+    fingerprint_rule) expect_rule
 
 -- the option `--after Q`
 abbrev pub after_rule : Rule
@@ -96,10 +101,10 @@ limit_rule = record (option_rule (codes "limit")) {
   parser = Some (Signed (pos 1) (pos 4294967295));
 }
 
--- the command `drill`, with these, the options of the passphrase and the flag
+-- the command `drill`, with these, the options of the passphrase, the flag and the option of a fingerprint
 abbrev pub drill_app : App
-drill_app = with_rule (with_rule (with_rule (with_rule (with_rule (new_app (codes "drill")) passphrase_rule) passphrase_file_rule)
-    after_rule) limit_rule) fingerprint_rule
+drill_app = with_rule (with_rule (with_rule (with_rule (with_rule (with_rule (new_app (codes "drill")) passphrase_rule) passphrase_file_rule)
+    after_rule) limit_rule) fingerprint_rule) expect_rule
 
 -- the command `status`
 abbrev pub status_app : App
@@ -116,6 +121,10 @@ names_rule = record (new_rule (codes "names")) {
 abbrev pub reissue_app : App
 reissue_app = with_rule (with_rule (new_app (codes "reissue")) plan_rule) names_rule
 
+-- the command `repair`
+abbrev pub repair_app : App
+repair_app = new_app (codes "repair")
+
 -- the program, which has a version and has to be given a command; without any argument, its error has the text of help
 abbrev pub shamir_top : Shape
 shamir_top = record (new_app (codes "shamir")).top {
@@ -127,9 +136,9 @@ shamir_top = record (new_app (codes "shamir")).top {
 
 -- the program with its commands
 unfoldable pub shamir_app : App
-shamir_app = with_subcommand (with_subcommand (with_subcommand (with_subcommand (with_subcommand
+shamir_app = with_subcommand (with_subcommand (with_subcommand (with_subcommand (with_subcommand (with_subcommand
     (with_subcommand (record { top = shamir_top; subs = [] }) show_app.top) create_app.top)
-    recover_app.top) drill_app.top) status_app.top) reissue_app.top
+    recover_app.top) drill_app.top) status_app.top) reissue_app.top) repair_app.top
 
 -- its commands, built
 abbrev pub commands : List Shape
@@ -139,14 +148,11 @@ commands = (built shamir_app).subs
 abbrev pub flag_text : Bool → Text
 flag_text said = if said then codes "true" else codes "false"
 
--- the form of a secret is its fingerprint
-abbrev pub is_fingerprint : SecretForm → Bool
-is_fingerprint Digits = false
-is_fingerprint Fingerprint = true
-
 -- the form in which a secret is written: its fingerprint if the flag is given, and otherwise its digits
 abbrev pub IsFormSaid : List Row → SecretForm → Type 0
-IsFormSaid rows form = one_of (codes "fingerprint") rows ≡ Some (flag_text (is_fingerprint form))
+IsFormSaid rows Digits = one_of (codes "fingerprint") rows ≡ Some (flag_text false)
+IsFormSaid rows Fingerprint = one_of (codes "fingerprint") rows ≡ Some (flag_text true)
+IsFormSaid rows (Expected noted) = ⊥
 
 -- the text that is found for an id, or the empty text if none is found
 abbrev pub text_or_empty : Text → List Row → Text
@@ -170,16 +176,18 @@ abbrev pub Gives : Text → List Row → Job → Type 0
 Gives name rows Show = name ≡ codes "show"
 Gives name rows (Create plan secret passphrase exponent extendable) = (name ≡ codes "create")
     × GivesCreate rows plan.now secret.now passphrase.now exponent extendable
-Gives name rows (Recover passphrase form) =
+Gives name rows (Recover passphrase form expected) =
     (name ≡ codes "recover") × (passphrase.now ≡ text_or_empty (codes "passphrase") rows) × IsFormSaid rows form
-Gives name rows (Drill passphrase after limit form) =
+    × (text_in expected ≡ first_of (codes "expect") rows)
+Gives name rows (Drill passphrase after limit form expected) =
     (name ≡ codes "drill") × (passphrase.now ≡ text_or_empty (codes "passphrase") rows)
     × (text_in after ≡ first_of (codes "after") rows)
-    × HasNumber (codes "limit") rows limit × IsFormSaid rows form
+    × HasNumber (codes "limit") rows limit × IsFormSaid rows form × (text_in expected ≡ first_of (codes "expect") rows)
 Gives name rows Status = name ≡ codes "status"
 Gives name rows (Reissue plan names) = (name ≡ codes "reissue")
     × (first_of (codes "plan") rows ≡ Some plan.now)
     × (first_of (codes "names") rows ≡ Some names.now)
+Gives name rows Repair = name ≡ codes "repair"
 
 -- what is found names these files for values
 pub record NamesFiles (rows : List Row) (files : ValueFiles) : Type 0 where
@@ -203,11 +211,19 @@ HasTwoSecrets rows = IsGiven (codes "master-secret") rows × IsGiven (codes "mas
 abbrev pub HasTwoPassphrases : List Row → Type 0
 HasTwoPassphrases rows = IsGiven (codes "passphrase") rows × IsGiven (codes "passphrase-file") rows
 
--- this is the first fault of the values of the command of this name: one of the secret comes before one of the passphrase
+-- a drill is asked both to print fingerprints and to compare with one
+abbrev pub HasTwoForms : Text → List Row → Type 0
+HasTwoForms name rows =
+    (name ≡ codes "drill") × IsGiven (codes "expect") rows × (first_of (codes "fingerprint") rows ≡ Some (flag_text true))
+
+-- this is the first fault of the values of the command of this name: one of the secret comes before one of the passphrase, and
+-- this one before one of the form
 abbrev pub HasBadValues : Text → List Row → BadValues → Type 0
 HasBadValues name rows NoSecret = LacksSecret name rows
 HasBadValues name rows TwoSecrets = HasTwoSecrets rows
 HasBadValues name rows TwoPassphrases = (LacksSecret name rows → ⊥) × (HasTwoSecrets rows → ⊥) × HasTwoPassphrases rows
+HasBadValues name rows TwoForms =
+    (LacksSecret name rows → ⊥) × (HasTwoSecrets rows → ⊥) × (HasTwoPassphrases rows → ⊥) × HasTwoForms name rows
 
 -- the words give the command with its values and the files of such, by the definition of a simple command, and its values are sound
 abbrev pub GivesCall : List Text → Call → Type 0
@@ -223,7 +239,7 @@ GivesBadValues words bad = (name : Text) × (rows : List Row)
 -- the numbers among a job's values are in their ranges
 abbrev pub IsInRange : Job → Type 0
 IsInRange (Create plan secret passphrase exponent extendable) = exponent < 2 ^ exponent_bits
-IsInRange (Drill passphrase after limit form) = 1 ≤ limit
+IsInRange (Drill passphrase after limit form expected) = 1 ≤ limit
 IsInRange job = Unit {0}
 
 -- the other job has the values of the first, whose texts may be lent from elsewhere
@@ -231,11 +247,13 @@ abbrev pub HaveSameValues : Job → Job → Type 0
 HaveSameValues Show other = other ≡ Show
 HaveSameValues (Create plan secret passphrase exponent extendable) other = (p s w : Bor Text)
     × (other ≡ Create p s w exponent extendable) × (plan.now ≡ p.now) × (secret.now ≡ s.now) × (passphrase.now ≡ w.now)
-HaveSameValues (Recover passphrase form) other = (w : Bor Text) × (other ≡ Recover w form) × (passphrase.now ≡ w.now)
-HaveSameValues (Drill passphrase after limit form) other = (w : Bor Text) × (a : Option (Bor Text))
-    × (other ≡ Drill w a limit form) × (passphrase.now ≡ w.now) × (text_in after ≡ text_in a)
+HaveSameValues (Recover passphrase form expected) other = (w : Bor Text) × (e : Option (Bor Text))
+    × (other ≡ Recover w form e) × (passphrase.now ≡ w.now) × (text_in expected ≡ text_in e)
+HaveSameValues (Drill passphrase after limit form expected) other = (w : Bor Text) × (a e : Option (Bor Text))
+    × (other ≡ Drill w a limit form e) × (passphrase.now ≡ w.now) × (text_in after ≡ text_in a) × (text_in expected ≡ text_in e)
 HaveSameValues Status other = other ≡ Status
 HaveSameValues (Reissue plan names) other = (p n : Bor Text) × (other ≡ Reissue p n) × (plan.now ≡ p.now) × (names.now ≡ n.now)
+HaveSameValues Repair other = other ≡ Repair
 
 -- the calls are of one command, with the same values, and name the same files
 pub record AreSameCalls (call other : Call) : Type 0 where

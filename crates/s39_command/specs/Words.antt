@@ -5,34 +5,64 @@ use Rattle.clap.specs.Lexer.{without_minus}
 use Rattle.clap.specs.Words.{IsSignedIn, Text, takes}
 use Rattle.s39_clap.specs.Options.{AreOptionWords, HasNoDash}
 use Rattle.s39_kdf.specs.declared.secret_form.SecretForm.{SecretForm}
-use Rattle.s39_kdf.specs.declared.secret_form.SecretForm.TheVariants.{Digits, Fingerprint}
+use Rattle.s39_kdf.specs.declared.secret_form.SecretForm.TheVariants.{Digits, Fingerprint, Expected}
 use Rattle.s39_command.specs.declared.command.Call.{Call}
 use Rattle.s39_command.specs.Command.{AreSameCalls, GivesCall, shamir_app}
 
--- the words that ask for a secret in this form: none for its digits, and `--fingerprint` for its fingerprint
-abbrev pub form_words : SecretForm → List Text
-form_words Digits = []
-form_words Fingerprint = codes "--fingerprint" ∷ []
+-- these words ask for a secret in this form: none for its digits, and `--fingerprint` for its fingerprint
+abbrev pub AskFor : SecretForm → List Text → Type 0
+AskFor Digits words = words ≡ []
+AskFor Fingerprint words = words ≡ codes "--fingerprint" ∷ []
+AskFor (Expected noted) words = ⊥
 
 -- These are the words of a drill: `shamir drill --passphrase P --after Q --limit N`. If fingerprints are asked for, the word for
 -- that comes after `drill`. The first word is any name of the program, and each option is one word or two.
 pub record AreDrillWords (form : SecretForm) (passphrase after limit : Text) (words : List Text) : Type 0 where
   pub program : Text
+  pub form_words : List Text
   pub passphrase_words : List Text
   pub after_words : List Text
   pub limit_words : List Text
+  pub form_asked : AskFor form form_words
   pub passphrase_given : AreOptionWords (codes "passphrase") passphrase passphrase_words
   pub after_given : AreOptionWords (codes "after") after after_words
   pub limit_given : AreOptionWords (codes "limit") limit limit_words
-  pub words_are : words ≡ program ∷ codes "drill" ∷ (form_words form ++ passphrase_words ++ after_words ++ limit_words)
+  pub words_are : words ≡ program ∷ codes "drill" ∷ (form_words ++ passphrase_words ++ after_words ++ limit_words)
+
+-- These are the words of a drill that expects a fingerprint: `shamir drill --expect F --passphrase P --after Q --limit N`.
+pub record AreExpectingDrillWords (expected passphrase after limit : Text) (words : List Text) : Type 0 where
+  pub program : Text
+  pub expect_words : List Text
+  pub passphrase_words : List Text
+  pub after_words : List Text
+  pub limit_words : List Text
+  pub expected_given : AreOptionWords (codes "expect") expected expect_words
+  pub passphrase_given : AreOptionWords (codes "passphrase") passphrase passphrase_words
+  pub after_given : AreOptionWords (codes "after") after after_words
+  pub limit_given : AreOptionWords (codes "limit") limit limit_words
+  pub words_are : words ≡ program ∷ codes "drill" ∷ (expect_words ++ passphrase_words ++ after_words ++ limit_words)
 
 -- These are the words of a recovery: `shamir recover --passphrase P`. If the fingerprint is asked for, the word for that comes
 -- after `recover`.
 pub record AreRecoverWords (form : SecretForm) (passphrase : Text) (words : List Text) : Type 0 where
   pub program : Text
+  pub form_words : List Text
   pub passphrase_words : List Text
+  pub form_asked : AskFor form form_words
   pub passphrase_given : AreOptionWords (codes "passphrase") passphrase passphrase_words
-  pub words_are : words ≡ program ∷ codes "recover" ∷ (form_words form ++ passphrase_words)
+  pub words_are : words ≡ program ∷ codes "recover" ∷ (form_words ++ passphrase_words)
+
+-- These are the words of a recovery that expects a fingerprint: `shamir recover --expect F --passphrase P`, with the word for the
+-- form, if there is one, after `recover`.
+pub record AreExpectingRecoverWords (form : SecretForm) (expected passphrase : Text) (words : List Text) : Type 0 where
+  pub program : Text
+  pub form_words : List Text
+  pub expect_words : List Text
+  pub passphrase_words : List Text
+  pub form_asked : AskFor form form_words
+  pub expected_given : AreOptionWords (codes "expect") expected expect_words
+  pub passphrase_given : AreOptionWords (codes "passphrase") passphrase passphrase_words
+  pub words_are : words ≡ program ∷ codes "recover" ∷ (form_words ++ expect_words ++ passphrase_words)
 
 -- these are the words of a creation: `shamir create --master-secret HEX --passphrase P PLAN`; a plan begins with no dash
 pub record AreCreateWords (plan secret passphrase : Text) (words : List Text) : Type 0 where
@@ -76,9 +106,19 @@ abbrev pub DrillWordsAreTaken : Type 0
 DrillWordsAreTaken = (form : SecretForm) (passphrase after limit : Text) (words : List Text) → AreDrillWords form passphrase after limit words → IsLimit limit
     → takes shamir_app words ≡ true
 
+-- and those of one that expects a fingerprint
+abbrev pub ExpectingDrillWordsAreTaken : Type 0
+ExpectingDrillWordsAreTaken = (expected passphrase after limit : Text) (words : List Text) → AreExpectingDrillWords expected passphrase after limit words
+    → IsLimit limit → takes shamir_app words ≡ true
+
 -- and those of a recovery
 abbrev pub RecoverWordsAreTaken : Type 0
 RecoverWordsAreTaken = (form : SecretForm) (passphrase : Text) (words : List Text) → AreRecoverWords form passphrase words → takes shamir_app words ≡ true
+
+-- and those of one that expects a fingerprint
+abbrev pub ExpectingRecoverWordsAreTaken : Type 0
+ExpectingRecoverWordsAreTaken = (form : SecretForm) (expected passphrase : Text) (words : List Text)
+    → AreExpectingRecoverWords form expected passphrase words → takes shamir_app words ≡ true
 
 -- and those of a creation
 abbrev pub CreateWordsAreTaken : Type 0

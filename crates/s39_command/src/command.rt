@@ -1,5 +1,5 @@
 //! The command line: which command its words give, with which values.
-ghost use Rattle.std.specs.Prelude.{◌≡◌, ◌⊎◌, [], codes, None, Some, true, map, IfOk, IfErr, IfNone, IfSome, IsFalse, IsTrue, OnOk};
+ghost use Rattle.std.specs.Prelude.{◌≡◌, ◌≢◌, ◌⊎◌, [], codes, None, Some, true, map, IfOk, IfErr, IfNone, IfSome, IsFalse, IsTrue, OnOk};
 ghost use Rattle.clap.specs.Words.{fault_of, first_of, found_of, kind_of, one_text, rows_of, takes};
 ghost use Rattle.s39_clap.specs.Found.{EntersOne};
 ghost use Rattle.s39_command.specs.Command.{shamir_app, commands, text_or_empty};
@@ -37,6 +37,8 @@ pub enum Job<'a> {
         passphrase: &'a [u8],
         /// The form in which the secret is written: its fingerprint if `--fingerprint` was given, and otherwise its digits.
         form: SecretForm,
+        /// The text of the fingerprint that the secret is expected to have, if one was given.
+        expected: Option<&'a str>,
     },
     /// Tries the quorums of the mnemonics on standard input.
     Drill {
@@ -48,6 +50,9 @@ pub enum Job<'a> {
         limit: u32,
         /// The form in which each secret is written: its fingerprint if `--fingerprint` was given, and otherwise its digits.
         form: SecretForm,
+        /// The text of the fingerprint that each secret is expected to have, if one was given. Each line then says whether
+        /// the secret has it, and the form isn't used.
+        expected: Option<&'a str>,
     },
     /// Tells which members of each group are on standard input, and whether they are enough.
     Status,
@@ -58,6 +63,8 @@ pub enum Job<'a> {
         /// The text of the names of the mnemonics.
         names: &'a str,
     },
+    /// Finds the mnemonics that fit the lines on standard input, in which words can't be read.
+    Repair,
 }
 
 /// The names of the files that hold those values of a command that its words don't contain. The name `-` stands for the first
@@ -88,6 +95,8 @@ pub enum BadValues {
     TwoSecrets,
     /// Both a passphrase and a file of it are given.
     TwoPassphrases,
+    /// A drill is asked both to print fingerprints and to compare with one.
+    TwoForms,
 }
 
 impl BadValues {
@@ -106,6 +115,11 @@ For more information, try '--help'.
 ",
             BadValues::TwoPassphrases =>
                 "error: --passphrase <TEXT> and --passphrase-file <FILE> can't be given together
+
+For more information, try '--help'.
+",
+            BadValues::TwoForms =>
+                "error: --expect <FINGERPRINT> and --fingerprint can't be given together
 
 For more information, try '--help'.
 ",
@@ -165,6 +179,19 @@ fn is_given(options: &ArgMatches, id: &str) -> bool
     options.get_str(id).is_some()
 }
 
+/// Whether the flag `--fingerprint` was found.
+fn asks_for_fingerprints(options: &ArgMatches) -> bool
+    ensures said { IsTrue result → first_of (codes "fingerprint") (rows_of (found_of options.now))
+        ≡ Some (codes "true") }
+    ensures unsaid { IsFalse result → first_of (codes "fingerprint") (rows_of (found_of options.now))
+        ≢ Some (codes "true") }
+{
+    match options.get_str("fingerprint") {
+        Some(text) => text == "true",
+        None => false,
+    }
+}
+
 /// The files of values that were found.
 fn files_of<'a>(options: &ArgMatches<'a>) -> ValueFiles<'a>
     ensures { NamesFiles (rows_of (found_of options.now)) result }
@@ -185,6 +212,8 @@ fn bad_values(name: &str, options: &ArgMatches) -> Option<BadValues>
     let has_secret_file = is_given(options, "master-secret-file");
     let has_passphrase = is_given(options, "passphrase");
     let has_passphrase_file = is_given(options, "passphrase-file");
+    let has_expected = is_given(options, "expect");
+    let has_fingerprint = asks_for_fingerprints(options);
     if name == "create" && !has_secret && !has_secret_file {
         return Some(BadValues::NoSecret);
     }
@@ -193,6 +222,9 @@ fn bad_values(name: &str, options: &ArgMatches) -> Option<BadValues>
     }
     if has_passphrase && has_passphrase_file {
         return Some(BadValues::TwoPassphrases);
+    }
+    if name == "drill" && has_expected && has_fingerprint {
+        return Some(BadValues::TwoForms);
     }
     None
 }
@@ -237,6 +269,7 @@ fn recover_job<'a>(options: &ArgMatches<'a>) -> Job<'a>
     Job::Recover {
         passphrase: text_of(options, "passphrase"),
         form: form_of(options),
+        expected: options.get_str("expect"),
     }
 }
 
@@ -247,11 +280,13 @@ fn drill_job<'a>(options: &ArgMatches<'a>) -> Job<'a>
     ensures gives { Gives (codes "drill") (rows_of (found_of options.now)) result }
     ensures range { IsInRange result }
 {
+    let expected = options.get_str("expect");
     Job::Drill {
         passphrase: text_of(options, "passphrase"),
         after: options.get_str("after"),
         limit: options.get_one("limit").unwrap(),
         form: form_of(options),
+        expected,
     }
 }
 
@@ -282,6 +317,7 @@ fn job_of<'a>(name: &str, options: &ArgMatches<'a>) -> Job<'a>
         "drill" => drill_job(options),
         "status" => Job::Status,
         "reissue" => reissue_job(options),
+        "repair" => Job::Repair,
         _ => unreachable!(),
     }
 }

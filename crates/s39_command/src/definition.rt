@@ -4,8 +4,8 @@ ghost use Rattle.clap.specs.Words.{app_of, new_app, rule_of, with_rule, with_sub
 ghost use Rattle.clap.specs.declared.builder.Command.TheViews.{out-Command};
 ghost use Rattle.s39_command.specs.Command.{flag_rule, option_rule, plan_rule, secret_rule, secret_file_rule, exponent_rule, extendable_rule};
 ghost use Rattle.s39_command.specs.Command.{passphrase_rule, passphrase_file_rule};
-ghost use Rattle.s39_command.specs.Command.{after_rule, fingerprint_rule, limit_rule, names_rule};
-ghost use Rattle.s39_command.specs.Command.{show_app, create_app, recover_app, drill_app, status_app, reissue_app, shamir_top, shamir_app};
+ghost use Rattle.s39_command.specs.Command.{after_rule, expect_rule, fingerprint_rule, limit_rule, names_rule};
+ghost use Rattle.s39_command.specs.Command.{show_app, create_app, recover_app, drill_app, status_app, reissue_app, repair_app, shamir_top, shamir_app};
 
 use clap::builder::ValueParser;
 use clap::{Arg, ArgAction, Command};
@@ -164,6 +164,28 @@ fn fingerprint<'a>(alloc: Global) -> Arg<'a>
     )
 }
 
+/// The option of a fingerprint that is expected, with this help.
+fn expect<'a>(alloc: Global, help: &'a str) -> Arg<'a>
+    ensures rule { rule_of result ≡ expect_rule }
+    ensures local { result.global ≡ false }
+{
+    option(alloc, "expect", "FINGERPRINT").help(help)
+}
+
+/// The command with the options of the form in which it tells secrets, and this help on an expected fingerprint.
+fn with_form<'a>(
+    alloc: Global,
+    command: Command<'a>,
+    help: &'a str,
+) -> Result<Command<'a>, AllocError>
+    requires { (out-Command command).has_globals ≡ false }
+    ensures app { IfOk result (λ with_form. app_of with_form
+        ≡ with_rule (with_rule (app_of command.entry) fingerprint_rule) expect_rule) }
+    ensures local { IfOk result (λ with_form. (out-Command with_form).has_globals ≡ false) }
+{
+    command.arg(fingerprint(alloc))?.arg(expect(alloc, help))
+}
+
 fn recover<'a>(alloc: Global) -> Result<Command<'a>, AllocError>
     ensures app { IfOk result (λ command. app_of command ≡ recover_app) }
     ensures local { IfOk result (λ command. (out-Command command).has_globals ≡ false) }
@@ -175,7 +197,12 @@ fn recover<'a>(alloc: Global) -> Result<Command<'a>, AllocError>
 
 Example: shamir recover --fingerprint < mnemonics.txt",
         );
-    with_passphrase(alloc, command, PASSPHRASE_FILE)?.arg(fingerprint(alloc))
+    let command = with_passphrase(alloc, command, PASSPHRASE_FILE)?;
+    with_form(
+        alloc,
+        command,
+        "Print nothing unless the secret has this fingerprint (other users can see it)",
+    )
 }
 
 fn after<'a>(alloc: Global) -> Arg<'a>
@@ -208,10 +235,14 @@ fn drill<'a>(alloc: Global) -> Result<Command<'a>, AllocError>
 
 Example: shamir drill --fingerprint < mnemonics.txt",
         );
-    with_passphrase(alloc, command, PASSPHRASE_FILE)?
+    let command = with_passphrase(alloc, command, PASSPHRASE_FILE)?
         .arg(after(alloc))?
-        .arg(limit(alloc))?
-        .arg(fingerprint(alloc))
+        .arg(limit(alloc))?;
+    with_form(
+        alloc,
+        command,
+        "Print whether each secret has this fingerprint instead of the secret (other users can see it)",
+    )
 }
 
 fn show<'a>(alloc: Global) -> Command<'a>
@@ -267,6 +298,21 @@ Example: shamir reissue 2of3 0.1 < mnemonics.txt",
         .arg(names(alloc))
 }
 
+fn repair<'a>(alloc: Global) -> Command<'a>
+    ensures app { app_of result ≡ repair_app }
+    ensures local { (out-Command result).has_globals ≡ false }
+{
+    Command::new(alloc, "repair")
+        .about(
+            "Find the mnemonics that fit each line on standard input, in which up to three words can't be read",
+        )
+        .after_help(
+            "Standard input has one mnemonic in each line. For a word that can't be read, type its first letters and ?, as em?, or ? alone. At a terminal, end with Ctrl-D on an empty line.
+
+Example: shamir repair < damaged.txt",
+        )
+}
+
 /// The program without its commands.
 fn top<'a>(alloc: Global) -> Command<'a>
     ensures app { app_of result ≡ record { top = shamir_top; subs = [] } }
@@ -293,15 +339,16 @@ fn with_recovery<'a>(alloc: Global, command: Command<'a>) -> Result<Command<'a>,
         .subcommand(drill(alloc)?)
 }
 
-/// The command with `status` and `reissue`.
+/// The command with `status`, `reissue` and `repair`.
 fn with_missing<'a>(alloc: Global, command: Command<'a>) -> Result<Command<'a>, AllocError>
     requires { (out-Command command).has_globals ≡ false }
-    ensures { IfOk result (λ whole. app_of whole ≡ with_subcommand
-        (with_subcommand (app_of command.entry) status_app.top) reissue_app.top) }
+    ensures { IfOk result (λ whole. app_of whole ≡ with_subcommand (with_subcommand
+        (with_subcommand (app_of command.entry) status_app.top) reissue_app.top) repair_app.top) }
 {
     command
         .subcommand(status(alloc))?
-        .subcommand(reissue(alloc)?)
+        .subcommand(reissue(alloc)?)?
+        .subcommand(repair(alloc))
 }
 
 /// The program with its commands.

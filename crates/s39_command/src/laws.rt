@@ -1,20 +1,25 @@
 //! Facts about the definitions of the command line. Each is the contract of a function that does nothing.
-ghost use Rattle.std.specs.Prelude.{◌≡◌, [], ◌∷◌, codes};
+ghost use Rattle.std.specs.Prelude.{◌≡◌, [], ◌∷◌, codes, Some, None};
 ghost use Rattle.s39_kdf.specs.declared.secret_form.SecretForm.TheVariants.{Digits, Fingerprint};
-ghost use Rattle.s39_command.specs.Words.{ApartDrill, AreCreateWords, AreDrillWords, AreRecoverWords};
+ghost use Rattle.s39_command.specs.Words.{ApartDrill, AreCreateWords, AreDrillWords, AreExpectingDrillWords, AreExpectingRecoverWords, AreRecoverWords};
+ghost use Rattle.s39_command.specs.FewerWords.{AreFewCreateWords, AreFewDrillWords, AreFewRecoverWords, AreReissueWords};
+ghost use Rattle.s39_command.specs.FewerWords.{CreateWordsAreFew, DrillWordsAreFew, FewCreateWordsAreTaken, FewDrillWordsAreTaken};
+ghost use Rattle.s39_command.specs.FewerWords.{FewRecoverWordsAreTaken, RecoverWordsAreFew, ReissueWordsAreTaken};
 ghost use Rattle.s39_command.specs.Words.{IsLimit, JoinedDrill, drill_apart, limit_of};
-ghost use Rattle.s39_command.specs.Words.{CreateWordsAreTaken, DrillWordsAreTaken, OneCall, RecoverWordsAreTaken};
+ghost use Rattle.s39_command.specs.Words.{CreateWordsAreTaken, DrillWordsAreTaken, ExpectingDrillWordsAreTaken, ExpectingRecoverWordsAreTaken, OneCall, RecoverWordsAreTaken};
 
 /// The definition of the command line takes the words of a drill, of a recovery and of a creation, whatever their texts are,
 /// if the limit is a number in its range and the plan doesn't begin with a dash.
 pub fn words_are_taken()
     ensures drill { DrillWordsAreTaken }
+    ensures expecting_drill { ExpectingDrillWordsAreTaken }
     ensures recover { RecoverWordsAreTaken }
+    ensures expecting_recover { ExpectingRecoverWordsAreTaken }
     ensures create { CreateWordsAreTaken }
 {}
 
 /// Each option of a drill may be one word, as in `--after=Q`, or two words if no value begins with a dash. There are words of a
-/// drill, of a recovery and of a creation. There are also texts that write a limit.
+/// drill, of a recovery and of a creation, also with a fingerprint that is expected. There are also texts that write a limit.
 pub fn there_are_such_words()
     ensures joined { JoinedDrill }
     ensures apart { ApartDrill }
@@ -27,6 +32,12 @@ pub fn there_are_such_words()
         ∷ codes "--after=0.0" ∷ codes "--limit=5" ∷ []) }
     ensures fingerprint { AreRecoverWords Fingerprint (codes "TREZOR")
         (codes "shamir" ∷ codes "recover" ∷ codes "--fingerprint" ∷ codes "--passphrase"
+        ∷ codes "TREZOR" ∷ []) }
+    ensures expecting_drill { AreExpectingDrillWords (codes "DF41d8fe") (codes "TREZOR") (codes "0.0")
+        (codes "5") (codes "shamir" ∷ codes "drill" ∷ codes "--expect" ∷ codes "DF41d8fe"
+        ∷ codes "--passphrase=TREZOR" ∷ codes "--after=0.0" ∷ codes "--limit=5" ∷ []) }
+    ensures expecting_recover { AreExpectingRecoverWords Digits (codes "DF41d8fe") (codes "TREZOR")
+        (codes "shamir" ∷ codes "recover" ∷ codes "--expect=DF41d8fe" ∷ codes "--passphrase"
         ∷ codes "TREZOR" ∷ []) }
     ensures create { AreCreateWords (codes "2of3") (codes "00112233445566778899aabbccddeeff")
         (codes "TREZOR") (codes "shamir" ∷ codes "create" ∷ codes "--master-secret"
@@ -41,6 +52,33 @@ pub fn there_are_such_limits()
     ensures above_a_thousand { IsLimit (codes "1001") }
     ensures greatest { IsLimit (codes "4294967295") }
     ensures value { limit_of (codes "4294967295") ≡ 4294967295 }
+{}
+
+/// The definition takes the words of a drill, of a recovery and of a creation with each option there or not, whatever their
+/// texts are, if a limit and an exponent are numbers in their ranges. It takes the words of a reissue. A plan and names don't begin with
+/// a dash.
+pub fn fewer_words_are_taken()
+    ensures drill { FewDrillWordsAreTaken }
+    ensures recover { FewRecoverWordsAreTaken }
+    ensures create { FewCreateWordsAreTaken }
+    ensures reissue { ReissueWordsAreTaken }
+{}
+
+/// Words with every option are among these. There are words with none, and words of a reissue.
+pub fn there_are_fewer_words()
+    ensures every_option_of_a_drill { DrillWordsAreFew }
+    ensures every_option_of_a_recovery { RecoverWordsAreFew }
+    ensures every_option_of_a_creation { CreateWordsAreFew }
+    ensures drill { AreFewDrillWords Digits None None None (codes "shamir" ∷ codes "drill" ∷ []) }
+    ensures fingerprints { AreFewDrillWords Fingerprint None None (Some (codes "5"))
+        (codes "shamir" ∷ codes "drill" ∷ codes "--fingerprint" ∷ codes "--limit=5" ∷ []) }
+    ensures recover { AreFewRecoverWords Digits None (codes "shamir" ∷ codes "recover" ∷ []) }
+    ensures create { AreFewCreateWords (codes "2of3") (codes "00112233445566778899aabbccddeeff") None
+        (Some (codes "1")) (codes "shamir" ∷ codes "create" ∷ codes "--master-secret=00112233445566778899aabbccddeeff"
+        ∷ codes "--exponent" ∷ codes "1" ∷ codes "2of3" ∷ []) }
+    ensures reissue { AreReissueWords (codes "2of3") (codes "0.2")
+        (codes "shamir" ∷ codes "reissue" ∷ codes "2of3" ∷ codes "0.2" ∷ []) }
+    ensures limit { IsLimit (codes "1000") }
 {}
 
 /// Words give one call: any two calls that they give have the same values and the same files of values.

@@ -23,7 +23,9 @@ ghost use Rattle.s39_input.specs.Slices.{Puts};
 
 pub use crate::length_laws::{backups_are_short, each_mnemonic_is_a_line, reissues_are_short};
 pub use crate::reissue_laws::{created_backups_reissue, one_reissue_output};
-pub use crate::round_trips::{every_backup_is_written, written_mnemonics_reissue};
+pub use crate::round_trips::{
+    every_backup_is_written, one_output_of_a_backup, written_mnemonics_reissue,
+};
 use s39_backup::laws::{created_shares_are_shares, one_creation};
 use s39_kdf::laws::passphrases_are_printable_or_not;
 use s39_words::laws::{every_share_has_a_printed_form, one_printed_form};

@@ -7,7 +7,7 @@ ghost use Rattle.s39_words.specs.declared.ShareFields.{ShareFields};
 ghost use Rattle.s39_set.specs.Names.{Names};
 ghost use Rattle.s39_backup.specs.Plan.{IsPlan};
 ghost use Rattle.s39_input.specs.declared.fault.Fault.{Fault};
-ghost use Rattle.s39_input.specs.Input.{whole, lines_of};
+ghost use Rattle.s39_input.specs.Input.{Input, whole, lines_of};
 ghost use Rattle.s39_input.specs.Lines.{Holds};
 ghost use Rattle.s39_input.specs.Accepted.{IsReadAs};
 ghost use Rattle.s39_backup.specs.declared.plan.Members.{Members};
@@ -15,14 +15,17 @@ ghost use Rattle.s39_backup.specs.Created.{Asked, IsCreation, needed_by};
 ghost use Rattle.s39_backup.specs.LargerPlan.{HaveMoreMembers};
 ghost use Rattle.s39_backup.specs.Plan.{IsNameOfPlan};
 ghost use Rattle.s39_input.specs.Create.{ArePrintedLines, IsCreateOutput};
-ghost use Rattle.s39_creating.specs.Reissue.{IsReissueOutput, WritesThoseOrCause};
+ghost use Rattle.s39_creating.specs.Reissue.{IsReissueOutput, WritesThoseOrCause, ReissuesCreated};
 ghost use Rattle.s39_input.specs.OfBackup.{HoldsMnemonicsOf};
 
 use crate::laws::created_backups_reissue;
 use s39_backup::laws::{
     created_shares_are_shares, every_backup_can_be_created, larger_plans_keep_the_shares,
+    shares_of_a_backup_agree,
 };
-use s39_words::laws::{every_share_has_a_printed_form, printed_forms};
+use s39_input::laws::one_set;
+use s39_set::laws::shares_that_agree_join;
+use s39_words::laws::{every_share_has_a_printed_form, one_printed_form, printed_forms};
 
 /// `create` writes a text for each plan, printable passphrase, secret of an accepted length and options, with exactly
 /// as many random bytes as they take.
@@ -83,4 +86,22 @@ pub fn written_mnemonics_reissue()
     printed_forms();
     larger_plans_keep_the_shares();
     created_backups_reissue();
+}
+
+/// What `reissue` gives for mnemonics of a created backup, with its plan and names of it, is at most one text and one
+/// answer.
+pub fn one_output_of_a_backup()
+    ensures reissue { (group_threshold : ℕ) (groups : List Members) (names : Names)
+        (passphrase secret : List ℕ) (input : Input) (text other : List ℕ)
+        (answer another : Result (Unit {0}) Fault) (mnemonics : HoldsMnemonicsOf passphrase secret input)
+        → mnemonics.group_threshold ≡ group_threshold → mnemonics.groups ≡ groups
+        → All (IsNameOfPlan groups) names
+        → ReissuesCreated group_threshold groups names input text answer
+        → ReissuesCreated group_threshold groups names input other another
+        → (text ≡ other) × (answer ≡ another) }
+{
+    one_set();
+    shares_of_a_backup_agree();
+    shares_that_agree_join();
+    one_printed_form();
 }

@@ -1,4 +1,5 @@
 -- The command `drill`.
+pub mod Counts
 pub mod Drilling
 pub mod LinesOfDrills
 pub mod Filling

@@ -1,5 +1,5 @@
 -- The output of `drill`.
-use Rattle.std.specs.Prelude.{◌≡◌, ◌↔◌, ℕ, suc, List, [], ◌∷◌, ◌++◌, All, codes, map, filter, length, is_err, Option, Some, None, IfSome, Result, Ok, Err}
+use Rattle.std.specs.Prelude.{◌≡◌, ◌↔◌, ℕ, suc, List, [], ◌∷◌, ◌++◌, All, codes, map, filter, length, if◌then◌else◌, Bool, true, Option, Some, None, IfSome, Result, Ok, Err}
 use Rattle.std.specs.Fmt.{decimal}
 use Rattle.std.specs.List.{flat_map}
 use Rattle.arrayvec.specs.ArrayVec.{ArrayVec}
@@ -26,7 +26,7 @@ use Rattle.s39_input.specs.Input.{Input, ended_line}
 use Rattle.s39_input.specs.Fault.{fault_of}
 use Rattle.s39_input.specs.Accepted.{IsReadAs, IsCheckedSet}
 use Rattle.s39_input.specs.OfBackup.{HoldsMnemonicsOf}
-use Rattle.s39_input.specs.SecretForm.{secret_in}
+use Rattle.s39_input.specs.SecretForm.{is_unexpected, secret_in}
 use Rattle.s39_input.specs.Steps.{Then, nothing_for}
 
 -- a quorum that is listed, and its outcome
@@ -38,7 +38,7 @@ abbrev pub mismatch_text : Mismatch → List ℕ
 mismatch_text (InGroup group) = codes "digest mismatch in group " ++ decimal group
 mismatch_text OfGroups = codes "digest mismatch of groups"
 
--- an outcome as it is written: the secret in this form, or which digest doesn't match
+-- an outcome as it is written: the secret in this form, or whether it is the expected one, or which digest doesn't match
 abbrev pub outcome_text : SecretForm → Result (List ℕ) Mismatch → List ℕ
 outcome_text form (Ok secret) = secret_in form secret
 outcome_text form (Err mismatch) = mismatch_text mismatch
@@ -52,9 +52,14 @@ abbrev pub last_line : Option Names → List ℕ
 last_line None = ended_line (codes "end")
 last_line (Some names) = ended_line (codes "more after " ++ quorum_text names)
 
--- how many of these outcomes are mismatches
-abbrev pub mismatches_in : List Listed → ℕ
-mismatches_in lines = length (filter (λ line. is_err line.1) lines)
+-- an outcome counts as a mismatch: a digest doesn't match, or the secret has another fingerprint than the expected one
+abbrev pub is_mismatch : SecretForm → Result (List ℕ) Mismatch → Bool
+is_mismatch form (Ok secret) = is_unexpected form secret
+is_mismatch form (Err _) = true
+
+-- how many of these outcomes count as mismatches
+abbrev pub mismatches_in : SecretForm → List Listed → ℕ
+mismatches_in form lines = length (filter (λ line. is_mismatch form line.1) lines)
 
 -- the last of these quorums, or what was reached before if there are none
 abbrev pub last_reached : Option Names → List Names → Option Names
@@ -67,7 +72,7 @@ GoesOn set reached None = HasNoQuorumAfter set reached
 GoesOn set reached (Some names) = (reached ≡ Some names) × ¬ HasNoQuorumAfter set reached
 
 -- The drill of a set: the lines of the quorums after a given one, or of all quorums, in order, at most as many as the
--- limit, each with its outcome; whether more quorums remain; and how many of the outcomes are mismatches.
+-- limit, each with its outcome; whether more quorums remain; and how many of the outcomes count as mismatches.
 pub record IsDrill (form : SecretForm) (set : List ShareFields) (passphrase : List ℕ) (after : Option Names) (limit : ℕ)
     (text : List ℕ) (more : Option Names) (mismatches : ℕ) : Type 0 where
   pub lines : List Listed
@@ -75,7 +80,7 @@ pub record IsDrill (form : SecretForm) (set : List ShareFields) (passphrase : Li
   pub outcomes : All (λ line. IsOutcome set line.0 passphrase line.1) lines
   pub text_is : text ≡ flat_map (quorum_line form) lines
   pub goes_on : GoesOn set (last_reached after (map (λ line. line.0) lines)) more
-  pub mismatches_are : mismatches ≡ mismatches_in lines
+  pub mismatches_are : mismatches ≡ mismatches_in form lines
 
 -- why a set isn't drilled: it has no quorum, or the given names aren't a quorum of it
 abbrev pub IsUndrilled : List ShareFields → Option Names → Undrilled → Type 0
@@ -121,12 +126,18 @@ pub record ListsSecret (form : SecretForm) (set : List ShareFields) (secret : Li
   pub goes_on : GoesOn set (last_reached after listed) more
   pub text_is : text ≡ flat_map (λ names. quorum_line form (names, Ok secret)) listed ++ last_line more
 
--- If the set has a quorum, and the given names are one, exactly the quorums are listed, each with that secret, and the
--- answer is no mismatch. Otherwise nothing is written, and the answer is which of these conditions fails.
+-- how many of the listed quorums count as mismatches, if all give this secret: each if another fingerprint is expected,
+-- and else none
+abbrev pub unexpected_in : SecretForm → List ℕ → List Names → ℕ
+unexpected_in form secret listed = if is_unexpected form secret then length listed else 0
+
+-- If the set has a quorum, and the given names are one, exactly the quorums are listed, each with that secret. The answer
+-- is no mismatch, unless another fingerprint is expected. Otherwise nothing is written, and the answer is which of these
+-- conditions fails.
 abbrev pub ListsSecretOrCause : SecretForm → List ShareFields → List ℕ → Option Names → ℕ → List ℕ → Result Done Fault → Type 0
 ListsSecretOrCause form set secret after limit text (Ok done) =
     ((lack : SetLack) → ¬ IsLack set lack) × IfSome after (IsQuorum set)
-    × ListsSecret form set secret after limit text × (done.mismatches ≡ 0)
+    × ((lists : ListsSecret form set secret after limit text) × (done.mismatches ≡ unexpected_in form secret lists.listed))
 ListsSecretOrCause form set secret after limit text (Err fault) =
     (text ≡ []) × ((cause : Undrilled) × IsUndrilled set after cause × (fault ≡ fault_of_undrilled cause))
 
@@ -161,10 +172,10 @@ abbrev pub in_bytes : Result (ArrayVec ℕ) Mismatch → Result (List ℕ) Misma
 in_bytes (Ok secret) = Ok secret.items
 in_bytes (Err mismatch) = Err mismatch
 
--- 1 for a mismatch, else 0
-abbrev pub mismatch_in : Result (List ℕ) Mismatch → ℕ
-mismatch_in (Ok secret) = 0
-mismatch_in (Err mismatch) = 1
+-- 1 if an outcome counts as a mismatch, else 0
+abbrev pub mismatch_in : SecretForm → Result (List ℕ) Mismatch → ℕ
+mismatch_in form (Ok secret) = if is_unexpected form secret then 1 else 0
+mismatch_in form (Err mismatch) = 1
 
 -- where a drill starts: at the first quorum after the given one, or at the first of all; nowhere if none remains
 pub record StartsAt (set : List ShareFields) (after next : Option Names) : Type 0 where

@@ -67,7 +67,7 @@ pub record IsTried (form : SecretForm) (set : List ShareFields) (passphrase : Li
   pub outcome : Result (List ℕ) Mismatch
   pub is_outcome : IsOutcome set names passphrase outcome
   pub line_is : line ≡ quorum_line form (names, outcome)
-  pub mismatches_are : mismatches ≡ mismatch_in outcome
+  pub mismatches_are : mismatches ≡ mismatch_in form outcome
   pub is_next : IsNext set (Some names) next
   pub last_is : last ≡ last_line (more_after names next)
 

@@ -18,7 +18,7 @@ use crate::laws::{created_backups_drill, drill_laws};
 use s39_backup::{Memo, Mismatch, combine_quorum, params_of};
 use s39_input::{
     Counting, DeviceFailure, Fault, Line, Refusal, SecretForm, WriteFailed, checked_set,
-    push_field, push_names, push_secret, push_text, write_text,
+    is_unexpected, push_field, push_names, push_secret, push_text, write_text,
 };
 use s39_kdf::Bytes;
 use s39_set::laws::listings_join;
@@ -28,7 +28,8 @@ use std::io::{Read, Write};
 /// What a drill found.
 #[derive(Clone, Copy, Debug, PartialEq, Eq)]
 pub struct Done {
-    /// How many of the listed quorums have a digest that doesn't match.
+    /// How many of the listed quorums have a digest that doesn't match, or give a secret with another fingerprint than
+    /// the expected one.
     pub mismatches: u32,
 }
 
@@ -69,9 +70,10 @@ impl From<Undrilled> for Fault {
 /// at most `limit` quorums.
 ///
 /// The outcome is the secret that the quorum recovers with the passphrase, or its fingerprint, in lower-case
-/// hexadecimal. If a digest doesn't match, it is `digest mismatch in group G` with the lowest such group, or
-/// `digest mismatch of groups`. The last line is `end` if no greater quorum remains, and otherwise `more after ` and
-/// the last listed quorum. The function returns the number of mismatches.
+/// hexadecimal. If a fingerprint is expected, it is `as expected` or `other secret` instead. If a digest doesn't match,
+/// it is `digest mismatch in group G` with the lowest such group, or `digest mismatch of groups`. The last line is
+/// `end` if no greater quorum remains, and otherwise `more after ` and the last listed quorum. The function returns the
+/// number of mismatches, among them the secrets that aren't the expected one.
 ///
 /// Blank lines and comments are skipped. A comment starts with `#`, after any spaces, tabs and carriage returns.
 ///
@@ -185,7 +187,7 @@ fn write_drill<W: Write>(
     loop {
         let outcome = outcome_of(set, &quorum, &mut memo);
         write_text(output, quorum_line(form, &quorum, &outcome).as_slice())?;
-        mismatches += mismatch_in(&outcome);
+        mismatches += mismatch_in(form, &outcome);
         left -= 1;
         let next = following(set, &quorum, looks);
         if left == 0 || next.is_none() {
@@ -223,12 +225,12 @@ pub(crate) fn outcome_of(
     Ok(memo.secret(&encrypted))
 }
 
-/// How many mismatches an outcome is: one, or none.
-pub(crate) fn mismatch_in(outcome: &Result<Bytes, Mismatch>) -> u32
-    ensures { result ≡ mismatch_in (in_bytes outcome.now) }
+/// How many mismatches an outcome counts as: one, or none.
+pub(crate) fn mismatch_in(form: SecretForm, outcome: &Result<Bytes, Mismatch>) -> u32
+    ensures { result ≡ mismatch_in form (in_bytes outcome.now) }
 {
     match outcome {
-        Ok(_) => 0,
+        Ok(secret) => u32::from(is_unexpected(form, secret)),
         Err(_) => 1,
     }
 }
@@ -249,7 +251,7 @@ pub(crate) fn quorum_line(
     line
 }
 
-/// Appends a secret in this form, or says which digest doesn't match.
+/// Appends a secret in this form, or whether it is the expected one, or which digest doesn't match.
 fn push_outcome(line: &mut Line, form: SecretForm, outcome: &Result<Bytes, Mismatch>)
     requires room { length line.old.items + 2 * longest_secret ≤ LINE_BYTES }
     ensures text { line.new.items ≡ line.old.items ++ outcome_text form (in_bytes outcome.now) }

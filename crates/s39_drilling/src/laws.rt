@@ -130,8 +130,8 @@ pub fn some_drill_output()
 }
 
 /// For mnemonics of a created backup, an output of `drill` with the passphrase of the creation is exactly the quorums
-/// after the given one, in order, as many as the limit allows, each with the backup's secret, and no mismatch.
-/// Otherwise it is the reason why none is listed.
+/// after the given one, in order, as many as the limit allows, each with the backup's secret, and no mismatch, unless
+/// another fingerprint is expected. Otherwise it is the reason why none is listed.
 pub fn created_backups_drill()
     ensures { (form : SecretForm) (passphrase : List ℕ) (after : Option Names) (limit : ℕ) (input : Input)
         (text : List ℕ) (answer : Result Done Fault)

@@ -29,7 +29,8 @@ pub struct Listing {
     pub listed: u32,
     /// Where its last line starts: the length of the lines before it in bytes.
     pub last: usize,
-    /// How many of the listed quorums have a digest that doesn't match.
+    /// How many of the listed quorums have a digest that doesn't match, or give a secret with another fingerprint than
+    /// the expected one.
     pub mismatches: u32,
 }
 
@@ -176,7 +177,7 @@ struct Tried {
     last: Line,
     /// The quorum that comes after it.
     next: Option<Quorum>,
-    /// 1 if its outcome is a mismatch, else 0.
+    /// 1 if its outcome counts as a mismatch, else 0.
     mismatches: u32,
 }
 
@@ -204,7 +205,7 @@ fn try_quorum(
         line: quorum_line(form, quorum, &outcome),
         last: last_line(next.is_some().then_some(quorum)),
         next,
-        mismatches: mismatch_in(&outcome),
+        mismatches: mismatch_in(form, &outcome),
     }
 }
 

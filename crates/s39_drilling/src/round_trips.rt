@@ -12,7 +12,7 @@ ghost use Rattle.s39_input.specs.Lines.{Holds};
 ghost use Rattle.s39_input.specs.Accepted.{IsReadAs};
 ghost use Rattle.s39_backup.specs.Created.{Asked};
 ghost use Rattle.s39_input.specs.Create.{IsCreateOutput};
-ghost use Rattle.s39_drilling.specs.Drill.{IsDrillOutput, ListsSecret, ListsSecretOrCause, DrillsCreated};
+ghost use Rattle.s39_drilling.specs.Drill.{unexpected_in, IsDrillOutput, ListsSecret, ListsSecretOrCause, DrillsCreated};
 ghost use Rattle.s39_input.specs.OfBackup.{HoldsMnemonicsOf};
 
 use crate::laws::created_backups_drill;
@@ -24,7 +24,7 @@ use s39_set::laws::{one_lack, one_listing};
 use s39_words::laws::{one_reading, printed_forms};
 
 /// `create`, then `drill` with the same passphrase. For all lines that `create` writes for random bytes, `drill` lists
-/// exactly the quorums, each with the secret, and answers no mismatch. For some of them, in any order and with repeats,
+/// exactly the quorums, each with the secret, and answers no mismatch, unless another fingerprint is expected. For some of them, in any order and with repeats,
 /// blank lines and comments, it lists the quorums after the given one, or answers why none is listed.
 pub fn written_mnemonics_drill()
     ensures all_lines { (form : SecretForm) (asked : Asked) (random text : List ℕ) (limit : ℕ)
@@ -32,8 +32,8 @@ pub fn written_mnemonics_drill()
         → IsPlan asked.group_threshold asked.groups → IsCreateOutput asked (whole random) text (Ok tt)
         → IsDrillOutput form asked.passphrase None limit (whole text) output answer
         → (set : List ShareFields) × IsReadAs (whole text) (Ok set)
-        × ListsSecret form set asked.secret None limit output
-        × (answer ≡ Ok (record { mismatches = 0 })) }
+        × ((lists : ListsSecret form set asked.secret None limit output)
+        × (answer ≡ Ok (record { mismatches = unexpected_in form asked.secret lists.listed }))) }
     ensures some_lines { (form : SecretForm) (asked : Asked) (random text bytes : List ℕ)
         (after : Option Names) (limit : ℕ) (output : List ℕ) (answer : Result Done Fault)
         → IsPlan asked.group_threshold asked.groups → IsCreateOutput asked (whole random) text (Ok tt)

@@ -64,6 +64,93 @@ impl Read for InterruptedAtFirst {
     }
 }
 
+/// A device whose first call fails for an error of this kind. After that, it takes what is written, and gives these bytes.
+#[derive(Drop)]
+pub struct FailingOnce<'a> {
+    kind: ErrorKind,
+    unread: &'a [u8],
+    pub written: Vec<u8>,
+    pub calls: usize,
+    pub flushes: usize,
+}
+
+impl<'a> FailingOnce<'a> {
+    pub fn new(alloc: Global, kind: ErrorKind, unread: &'a [u8]) -> FailingOnce<'a> {
+        FailingOnce {
+            kind,
+            unread,
+            written: Vec::new(alloc),
+            calls: 0,
+            flushes: 0,
+        }
+    }
+
+    /// Counts a call, the first of which fails.
+    fn called(&mut self) -> io::Result<()> {
+        self.calls = self.calls.saturating_add(1);
+        if self.calls == 1 {
+            return Err(io::Error::from(self.kind));
+        }
+        Ok(())
+    }
+}
+
+impl Read for FailingOnce<'_> {
+    fn read(&mut self, buf: &mut [u8]) -> io::Result<usize> {
+        self.called()?;
+        let count = self.unread.len().min(buf.len());
+        let (now, rest) = self.unread.split_at(count);
+        buf[..count].copy_from_slice(now);
+        self.unread = rest;
+        Ok(count)
+    }
+}
+
+impl Write for FailingOnce<'_> {
+    fn write(&mut self, buf: &[u8]) -> io::Result<usize> {
+        self.called()?;
+        self.written.extend_from_slice(buf)?;
+        Ok(buf.len())
+    }
+
+    fn flush(&mut self) -> io::Result<()> {
+        self.flushes = self.flushes.saturating_add(1);
+        Ok(())
+    }
+}
+
+/// A reader that gives a limited number of bytes at each call, and for which the system interrupts each second call.
+#[derive(Drop)]
+pub struct Halting<'a> {
+    bytes: &'a [u8],
+    piece: usize,
+    pub calls: usize,
+}
+
+impl<'a> Halting<'a> {
+    pub fn new(bytes: &'a [u8], piece: usize) -> Halting<'a> {
+        Halting {
+            bytes,
+            piece,
+            calls: 0,
+        }
+    }
+}
+
+impl Read for Halting<'_> {
+    fn read(&mut self, buf: &mut [u8]) -> io::Result<usize> {
+        self.calls = self.calls.saturating_add(1);
+        if self.calls % 2 == 0 {
+            return Err(io::Error::from(ErrorKind::Interrupted));
+        }
+        let count = self.piece.min(self.bytes.len()).min(buf.len());
+        let (now, rest) = self.bytes.split_at(count);
+        buf[..count].copy_from_slice(now);
+        self.bytes = rest;
+        Ok(count)
+    }
+}
+
 /// A writer that takes a limited number of bytes at each call, and fails once there is no room.
 #[derive(Drop)]
 pub struct Filling {

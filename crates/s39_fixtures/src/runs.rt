@@ -9,6 +9,8 @@ use std::test::Fail;
 
 pub const SHOW: [&str; 2] = ["shamir", "show"];
 
+pub const REPAIR: [&str; 2] = ["shamir", "repair"];
+
 pub const RECOVER: [&str; 4] = ["shamir", "recover", "--passphrase", "TREZOR"];
 
 pub const DRILL: [&str; 4] = ["shamir", "drill", "--passphrase", "TREZOR"];

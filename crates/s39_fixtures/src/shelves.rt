@@ -1,6 +1,8 @@
 //! Files to read values from.
 
+use crate::devices::FailingOnce;
 use s39_cli::Shelf;
+use std::alloc::Global;
 use std::io;
 use std::io::{Empty, ErrorKind};
 
@@ -32,5 +34,21 @@ impl<'a> Shelf for Held<'a> {
             }
         }
         Err(io::Error::from(ErrorKind::NotFound))
+    }
+}
+
+/// A shelf on which every name is that of the same file, whose first read fails for an error of this kind.
+#[derive(Drop)]
+pub struct Halted<'a> {
+    pub alloc: Global,
+    pub kind: ErrorKind,
+    pub bytes: &'a [u8],
+}
+
+impl<'a> Shelf for Halted<'a> {
+    type File = FailingOnce<'a>;
+
+    fn open(&self, _name: &str) -> io::Result<FailingOnce<'a>> {
+        Ok(FailingOnce::new(self.alloc, self.kind, self.bytes))
     }
 }

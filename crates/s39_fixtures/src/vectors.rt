@@ -10,6 +10,18 @@ pub const ONE_OF_ONE_BAD_CHECKSUM: &str =
 pub const ONE_OF_ONE_BAD_PADDING: &str =
     "duckling enlarge academic academic email result length solution fridge kidney coal piece deal husband erode duke ajar music cargo fitness";
 
+/// `ONE_OF_ONE`, of which the words 5 and 12 can't be read.
+pub const ONE_OF_ONE_TWO_WORDS_LOST: &str =
+    "duckling enlarge academic academic ? result length solution fridge kidney coal ? deal husband erode duke ajar critical decision keyboard";
+
+/// `ONE_OF_ONE`, of which the first three words can't be read; the second holds the extendable flag.
+pub const ONE_OF_ONE_WITHOUT_THE_FLAG: &str =
+    "? ? ? academic agency result length solution fridge kidney coal piece deal husband erode duke ajar critical decision keyboard";
+
+/// The other mnemonic with these words; another program computes the first three.
+pub const ONE_OF_ONE_OF_THE_OTHER_FLAG: &str =
+    "therapy heat device academic agency result length solution fridge kidney coal piece deal husband erode duke ajar critical decision keyboard";
+
 pub const EXTENDABLE_ONE_OF_ONE: &str =
     "testify swimming academic academic column loyalty smear include exotic bedroom exotic wrist lobe cover grief golden smart junior estimate learn";
 

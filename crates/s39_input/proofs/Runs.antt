@@ -2,6 +2,7 @@
 pub mod Devices
 pub mod Writing
 pub mod Causes
-pub mod ShowOutput
-pub mod Shown
+pub mod EachOutput
+pub mod Answered
 pub mod PrintedLines
+pub mod Repaired

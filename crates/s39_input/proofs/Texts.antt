@@ -6,3 +6,4 @@ pub mod NamesShort
 pub mod Write
 pub mod Fronts
 pub mod LineFeeds
+pub mod HexDigits

@@ -1,19 +1,20 @@
 -- Why a run stopped.
 use Rattle.std.specs.Prelude.{ℕ, suc, ◌-◌, ◌^◌, min, Some, None, Bool, true, false, Result, Ok, Err}
 use Rattle.s39_input.specs.declared.fault.LineRefusal.{LineRefusal}
-use Rattle.s39_input.specs.declared.fault.LineRefusal.TheVariants.{Word, Set, TooLong}
+use Rattle.s39_input.specs.declared.fault.LineRefusal.TheVariants.{Word, Marks, Set, TooLong}
 use Rattle.s39_input.specs.declared.fault.Stop.{Stop}
 use Rattle.s39_input.specs.declared.fault.Stop.TheVariants.{AtLine, ReadFailed}
 use Rattle.s39_input.specs.declared.fault.DeviceFailure.{DeviceFailure}
 use Rattle.s39_input.specs.declared.fault.DeviceFailure.TheVariants.{Read, Write}
 use Rattle.s39_input.specs.declared.fault.Refusal.{Refusal}
-use Rattle.s39_input.specs.declared.fault.Refusal.TheVariants.{Line, Passphrase, SecretLength, RandomLength, Lack, DigestMismatch, NotAQuorum, Device}
+use Rattle.s39_input.specs.declared.fault.Refusal.TheVariants.{Line, Passphrase, SecretLength, RandomLength, Lack, DigestMismatch, OtherSecret, NotAQuorum, Device}
 use Rattle.s39_input.specs.declared.fault.Refusal.TheVariants.{NotInPlan, OtherPlan, Undetermined}
 use Rattle.s39_input.specs.declared.fault.Fault.{Fault}
 use Rattle.s39_refusal.specs.declared.cause.Cause.{Cause}
 use Rattle.s39_refusal.specs.Causes.{cause}
 use Rattle.s39_kdf.specs.Causes.{passphrase_cause, length_cause}
 use Rattle.s39_words.specs.Reading.{cause_of as word_cause_of}
+use Rattle.s39_repair.specs.Answer.{cause_of as marks_cause_of}
 use Rattle.s39_set.specs.ShareSet.{cause_of as set_cause_of}
 use Rattle.s39_set.specs.Lack.{cause_of as lack_cause_of}
 use Rattle.s39_set.specs.Causes.{no_quorum_cause}
@@ -27,6 +28,7 @@ use Rattle.s39_backup.specs.Reissue.{too_few_cause}
 -- what the refusal of a line says
 abbrev pub line_cause_of : LineRefusal → Cause
 line_cause_of (Word error) = word_cause_of error
+line_cause_of (Marks error) = marks_cause_of error
 line_cause_of (Set error) = set_cause_of error
 line_cause_of TooLong = cause 71 0 0
 
@@ -43,6 +45,7 @@ cause_of (Passphrase bad) = passphrase_cause bad.position
 cause_of (SecretLength bad) = length_cause bad.bytes
 cause_of (RandomLength needed) = create_cause_of (BadRandomLength needed)
 cause_of (DigestMismatch mismatch) = mismatch_cause_of mismatch
+cause_of OtherSecret = cause 52 0 0
 cause_of NotAQuorum = no_quorum_cause
 cause_of (NotInPlan group member) = cause 64 group member
 cause_of OtherPlan = cause 65 0 0
@@ -72,10 +75,10 @@ abbrev pub fault_of_reissue : ReissueError → Fault
 fault_of_reissue (TooFewError few) = fault_of (Undetermined few)
 fault_of_reissue (MismatchError mismatch) = fault_of (DigestMismatch mismatch)
 
--- the answer of a run over the lines of an input
-abbrev pub answer_of : Result (Unit {0}) (Stop LineRefusal) → Result (Unit {0}) Fault
-answer_of (Ok _) = Ok tt
-answer_of (Err stop) = Err (fault_of_stop stop)
+-- the answer of a run over the lines of an input: this if all are taken, and otherwise the fault
+abbrev pub answer_of : {T : Type 0} → T → Result (Unit {0}) (Stop LineRefusal) → Result T Fault
+answer_of done (Ok _) = Ok done
+answer_of done (Err stop) = Err (fault_of_stop stop)
 
 -- 1 for a failed read, else 0
 abbrev pub read_failures_in : Refusal → ℕ

@@ -9,7 +9,9 @@ pub mod Output
 pub mod Accepted
 pub mod Collecting
 pub mod SecretForm
+pub mod EachLine
 pub mod Show
+pub mod Repair
 pub mod Create
 pub mod OfBackup
 pub mod Slices

@@ -17,7 +17,7 @@ use std::io::Read;
 
 /// A set takes a line by adding the share that it holds.
 impl TakeLine for ShareSet {
-    ghost use Rattle.std.proofs.Common.{inl};
+    ghost use Rattle.std.proofs.Common.{inl, refl};
     ghost use Rattle.s39_input.specs.Collecting.{CollectsLine};
     ghost use Rattle.s39_input.specs.declared.fault.LineRefusal.TheVariants.{TooLong};
 
@@ -40,7 +40,7 @@ impl TakeLine for ShareSet {
         LineRefusal::TooLong
     }
 
-    ghost refuses_long = { λ set line long. inl long };
+    ghost refuses_long = { λ set line long. inl (inl (long, refl)) };
 }
 
 /// The set of the shares of an input, each once, if the passphrase is printable. The passphrase is judged before

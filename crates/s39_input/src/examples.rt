@@ -8,7 +8,9 @@ use std::test::Fail;
 #[test]
 fn examples(rt: HostRuntime) -> Result<(), Fail> {
     devices(&rt)?;
-    shown(&rt)
+    digits(&rt);
+    shown(&rt)?;
+    repaired(&rt)
 }
 
 fn devices(rt: &impl Abort) -> Result<(), Fail> {
@@ -23,6 +25,17 @@ fn devices(rt: &impl Abort) -> Result<(), Fail> {
     Ok(())
 }
 
+fn digits(rt: &impl Abort) {
+    let mut digits = [0; 4];
+    write_hex(b"\x07\xbf", &mut digits);
+    assert_eq!(rt; digits, *b"07bf");
+
+    let mut bytes = [0; 2];
+    assert!(rt; read_hex(b"07bF", &mut bytes));
+    assert_eq!(rt; bytes, *b"\x07\xbf");
+    assert!(rt; !read_hex(b"07bg", &mut bytes));
+}
+
 fn shown(rt: &(impl Abort + AllocGlobal)) -> Result<(), Fail> {
     let mut input = Counting::new(
         b"duckling enlarge academic academic agency result length solution fridge kidney coal \
@@ -32,5 +45,17 @@ fn shown(rt: &(impl Abort + AllocGlobal)) -> Result<(), Fail> {
     let mut text = Vec::new(rt.alloc());
     run_show(&mut input, &mut Counting::new(&mut text))?;
     assert!(rt; text.starts_with(b"identifier 7945 extendable 0 exponent 0 group 0 "));
+    Ok(())
+}
+
+fn repaired(rt: &(impl Abort + AllocGlobal)) -> Result<(), Fail> {
+    let mut input = Counting::new(
+        b"duckling enlarge academic academic ? result length solution fridge kidney coal \
+        ? deal husband erode duke ajar critical decision keyb?\n"
+            .as_slice(),
+    );
+    let mut text = Vec::new(rt.alloc());
+    assert!(rt; run_repair(&mut input, &mut Counting::new(&mut text))?);
+    assert!(rt; text.starts_with(b"duckling enlarge academic academic agency result length "));
     Ok(())
 }

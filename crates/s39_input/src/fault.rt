@@ -4,6 +4,7 @@ ghost use Rattle.std.specs.Prelude.{◌≡◌};
 use s39_backup::{CreateError, Mismatch, ReissueError, TooFew};
 use s39_kdf::{BadPassphrase, BadSecretLength};
 use s39_refusal::{Cause, code};
+use s39_repair::RepairError;
 use s39_set::{NotAQuorum, SetError, SetLack};
 use s39_words::WordError;
 
@@ -12,6 +13,8 @@ use s39_words::WordError;
 pub enum LineRefusal {
     /// The line isn't a mnemonic.
     Word(WordError),
+    /// The line's marks give no mnemonic.
+    Marks(RepairError),
     /// The line's share can't join those of the lines before it.
     Set(SetError),
     /// The line has more than 1,024 bytes.
@@ -21,12 +24,13 @@ pub enum LineRefusal {
 impl LineRefusal {
     ghost use Rattle.s39_input.specs.Fault.{line_cause_of};
 
-    /// Returns the number of the refusal, 11 to 15, 21 to 28, or 71, and the details of the cause.
+    /// Returns the number of the refusal, 11 to 18, 21 to 28, or 71, and the details of the cause.
     pub fn cause(&self) -> Cause
         ensures { result ≡ line_cause_of self.now }
     {
         match self {
             LineRefusal::Word(error) => error.cause(),
+            LineRefusal::Marks(error) => error.cause(),
             LineRefusal::Set(error) => error.cause(),
             LineRefusal::TooLong => Cause::of(code::LINE_TOO_LONG),
         }
@@ -99,6 +103,8 @@ pub enum Refusal {
     RandomLength { needed: usize },
     /// A digest doesn't match what the shares combine to.
     DigestMismatch(Mismatch),
+    /// The recovered secret has another fingerprint than the expected one.
+    OtherSecret,
     /// The names after which a drill is to start aren't a quorum of the shares.
     NotAQuorum,
     /// The plan has no share with this name. Group and member index count from 0.
@@ -114,7 +120,7 @@ pub enum Refusal {
 impl Refusal {
     ghost use Rattle.s39_input.specs.Fault.{cause_of, has_line};
 
-    /// Returns the number of the refusal, 11 to 15, 21 to 30, 41 to 43, 51, 62, 64 to 66, or 71 to 73, and the details
+    /// Returns the number of the refusal, 11 to 18, 21 to 30, 41 to 43, 51, 52, 62, 64 to 66, or 71 to 73, and the details
     /// of the cause.
     pub fn cause(&self) -> Cause
         ensures { result ≡ cause_of self.now }
@@ -128,6 +134,7 @@ impl Refusal {
                 CreateError::BadRandomLength { needed: *needed }.cause()
             }
             Refusal::DigestMismatch(mismatch) => mismatch.cause(),
+            Refusal::OtherSecret => Cause::of(code::OTHER_SECRET),
             Refusal::NotAQuorum => NotAQuorum.cause(),
             Refusal::NotInPlan { group, member } => {
                 Cause::new(code::NOT_IN_PLAN, u64::from(*group), u64::from(*member))

@@ -1,5 +1,5 @@
 //! Facts about the definitions. Each is the contract of a function that does nothing.
-ghost use Rattle.std.specs.Prelude.{◌≡◌, ◌≤◌, ◌⊎◌, ℕ, length, List, All, Contains, Result, Ok, IfOk, None};
+ghost use Rattle.std.specs.Prelude.{◌≡◌, ◌≤◌, ◌⊎◌, ℕ, length, List, All, Contains, Bool, false, Result, Ok, IfOk, None};
 ghost use Rattle.s39_words.specs.declared.ShareFields.{ShareFields};
 ghost use Rattle.s39_set.specs.Names.{Names, AreNames};
 ghost use Rattle.s39_set.specs.Written.{quorum_text};
@@ -12,6 +12,7 @@ ghost use Rattle.s39_input.specs.Device.{Counted};
 ghost use Rattle.s39_input.specs.declared.fault.Fault.{Fault};
 ghost use Rattle.s39_input.specs.Runs.{Runs, Writes};
 ghost use Rattle.s39_input.specs.Show.{IsShowOutput};
+ghost use Rattle.s39_input.specs.Repair.{IsRepairOutput, TwoFit};
 ghost use Rattle.s39_input.specs.Input.{Input, longest_line, whole, lines_of};
 ghost use Rattle.s39_input.specs.Lines.{Holds};
 ghost use Rattle.s39_input.specs.Accepted.{IsReadAs, CheckedSetLaws};
@@ -22,10 +23,14 @@ ghost use Rattle.s39_input.specs.OfBackup.{HoldsMnemonicsOf};
 
 use s39_backup::laws::shares_of_a_backup_agree;
 use s39_kdf::laws::passphrases_are_printable_or_not;
+use s39_repair::laws::{one_answer, some_answer};
 use s39_set::laws::{
     one_more_is_added, same_shares_refuse_the_same, sets_are_their_shares, sets_take_shares,
 };
-use s39_words::laws::{every_text_has_a_reading, one_reading, printed_forms};
+use s39_words::laws::{
+    every_share_has_a_printed_form, every_text_has_a_reading, one_printed_form, one_reading,
+    printed_forms,
+};
 use std::io::{Read, Write};
 
 /// The limit of the code is that of the definitions.
@@ -107,13 +112,19 @@ pub fn written_mnemonics_are_of_the_backup()
     printed_forms();
 }
 
-/// If a run of `show` answers without a read, its answer is right for every input. This holds for all devices.
+/// If a run of `show` or `repair` answers without a read, its answer is right for every input. This holds for all
+/// devices.
 pub fn unread_inputs_decide_nothing<R: Read, W: Write>()
     ensures show { (reader read_to : Counted R) (writer written_to : Counted W)
         (answer : Result (Unit {0}) Fault)
         → Runs R.remaining W.contents IsShowOutput reader read_to writer written_to answer
         → read_to.reads ≡ reader.reads → read_to.failures ≡ reader.failures → (input : Input)
         → Writes W.contents (IsShowOutput input) writer written_to answer }
+    ensures repair { (reader read_to : Counted R) (writer written_to : Counted W)
+        (answer : Result Bool Fault)
+        → Runs R.remaining W.contents IsRepairOutput reader read_to writer written_to answer
+        → read_to.reads ≡ reader.reads → read_to.failures ≡ reader.failures → (input : Input)
+        → Writes W.contents (IsRepairOutput input) writer written_to answer }
 {}
 
 /// Every input has an output of `show`.
@@ -132,6 +143,34 @@ pub fn one_show_output()
 {
     one_reading();
 }
+
+/// Every input has an output of `repair`.
+pub fn some_repair_output()
+    ensures { (input : Input)
+        → (text : List ℕ) × (answer : Result Bool Fault) × IsRepairOutput input text answer }
+{
+    some_answer();
+    every_share_has_a_printed_form();
+}
+
+/// An input has at most one output of `repair`: one text, and one answer.
+pub fn one_repair_output()
+    ensures { (input : Input) (text other : List ℕ) (answer another : Result Bool Fault)
+        → IsRepairOutput input text answer → IsRepairOutput input other another
+        → (text ≡ other) × (answer ≡ another) }
+{
+    one_answer();
+    one_printed_form();
+}
+
+/// If no line is refused, `repair` answers `false` exactly if two mnemonics fit some line of the input.
+pub fn two_mnemonics_are_told()
+    ensures told { (input : Input) (text line : List ℕ) (one_each : Bool)
+        → IsRepairOutput input text (Ok one_each) → Contains (lines_of input) line → TwoFit line
+        → one_each ≡ false }
+    ensures only { (input : Input) (text : List ℕ) → IsRepairOutput input text (Ok false)
+        → (line : List ℕ) × Contains (lines_of input) line × TwoFit line }
+{}
 
 /// The written form of names that shares can have takes at most 1,215 bytes. The written form of all names takes
 /// exactly that many.

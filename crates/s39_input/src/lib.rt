@@ -1,6 +1,6 @@
 //! What the commands of the program `shamir` have in common: their devices, the lines of an input, the set of its
-//! shares, and how a text is written. Of the commands it has `show`, which takes each line by itself (`run_show`).
-//! `s39_creating`, `s39_drilling` and `s39_reading` have the others.
+//! shares, and how a text is written. Of the commands it has those that answer each line by itself: `show` (`run_show`)
+//! and `repair` (`run_repair`). `s39_creating`, `s39_drilling` and `s39_reading` have the others.
 //!
 //! `Counting` wraps a reader or a writer, and counts its failed calls. A run that stops early returns a `Fault`: the
 //! refusal, with the line number if a line is refused. `Refusal::cause` gives the number of the refusal and its
@@ -11,10 +11,13 @@
 
 mod collect;
 mod device;
+mod each_line;
 mod fault;
+mod hexadecimal;
 pub mod laws;
 mod lines;
 mod output;
+mod repair;
 mod secret_form;
 mod show;
 mod slices;
@@ -22,12 +25,16 @@ mod slices;
 pub use collect::{checked_set, checked_set_in, read_set, set_in};
 pub use device::Counting;
 pub use fault::{DeviceFailure, Fault, LineRefusal, Refusal, RefusedLine, Stop};
+pub use hexadecimal::{read_hex, write_hex};
 pub use lines::PIECE;
 pub use output::{LINE_BYTES, Line, WriteFailed, push_field, push_names, push_text, write_text};
+pub use repair::{REPAIRED_BYTES, RepairedLines, lines_of_repaired, run_repair};
 pub use s39_kdf::SecretForm;
-pub use secret_form::push_secret;
+pub use secret_form::{is_unexpected, push_secret};
 pub use show::run_show;
 pub use slices::{TooShort, Unwritten, WrittenLines, put};
 
 #[cfg(test)]
 mod examples;
+#[cfg(test)]
+mod repair_tests;

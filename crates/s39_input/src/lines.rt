@@ -60,7 +60,7 @@ fn first_other_byte(line: &[u8]) -> Option<u8>
 }
 
 /// Whether a line is blank, or a comment.
-fn is_skipped(line: &[u8]) -> bool
+pub(crate) fn is_skipped(line: &[u8]) -> bool
     ensures { result ≡ is_skipped line.now }
 {
     match first_other_byte(line) {

@@ -10,6 +10,7 @@ ghost use Rattle.s39_input.specs.Output.{WritesText};
 
 use crate::device::Counting;
 use crate::fault::{DeviceFailure, Fault, Refusal};
+use crate::hexadecimal::write_hex;
 use arrayvec::ArrayVec;
 use s39_kdf::MAX_SECRET_BYTES;
 use s39_set::MAX_NAMES;
@@ -95,7 +96,7 @@ pub(crate) fn push_hex(line: &mut Line, bytes: &[u8])
 {
     let mut digits = [0; 2 * MAX_SECRET_BYTES];
     let digits = &mut digits[..2 * bytes.len()];
-    hex::encode_to_slice(bytes, digits).unwrap();
+    write_hex(bytes, digits);
     push_text(line, digits);
 }
 

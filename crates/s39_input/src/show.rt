@@ -2,10 +2,11 @@
 ghost use Rattle.std.specs.Prelude.{◌≡◌, ◌<◌, ◌≤◌, [], length};
 ghost use Rattle.s39_input.specs.declared.show.TheConstants.{HEADER_BYTES};
 ghost use Rattle.s39_input.specs.Runs.{Runs};
-ghost use Rattle.s39_input.specs.Show.{IsShowOutput, header_text, show_line, fault_of_show};
+ghost use Rattle.s39_input.specs.Show.{IsShowOutput, header_text, show_line};
 
 use crate::device::Counting;
-use crate::fault::{DeviceFailure, Fault, LineRefusal, Refusal, Stop};
+use crate::each_line::{Unanswered, answered};
+use crate::fault::{Fault, LineRefusal};
 use crate::lines::{TakeLine, share_in, take_lines};
 use crate::output::{Line, WriteFailed, push_field, push_hex, push_text, write_text};
 use s39_words::Share;
@@ -50,62 +51,42 @@ fn line_of(share: &Share) -> Line
     line
 }
 
-/// Why a line isn't shown.
-#[derive(Clone, Copy)]
-pub(crate) enum ShowRefusal {
-    /// The line is refused.
-    Line(LineRefusal),
-    /// A write of it failed.
-    WriteFailed,
-}
-
 /// An output takes a line by writing the fields of the share that it holds.
 impl<W: Write> TakeLine for Counting<W> {
     ghost use Rattle.std.specs.Prelude.{◌<◌, ◌-◌, ◌^◌, refl};
-    ghost use Rattle.s39_input.specs.Show.{ShowsLine};
-    ghost use Rattle.s39_input.specs.declared.fault.LineRefusal.TheVariants.{TooLong};
-    ghost use Rattle.s39_input.specs.declared.show.ShowRefusal.TheVariants.{Line as AtLine};
+    ghost use Rattle.std.proofs.Common.{inl};
+    ghost use Rattle.s39_words.specs.Reading.{Reads};
+    ghost use Rattle.s39_input.specs.EachLine.{AnswersLine};
+    ghost use Rattle.s39_input.specs.Lines.{Says};
+    ghost use Rattle.s39_input.specs.Show.{line_text};
+    ghost use Rattle.s39_input.specs.declared.each_line.Unanswered.TheVariants.{Line as AtLine};
+    ghost use Rattle.s39_input.specs.declared.fault.LineRefusal.TheVariants.{TooLong, Word};
 
-    type Refusal = ShowRefusal;
+    type Refusal = Unanswered;
 
     ghost can_take = { λ output. output.failures < 2 ^ 64 - 1 };
 
-    ghost takes = { ShowsLine W.contents };
+    ghost takes = { AnswersLine W.contents (Says Reads Word) line_text (λ output. output)
+        (λ old said new. Unit {0}) };
 
     ghost length_refusal = { AtLine TooLong };
 
-    fn take_line(&mut self, line: &[u8]) -> Result<(), ShowRefusal> {
+    fn take_line(&mut self, line: &[u8]) -> Result<(), Unanswered> {
         match share_in(line) {
             Ok(Some(share)) => match write_text(self, line_of(&share).as_slice()) {
                 Ok(()) => Ok(()),
-                Err(WriteFailed) => Err(ShowRefusal::WriteFailed),
+                Err(WriteFailed) => Err(Unanswered::WriteFailed),
             },
             Ok(None) => Ok(()),
-            Err(refusal) => Err(ShowRefusal::Line(refusal)),
+            Err(refusal) => Err(Unanswered::Line(refusal)),
         }
     }
 
-    fn too_long() -> ShowRefusal {
-        ShowRefusal::Line(LineRefusal::TooLong)
+    fn too_long() -> Unanswered {
+        Unanswered::Line(LineRefusal::TooLong)
     }
 
-    ghost refuses_long = { λ output line long. (long, refl) };
-}
-
-/// The fault of a run that stopped for this cause.
-fn fault_of_show(stop: Stop<ShowRefusal>) -> Fault
-    ensures { result ≡ fault_of_show stop }
-{
-    match stop {
-        Stop::AtLine(refused) => match refused.refusal {
-            ShowRefusal::Line(refusal) => Fault {
-                line: Some(refused.number),
-                refusal: Refusal::Line(refusal),
-            },
-            ShowRefusal::WriteFailed => Fault::from(Refusal::Device(DeviceFailure::Write)),
-        },
-        Stop::ReadFailed => Fault::from(Refusal::Device(DeviceFailure::Read)),
-    }
+    ghost refuses_long = { λ output line long. (inl (long, refl), refl) };
 }
 
 /// Writes a line for each mnemonic of the input, with its fields, in the order of the input's lines (SLIP-0039, "Format
@@ -141,5 +122,5 @@ pub fn run_show<R: Read, W: Write>(
         result }
 {
     every_text_has_a_reading();
-    take_lines(input, output).map_err(fault_of_show)
+    answered((), take_lines(input, output))
 }

@@ -2,6 +2,7 @@
 //! the standard in Python.
 use super::*;
 use s39_input::{Counting, SecretForm};
+use s39_kdf::parse_fingerprint;
 use std::alloc::AllocGlobal;
 use std::process::Abort;
 use std::test::Fail;
@@ -21,16 +22,17 @@ fn recoveries(rt: &(impl Abort + AllocGlobal)) -> Result<(), Fail> {
     );
     let mut text = Vec::new(rt.alloc());
     let mut output = Counting::new(&mut text);
-    run_recover(SecretForm::Digits, b"TREZOR", &mut input, &mut output)?;
+    run_recover(SecretForm::Digits, None, b"TREZOR", &mut input, &mut output)?;
     assert!(rt; text.starts_with(b"bb54aac4b89dc868ba37d9cc21b2cece\n"));
 
     let line =
         b"duckling enlarge academic academic agency result length solution fridge kidney coal \
         piece deal husband erode duke ajar critical decision keyboard\n";
-    let secret = recover_secret(b"TREZOR", line)?;
+    let secret = recover_secret(None, b"TREZOR", line)?;
     assert!(rt; secret.starts_with(b"\xbb\x54\xaa\xc4\xb8\x9d\xc8\x68"));
-    let fault = recover_secret(b"TREZOR", b"").err();
-    assert_eq!(rt; fault.map(|fault| fault.refusal.cause().code), Some(29));
+    let expected = Some(parse_fingerprint(b"df41d8fe")?);
+    let fault = recover_secret(expected, b"trezor", line).err();
+    assert_eq!(rt; fault.map(|fault| fault.refusal.cause().code), Some(52));
     Ok(())
 }
 

@@ -1,5 +1,5 @@
 //! Facts about the definitions. Each is the contract of a function that does nothing.
-ghost use Rattle.std.specs.Prelude.{◌≡◌, ℕ, List, Result, Err};
+ghost use Rattle.std.specs.Prelude.{◌≡◌, ℕ, List, Option, Result, Err};
 ghost use Rattle.s39_kdf.specs.Limits.{IsFirstUnprintable};
 ghost use Rattle.s39_kdf.specs.declared.limits.BadPassphrase.{BadPassphrase};
 ghost use Rattle.s39_input.specs.Device.{Counted};
@@ -7,6 +7,7 @@ ghost use Rattle.s39_input.specs.Fault.{fault_of};
 ghost use Rattle.s39_input.specs.declared.fault.Refusal.TheVariants.{Passphrase};
 ghost use Rattle.s39_input.specs.Runs.{Runs, Writes};
 ghost use Rattle.s39_input.specs.declared.fault.Fault.{Fault};
+ghost use Rattle.s39_kdf.specs.declared.noted.NotedFingerprint.{NotedFingerprint};
 ghost use Rattle.s39_kdf.specs.declared.secret_form.SecretForm.{SecretForm};
 ghost use Rattle.s39_input.specs.Input.{Input};
 ghost use Rattle.s39_reading.specs.Recover.{IsRecoverOutput};
@@ -28,29 +29,29 @@ use std::io::{Read, Write};
 /// This holds for all devices, even if they don't tell their bytes. `recover` refuses a passphrase only if a byte of it
 /// isn't printable, and names the first such byte.
 pub fn refusals_have_causes<R: Read, W: Write>()
-    ensures recover { (form : SecretForm) (passphrase : List ℕ) (reader read_to : Counted R)
+    ensures recover { (form : SecretForm) (expected : Option NotedFingerprint) (passphrase : List ℕ) (reader read_to : Counted R)
         (writer written_to : Counted W) (bad : BadPassphrase)
-        → Runs R.remaining W.contents (IsRecoverOutput form passphrase) reader read_to writer written_to
+        → Runs R.remaining W.contents (IsRecoverOutput form expected passphrase) reader read_to writer written_to
         (Err (fault_of (Passphrase bad)))
         → IsFirstUnprintable passphrase bad.position }
 {}
 
 /// If a run of `recover` answers without a read, its answer is right for every input. This holds for all devices.
 pub fn unread_inputs_decide_nothing<R: Read, W: Write>()
-    ensures recover { (form : SecretForm) (passphrase : List ℕ) (reader read_to : Counted R)
+    ensures recover { (form : SecretForm) (expected : Option NotedFingerprint) (passphrase : List ℕ) (reader read_to : Counted R)
         (writer written_to : Counted W) (answer : Result (Unit {0}) Fault)
-        → Runs R.remaining W.contents (IsRecoverOutput form passphrase) reader read_to
+        → Runs R.remaining W.contents (IsRecoverOutput form expected passphrase) reader read_to
         writer written_to answer
         → read_to.reads ≡ reader.reads → read_to.failures ≡ reader.failures → (input : Input)
-        → Writes W.contents (IsRecoverOutput form passphrase input) writer written_to answer }
+        → Writes W.contents (IsRecoverOutput form expected passphrase input) writer written_to answer }
 {}
 
 /// An input has at most one output of `recover` with a passphrase: one text, and one answer.
 pub fn one_recover_output()
-    ensures { (form : SecretForm) (passphrase : List ℕ) (input : Input) (text other : List ℕ)
+    ensures { (form : SecretForm) (expected : Option NotedFingerprint) (passphrase : List ℕ) (input : Input) (text other : List ℕ)
         (answer another : Result (Unit {0}) Fault)
-        → IsRecoverOutput form passphrase input text answer
-        → IsRecoverOutput form passphrase input other another
+        → IsRecoverOutput form expected passphrase input text answer
+        → IsRecoverOutput form expected passphrase input other another
         → (text ≡ other) × (answer ≡ another) }
 {
     one_checked_set();
@@ -61,9 +62,9 @@ pub fn one_recover_output()
 
 /// Every input has an output of `recover` with a passphrase.
 pub fn some_recover_output()
-    ensures { (form : SecretForm) (passphrase : List ℕ) (input : Input)
+    ensures { (form : SecretForm) (expected : Option NotedFingerprint) (passphrase : List ℕ) (input : Input)
         → (text : List ℕ) × (answer : Result (Unit {0}) Fault)
-        × IsRecoverOutput form passphrase input text answer }
+        × IsRecoverOutput form expected passphrase input text answer }
 {
     one_checked_set();
     quorum_or_lack();
@@ -71,12 +72,12 @@ pub fn some_recover_output()
 }
 
 /// For mnemonics of a created backup, an output of `recover` with the passphrase of the creation is the secret if they
-/// have a quorum, and otherwise the reason why they have none.
+/// have a quorum, and no other fingerprint is expected. Otherwise it is which of these conditions fails.
 pub fn created_backups_recover()
-    ensures { (form : SecretForm) (passphrase : List ℕ) (input : Input)
+    ensures { (form : SecretForm) (expected : Option NotedFingerprint) (passphrase : List ℕ) (input : Input)
         (text : List ℕ) (answer : Result (Unit {0}) Fault)
-        → IsRecoverOutput form passphrase input text answer
-        → RecoversCreated form passphrase input text answer }
+        → IsRecoverOutput form expected passphrase input text answer
+        → RecoversCreated form expected passphrase input text answer }
 {
     accepted_inputs_are_share_sets();
     one_recover_output();

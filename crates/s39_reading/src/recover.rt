@@ -3,7 +3,7 @@ ghost use Rattle.std.specs.Prelude.{◌≡◌, ◌≢◌, ◌<◌, [], Ok, Err, 
 ghost use Rattle.s39_kdf.specs.declared.limits.BadPassphrase.{BadPassphrase};
 ghost use Rattle.s39_input.specs.Fault.{fault_of};
 ghost use Rattle.s39_input.specs.Input.{whole};
-ghost use Rattle.s39_reading.specs.Recover.{IsRecovered, IsRecoverOutput, secret_line};
+ghost use Rattle.s39_reading.specs.Recover.{as_expected, IsRecovered, IsRecoverOutput, secret_line};
 ghost use Rattle.s39_reading.specs.Recover.{RecoversCreated};
 ghost use Rattle.s39_input.specs.Runs.{Runs};
 
@@ -13,13 +13,13 @@ use s39_input::{
     Counting, DeviceFailure, Fault, Line, Refusal, SecretForm, checked_set, checked_set_in,
     push_secret, write_text,
 };
-use s39_kdf::Bytes;
+use s39_kdf::{Bytes, NotedFingerprint};
 use s39_set::{ShareSet, first};
 use std::io::{Read, Write};
 
 /// Recovers the secret from the first quorum (`s39_set::first`) of the input's shares with the passphrase (SLIP-0039,
 /// "Shamir's secret sharing" and "Encryption of the master secret"). It writes the secret, or its fingerprint, in
-/// lower-case hexadecimal, on one line.
+/// lower-case hexadecimal, on one line. If a fingerprint is expected, it does so only if the secret has it.
 ///
 /// Shares beyond that quorum are accepted, and repeats change nothing. Blank lines and comments are skipped. A comment
 /// starts with `#`, after any spaces, tabs and carriage returns.
@@ -31,10 +31,12 @@ use std::io::{Read, Write};
 ///   share can't join those of the lines before it;
 /// - `Device(Read)` if a read fails; an unfinished line is then dropped, unless it is too long already;
 /// - `Lack` if the shares have no quorum;
-/// - `DigestMismatch` if a digest of the first quorum doesn't match.
+/// - `DigestMismatch` if a digest of the first quorum doesn't match;
+/// - `OtherSecret` if the secret doesn't have the expected fingerprint.
 ///
-/// If a write fails or takes no byte, the fault is `Device(Write)`, and a beginning of the line is written. A wrong
-/// passphrase isn't detected: as a rule it gives another secret. The caller keeps both `failures()` below `u64::MAX`.
+/// If a write fails or takes no byte, the fault is `Device(Write)`, and a beginning of the line is written. Without an
+/// expected fingerprint, a wrong passphrase isn't detected: as a rule it gives another secret. The caller keeps both
+/// `failures()` below `u64::MAX`.
 ///
 /// ```rust
 /// let mut input = Counting::new(
@@ -44,21 +46,23 @@ use std::io::{Read, Write};
 /// );
 /// let mut text = Vec::new(rt.alloc());
 /// let mut output = Counting::new(&mut text);
-/// run_recover(SecretForm::Digits, b"TREZOR", &mut input, &mut output)?;
+/// run_recover(SecretForm::Digits, None, b"TREZOR", &mut input, &mut output)?;
 /// assert!(rt; text.starts_with(b"bb54aac4b89dc868ba37d9cc21b2cece\n"));
 /// ```
 pub fn run_recover<R: Read, W: Write>(
     form: SecretForm,
+    expected: Option<NotedFingerprint>,
     passphrase: &[u8],
     input: &mut Counting<R>,
     output: &mut Counting<W>,
 ) -> Result<(), Fault>
     requires readable { input.old.failures < u64.MAX }
     requires writable { output.old.failures < u64.MAX }
-    ensures runs { Runs R.remaining W.contents (IsRecoverOutput form passphrase.now)
+    ensures runs { Runs R.remaining W.contents (IsRecoverOutput form expected passphrase.now)
         input.old input.new output.old output.new result }
-    // Of mnemonics of a created backup, with the passphrase of the creation: its secret, or why they have no quorum.
-    ensures created { Runs R.remaining W.contents (RecoversCreated form passphrase.now)
+    // Of mnemonics of a created backup, with the passphrase of the creation: its secret; or why they have no quorum, or
+    // that another secret is expected.
+    ensures created { Runs R.remaining W.contents (RecoversCreated form expected passphrase.now)
         input.old input.new output.old output.new result }
     // Of any devices.
     ensures untouched { IfErr result (λ fault.
@@ -68,7 +72,7 @@ pub fn run_recover<R: Read, W: Write>(
 {
     created_backups_recover();
     let set = checked_set(passphrase, input)?;
-    let secret = secret_of(&set, passphrase)?;
+    let secret = secret_of(&set, expected, passphrase)?;
     write_text(output, secret_line(form, &secret).as_slice())?;
     Ok(())
 }
@@ -83,37 +87,61 @@ pub fn run_recover<R: Read, W: Write>(
 /// - the first refused line, with its number: a word error, `TooLong` if it has more than 1,024 bytes, or `Set` if its
 ///   share can't join those of the lines before it;
 /// - `Lack` if the shares have no quorum;
-/// - `DigestMismatch` if a digest of the first quorum doesn't match.
+/// - `DigestMismatch` if a digest of the first quorum doesn't match;
+/// - `OtherSecret` if a fingerprint is expected that the secret doesn't have.
 ///
-/// A wrong passphrase isn't detected: as a rule it gives another secret.
+/// Without an expected fingerprint, a wrong passphrase isn't detected: as a rule it gives another secret.
 ///
 /// ```rust
 /// let line =
 ///     b"duckling enlarge academic academic agency result length solution fridge kidney coal \
 ///     piece deal husband erode duke ajar critical decision keyboard\n";
-/// let secret = recover_secret(b"TREZOR", line)?;
+/// let secret = recover_secret(None, b"TREZOR", line)?;
 /// assert!(rt; secret.starts_with(b"\xbb\x54\xaa\xc4\xb8\x9d\xc8\x68"));
-/// let fault = recover_secret(b"TREZOR", b"").err();
-/// assert_eq!(rt; fault.map(|fault| fault.refusal.cause().code), Some(29));
+/// let expected = Some(parse_fingerprint(b"df41d8fe")?);
+/// let fault = recover_secret(expected, b"trezor", line).err();
+/// assert_eq!(rt; fault.map(|fault| fault.refusal.cause().code), Some(52));
 /// ```
-pub fn recover_secret(passphrase: &[u8], lines: &[u8]) -> Result<Bytes, Fault>
+pub fn recover_secret(
+    expected: Option<NotedFingerprint>,
+    passphrase: &[u8],
+    lines: &[u8],
+) -> Result<Bytes, Fault>
     ensures secret { IfOk result (λ secret.
-        IsRecoverOutput SecretForm.Digits passphrase.now (whole lines.now)
+        IsRecoverOutput SecretForm.Digits expected passphrase.now (whole lines.now)
         (secret_line SecretForm.Digits secret.items) (Ok tt)) }
     ensures refused { IfErr result (λ fault.
-        IsRecoverOutput SecretForm.Digits passphrase.now (whole lines.now) [] (Err fault)) }
+        IsRecoverOutput SecretForm.Digits expected passphrase.now (whole lines.now) [] (Err fault)) }
 {
     let set = checked_set_in(passphrase, lines)?;
-    secret_of(&set, passphrase)
+    secret_of(&set, expected, passphrase)
 }
 
-/// The secret that the least quorum of a set recovers.
-fn secret_of(set: &ShareSet, passphrase: &[u8]) -> Result<Bytes, Fault>
-    ensures secret { IfOk result (λ secret. IsRecovered passphrase.now set.now (Ok secret.items)) }
-    ensures refused { IfErr result (λ fault. IsRecovered passphrase.now set.now (Err fault)) }
+/// The secret that the least quorum of a set recovers, if it is the expected one.
+fn secret_of(
+    set: &ShareSet,
+    expected: Option<NotedFingerprint>,
+    passphrase: &[u8],
+) -> Result<Bytes, Fault>
+    ensures secret { IfOk result (λ secret.
+        IsRecovered expected passphrase.now set.now (Ok secret.items)) }
+    ensures refused { IfErr result (λ fault.
+        IsRecovered expected passphrase.now set.now (Err fault)) }
 {
     let quorum = first(set)?;
-    Ok(recover_quorum(set, &quorum, passphrase)?)
+    let secret = recover_quorum(set, &quorum, passphrase)?;
+    as_expected(expected, secret)
+}
+
+/// The secret, or the fault if another fingerprint is expected.
+fn as_expected(expected: Option<NotedFingerprint>, secret: Bytes) -> Result<Bytes, Fault>
+    ensures secret { IfOk result (λ same. as_expected expected secret.items ≡ Ok same.items) }
+    ensures refused { IfErr result (λ fault. as_expected expected secret.items ≡ Err fault) }
+{
+    match expected {
+        Some(noted) if !noted.is_of(secret.as_slice()) => Err(Fault::from(Refusal::OtherSecret)),
+        _ => Ok(secret),
+    }
 }
 
 /// The line of a secret.

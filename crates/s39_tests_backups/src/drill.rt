@@ -113,6 +113,82 @@ fn lists_quorums_of_the_vectors(rt: HostRuntime) -> Result<(), Fail> {
     Ok(())
 }
 
+/// The listing of all quorums of five mnemonics, each with this text.
+fn told_of_five(alloc: Global, told: &str) -> Result<String, AllocError> {
+    let mut all = String::new(alloc);
+    for quorum in QUORUMS_OF_FIVE {
+        all.push_str(format!(in alloc; "{quorum} {told}\n")?.as_str())?;
+    }
+    all.push_str("end\n")?;
+    Ok(all)
+}
+
+#[test]
+fn compares_with_an_expected_fingerprint(rt: HostRuntime) -> Result<(), Fail> {
+    let alloc = rt.alloc();
+    let input = lines(alloc, &FIVE)?;
+    let right = told_of_five(alloc, "as expected")?;
+    let wrong = told_of_five(alloc, "other secret")?;
+    let cases: [(&[&str], &str, u8); 6] = [
+        (&["--expect", "df41d8fe"], right.as_str(), 0),
+        (&["--expect=DF41D8FE"], right.as_str(), 0),
+        (&["--expect=df41d8ff"], wrong.as_str(), 1),
+        (&["--expect=df41d8ff", "--after=1.0+2.0"], "end\n", 0),
+        (
+            &["--expect=df41d8fe", "--after=0.0+0.2+2.0", "--limit=1"],
+            "0.1+0.2+1.0 as expected\nmore after 0.1+0.2+1.0\n",
+            0,
+        ),
+        (
+            &["--expect=5f5702dc", "--after=0.0+0.2+2.0", "--limit=1"],
+            "0.1+0.2+1.0 other secret\nmore after 0.1+0.2+1.0\n",
+            1,
+        ),
+    ];
+    for (options, output, status) in cases {
+        let words = drill(alloc, options)?;
+        expect_run(&words, input.as_str(), alloc, (output, "", status))?;
+    }
+    // The passphrase is forgotten.
+    let forgotten = ["shamir", "drill", "--expect=df41d8fe"];
+    expect_run(&forgotten, input.as_str(), alloc, (wrong.as_str(), "", 1))
+}
+
+#[test]
+fn tells_expected_secrets_from_others(rt: HostRuntime) -> Result<(), Fail> {
+    let alloc = rt.alloc();
+    // The fields of `ONE_OF_ONE`, but group 1 and a value of zeros; another program computes both lines.
+    let other =
+        "duckling enlarge away academic academic academic academic academic academic academic academic academic academic academic academic academic academic hearing level intend";
+    let groups = lines(alloc, &[ONE_OF_ONE, other])?;
+    for (digits, output) in [
+        ("df41d8fe", "0.0 as expected\n1.0 other secret\nend\n"),
+        ("73aeb1c0", "0.0 other secret\n1.0 as expected\nend\n"),
+    ] {
+        let words = drill(alloc, &["--expect", digits])?;
+        expect_run(&words, groups.as_str(), alloc, (output, "", 1))?;
+    }
+    Ok(())
+}
+
+#[test]
+fn refuses_what_is_no_fingerprint(rt: HostRuntime) -> Result<(), Fail> {
+    let alloc = rt.alloc();
+    for digits in [
+        "df41d8f",
+        "df41d8fe0",
+        "df41d8fg",
+        "",
+        " df41d8f",
+        "0xdf41d8",
+    ] {
+        let words = drill(alloc, &["--expect", digits])?;
+        let refusal = ("", "shamir: 44 bad fingerprint\n", 1);
+        expect_run(&words, ONE_OF_ONE, alloc, refusal)?;
+    }
+    Ok(())
+}
+
 #[test]
 fn refuses_what_cannot_be_drilled(rt: HostRuntime) -> Result<(), Fail> {
     let alloc = rt.alloc();
@@ -168,6 +244,26 @@ fn names_digests_that_differ(rt: HostRuntime) -> Result<(), Fail> {
             input.push(b'\n')?;
         }
         expect_bytes(&DRILL, input.as_slice(), alloc, (output, "", 1))?;
+    }
+    Ok(())
+}
+
+#[test]
+fn names_digests_that_differ_beside_expected_secrets(rt: HostRuntime) -> Result<(), Fail> {
+    let alloc = rt.alloc();
+    let created = created(&rt, alloc, &create("1/2of2,2of2", SECRET), &RANDOM);
+    let created = std::str::from_utf8(created.as_slice())?;
+    let mut input = Vec::new(alloc);
+    for (mnemonic, flip) in created.lines().zip(&[0, 0, 0xFF, 0xFE]) {
+        input.extend_from_slice(forged(mnemonic, *flip)?.as_slice())?;
+        input.push(b'\n')?;
+    }
+    for (digits, told) in [("df41d8fe", "as expected"), ("df41d8ff", "other secret")] {
+        let words = drill(alloc, &["--expect", digits])?;
+        let output = format!(in alloc;
+            "0.0+0.1 {told}\n1.0+1.1 digest mismatch in group 1\nend\n"
+        )?;
+        expect_bytes(&words, input.as_slice(), alloc, (output.as_str(), "", 1))?;
     }
     Ok(())
 }

@@ -1,4 +1,5 @@
-//! Tests of what backups are made to and what comes of them: creation, recovery, drills, what is missing and is written again, and the published vectors.
+//! Tests of what backups are made to and what comes of them: creation, recovery, drills, what is missing and is written again,
+//! words that can't be read, and the published vectors.
 #![tactic(auto)]
 
 #[cfg(test)]
@@ -13,3 +14,5 @@ mod published;
 mod recover;
 #[cfg(test)]
 mod reissue;
+#[cfg(test)]
+mod repair;

@@ -48,6 +48,64 @@ fn tells_fingerprints(rt: HostRuntime) -> Result<(), Fail> {
     expect_run(&words, ONE_OF_ONE_256_BITS, alloc, ("c1aed5fb\n", "", 0))
 }
 
+// Python's hmac computes the fingerprints.
+#[test]
+fn compares_with_an_expected_fingerprint(rt: HostRuntime) -> Result<(), Fail> {
+    let alloc = rt.alloc();
+    let long = "989baf9dcaad5b10ca33dfd8cc75e42477025dce88ae83e75a230086a0e00e92\n";
+    let other = "shamir: 52 other secret\n";
+    let bad = "shamir: 44 bad fingerprint\n";
+    let cases = [
+        ("df41d8fe", ONE_OF_ONE, (ONE_OF_ONE_SECRET, "", 0)),
+        ("DF41D8FE", ONE_OF_ONE, (ONE_OF_ONE_SECRET, "", 0)),
+        ("dF41d8Fe", ONE_OF_ONE, (ONE_OF_ONE_SECRET, "", 0)),
+        ("c1aed5fb", ONE_OF_ONE_256_BITS, (long, "", 0)),
+        ("c1aed5fb", ONE_OF_ONE, ("", other, 1)),
+        ("df41d8ff", ONE_OF_ONE, ("", other, 1)),
+        ("ef41d8fe", ONE_OF_ONE, ("", other, 1)),
+        ("00000000", ONE_OF_ONE, ("", other, 1)),
+        ("df41d8f", ONE_OF_ONE, ("", bad, 1)),
+        ("df41d8fe0", ONE_OF_ONE, ("", bad, 1)),
+        ("df41d8fe00", ONE_OF_ONE, ("", bad, 1)),
+        ("df41d8fg", ONE_OF_ONE, ("", bad, 1)),
+        ("", ONE_OF_ONE, ("", bad, 1)),
+    ];
+    for (digits, input, wanted) in cases {
+        let expect = format!(in alloc; "--expect={digits}")?;
+        let words = ["shamir", "recover", expect.as_str(), "--passphrase=TREZOR"];
+        expect_run(&words, input, alloc, wanted)?;
+    }
+    Ok(())
+}
+
+#[test]
+fn compares_and_tells_fingerprints(rt: HostRuntime) -> Result<(), Fail> {
+    let alloc = rt.alloc();
+    let other = ("", "shamir: 52 other secret\n", 1);
+    let cases: [(&[&str], (&str, &str, u8)); 3] = [
+        (
+            &[
+                "shamir",
+                "recover",
+                "--fingerprint",
+                "--expect=DF41D8FE",
+                "--passphrase=TREZOR",
+            ],
+            ("df41d8fe\n", "", 0),
+        ),
+        (
+            &["shamir", "recover", "--fingerprint", "--expect=df41d8fe"],
+            other,
+        ),
+        // The passphrase is forgotten.
+        (&["shamir", "recover", "--expect=df41d8fe"], other),
+    ];
+    for (words, wanted) in cases {
+        expect_run(words, ONE_OF_ONE, alloc, wanted)?;
+    }
+    Ok(())
+}
+
 #[test]
 fn names_why_there_is_no_secret(rt: HostRuntime) -> Result<(), Fail> {
     let alloc = rt.alloc();

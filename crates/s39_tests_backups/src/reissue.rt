@@ -82,14 +82,23 @@ fn refuses_what_it_cannot_tell(rt: HostRuntime) -> Result<(), Fail> {
 #[test]
 fn refuses_forged_mnemonics(rt: HostRuntime) -> Result<(), Fail> {
     let alloc = rt.alloc();
-    let mut input = Vec::new(alloc);
-    for (mnemonic, flip) in [(FIVE[0], 0xFF), (FIVE[2], 0xFD)] {
-        input.extend_from_slice(forged(mnemonic, flip)?.as_slice())?;
-        input.push(b'\n')?;
+    let [a, b, c, d, _] = FIVE;
+    let cases: [(&str, &[(&str, u8)], &str); 3] = [
+        ("0.1", &[(a, 0xFF), (c, 0xFD)], "in group 0"),
+        ("2.0", &[(a, 0xFF), (c, 0xFD), (d, 0)], "in group 0"),
+        ("2.0", &[(a, 0), (b, 0), (d, 0xFF)], "of groups"),
+    ];
+    for (name, given, place) in cases {
+        let mut input = Vec::new(alloc);
+        for (mnemonic, flip) in given {
+            input.extend_from_slice(forged(mnemonic, *flip)?.as_slice())?;
+            input.push(b'\n')?;
+        }
+        let message = format!(in alloc; "shamir: 51 digest mismatch {place}\n")?;
+        let words = ["shamir", "reissue", PLAN, name];
+        expect_bytes(&words, input.as_slice(), alloc, ("", message.as_str(), 1))?;
     }
-    let words = ["shamir", "reissue", PLAN, "0.1"];
-    let wanted = ("", "shamir: 51 digest mismatch in group 0\n", 1);
-    expect_bytes(&words, input.as_slice(), alloc, wanted)
+    Ok(())
 }
 
 #[test]

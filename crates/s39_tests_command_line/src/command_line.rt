@@ -38,20 +38,34 @@ fn reads_show_and_recover(rt: HostRuntime) {
     let empty = Job::Recover {
         passphrase: b"",
         form,
+        expected: None,
     };
     let trezor = Job::Recover {
         passphrase: b"TREZOR",
         form,
+        expected: None,
     };
     let dashed = Job::Recover {
         passphrase: b"-x",
         form,
+        expected: None,
     };
     let fingerprint = Job::Recover {
         passphrase: b"TREZOR",
         form: SecretForm::Fingerprint,
+        expected: None,
     };
-    let cases: [(&[&str], Job); 9] = [
+    let expecting = Job::Recover {
+        passphrase: b"",
+        form,
+        expected: Some("DF41d8fe"),
+    };
+    let both = Job::Recover {
+        passphrase: b"",
+        form: SecretForm::Fingerprint,
+        expected: Some(""),
+    };
+    let cases: [(&[&str], Job); 12] = [
         (&["shamir", "show"], Job::Show),
         (&["shamir", "recover"], empty),
         (&["shamir", "recover", "--passphrase", "TREZOR"], trezor),
@@ -67,9 +81,20 @@ fn reads_show_and_recover(rt: HostRuntime) {
             &["shamir", "recover", "--passphrase=TREZOR", "--fingerprint"],
             fingerprint,
         ),
+        (&["shamir", "recover", "--expect", "DF41d8fe"], expecting),
+        (&["shamir", "recover", "--expect=DF41d8fe"], expecting),
+        (&["shamir", "recover", "--fingerprint", "--expect="], both),
     ];
     expect_jobs(&rt, rt.alloc(), &cases);
-    let refused: [&[&str]; 12] = [
+    let refused: [&[&str]; 15] = [
+        &["shamir", "recover", "--expect"],
+        &[
+            "shamir",
+            "recover",
+            "--expect=00000000",
+            "--expect=00000000",
+        ],
+        &["shamir", "status", "--expect=00000000"],
         &["shamir", "show", "--fingerprint"],
         &["shamir", "recover", "--fingerprint=df41d8fe"],
         &["shamir", "recover", "--fingerprint", "--fingerprint"],
@@ -184,14 +209,27 @@ fn reads_drill(rt: HostRuntime) {
         after: None,
         limit: 1000,
         form: SecretForm::Digits,
+        expected: None,
     };
     let rest = Job::Drill {
         passphrase: b"TREZOR",
         after: Some("0.0+1.0"),
         limit: 4_294_967_295,
         form: SecretForm::Fingerprint,
+        expected: None,
     };
-    let cases: [(&[&str], Job); 2] = [
+    let expecting = Job::Drill {
+        passphrase: b"",
+        after: Some("0.0"),
+        limit: 1000,
+        form: SecretForm::Digits,
+        expected: Some("df41d8f"),
+    };
+    let cases: [(&[&str], Job); 3] = [
+        (
+            &["shamir", "drill", "--after=0.0", "--expect", "df41d8f"],
+            expecting,
+        ),
         (&["shamir", "drill"], first),
         (
             &[
@@ -217,7 +255,7 @@ fn reads_drill(rt: HostRuntime) {
 }
 
 #[test]
-fn reads_status_and_reissue(rt: HostRuntime) {
+fn reads_status_reissue_and_repair(rt: HostRuntime) {
     let lost = Job::Reissue {
         plan: "2of3",
         names: "0.1+0.2",
@@ -226,15 +264,20 @@ fn reads_status_and_reissue(rt: HostRuntime) {
         plan: "",
         names: "",
     };
-    let cases: [(&[&str], Job); 3] = [
+    let cases: [(&[&str], Job); 4] = [
         (&["shamir", "status"], Job::Status),
         (&["shamir", "reissue", "2of3", "0.1+0.2"], lost),
         (&["shamir", "reissue", "", ""], empty),
+        (&["shamir", "repair"], Job::Repair),
     ];
     expect_jobs(&rt, rt.alloc(), &cases);
-    let refused: [&[&str]; 7] = [
+    let refused: [&[&str]; 11] = [
         &["shamir", "status", "file"],
         &["shamir", "status", "--passphrase", "TREZOR"],
+        &["shamir", "repair", "file"],
+        &["shamir", "repair", "--passphrase", "TREZOR"],
+        &["shamir", "repair", "--fingerprint"],
+        &["shamir", "repairs"],
         &["shamir", "reissue"],
         &["shamir", "reissue", "2of3"],
         &["shamir", "reissue", "2of3", "0.1", "0.2"],

@@ -22,6 +22,7 @@ Commands:
   drill    Try each quorum (minimal sufficient set) of the mnemonics on standard input and print what it recovers
   status   Show which members of each group are on standard input, and whether enough groups are complete
   reissue  Recompute lost mnemonics from others of the same backup on standard input
+  repair   Find the mnemonics that fit each line on standard input, in which up to three words can't be read
 
 Options:
   -h, --help     Print help
@@ -57,6 +58,7 @@ Options:
       --passphrase <TEXT>       Use this passphrase instead of the empty one (other users can see it)
       --passphrase-file <FILE>  Read the passphrase from FILE; - means the first line of standard input
       --fingerprint             Print the secret's fingerprint (eight hexadecimal digits) instead of the secret
+      --expect <FINGERPRINT>    Print nothing unless the secret has this fingerprint (other users can see it)
   -h, --help                    Print help
 
 Standard input has one mnemonic in each line. At a terminal, end with Ctrl-D on an empty line.
@@ -75,6 +77,7 @@ Options:
       --after <Q>               Start after quorum Q instead of at the first quorum
       --limit <N>               Try at most N quorums [default: 1000]
       --fingerprint             Print the secret's fingerprint (eight hexadecimal digits) instead of the secret
+      --expect <FINGERPRINT>    Print whether each secret has this fingerprint instead of the secret (other users can see it)
   -h, --help                    Print help
 
 Standard input has one mnemonic in each line. At a terminal, end with Ctrl-D on an empty line.
@@ -97,6 +100,19 @@ Options:
 Standard input has one mnemonic in each line. At a terminal, end with Ctrl-D on an empty line.
 
 Example: shamir reissue 2of3 0.1 < mnemonics.txt
+";
+
+const HELP_OF_REPAIR: &str =
+    "Find the mnemonics that fit each line on standard input, in which up to three words can't be read
+
+Usage: shamir repair
+
+Options:
+  -h, --help  Print help
+
+Standard input has one mnemonic in each line. For a word that can't be read, type its first letters and ?, as em?, or ? alone. At a terminal, end with Ctrl-D on an empty line.
+
+Example: shamir repair < damaged.txt
 ";
 
 const HELP_OF_SHOW: &str = "Show the fields of each mnemonic on standard input
@@ -127,7 +143,7 @@ Example: shamir status < mnemonics.txt
 #[test]
 fn answers_help_and_the_version(rt: HostRuntime) -> Result<(), Fail> {
     let alloc = rt.alloc();
-    let cases: [(&[&str], &str); 13] = [
+    let cases: [(&[&str], &str); 14] = [
         (&["shamir", "create", "--help"], HELP_OF_CREATE),
         (&["shamir", "drill", "--help"], HELP_OF_DRILL),
         (&["shamir", "--help"], HELP),
@@ -137,6 +153,7 @@ fn answers_help_and_the_version(rt: HostRuntime) -> Result<(), Fail> {
         (&["shamir", "help", "--limit"], HELP),
         (&["shamir", "recover", "--help"], HELP_OF_RECOVER),
         (&["shamir", "reissue", "--help"], HELP_OF_REISSUE),
+        (&["shamir", "repair", "--help"], HELP_OF_REPAIR),
         (&["shamir", "show", "--help"], HELP_OF_SHOW),
         (&["shamir", "status", "--help"], HELP_OF_STATUS),
         (&["shamir", "--version"], "shamir 1.0.0\n"),
@@ -163,7 +180,27 @@ const WRONG_EXPONENT: [&str; 7] = [
 #[test]
 fn says_why_words_are_refused(rt: HostRuntime) -> Result<(), Fail> {
     let alloc = rt.alloc();
-    let cases: [(&[&str], &str); 9] = [
+    let two_forms =
+        "error: --expect <FINGERPRINT> and --fingerprint can't be given together\n\nFor more information, try '--help'.\n";
+    let two_passphrases =
+        "error: --passphrase <TEXT> and --passphrase-file <FILE> can't be given together\n\nFor more information, try '--help'.\n";
+    let cases: [(&[&str], &str); 11] = [
+        (
+            &["shamir", "drill", "--expect=", "--fingerprint"],
+            two_forms,
+        ),
+        // Two passphrases come before two forms.
+        (
+            &[
+                "shamir",
+                "drill",
+                "--expect=df41d8fe",
+                "--fingerprint",
+                "--passphrase=",
+                "--passphrase-file=-",
+            ],
+            two_passphrases,
+        ),
         (
             &["shamir", "create", "1of1"],
             "error: one of --master-secret <HEX> and --master-secret-file <FILE> is required\n\nFor more information, try '--help'.\n",
@@ -180,7 +217,7 @@ fn says_why_words_are_refused(rt: HostRuntime) -> Result<(), Fail> {
         ),
         (
             &["shamir", "drill", "--passphrase=", "--passphrase-file=-"],
-            "error: --passphrase <TEXT> and --passphrase-file <FILE> can't be given together\n\nFor more information, try '--help'.\n",
+            two_passphrases,
         ),
         (
             &["shamir", "create", "--master-secret=00"],

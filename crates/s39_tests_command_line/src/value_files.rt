@@ -1,10 +1,13 @@
 //! The files of values in the words of a command line.
 
 use crate::command_line::expect_refusals;
+use s39_cli::{Destination, Source, program};
 use s39_command::{BadValues, Call, Job, NoJob, ValueFiles, read_words};
+use s39_fixtures::shelves::Halted;
 use s39_fixtures::{ONE_OF_ONE, ONE_OF_ONE_SECRET, expect_over, run_on};
 use s39_input::SecretForm;
 use std::alloc::Global;
+use std::io::ErrorKind;
 use std::process::Abort;
 use std::test::Fail;
 
@@ -143,16 +146,19 @@ fn reads_files_of_recover_and_drill(rt: HostRuntime) {
     let digits = Job::Recover {
         passphrase: b"",
         form: SecretForm::Digits,
+        expected: None,
     };
     let fingerprint = Job::Recover {
         passphrase: b"",
         form: SecretForm::Fingerprint,
+        expected: None,
     };
     let drill = Job::Drill {
         passphrase: b"",
         after: Some("0.0"),
         limit: 2,
         form: SecretForm::Digits,
+        expected: None,
     };
     let cases: [(&[&str], Job, Option<&str>, Option<&str>); 5] = [
         (
@@ -406,4 +412,37 @@ fn reads_values_of_create(rt: HostRuntime) -> Result<(), Fail> {
         expect_over(&files, &words, input, rt.alloc(), wanted)?;
     }
     Ok(())
+}
+
+#[test]
+fn tries_only_an_interrupted_read_of_a_file_again(rt: HostRuntime) {
+    let alloc = rt.alloc();
+    let cases = [
+        (ErrorKind::Interrupted, 0, ONE_OF_ONE_SECRET),
+        (ErrorKind::WouldBlock, 3, ""),
+        (ErrorKind::TimedOut, 3, ""),
+        (ErrorKind::BrokenPipe, 3, ""),
+        (ErrorKind::Other, 3, ""),
+    ];
+    for (kind, wanted, output) in cases {
+        let shelf = Halted {
+            alloc,
+            kind,
+            bytes: b"TREZOR\n",
+        };
+        let mut written = Vec::new(alloc);
+        let status = program(
+            &shelf,
+            alloc,
+            &["shamir", "recover", "--passphrase-file", "f"],
+            ONE_OF_ONE.as_bytes(),
+            &mut written,
+            &mut Vec::new(alloc),
+            Source::Elsewhere,
+            Destination::Elsewhere,
+        )
+        .status();
+        assert_eq!(rt; status, wanted);
+        assert_eq!(rt; written.as_slice(), output.as_bytes());
+    }
 }

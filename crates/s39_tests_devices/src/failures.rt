@@ -1,154 +1,18 @@
 //! Runs over devices that fail at one of their calls, give or take single bytes, or take none.
 
-ghost use Rattle.std.specs.Prelude.{◌<◌};
-
-use s39_backup::{Options, Plan};
-use s39_creating::run_create;
-use s39_drilling::{Done, run_drill};
+use crate::commands::{
+    COMMANDS, Command, Example, READ_FAILED, Told, WRITE_FAILED, example_of, outcome_of, told,
+};
 use s39_fixtures::devices::{Filling, Full, Interrupted, InterruptedAtFirst, Source};
 use s39_fixtures::{
-    FIVE, ONE_OF_ONE, ONE_OF_ONE_BAD_CHECKSUM, ONE_OF_ONE_BAD_PADDING, ONE_OF_ONE_SECRET, RANDOM,
-    SHOW, SHOWN, WRITE_FAILED_LINE, drilled, expect_told, lines,
+    ONE_OF_ONE, ONE_OF_ONE_BAD_CHECKSUM, ONE_OF_ONE_BAD_PADDING, ONE_OF_ONE_TWO_WORDS_LOST, SHOW,
+    SHOWN, WRITE_FAILED_LINE, expect_told, lines,
 };
-use s39_input::{Counting, Fault, LineRefusal, Refusal, SecretForm, run_show};
-use s39_kdf::check_secret;
-use s39_reading::run_recover;
-use s39_refusal::Cause;
+use s39_input::{Counting, LineRefusal, run_show};
 use s39_words::WordError;
 use std::alloc::{AllocError, Global};
-use std::io::{Read, Write};
 use std::process::Abort;
 use std::test::Fail;
-
-/// The line and the cause of a fault.
-type Told = (Option<u64>, Cause);
-
-const READ_FAILED: Told = (
-    None,
-    Cause {
-        code: 72,
-        first: 0,
-        second: 0,
-    },
-);
-
-const WRITE_FAILED: Told = (
-    None,
-    Cause {
-        code: 73,
-        first: 0,
-        second: 0,
-    },
-);
-
-/// A command of the worked examples.
-#[derive(Clone, Copy, Debug)]
-enum Command {
-    Show,
-    Create,
-    Recover,
-    Drill,
-}
-
-/// What a command answers, how many calls of the reader and of the writer failed, and the devices.
-#[derive(Drop)]
-struct Outcome<R, W> {
-    answer: Result<u32, Told>,
-    failures: (u64, u64),
-    input: R,
-    output: W,
-}
-
-/// Creates the backup of the five mnemonics.
-fn create_five<R: Read, W: Write>(
-    input: &mut Counting<R>,
-    output: &mut Counting<W>,
-) -> Result<(), Fault>
-    requires readable { input.old.failures < u64.MAX }
-    requires writable { output.old.failures < u64.MAX }
-{
-    let (Ok(plan), Ok(secret)) = (
-        Plan::parse("2/2of3,1of1,1of1"),
-        check_secret(b"\xbb\x54\xaa\xc4\xb8\x9d\xc8\x68\xba\x37\xd9\xcc\x21\xb2\xce\xce"),
-    ) else {
-        return Err(Fault::from(Refusal::NotAQuorum));
-    };
-    let options = Options {
-        exponent: 0,
-        extendable: false,
-    };
-    run_create(&plan, &secret, b"TREZOR", options, input, output)
-}
-
-fn told(fault: Fault) -> Told {
-    (fault.line, fault.refusal.cause())
-}
-
-fn outcome_of<R: Read + Drop, W: Write + Drop>(
-    command: Command,
-    input: R,
-    output: W,
-) -> Outcome<R, W> {
-    let mut input = Counting::new(input);
-    let mut output = Counting::new(output);
-    let answer = match command {
-        Command::Show => run_show(&mut input, &mut output).map(|()| 0),
-        Command::Create => create_five(&mut input, &mut output).map(|()| 0),
-        Command::Recover => run_recover(SecretForm::Digits, b"TREZOR", &mut input, &mut output).map(
-            |()| 0,
-        ),
-        Command::Drill => run_drill(
-            SecretForm::Digits,
-            b"TREZOR",
-            None,
-            1000,
-            &mut input,
-            &mut output,
-        )
-        .map(|Done { mismatches }| mismatches),
-    };
-    Outcome {
-        answer: answer.map_err(told),
-        failures: (input.failures(), output.failures()),
-        input: input.into_inner(),
-        output: output.into_inner(),
-    }
-}
-
-/// The input of a command, and what it writes.
-#[derive(Drop)]
-struct Example {
-    command: Command,
-    input: Vec<u8>,
-    output: String,
-}
-
-fn example_of(alloc: Global, command: Command) -> Result<Example, AllocError> {
-    let (input, output) = match command {
-        Command::Show => (
-            Vec::from_slice(alloc, ONE_OF_ONE.as_bytes())?,
-            String::from_str(alloc, SHOWN)?,
-        ),
-        Command::Create => (Vec::from_slice(alloc, &RANDOM)?, lines(alloc, &FIVE)?),
-        Command::Recover => (
-            Vec::from_slice(alloc, ONE_OF_ONE.as_bytes())?,
-            String::from_str(alloc, ONE_OF_ONE_SECRET)?,
-        ),
-        Command::Drill => (lines(alloc, &FIVE)?.into_bytes(), drilled(alloc)?),
-    };
-    Ok(Example {
-        command,
-        input,
-        output,
-    })
-}
-
-const COMMANDS: [Command; 4] = [
-    Command::Show,
-    Command::Create,
-    Command::Recover,
-    Command::Drill,
-];
 
 /// A refusal of the first line.
 fn at_line_1(refusal: LineRefusal) -> Result<u32, Told> {
@@ -156,16 +20,26 @@ fn at_line_1(refusal: LineRefusal) -> Result<u32, Told> {
 }
 
 #[test]
-fn shows_the_lines_before_a_failed_read(rt: HostRuntime) -> Result<(), Fail> {
+fn answers_the_lines_before_a_failed_read(rt: HostRuntime) -> Result<(), Fail> {
     let alloc = rt.alloc();
-    let line = format!(in alloc; "{ONE_OF_ONE}\n")?;
-    let started = format!(in alloc; "{ONE_OF_ONE}\n{ONE_OF_ONE_BAD_CHECKSUM}")?;
-    for text in [line.as_str(), started.as_str()] {
-        let device = Source::cut(text.as_bytes());
-        let outcome = outcome_of(Command::Show, device, Vec::new(alloc));
-        assert_eq!(rt; outcome.answer, Err(READ_FAILED));
-        assert_eq!(rt; outcome.failures, (1, 0));
-        assert_eq!(rt; outcome.output.as_slice(), SHOWN.as_bytes());
+    let repaired = lines(alloc, &[ONE_OF_ONE])?;
+    for (command, line, output) in [
+        (Command::Show, ONE_OF_ONE, SHOWN),
+        (
+            Command::Repair,
+            ONE_OF_ONE_TWO_WORDS_LOST,
+            repaired.as_str(),
+        ),
+    ] {
+        let whole = format!(in alloc; "{line}\n")?;
+        let started = format!(in alloc; "{line}\n{ONE_OF_ONE_BAD_CHECKSUM}")?;
+        for text in [whole.as_str(), started.as_str()] {
+            let device = Source::cut(text.as_bytes());
+            let outcome = outcome_of(command, device, Vec::new(alloc));
+            assert_eq!(rt; outcome.answer, Err(READ_FAILED));
+            assert_eq!(rt; outcome.failures, (1, 0));
+            assert_eq!(rt; outcome.output.as_slice(), output.as_bytes());
+        }
     }
     Ok(())
 }
@@ -296,8 +170,9 @@ fn expect_beginning(rt: &impl Abort, alloc: Global, example: &Example, piece: us
 #[test]
 fn writes_beginnings(rt: HostRuntime) -> Result<(), Fail> {
     let alloc = rt.alloc();
-    let cases: [(Command, usize, &[usize]); 3] = [
+    let cases: [(Command, usize, &[usize]); 4] = [
         (Command::Show, 147, &[0, 1, 146, 147]),
+        (Command::Repair, 146, &[0, 1, 145, 146]),
         (Command::Create, 715, &[0, 141, 714, 715]),
         (Command::Recover, 33, &[0, 1, 32, 33]),
     ];

@@ -2,14 +2,15 @@
 //! asked for before the line is taken.
 
 use s39_cli::Destination;
-use s39_fixtures::devices::{Filling, Full, Interrupted, Source};
+use s39_fixtures::devices::{FailingOnce, Filling, Flushing, Full, Interrupted, Source};
 use s39_fixtures::{
-    DRILL, FIVE, ONE_OF_ONE, ONE_OF_ONE_SECRET, RANDOM, RECOVER, SECRET, SHOW, SHOWN,
-    WRITE_FAILED_LINE, create, drilled, expect_flushed, expect_told, lines, program,
-    program_at_terminal,
+    DRILL, FIVE, ONE_OF_ONE, ONE_OF_ONE_SECRET, ONE_OF_ONE_TWO_WORDS_LOST, RANDOM, RECOVER, REPAIR,
+    SECRET, SHOW, SHOWN, WRITE_FAILED_LINE, create, drilled, expect_flushed, expect_told, lines,
+    program, program_at_terminal,
 };
 use s39_input::Counting;
 use std::alloc::Global;
+use std::io::ErrorKind;
 use std::process::Abort;
 use std::test::Fail;
 
@@ -19,8 +20,14 @@ fn answers_a_failed_flush(rt: HostRuntime) -> Result<(), Fail> {
     let five = lines(alloc, &FIVE)?;
     let drilled = drilled(alloc)?;
     let create = create("2/2of3,1of1,1of1", SECRET);
-    let cases: [(&[&str], &[u8], &str); 4] = [
+    let repaired = lines(alloc, &[ONE_OF_ONE])?;
+    let cases: [(&[&str], &[u8], &str); 5] = [
         (&SHOW, ONE_OF_ONE.as_bytes(), SHOWN),
+        (
+            &REPAIR,
+            ONE_OF_ONE_TWO_WORDS_LOST.as_bytes(),
+            repaired.as_str(),
+        ),
         (&create, &RANDOM, five.as_str()),
         (&RECOVER, ONE_OF_ONE.as_bytes(), ONE_OF_ONE_SECRET),
         (&DRILL, five.as_bytes(), drilled.as_str()),
@@ -54,23 +61,32 @@ fn expect_calls(
     assert_eq!(rt; device.bytes.as_slice(), output.as_bytes(), "{words:?}");
 }
 
-/// Two mnemonics shown in a pipe and at a terminal, and a drill: in as many pieces each.
+/// Two mnemonics shown in a pipe and at a terminal, two repaired likewise, and a drill: in as many pieces each.
 fn expect_pieces(
     rt: &impl Abort,
     alloc: Global,
     interruptions: usize,
-    calls: [usize; 3],
+    calls: [usize; 5],
 ) -> Result<(), Fail> {
     let two = lines(alloc, &[ONE_OF_ONE, ONE_OF_ONE])?;
     let shown = SHOWN.repeat(alloc, 2)?;
+    let lost = lines(alloc, &[ONE_OF_ONE_TWO_WORDS_LOST, ONE_OF_ONE])?;
     let five = lines(alloc, &FIVE)?;
     let drilled = drilled(alloc)?;
-    let cases: [((Destination, &[&str], &str), &str); 3] = [
+    let cases: [((Destination, &[&str], &str), &str); 5] = [
         (
             (Destination::Elsewhere, &SHOW, two.as_str()),
             shown.as_str(),
         ),
         ((Destination::Terminal, &SHOW, two.as_str()), shown.as_str()),
+        (
+            (Destination::Elsewhere, &REPAIR, lost.as_str()),
+            two.as_str(),
+        ),
+        (
+            (Destination::Terminal, &REPAIR, lost.as_str()),
+            two.as_str(),
+        ),
         (
             (Destination::Elsewhere, &DRILL, five.as_str()),
             drilled.as_str(),
@@ -84,12 +100,12 @@ fn expect_pieces(
 
 #[test]
 fn writes_again_after_each_interruption(rt: HostRuntime) -> Result<(), Fail> {
-    expect_pieces(&rt, rt.alloc(), 3, [4, 8, 32])
+    expect_pieces(&rt, rt.alloc(), 3, [4, 8, 4, 8, 32])
 }
 
 #[test]
 fn hands_lines_on_as_they_are_known(rt: HostRuntime) -> Result<(), Fail> {
-    expect_pieces(&rt, rt.alloc(), 1, [2, 4, 16])
+    expect_pieces(&rt, rt.alloc(), 1, [2, 4, 2, 4, 16])
 }
 
 #[test]
@@ -110,15 +126,17 @@ fn takes_a_line_before_it_reads_on(rt: HostRuntime) -> Result<(), Fail> {
     let line = ONE_OF_ONE.len() + 1;
     // A line of the first piece that can't be written.
     for piece in [line, line + 1, 4096] {
-        let mut input = Source::new(two.as_bytes(), piece, usize::MAX);
-        let status = program_at_terminal(alloc, &SHOW, &mut input, Full, Vec::new(alloc));
-        assert_eq!(rt; (status, input.calls), (3, 1));
+        for words in [SHOW, REPAIR] {
+            let mut input = Source::new(two.as_bytes(), piece, usize::MAX);
+            let status = program_at_terminal(alloc, &words, &mut input, Full, Vec::new(alloc));
+            assert_eq!(rt; (status, input.calls), (3, 1), "{words:?}");
+        }
     }
     // One that is refused, beside what a reader would give next.
     let mut refused = String::new(alloc);
     refused.push_str("ducklin\n")?;
     refused.push_str(two.as_str())?;
-    for words in [SHOW.as_slice(), &RECOVER, &DRILL] {
+    for words in [SHOW.as_slice(), &REPAIR, &RECOVER, &DRILL] {
         let mut input = Source::new(refused.as_bytes(), 8, usize::MAX);
         let status = program(alloc, words, &mut input, Vec::new(alloc), Vec::new(alloc));
         assert_eq!(rt; (status, input.calls), (1, 1), "{words:?}");
@@ -136,5 +154,45 @@ fn writes_nothing_after_a_failed_write(rt: HostRuntime) -> Result<(), Fail> {
         expect_told(&DRILL, input, &mut narrow, alloc, (WRITE_FAILED_LINE, 3))?;
         assert_eq!(rt; (narrow.bytes.len(), narrow.failed_calls), (room, 1));
     }
+    Ok(())
+}
+
+#[test]
+fn tries_only_an_interrupted_write_again(rt: HostRuntime) -> Result<(), Fail> {
+    let alloc = rt.alloc();
+    let five = lines(alloc, &FIVE)?;
+    let kinds = [
+        ErrorKind::BrokenPipe,
+        ErrorKind::WouldBlock,
+        ErrorKind::TimedOut,
+        ErrorKind::WriteZero,
+        ErrorKind::OutOfMemory,
+        ErrorKind::Other,
+    ];
+    for kind in kinds {
+        for words in [DRILL.as_slice(), &RECOVER] {
+            let mut device = FailingOnce::new(alloc, kind, b"");
+            let input = five.as_bytes();
+            expect_told(words, input, &mut device, alloc, (WRITE_FAILED_LINE, 3))?;
+            assert_eq!(rt; (device.calls, device.written.len()), (1, 0), "{words:?}");
+            assert_eq!(rt; device.flushes, 0, "{words:?}");
+        }
+    }
+    Ok(())
+}
+
+#[test]
+fn flushes_the_lines_before_a_refusal(rt: HostRuntime) -> Result<(), Fail> {
+    let alloc = rt.alloc();
+    let two = lines(alloc, &[ONE_OF_ONE, "ducklin"])?;
+    let mut device = Flushing::new(alloc, false);
+    let mut told = Vec::new(alloc);
+    let status = program_at_terminal(alloc, &SHOW, two.as_bytes(), &mut device, &mut told);
+    assert_eq!(rt; (status, device.flushes), (1, 1));
+    assert_eq!(rt; device.bytes.as_slice(), SHOWN.as_bytes());
+    assert_eq!(rt;
+        told.as_slice(),
+        b"shamir: line 2: 11 unknown word 1\n".as_slice()
+    );
     Ok(())
 }

@@ -1,7 +1,7 @@
 //! A terminal: what is typed behind a fault is dropped, and random bytes aren't typed.
 
 use s39_cli::{Destination, Watched, program, with_rest_dropped};
-use s39_fixtures::devices::Source;
+use s39_fixtures::devices::{Full, Halting, Source};
 use s39_fixtures::shelves::NoFiles;
 use s39_fixtures::{ONE_OF_ONE, RECOVER, SECRET, TWO_NEEDED_MEMBER_2, create, lines};
 use std::alloc::Global;
@@ -60,6 +60,53 @@ shamir: the rest of the input is dropped: end it with Ctrl-D\n";
     let drill = ["shamir", "drill", "--after", "x"];
     let input = (whole.as_str(), 4096, ALL);
     expect_reads(&rt, alloc, &drill, input, (told, 1, 2));
+    Ok(())
+}
+
+#[test]
+fn drops_what_is_typed_behind_a_failed_write(rt: HostRuntime) -> Result<(), Fail> {
+    let alloc = rt.alloc();
+    let two = lines(alloc, &[ONE_OF_ONE, ONE_OF_ONE])?;
+    let mut device = Source::new(two.as_bytes(), ONE_OF_ONE.len() + 1, ALL);
+    let mut errors = Vec::new(alloc);
+    let ended = program(
+        &NoFiles,
+        alloc,
+        &["shamir", "show"],
+        Watched::new(&mut device),
+        Full,
+        &mut errors,
+        s39_cli::Source::Terminal,
+        Destination::Terminal,
+    );
+    let status = with_rest_dropped(ended, &mut errors).status();
+    assert_eq!(rt; (status, device.calls), (3, 3));
+    let told = "shamir: 73 write failed
+shamir: the rest of the input is dropped: end it with Ctrl-D\n";
+    assert_eq!(rt; errors.as_slice(), told.as_bytes());
+    Ok(())
+}
+
+#[test]
+fn drops_what_is_typed_after_an_interruption(rt: HostRuntime) -> Result<(), Fail> {
+    let alloc = rt.alloc();
+    let refused = lines(alloc, &["ducklin", ONE_OF_ONE])?;
+    let mut device = Halting::new(refused.as_bytes(), 8);
+    let mut errors = Vec::new(alloc);
+    let ended = program(
+        &NoFiles,
+        alloc,
+        &RECOVER,
+        Watched::new(&mut device),
+        Vec::new(alloc),
+        &mut errors,
+        s39_cli::Source::Terminal,
+        Destination::Elsewhere,
+    );
+    let status = with_rest_dropped(ended, &mut errors).status();
+    // Each piece takes two calls, the first of which is interrupted, except for the first piece. The last call gives no byte.
+    let pieces = refused.len().div_ceil(8);
+    assert_eq!(rt; (status, device.calls), (1, 2 * pieces + 1));
     Ok(())
 }
 

@@ -2,7 +2,7 @@
 //! nothing else is said; another program computes their words.
 
 use s39_fixtures::devices::Source;
-use s39_fixtures::{ONE_OF_ONE, SECRET, create, expect_run, expect_told, lines};
+use s39_fixtures::{ONE_OF_ONE, REPAIR, SECRET, create, expect_run, expect_told, lines};
 use std::alloc::Global;
 use std::process::Abort;
 use std::test::Fail;
@@ -11,7 +11,15 @@ const RECOVER: [&str; 2] = ["shamir", "recover"];
 
 const SHOW: [&str; 2] = ["shamir", "show"];
 
-const UNPRINTABLE: &str = "a\x07";
+pub(crate) const UNPRINTABLE: &str = "a\x07";
+
+// A bad checksum, and a bit of the padding.
+const PADDING_AND_CHECKSUM: &str =
+    "duckling enlarge acquire romp easy academic academic academic academic academic academic academic academic academic academic academic academic promise upgrade traveler";
+
+// A bit of the padding, and group threshold 2 of one group.
+const PADDING_AND_THRESHOLD: &str =
+    "duckling enlarge acrobat academic easy academic academic academic academic academic academic academic academic academic academic academic academic loud twin network";
 
 /// Nothing is written but this refusal, with status 1.
 fn expect_refusal(alloc: Global, words: &[&str], input: &str, refusal: &str) -> Result<(), Fail> {
@@ -33,25 +41,48 @@ fn answers_the_first_cause_of_a_line(rt: HostRuntime) -> Result<(), Fail> {
             "duckling enlarge academic academic agency result length solution fridge kidney coal piece deal husband erode duke ajar critical decision",
             "12 19 words make no share",
         ),
-        // A bad checksum, and a bit of the padding.
-        (
-            "duckling enlarge acquire romp easy academic academic academic academic academic academic academic academic academic academic academic academic promise upgrade traveler",
-            "13 bad checksum",
-        ),
+        (PADDING_AND_CHECKSUM, "13 bad checksum"),
         // A bad checksum, and group threshold 2 of one group.
         (
             "duckling enlarge acrobat academic academic academic academic academic academic academic academic academic academic academic academic academic academic dough scout quick",
             "13 bad checksum",
         ),
-        // A bit of the padding, and group threshold 2 of one group.
-        (
-            "duckling enlarge acrobat academic easy academic academic academic academic academic academic academic academic academic academic academic academic loud twin network",
-            "14 bad padding",
-        ),
+        (PADDING_AND_THRESHOLD, "14 bad padding"),
     ];
     for (line, refusal) in cases {
         let refusal = format!(in alloc; "line 1: {refusal}")?;
         expect_refusal(alloc, &SHOW, line, refusal.as_str())?;
+    }
+    Ok(())
+}
+
+#[test]
+fn answers_the_first_cause_of_marks(rt: HostRuntime) -> Result<(), Fail> {
+    let alloc = rt.alloc();
+    let long = "?".repeat(alloc, 1025)?;
+    let cases = [
+        // Too long, and a mark that stands for no word.
+        (long.as_str(), "71 line too long"),
+        // A mark that stands for no word, and a wrong number of marks.
+        ("? ? ? zz?", "11 unknown word 4"),
+        // A mark that stands for no word, and four open places.
+        (
+            "zz? enlarge ? ? ? ? academic academic academic academic academic academic academic academic academic academic academic promise upgrade traveler",
+            "11 unknown word 1",
+        ),
+        // A wrong number of marks, and four open places.
+        ("? ? ? ?", "12 4 words make no share"),
+        // No mnemonic has these words, and a bit of the padding.
+        (
+            "duckling enlarge ? academic easy academic academic academic academic academic academic academic academic academic academic academic academic loud twin network",
+            "17 no mnemonic has these words",
+        ),
+        (PADDING_AND_CHECKSUM, "13 bad checksum"),
+        (PADDING_AND_THRESHOLD, "14 bad padding"),
+    ];
+    for (line, refusal) in cases {
+        let refusal = format!(in alloc; "line 1: {refusal}")?;
+        expect_refusal(alloc, &REPAIR, line, refusal.as_str())?;
     }
     Ok(())
 }
@@ -113,7 +144,7 @@ fn answers_the_first_cause_of_a_later_share(rt: HostRuntime) -> Result<(), Fail>
 }
 
 // Of two groups of threshold 2, group 0 with member threshold 1 and with 2, and group 1 likewise.
-const ONE_OF_GROUP_0: &str =
+pub(crate) const ONE_OF_GROUP_0: &str =
     "duckling enlarge acrobat easy academic academic academic academic academic academic academic academic academic academic academic academic academic include inform visitor";
 
 const TWO_OF_GROUP_0: [&str; 2] = [
@@ -121,7 +152,7 @@ const TWO_OF_GROUP_0: [&str; 2] = [
     "duckling enlarge acrobat email academic academic academic academic academic academic academic academic academic academic academic academic academic medical admit heat",
 ];
 
-const ONE_OF_GROUP_1: &str =
+pub(crate) const ONE_OF_GROUP_1: &str =
     "duckling enlarge beard easy academic academic academic academic academic academic academic academic academic academic academic academic academic geology failure junk";
 
 const TWO_OF_GROUP_1: [&str; 2] = [
@@ -146,10 +177,15 @@ const NO_QUORUM: [&str; 4] = ["shamir", "drill", "--after", "0.0"];
 
 const BAD_PASSPHRASE: &str = "41 passphrase byte 2 not printable";
 
-const UNKNOWN_WORD: &str = "line 1: 11 unknown word 1";
+pub(crate) const UNKNOWN_WORD: &str = "line 1: 11 unknown word 1";
 
 /// The words on these lines have this refusal.
-fn expect_cause(alloc: Global, words: &[&str], input: &[&str], refusal: &str) -> Result<(), Fail> {
+pub(crate) fn expect_cause(
+    alloc: Global,
+    words: &[&str],
+    input: &[&str],
+    refusal: &str,
+) -> Result<(), Fail> {
     let input = lines(alloc, input)?;
     expect_refusal(alloc, words, input.as_str(), refusal)
 }
@@ -281,7 +317,7 @@ fn answers_the_first_cause_of_a_creation(rt: HostRuntime) -> Result<(), Fail> {
 
 /// The words on a reader that gives the input in one piece and fails then: the message, the status, and how often the
 /// reader is called.
-fn expect_cut(
+pub(crate) fn expect_cut(
     rt: &impl Abort,
     alloc: Global,
     words: &[&str],
@@ -315,7 +351,7 @@ fn answers_a_refusal_or_a_failed_read(rt: HostRuntime) -> Result<(), Fail> {
     let one = create("1of1", SECRET);
     let short = create("1of1", &SECRET[..28]);
     let read_failed = ("72 read failed", 3, 2);
-    let cases: [(&[&str], &str, (&str, u8, usize)); 11] = [
+    let cases: [(&[&str], &str, (&str, u8, usize)); 13] = [
         // Known before anything is read.
         (&unprintable, ONE_OF_ONE, (passphrase, 1, 0)),
         (&drill, ONE_OF_ONE, (passphrase, 1, 0)),
@@ -325,10 +361,12 @@ fn answers_a_refusal_or_a_failed_read(rt: HostRuntime) -> Result<(), Fail> {
         (&one, "abc", ("43 random bytes: 2 needed", 1, 1)),
         (&SHOW, "ducklin\n", ("line 1: 11 unknown word 1", 1, 1)),
         (&RECOVER, "ducklin\n", ("line 1: 11 unknown word 1", 1, 1)),
+        (&REPAIR, "??\n", ("line 1: 11 unknown word 1", 1, 1)),
         // Not known.
         (&one, "ab", read_failed),
         (&one, "a", read_failed),
         (&SHOW, "ducklin", read_failed),
+        (&REPAIR, "??", read_failed),
         (&RECOVER, "# a note\n", read_failed),
     ];
     for (words, input, wanted) in cases {

@@ -2,7 +2,8 @@
 
 use s39_backup::{Mismatch, PlanError, TooFew};
 use s39_input::{LineRefusal, Refusal};
-use s39_kdf::BadPassphrase;
+use s39_kdf::{BadFingerprint, BadPassphrase};
+use s39_repair::RepairError;
 use s39_set::{BadNames, SetError, SetLack};
 use s39_text::FaultText;
 use std::alloc::Global;
@@ -51,6 +52,53 @@ fn names_refusals_of_shares(rt: HostRuntime) -> Result<(), Fail> {
 }
 
 #[test]
+fn names_refusals_of_marks(rt: HostRuntime) -> Result<(), Fail> {
+    let cases = [
+        (
+            RepairError::UnknownWord { position: 110 },
+            "line 7: 11 unknown word 110",
+        ),
+        (
+            RepairError::WordCount { words: 341 },
+            "line 7: 12 341 words make no share",
+        ),
+        (
+            RepairError::UnreadableWords { places: 110 },
+            "line 7: 16 110 unreadable words: at most 3",
+        ),
+        (
+            RepairError::NoMnemonic,
+            "line 7: 17 no mnemonic has these words",
+        ),
+        (
+            RepairError::WrongWord {
+                first: 110,
+                second: None,
+            },
+            "line 7: 18 bad checksum: if one word is wrong, it is word 110",
+        ),
+        (
+            RepairError::WrongWord {
+                first: 2,
+                second: Some(110),
+            },
+            "line 7: 18 bad checksum: if one word is wrong, it is word 2 or word 110",
+        ),
+        (RepairError::BadChecksum, "line 7: 13 bad checksum"),
+        (RepairError::BadPadding, "line 7: 14 bad padding"),
+        (
+            RepairError::GroupThreshold,
+            "line 7: 15 group threshold above group count",
+        ),
+    ];
+    for (error, text) in cases {
+        let refusal = Refusal::Line(LineRefusal::Marks(error));
+        expect_text(&rt, rt.alloc(), refusal, text)?;
+    }
+    Ok(())
+}
+
+#[test]
 fn names_refusals_of_sets(rt: HostRuntime) -> Result<(), Fail> {
     let incomplete = SetLack::Incomplete {
         complete: 1,
@@ -92,6 +140,7 @@ fn names_refusals_of_sets(rt: HostRuntime) -> Result<(), Fail> {
             Refusal::DigestMismatch(Mismatch::OfGroups),
             "51 digest mismatch of groups",
         ),
+        (Refusal::OtherSecret, "52 other secret"),
     ];
     for (refusal, text) in cases {
         expect_text(&rt, rt.alloc(), refusal, text)?;
@@ -103,6 +152,13 @@ fn names_refusals_of_sets(rt: HostRuntime) -> Result<(), Fail> {
 fn names_the_refusal_of_names(rt: HostRuntime) -> Result<(), Fail> {
     let told = format!(in rt.alloc(); "{}", FaultText::of(None, BadNames.cause()))?;
     assert_eq!(rt; told.as_str(), "shamir: 63 bad list of names");
+    Ok(())
+}
+
+#[test]
+fn names_the_refusal_of_a_fingerprint(rt: HostRuntime) -> Result<(), Fail> {
+    let told = format!(in rt.alloc(); "{}", FaultText::of(None, BadFingerprint.cause()))?;
+    assert_eq!(rt; told.as_str(), "shamir: 44 bad fingerprint");
     Ok(())
 }
 

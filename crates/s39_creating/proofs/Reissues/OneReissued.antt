@@ -23,8 +23,7 @@ use Rattle.s39_creating.specs.Reissue.{IsReissueOutput}
 use Rattle.s39_input.proofs.Steps.{AtMostOne, AtLeastOne, then_once, then_some}
 use Rattle.s39_input.proofs.Sets.Checked.{same_writing}
 use Rattle.s39_input.proofs.Sets.OneSet.{InputsAreReadOnce, AcceptedAreShareSets}
-use Rattle.s39_creating.proofs.Runs.Creating.{printed_all}
-use Rattle.s39_creating.proofs.Runs.OneCreate.{text_once}
+use Rattle.s39_input.proofs.Runs.PrintedLines.{printed_all, text_once}
 use Rattle.s39_creating.proofs.Reissues.Firsts.{value_at, values_once, error_once, values_or_error, zip_values}
 use Rattle.s39_creating.proofs.Reissues.Named.{names_once, some_names, shares_once, some_shares, plan_once, some_plan}
 

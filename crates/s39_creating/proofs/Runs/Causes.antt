@@ -9,7 +9,6 @@ use Rattle.s39_input.specs.declared.fault.Refusal.TheVariants.{Passphrase, Secre
 use Rattle.s39_input.specs.declared.fault.Fault.{Fault}
 use Rattle.s39_input.specs.Input.{Input}
 use Rattle.s39_input.specs.Fault.{fault_of}
-use Rattle.s39_input.specs.Steps.{gives}
 use Rattle.s39_backup.specs.Created.{Asked}
 use Rattle.s39_input.specs.Create.{IsCreateOutput, fault_of_creation}
 use Rattle.s39_input.proofs.Runs.Causes.{place_is, not_of_passphrase}

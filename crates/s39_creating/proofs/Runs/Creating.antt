@@ -1,13 +1,11 @@
 -- A run that creates a backup.
-use Rattle.std.proofs.Common.{◌≡◌, ◌≢◌, ℕ, suc, min, ◌+◌, ◌<◌, ◌≤◌, true, List, [], ◌∷◌, ◌++◌, length, take, drop, All, get_or, refl, sym, ap, ap₂, ◌∙◌}
-use Rattle.std.proofs.Common.{subst, inl, inr, append-nil, arith, Option, Ok, Err}
-use Rattle.std.specs.List.{AllZip}
+use Rattle.std.proofs.Common.{◌≡◌, ◌≢◌, ℕ, suc, min, ◌+◌, ◌<◌, ◌≤◌, true, List, [], ◌∷◌, ◌++◌, length, take, drop, All, get_or, refl, sym, ap, ◌∙◌}
+use Rattle.std.proofs.Common.{subst, inl, inr, arith, Option, Ok, Err}
 use Rattle.std.specs.Io.KnownBytes.{Consumes}
 use Rattle.std.proofs.lemmas.Bool.{cases_lt}
 use Rattle.std.proofs.lemmas.List.{length-take, take_all, take_more, take-append-drop}
 use Rattle.std.proofs.Math.Seq.{drop-cons}
-use Rattle.std.proofs.lemmas.List.Concat.{flat_map-append}
-use Rattle.std.proofs.lemmas.List.Elements.{All-head, All-tail, All-drop}
+use Rattle.std.proofs.lemmas.List.Elements.{All-drop}
 use Rattle.s39_words.specs.declared.ShareFields.{ShareFields}
 use Rattle.s39_words.specs.Share.{IsShare}
 use Rattle.s39_words.specs.Printing.{IsPrinted}
@@ -18,6 +16,7 @@ use Rattle.s39_input.specs.Input.{Input, ended_line}
 use Rattle.s39_input.specs.Fault.{read_failures_in, write_failures_in}
 use Rattle.s39_backup.specs.Created.{Asked, needed_by, IsCreation}
 use Rattle.s39_input.specs.Create.{ArePrintedLines, fault_of_creation, Applies, IsCreateOutput}
+use Rattle.s39_input.proofs.Runs.PrintedLines.{printed_both, printed_one, printed_all}
 
 -- between two reads: these bytes came of the first reader's
 pub record IsTaking {D : Type 0} (remaining : D → Option (List ℕ)) (first reader : Counted D) (came : List ℕ) (limit : ℕ) : Type 0 where
@@ -29,35 +28,6 @@ pub record IsTaking {D : Type 0} (remaining : D → Option (List ℕ)) (first re
   pub few : length came ≤ limit
 
 -- ---- mnemonics, one a line
-
-AllZip-append : {A B : Type 0} (R : A → B → Type 0) (xs xs' : List A) (ys ys' : List B) → AllZip R xs ys → AllZip R xs' ys' → AllZip R (xs ++ xs') (ys ++ ys')
-AllZip-append R [] xs' [] ys' all more = more
-AllZip-append R [] xs' (y ∷ ys) ys' all more = absurd all
-AllZip-append R (x ∷ xs) xs' [] ys' all more = absurd all
-AllZip-append R (x ∷ xs) xs' (y ∷ ys) ys' all more = (all.0, AllZip-append R xs xs' ys ys' all.1 more)
-
-pub printed_none : ArePrintedLines [] []
-printed_none = record { lines = []; printed = tt; text_is = refl }
-
-pub printed_both : (shares more : List ShareFields) (text rest : List ℕ) → ArePrintedLines shares text → ArePrintedLines more rest
-    → ArePrintedLines (shares ++ more) (text ++ rest)
-printed_both shares more text rest p q = record {
-  lines = p.lines ++ q.lines;
-  printed = AllZip-append IsPrinted p.lines q.lines shares more p.printed q.printed;
-  text_is = ap₂ (λ (a b : List ℕ). a ++ b) p.text_is q.text_is ∙ sym (flat_map-append ended_line p.lines q.lines);
-}
-
-pub printed_one : (share : ShareFields) (line : List ℕ) → IsPrinted line share → ArePrintedLines (share ∷ []) (ended_line line)
-printed_one share line is = record { lines = line ∷ []; printed = (is, tt); text_is = sym (append-nil (ended_line line)) }
-
--- shares have printed forms
-pub printed_all : ((share : ShareFields) → IsShare share → (text : List ℕ) × IsPrinted text share) → (shares : List ShareFields) → All IsShare shares
-    → (text : List ℕ) × ArePrintedLines shares text
-printed_all every [] each = ([], printed_none)
-printed_all every (share ∷ shares) each =
-    let (line, is) = every share (All-head IsShare share shares each) in
-    let (rest, others) = printed_all every shares (All-tail IsShare share shares each) in
-    (ended_line line ++ rest, printed_both (share ∷ []) shares (ended_line line) rest (printed_one share line is) others)
 
 module _ (shares : List ShareFields) (k : ℕ) (share : ShareFields) (text line : List ℕ) (below : k < length shares) (here : share ≡ get_or shares k share)
     (printed : ArePrintedLines (take k shares) text) (is : IsPrinted line share) where

@@ -1,7 +1,6 @@
 -- An input has one output of `create`.
-use Rattle.std.proofs.Common.{◌≡◌, ◌⊎◌, ℕ, Bool, true, false, List, [], ◌∷◌, length, All, inl, inr, refl, sym, ap, ap₂, ◌∙◌, subst, arith}
+use Rattle.std.proofs.Common.{◌≡◌, ◌⊎◌, ℕ, Bool, true, false, List, [], length, All, inl, inr, refl, sym, ap, ◌∙◌, subst, arith}
 use Rattle.std.proofs.Common.{Result, Ok, Err}
-use Rattle.std.specs.List.{AllZip, flat_map}
 use Rattle.std.proofs.lemmas.Bool.{cases_lt}
 use Rattle.s39_kdf.specs.Passphrases.{PrintablePassphrasesHaveNone}
 use Rattle.s39_words.specs.declared.ShareFields.{ShareFields}
@@ -13,26 +12,12 @@ use Rattle.s39_input.specs.declared.fault.DeviceFailure.TheVariants.{Read}
 use Rattle.s39_input.specs.declared.fault.Refusal.TheVariants.{Device}
 use Rattle.s39_input.specs.declared.fault.Fault.{Fault}
 use Rattle.s39_input.specs.Fault.{fault_of}
-use Rattle.s39_input.specs.Input.{Input, ended_line}
+use Rattle.s39_input.specs.Input.{Input}
 use Rattle.s39_backup.specs.Created.{Asked, IsCreation, needed_by}
 use Rattle.s39_input.specs.Create.{ArePrintedLines, fault_of_creation, Applies, FailsBefore, IsCreateOutput}
-use Rattle.s39_creating.proofs.Runs.Creating.{printed_all}
+use Rattle.s39_input.proofs.Runs.PrintedLines.{printed_all, text_once}
 
 -- ---- one output
-
-module _ (one_printed_form : (share : ShareFields) (text other : List ℕ) → IsPrinted text share → IsPrinted other share → text ≡ other) where
-  lines_once : (shares : List ShareFields) (lines others : List (List ℕ)) → AllZip IsPrinted lines shares → AllZip IsPrinted others shares → lines ≡ others
-  lines_once [] [] [] p q = refl
-  lines_once [] [] (o ∷ os) p q = absurd q
-  lines_once [] (l ∷ ls) others p q = absurd p
-  lines_once (s ∷ ss) [] others p q = absurd p
-  lines_once (s ∷ ss) (l ∷ ls) [] p q = absurd q
-  lines_once (s ∷ ss) (l ∷ ls) (o ∷ os) p q =
-      ap₂ (λ (x : List ℕ) (xs : List (List ℕ)). x ∷ xs) (one_printed_form s l o p.0 q.0) (lines_once ss ls os p.1 q.1)
-
-  -- shares have one text
-  pub text_once : (shares : List ShareFields) (text other : List ℕ) → ArePrintedLines shares text → ArePrintedLines shares other → text ≡ other
-  text_once shares text other p q = p.text_is ∙ ap (flat_map ended_line) (lines_once shares p.lines q.lines p.printed q.printed) ∙ sym q.text_is
 
 module _ (one_creation : (asked : Asked) (random : List ℕ) (r s : Result (List ShareFields) CreateError) → IsCreation asked random r → IsCreation asked random s
     → r ≡ s)

@@ -1,5 +1,7 @@
 -- A drill of mnemonics of a created backup.
 use Rattle.std.proofs.Common.{◌≡◌, ℕ, List, [], ◌∷◌, ◌++◌, map, All, refl, sym, ap, ap₂, ◌∙◌, subst, Option, Result, Ok, Err}
+use Rattle.std.proofs.Common.{suc, ◌+◌, Bool, true, false, length, arith}
+use Rattle.std.specs.Prelude.{if◌then◌else◌}
 use Rattle.std.specs.List.{flat_map}
 use Rattle.std.proofs.lemmas.List.Elements.{All-head, All-tail, All-take, All-contains_itself}
 use Rattle.s39_words.specs.declared.ShareFields.{ShareFields}
@@ -18,7 +20,9 @@ use Rattle.s39_input.specs.Steps.{gives, refuses, nothing_for}
 use Rattle.s39_input.specs.Accepted.{IsReadAs, IsCheckedSet, CheckedSetLaws}
 use Rattle.s39_input.specs.OfBackup.{HoldsMnemonicsOf}
 use Rattle.s39_drilling.specs.Drill.{Listed, quorum_line, last_line, mismatches_in, IsDrill, fault_of_undrilled, WritesDrillOf, IsDrillOutput}
-use Rattle.s39_drilling.specs.Drill.{ListsSecret, ListsSecretOrCause, DrillsCreated}
+use Rattle.s39_drilling.specs.Drill.{unexpected_in, ListsSecret, ListsSecretOrCause, DrillsCreated}
+use Rattle.s39_input.specs.SecretForm.{is_unexpected}
+use Rattle.s39_drilling.proofs.Drills.Counts.{mismatches-more}
 use Rattle.s39_input.proofs.Steps.{then_next}
 use Rattle.s39_input.proofs.Sets.Checked.{of_writing}
 
@@ -38,9 +42,20 @@ secret_text : (form : SecretForm) (secret : List ℕ) (listed : List Names)
 secret_text form secret [] = refl
 secret_text form secret (names ∷ listed) = ap (λ t. quorum_line form (names, Ok secret) ++ t) (secret_text form secret listed)
 
-no_mismatches : (secret : List ℕ) (listed : List Names) → mismatches_in (with_secret secret listed) ≡ 0
-no_mismatches secret [] = refl
-no_mismatches secret (names ∷ listed) = no_mismatches secret listed
+all_or_none : (b : Bool) (n m : ℕ) → m ≡ (if b then n else 0) → (if b then 1 else 0) + m ≡ (if b then suc n else 0)
+all_or_none true n m is = omega arith
+all_or_none false n m is = omega arith
+
+none_of_none : (b : Bool) → ◌≡◌ {A = ℕ} 0 (if b then 0 else 0)
+none_of_none true = refl
+none_of_none false = refl
+
+secret_mismatches : (form : SecretForm) (secret : List ℕ) (listed : List Names)
+    → mismatches_in form (with_secret secret listed) ≡ unexpected_in form secret listed
+secret_mismatches form secret [] = none_of_none (is_unexpected form secret)
+secret_mismatches form secret (names ∷ listed) =
+    sym (mismatches-more form names (Ok secret) (with_secret secret listed))
+    ∙ all_or_none (is_unexpected form secret) (length listed) _ (secret_mismatches form secret listed)
 
 module _ (one_outcome : (set : List ShareFields) (names : Names) (passphrase : List ℕ) (outcome other : Result (List ℕ) Mismatch) → IsShareSet set
     → IsQuorum set names
@@ -62,7 +77,8 @@ module _ (one_outcome : (set : List ShareFields) (names : Names) (passphrase : L
 
     -- a drill of shares of a created backup lists its secret
     lists_secret : {form : SecretForm} (after : Option Names) (limit : ℕ) (lines : List ℕ) (more : Option Names) (mismatches : ℕ)
-        → IsDrill form set passphrase after limit lines more mismatches → ListsSecret form set secret after limit (lines ++ last_line more) × (mismatches ≡ 0)
+        → IsDrill form set passphrase after limit lines more mismatches
+        → (lists : ListsSecret form set secret after limit (lines ++ last_line more)) × (mismatches ≡ unexpected_in form secret lists.listed)
     lists_secret {form} after limit lines more mismatches d =
         let listed = map (λ line. line.0) d.lines in
         let same = lines_have_secret d.lines (listed_quorums set after limit listed d.listing) d.outcomes in (
@@ -73,7 +89,7 @@ module _ (one_outcome : (set : List ShareFields) (names : Names) (passphrase : L
             goes_on = d.goes_on;
             text_is = ap (λ t. t ++ last_line more) (d.text_is ∙ ap (flat_map (quorum_line form)) same ∙ secret_text form secret listed);
           },
-          d.mismatches_are ∙ ap mismatches_in same ∙ no_mismatches secret listed,
+          d.mismatches_are ∙ ap (mismatches_in form) same ∙ secret_mismatches form secret listed,
         )
 
     -- what is written of a drill of them
@@ -82,7 +98,7 @@ module _ (one_outcome : (set : List ShareFields) (names : Names) (passphrase : L
         → ListsSecretOrCause form set secret after limit text answer
     complete form after limit text answer (gives _ (no_lack, cursor) (lines, more, m, d, written)) =
         of_writing text (lines ++ last_line more) answer (Ok (record { mismatches = m })) written (ListsSecretOrCause form set secret after limit)
-        (let (lists, none) = lists_secret after limit lines more m d in (no_lack, cursor, lists, none))
+        (no_lack, cursor, lists_secret after limit lines more m d)
     complete form after limit text answer (refuses cause refused written) =
         of_writing text [] answer (Err (fault_of_undrilled cause)) written (ListsSecretOrCause form set secret after limit) (refl, (cause, refused, refl))
 

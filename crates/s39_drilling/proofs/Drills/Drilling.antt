@@ -16,18 +16,10 @@ use Rattle.s39_backup.specs.Outcome.{IsOutcome}
 use Rattle.s39_kdf.specs.declared.secret_form.SecretForm.{SecretForm}
 use Rattle.s39_input.specs.Device.{Counted}
 use Rattle.s39_input.specs.Output.{WritesWhole, WritesPart}
-use Rattle.s39_drilling.specs.Drill.{DrillLaws, Listed, quorum_line, last_line, mismatches_in, mismatch_in, IsDrill, IsNext}
+use Rattle.s39_drilling.specs.Drill.{DrillLaws, Listed, quorum_line, last_line, mismatch_in, IsDrill, IsNext}
 use Rattle.s39_drilling.specs.Slices.{more_after}
+use Rattle.s39_drilling.proofs.Drills.Counts.{mismatches-more}
 use Rattle.s39_input.proofs.Runs.Writing.{nothing_written, both_written, part_after}
-
-pub mismatch_most : (outcome : Result (List ℕ) Mismatch) → mismatch_in outcome ≤ 1
-mismatch_most (Ok secret) = omega arith
-mismatch_most (Err mismatch) = omega arith
-
-mismatches-more : (names : Names) (outcome : Result (List ℕ) Mismatch) (lines : List Listed)
-    → mismatch_in outcome + mismatches_in lines ≡ mismatches_in ((names, outcome) ∷ lines)
-mismatches-more names (Ok secret) lines = omega arith
-mismatches-more names (Err mismatch) lines = omega arith
 
 -- no quorum is left
 pub drill_ends : {form : SecretForm} (set : List ShareFields) (passphrase : List ℕ) (reached : Option Names) (limit : ℕ) → IsListing set reached limit []
@@ -47,14 +39,14 @@ module _ (laws : DrillLaws) (set : List ShareFields) (passphrase : List ℕ) whe
   pub drill_step : {form : SecretForm} (reached : Option Names) (limit : ℕ) (names : Names) (outcome : Result (List ℕ) Mismatch)
       (text : List ℕ) (more : Option Names) (m : ℕ)
       → IsFirstQuorumAfter set reached names → IsOutcome set names passphrase outcome → IsDrill form set passphrase (Some names) limit text more m
-      → IsDrill form set passphrase reached (suc limit) (quorum_line form (names, outcome) ++ text) more (mismatch_in outcome + m)
+      → IsDrill form set passphrase reached (suc limit) (quorum_line form (names, outcome) ++ text) more (mismatch_in form outcome + m)
   drill_step {form} reached limit names outcome text more m first is d = record {
     lines = (names, outcome) ∷ d.lines;
     listing = laws.first set reached names limit (map (λ line. line.0) d.lines) first d.listing;
     outcomes = All-cons (λ line. IsOutcome set line.0 passphrase line.1) (names, outcome) d.lines is d.outcomes;
     text_is = ap (λ t. quorum_line form (names, outcome) ++ t) d.text_is;
     goes_on = d.goes_on;
-    mismatches_are = ap (λ n. mismatch_in outcome + n) d.mismatches_are ∙ mismatches-more names outcome d.lines;
+    mismatches_are = ap (λ n. mismatch_in form outcome + n) d.mismatches_are ∙ mismatches-more form names outcome d.lines;
   }
 
   module _ (is : IsShareSet set) where
@@ -94,7 +86,7 @@ module _ (laws : DrillLaws) (set : List ShareFields) (passphrase : List ℕ) whe
         let (outcome, o) = laws.outcome set names passphrase is first.quorum in record {
           text = quorum_line form (names, outcome) ++ d.text;
           more = d.more;
-          mismatches = mismatch_in outcome + d.mismatches;
+          mismatches = mismatch_in form outcome + d.mismatches;
           drill = drill_step reached limit names outcome d.text d.more d.mismatches first o d.drill;
         }
 
@@ -171,13 +163,13 @@ module _ {W : Type 0} {contents : W → Option (List ℕ)} {old : Counted W} {fo
     -- the drill after the quorum is the rest of the drill
     joins : (after : Option Names) → IsFirstQuorumAfter set after start → (rest : List ℕ) (more : Option Names) (m : ℕ)
         → IsDrill form set passphrase (Some quorum) left rest more m
-        → IsDrill form set passphrase after limit ((d.text ++ line) ++ rest) more ((mismatches + mismatch_in outcome) + m)
+        → IsDrill form set passphrase after limit ((d.text ++ line) ++ rest) more ((mismatches + mismatch_in form outcome) + m)
     joins after first rest more m later =
         let (reached, from, then) = d.goes_on after first in
-        let whole = then (line ++ rest) more (mismatch_in outcome + m) (drill_step laws set passphrase reached left quorum outcome rest more m from is later) in
-        let same : mismatches + (mismatch_in outcome + m) ≡ (mismatches + mismatch_in outcome) + m = omega arith in
+        let whole = then (line ++ rest) more (mismatch_in form outcome + m) (drill_step laws set passphrase reached left quorum outcome rest more m from is later) in
+        let same : mismatches + (mismatch_in form outcome + m) ≡ (mismatches + mismatch_in form outcome) + m = omega arith in
         subst (λ n. IsDrill form set passphrase after limit ((d.text ++ line) ++ rest) more n) same
-        (subst (λ t. IsDrill form set passphrase after limit t more (mismatches + (mismatch_in outcome + m))) (sym (append_assoc d.text line rest)) whole)
+        (subst (λ t. IsDrill form set passphrase after limit t more (mismatches + (mismatch_in form outcome + m))) (sym (append_assoc d.text line rest)) whole)
 
     -- the write of its line failed
     pub drilling_fails : {after_line : Counted W} → IsShareSet set → WritesPart contents new line after_line
@@ -191,7 +183,7 @@ module _ {W : Type 0} {contents : W → Option (List ℕ)} {old : Counted W} {fo
         sym (append_assoc d.text line (rest.text ++ last_line rest.more)) ∙ sym (append_assoc (d.text ++ line) rest.text (last_line rest.more)) in (
           (d.text ++ line) ++ rest.text,
           rest.more,
-          (mismatches + mismatch_in outcome) + rest.mismatches,
+          (mismatches + mismatch_in form outcome) + rest.mismatches,
           whole,
           subst (λ t. WritesPart contents old t after_line) same (part_after contents old new after_line d.text line
               (rest.text ++ last_line rest.more) d.written part),
@@ -203,7 +195,7 @@ module _ {W : Type 0} {contents : W → Option (List ℕ)} {old : Counted W} {fo
 
       -- a quorum comes next
       pub drilling_goes_on : (next : Names) → IsFirstQuorumAfter set (Some quorum) next
-          → IsDrilling contents old after_line form set passphrase start limit next left (mismatches + mismatch_in outcome)
+          → IsDrilling contents old after_line form set passphrase start limit next left (mismatches + mismatch_in form outcome)
       drilling_goes_on next first = record {
         text = d.text ++ line;
         written = both;
@@ -213,17 +205,17 @@ module _ {W : Type 0} {contents : W → Option (List ℕ)} {old : Counted W} {fo
 
       module _ (more : Option Names) (last : IsDrill form set passphrase (Some quorum) left [] more 0) (end : Counted W) (after : Option Names)
           (first : IsFirstQuorumAfter set after start) where
-        whole : IsDrill form set passphrase after limit (d.text ++ line) more (mismatches + mismatch_in outcome)
+        whole : IsDrill form set passphrase after limit (d.text ++ line) more (mismatches + mismatch_in form outcome)
         whole =
-            let n : (mismatches + mismatch_in outcome) + 0 ≡ mismatches + mismatch_in outcome = omega arith in
+            let n : (mismatches + mismatch_in form outcome) + 0 ≡ mismatches + mismatch_in form outcome = omega arith in
             subst (λ k. IsDrill form set passphrase after limit (d.text ++ line) more k) n
-            (subst (λ t. IsDrill form set passphrase after limit t more ((mismatches + mismatch_in outcome) + 0)) (append-nil (d.text ++ line))
+            (subst (λ t. IsDrill form set passphrase after limit t more ((mismatches + mismatch_in form outcome) + 0)) (append-nil (d.text ++ line))
             (joins after first [] more 0 last))
 
         -- the last line is written
         pub drilling_ends : WritesWhole contents after_line (last_line more) end
             → (lines : List ℕ) × (more : Option Names) × IsDrill form set passphrase after limit lines more
-            (mismatches + mismatch_in outcome) × WritesWhole contents old (lines ++ last_line more) end
+            (mismatches + mismatch_in form outcome) × WritesWhole contents old (lines ++ last_line more) end
         drilling_ends w = (d.text ++ line, more, whole, both_written contents old after_line end (d.text ++ line) (last_line more) both w)
 
         -- its write failed
@@ -233,7 +225,7 @@ module _ {W : Type 0} {contents : W → Option (List ℕ)} {old : Counted W} {fo
         drilling_fails_last part = (
           d.text ++ line,
           more,
-          mismatches + mismatch_in outcome,
+          mismatches + mismatch_in form outcome,
           whole,
           subst (λ t. WritesPart contents old t end) (ap (λ l. (d.text ++ line) ++ l) (append-nil (last_line more)))
               (part_after contents old after_line end (d.text ++ line) (last_line more) [] both part),

@@ -1,6 +1,7 @@
 -- How many lines a drill has.
 use Rattle.std.proofs.Common.{◌≡◌, ℕ, ◌+◌, ◌==◌, false, List, [], ◌∷◌, ◌++◌, length, codes, refl, sym, ap, ap₂, ◌∙◌, subst, append-nil, arith}
-use Rattle.std.proofs.Common.{Option, Some, None, Result, Ok, Err}
+use Rattle.std.proofs.Common.{Option, Some, None, Result, Ok, Err, Bool, true}
+use Rattle.std.specs.Prelude.{if◌then◌else◌}
 use Rattle.std.specs.List.{flat_map}
 use Rattle.std.specs.Fmt.{decimal}
 use Rattle.std.proofs.lemmas.List.{length-append}
@@ -13,7 +14,8 @@ use Rattle.s39_backup.specs.declared.combination.Mismatch.{Mismatch}
 use Rattle.s39_backup.specs.declared.combination.Mismatch.TheVariants.{InGroup, OfGroups}
 use Rattle.s39_kdf.specs.Fingerprint.{fingerprint_of}
 use Rattle.s39_kdf.specs.declared.secret_form.SecretForm.{SecretForm}
-use Rattle.s39_kdf.specs.declared.secret_form.SecretForm.TheVariants.{Digits, Fingerprint}
+use Rattle.s39_kdf.specs.declared.secret_form.SecretForm.TheVariants.{Digits, Fingerprint, Expected}
+use Rattle.s39_kdf.specs.Noted.{has_fingerprint}
 use Rattle.s39_input.specs.SecretForm.{secret_in}
 use Rattle.s39_drilling.specs.Drill.{Listed, mismatch_text, outcome_text, quorum_line, last_line}
 use Rattle.s39_input.specs.Input.{ended_line, lines_in, bytes_before_last}
@@ -51,9 +53,14 @@ name-feedless name =
 names-feedless : (names : Names) → IsWithout 10 (quorum_text names)
 names-feedless names = joined-without 43 10 name_text (λ e. omega (arith, e)) names (λ k d within. name-feedless _)
 
+told-feedless : (is : Bool) → IsWithout 10 (if is then codes "as expected" else codes "other secret")
+told-feedless true = without_feed (codes "as expected") refl
+told-feedless false = without_feed (codes "other secret") refl
+
 secret-feedless : (form : SecretForm) (secret : List ℕ) → IsWithout 10 (secret_in form secret)
 secret-feedless Digits secret = hex-feedless secret
 secret-feedless Fingerprint secret = hex-feedless (fingerprint_of secret)
+secret-feedless (Expected noted) secret = told-feedless (has_fingerprint noted secret)
 
 mismatch-feedless : (mismatch : Mismatch) → IsWithout 10 (mismatch_text mismatch)
 mismatch-feedless (InGroup group) =

@@ -16,6 +16,7 @@ use Rattle.s39_backup.specs.Outcome.{IsOutcome}
 use Rattle.s39_kdf.specs.declared.secret_form.SecretForm.{SecretForm}
 use Rattle.s39_drilling.specs.Drill.{Listed, quorum_line, last_reached, mismatches_in, GoesOn, IsDrill}
 use Rattle.s39_drilling.proofs.Drills.Complete.{listed_quorums}
+use Rattle.s39_drilling.proofs.Drills.Counts.{mismatches-more}
 
 pub goes_on_once : (set : List ShareFields) (reached more other : Option Names) → GoesOn set reached more → GoesOn set reached other → more ≡ other
 goes_on_once set reached None None p q = refl
@@ -56,15 +57,19 @@ module _ (one_listing : (set : List ShareFields) (given : Option Names) (limit :
       let lines = same_lines p.lines q.lines names (listed_quorums set after limit listed p.listing) p.outcomes q.outcomes in (
         p.text_is ∙ ap (flat_map (quorum_line form)) lines ∙ sym q.text_is,
         goes_on_once set (last_reached after listed) more more' p.goes_on (subst (λ l. GoesOn set (last_reached after l) more') (sym names) q.goes_on),
-        p.mismatches_are ∙ ap mismatches_in lines ∙ sym q.mismatches_are,
+        p.mismatches_are ∙ ap (mismatches_in form) lines ∙ sym q.mismatches_are,
       )
 
 -- ---- parts join
 
-mismatches_in-append : (lines others : List Listed) → mismatches_in (lines ++ others) ≡ mismatches_in lines + mismatches_in others
-mismatches_in-append [] others = omega arith
-mismatches_in-append ((names, Ok secret) ∷ lines) others = mismatches_in-append lines others
-mismatches_in-append ((names, Err mismatch) ∷ lines) others = let rest = mismatches_in-append lines others in omega arith
+mismatches_in-append : (form : SecretForm) (lines others : List Listed)
+    → mismatches_in form (lines ++ others) ≡ mismatches_in form lines + mismatches_in form others
+mismatches_in-append form [] others = omega arith
+mismatches_in-append form ((names, outcome) ∷ lines) others =
+    let rest = mismatches_in-append form lines others in
+    let first = mismatches-more form names outcome lines in
+    let whole = mismatches-more form names outcome (lines ++ others) in
+    omega (arith, rest, first, whole)
 
 last_reached-append : (reached : Option Names) (listed others : List Names)
     → last_reached reached (listed ++ others) ≡ last_reached (last_reached reached listed) others
@@ -121,5 +126,5 @@ module _ (parts : (set : List ShareFields) (given : Option Names) (limit more : 
         text_is = ap₂ (λ (a b : List ℕ). a ++ b) p.text_is q.text_is ∙ sym (flat_map-append (quorum_line form) p.lines q.lines);
         goes_on = subst (λ r. GoesOn set r more) (sym (ap (last_reached after) both ∙ last_reached-append after listed later
             ∙ ap (λ r. last_reached r later) p.goes_on.0)) q.goes_on;
-        mismatches_are = ap₂ (λ (a b : ℕ). a + b) p.mismatches_are q.mismatches_are ∙ sym (mismatches_in-append p.lines q.lines);
+        mismatches_are = ap₂ (λ (a b : ℕ). a + b) p.mismatches_are q.mismatches_are ∙ sym (mismatches_in-append form p.lines q.lines);
       }

@@ -9,12 +9,13 @@ use Rattle.s39_kdf.specs.declared.secret_form.SecretForm.{SecretForm}
 use Rattle.s39_drilling.specs.declared.drill.Done.{Done}
 use Rattle.s39_drilling.specs.declared.drill.Undrilled.TheVariants.{Lack, NotAQuorum}
 use Rattle.s39_input.specs.declared.fault.Fault.{Fault}
-use Rattle.s39_drilling.specs.Drill.{ListsSecret, ListsSecretOrCause}
+use Rattle.s39_drilling.specs.Drill.{unexpected_in, ListsSecret, ListsSecretOrCause}
 
 -- of a set that meets its thresholds the secret is given
 module _ (form : SecretForm) (set : List ShareFields) (meets : MeetsThresholds set (map name_of set)) (secret : List ℕ) where
   pub lists_whole : (limit : ℕ) (output : List ℕ) (answer : Result Done Fault) → ListsSecretOrCause form set secret None limit output answer
-      → ListsSecret form set secret None limit output × (answer ≡ Ok (record { mismatches = 0 }))
-  lists_whole limit output (Ok done) (no_lack, cursor, lists, none) = (lists, ap (λ (m : ℕ). Ok (record { mismatches = m })) none)
+      → (lists : ListsSecret form set secret None limit output)
+      × (answer ≡ Ok (record { mismatches = unexpected_in form secret lists.listed }))
+  lists_whole limit output (Ok done) (no_lack, cursor, (lists, all)) = (lists, ap (λ (m : ℕ). Ok (record { mismatches = m })) all)
   lists_whole limit output (Err fault) (none, (Lack lack, lacks, is)) = absurd (no_lack-from_meets set (map name_of set) meets lack lacks)
   lists_whole limit output (Err fault) (none, (NotAQuorum, (no_lack, (names, given, other)), is)) = absurd (let bad : None ≡ Some names = given in cc)

@@ -1,7 +1,7 @@
 -- How long the first line of a drill is, with the last line behind it.
 use Rattle.std.proofs.Common.{◌≡◌, ℕ, ◌+◌, ◌*◌, ◌<◌, ◌≤◌, List, [], ◌∷◌, ◌++◌, length, map, replicate, All, sym, ap, subst, arith}
 use Rattle.std.proofs.Common.{Option, Some, None, Result, Ok, Err}
-use Rattle.std.specs.Prelude.{IfSome, codes}
+use Rattle.std.specs.Prelude.{IfSome, codes, Bool, true, false, if◌then◌else◌}
 use Rattle.std.specs.Fmt.{decimal}
 use Rattle.std.specs.List.{flat_map}
 use Rattle.std.proofs.lemmas.List.{length-append, length-map, length-take, length-replicate}
@@ -22,7 +22,8 @@ use Rattle.s39_backup.specs.Outcome.{IsOutcome}
 use Rattle.s39_drilling.specs.declared.drill.Done.{Done}
 use Rattle.s39_input.specs.declared.fault.Fault.{Fault}
 use Rattle.s39_kdf.specs.declared.secret_form.SecretForm.{SecretForm}
-use Rattle.s39_kdf.specs.declared.secret_form.SecretForm.TheVariants.{Digits, Fingerprint}
+use Rattle.s39_kdf.specs.declared.secret_form.SecretForm.TheVariants.{Digits, Fingerprint, Expected}
+use Rattle.s39_kdf.specs.Noted.{has_fingerprint}
 use Rattle.s39_input.specs.SecretForm.{secret_in}
 use Rattle.s39_input.specs.Accepted.{CheckedSetLaws}
 use Rattle.s39_input.specs.Input.{Input}
@@ -45,10 +46,15 @@ length-digits : (secret : List ℕ) → length (encode_lower secret) ≡ 2 * len
 length-digits secret = length-encode_with lower_digits secret
 
 -- no form of a secret takes more than its digits may
+told_short : (is : Bool) → length (if is then codes "as expected" else codes "other secret") ≤ 2 * longest_secret
+told_short true = omega arith
+told_short false = omega arith
+
 secret_short : (form : SecretForm) (secret : List ℕ) → length secret ≤ longest_secret → length (secret_in form secret) ≤ 2 * longest_secret
 secret_short Digits secret short = omega (arith, short, length-digits secret)
 secret_short Fingerprint secret short =
     omega (arith, length-digits (fingerprint_of secret), length-take fingerprint_length (hmac (codes "shamir fingerprint") secret))
+secret_short (Expected noted) secret short = told_short (has_fingerprint noted secret)
 
 outcome_short : (form : SecretForm) (outcome : Result (List ℕ) Mismatch) → InRange outcome → length (outcome_text form outcome) ≤ 2 * longest_secret
 outcome_short form (Ok secret) short = secret_short form secret short

@@ -4,17 +4,18 @@ use Rattle.std.specs.Result.{IfOk}
 use Rattle.s39_words.specs.declared.ShareFields.{ShareFields}
 use Rattle.s39_words.specs.declared.WordError.{WordError}
 use Rattle.s39_words.specs.Reading.{Reads}
+use Rattle.s39_words.proofs.OneReading.{spelled_from_read}
 use Rattle.s39_set.specs.declared.set_error.SetError.{SetError}
 use Rattle.s39_set.specs.ShareSet.{IsShareSet, refusal_of, SetsTakeShares}
 use Rattle.s39_set.specs.SetFacts.{SameSharesRefuseTheSame, OneMoreIsAdded}
 use Rattle.s39_input.specs.declared.fault.LineRefusal.{LineRefusal}
-use Rattle.s39_input.specs.declared.fault.LineRefusal.TheVariants.{Set}
+use Rattle.s39_input.specs.declared.fault.LineRefusal.TheVariants.{Set, Word}
 use Rattle.s39_input.specs.declared.fault.Stop.{Stop}
 use Rattle.s39_input.specs.declared.fault.Stop.TheVariants.{AtLine, ReadFailed}
 use Rattle.s39_input.specs.Input.{Input, lines_of}
-use Rattle.s39_input.specs.Lines.{Holds, LeadTo}
+use Rattle.s39_input.specs.Lines.{Says, Holds, LeadTo}
 use Rattle.s39_input.specs.Accepted.{IsRefusedAmong, IsReadAs}
-use Rattle.s39_input.proofs.Taking.Held.{line_reads}
+use Rattle.s39_input.proofs.Taking.Held.{says_some}
 use Rattle.s39_input.proofs.Taking.Leads.{leads_from}
 use Rattle.s39_input.proofs.Sets.Collected.{IsCollectedOf, collected_none_of, collected_held, refused_among}
 use Rattle.s39_input.proofs.Sets.OneSet.{InputsAreReadOnce, AcceptedAreShareSets}
@@ -59,7 +60,7 @@ module _ (same_shares : SameSharesRefuseTheSame) (one_more : OneMoreIsAdded) whe
         by : (refusal : Option SetError) → refusal_of set share ≡ refusal → TakesOrRefuses before line set
         by (Some error) is = inr (Set error, inr (share, error, holds, is, refl))
         by None is =
-            elim (takes set share c.collected.is_set holds.2.is_share is) [
+            elim (takes set share c.collected.is_set (spelled_from_read line share holds.2).is_share is) [
               | inl among ↦
                   inl (
                     set,
@@ -77,15 +78,12 @@ module _ (same_shares : SameSharesRefuseTheSame) (one_more : OneMoreIsAdded) whe
             ]
 
     line_leads : (before : List (List ℕ)) (set : List ShareFields) (line : List ℕ) → IsCollectedOf before set → TakesOrRefuses before line set
-    line_leads before set line c =
-        elim (line_reads every_reading line) [
-          | inl (held, holds) ↦ by held holds
-          | inr (refusal, refused) ↦ inr (refusal, inl refused)
-        ]
+    line_leads before set line c = let said = says_some Reads Word every_reading line in by said.0 said.1
       where
-        by : (held : Option ShareFields) → Holds line held → TakesOrRefuses before line set
-        by None holds = inl (set, collected_held same_shares one_more before line None set set c holds refl, tt)
-        by (Some share) holds = share_leads before set line share c holds
+        by : (said : Result (Option ShareFields) LineRefusal) → Says Reads Word line said → TakesOrRefuses before line set
+        by (Ok None) holds = inl (set, collected_held same_shares one_more before line None set set c holds refl, tt)
+        by (Ok (Some share)) holds = share_leads before set line share c holds
+        by (Err refusal) refused = inr (refusal, inl refused)
 
     -- an input is read as something
     pub some_read : (input : Input) → IsReadAsSet input

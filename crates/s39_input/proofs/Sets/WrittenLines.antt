@@ -1,5 +1,5 @@
 -- What `create` writes holds the mnemonics of its backup.
-use Rattle.std.proofs.Common.{◌≡◌, ◌⊎◌, ℕ, ◌≤◌, false, List, [], ◌∷◌, ◌++◌, length, inl, inr, refl, ap, ◌∙◌, arith}
+use Rattle.std.proofs.Common.{◌≡◌, ◌⊎◌, ℕ, ◌≤◌, false, List, [], ◌∷◌, ◌++◌, length, inl, inr, refl, sym, ap, ◌∙◌, subst, arith}
 use Rattle.std.proofs.Common.{All, Contains, Some, None, Ok}
 use Rattle.std.specs.List.{AllZip}
 use Rattle.std.proofs.lemmas.Bool.Decides.{nat_tests}
@@ -8,6 +8,7 @@ use Rattle.s39_words.specs.declared.ShareFields.{ShareFields}
 use Rattle.s39_words.specs.Layout.{longest_text}
 use Rattle.s39_words.specs.Printing.{IsPrinted}
 use Rattle.s39_words.specs.WordList.{IsLetter}
+use Rattle.s39_words.proofs.OneReading.{read_from_spelled}
 use Rattle.s39_backup.specs.Plan.{IsPlan}
 use Rattle.s39_input.specs.Input.{whole, parts_of, lines_of, is_skipped}
 use Rattle.s39_input.specs.Lines.{Holds}
@@ -29,7 +30,7 @@ module _ (first : (share : ShareFields) (text : List ℕ) → IsPrinted text sha
   printed_holds share line printed =
       let (letter, rest, is, small) = first share line printed in
       let fits = short share line printed in
-      (omega arith, ap is_skipped is ∙ letter_not_skipped letter rest small, printed.spells)
+      (omega arith, ap is_skipped is ∙ letter_not_skipped letter rest small, read_from_spelled line share printed.spells)
 
   lines_hold : (all : List ShareFields) (lines : List (List ℕ)) (shares : List ShareFields) → AllZip IsPrinted lines shares → All (Contains all) shares
       → All (HoldsNothingOrOneOf all) lines
@@ -47,7 +48,7 @@ module _ (first : (share : ShareFields) (text : List ℕ) → IsPrinted text sha
   -- each holds one of them, or nothing
   pub text_holds : (shares : List ShareFields) (text : List ℕ) → ArePrintedLines shares text → All (HoldsNothingOrOneOf shares) (lines_of (whole text))
   text_holds shares text p =
-      rw (lines_are shares text p)
+      subst (All (HoldsNothingOrOneOf shares)) (sym (lines_are shares text p))
       (All-push (HoldsNothingOrOneOf shares) p.lines [] (lines_hold shares p.lines shares p.printed (All-contains_itself shares))
       (None, (omega arith, refl), tt))
 

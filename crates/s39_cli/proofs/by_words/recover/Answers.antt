@@ -4,5 +4,5 @@ use Rattle.s39_cli.proofs.by_words.recover.Goals as goal
 
 pub returns : goal.returns
 returns g c form passphrase are =
-    recovers g.R.Read.remaining g.W.Write.contents c.args.source (map (λ (word : Bor (List ℕ)). word.now) c.args.words.now) c.args.input c.args.output
+    recovers (g.S.Shelf.told c.args.shelf.now) g.R.Read.remaining g.W.Write.contents c.args.source (map (λ (word : Bor (List ℕ)). word.now) c.args.words.now) c.args.input c.args.output
     c.recover_words_recover.ensures form passphrase c.program.result are c.program.ensures.ends

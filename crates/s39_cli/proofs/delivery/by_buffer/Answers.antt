@@ -5,13 +5,13 @@ use Rattle.s39_cli.specs.Work.{IsWorkOutput}
 use Rattle.s39_cli.proofs.Deliveries.{delivers_behind, empty_buffer}
 use Rattle.s39_cli.proofs.delivery.by_buffer.Goals as goal
 
-pub returns : goal.returns
-returns g c =
+pub returns-clause-delivers : goal.returns-clause-delivers
+returns-clause-delivers g c =
     delivers_behind g.R.Read.remaining (writer_contents g.W.Write.contents) g.W.Write.contents (IsWorkOutput c.args.work.now) c.new-reader.result
     c.run-answer.new.input c.new-writer.result c.run-answer.new.output c.args.output c.handed_on-answer.result.1 c.run-answer.result
-    c.handed_on-answer.result.0 c.run-answer.ensures
+    c.handed_on-answer.result.0 c.run-answer.ensures.runs
     (empty_buffer g.W.Write.contents c.args.output c.in-Ok.buffered c.new-writer.result.device c.new-writer.ensures.device c.in-Ok.ensures.inner
     c.in-Ok.ensures.empty)
     (subst (λ b. HandsOn (writer_contents g.W.Write.contents b) (g.W.Write.contents c.handed_on-answer.result.1) c.run-answer.result
-    c.handed_on-answer.result.0) c.into_inner.ensures c.handed_on-answer.ensures)
+    c.handed_on-answer.result.0) c.into_inner.ensures c.handed_on-answer.ensures.handed)
     c.args.input c.into_inner-2.result c.new-reader.ensures.device c.into_inner-2.ensures

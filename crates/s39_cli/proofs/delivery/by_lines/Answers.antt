@@ -11,8 +11,8 @@ returns g c =
     let inner : c.new-writer.result.device.output ≡ c.args.output = ap (λ p. p.output) c.new-writer.ensures.device ∙ c.new.ensures in
     delivers_behind g.R.Read.remaining (λ p. g.W.Write.contents p.output) g.W.Write.contents (IsWorkOutput c.args.work.now) c.new-reader.result
     c.run-answer.new.input c.new-writer.result c.run-answer.new.output c.args.output c.flushed-answer.result.1 c.run-answer.result
-    c.flushed-answer.result.0 c.run-answer.ensures
+    c.flushed-answer.result.0 c.run-answer.ensures.runs
     (subst (λ w. Keeps (g.W.Write.contents c.args.output) (g.W.Write.contents w)) (sym inner) (Keeps-refl (g.W.Write.contents c.args.output)))
     (subst (λ p. HandsOn (g.W.Write.contents p.output) (g.W.Write.contents c.flushed-answer.result.1) c.run-answer.result c.flushed-answer.result.0)
-    c.into_inner.ensures c.flushed-answer.ensures)
+    c.into_inner.ensures c.flushed-answer.ensures.handed)
     c.args.input c.into_inner-2.result c.new-reader.ensures.device c.into_inner-2.ensures

@@ -1,30 +1,33 @@
-use Rattle.std.proofs.Common.{ℕ, Bor, List, map, option_map}
+use Rattle.std.proofs.Common.{◌≡◌, ℕ, Bor, List, map, option_map}
+use Rattle.s39_cli.specs.declared.values.NoValue.TheVariants.{TooLong}
 use Rattle.s39_cli.proofs.Ends.{ends_by_job, ends_typed, ends_unread, ends_without_job}
+use Rattle.s39_cli.proofs.Untouched.{job_untouched, jobless_untouched, typed_untouched, unread_untouched}
 use Rattle.s39_cli.proofs.runner.program.Goals as goal
 
 pub returns-in-Err-clause-ends : goal.returns-in-Err-clause-ends
 returns-in-Err-clause-ends g c =
     let words = map (λ (word : Bor (List ℕ)). word.now) c.args.words.now in
-    ends_without_job g.R.Read.remaining g.W.Write.contents c.args.source words c.args.input c.args.output c.in-Err.no_job c.without_job.result
+    ends_without_job (g.S.Shelf.told c.args.shelf.now) g.R.Read.remaining g.W.Write.contents c.args.source words c.args.input c.args.output c.in-Err.no_job c.without_job.result
     c.in-Err.ensures.answer c.in-Err.ensures.memory c.without_job.ensures.ends
 
 pub returns-then-is_typed-clause-ends : goal.returns-then-is_typed-clause-ends
 returns-then-is_typed-clause-ends g c =
     let words = map (λ (word : Bor (List ℕ)). word.now) c.args.words.now in
-    ends_typed g.R.Read.remaining g.W.Write.contents c.args.source words c.args.input c.args.output c.in-Ok.call c.in-Ok.ensures.call
+    ends_typed (g.S.Shelf.told c.args.shelf.now) g.R.Read.remaining g.W.Write.contents c.args.source words c.args.input c.args.output c.in-Ok.call c.in-Ok.ensures.call
     c.in-Ok.ensures.taken c.in-Ok.ensures.faultless c.typed.result (c.is_typed.ensures.typed c.if-is_typed.true) c.typed.ensures.ends
 
 pub returns-in-Err-read-clause-ends : goal.returns-in-Err-read-clause-ends
 returns-in-Err-read-clause-ends g c =
     let words = map (λ (word : Bor (List ℕ)). word.now) c.args.words.now in
-    ends_unread g.R.Read.remaining g.W.Write.contents c.args.source words c.args.input c.args.output c.in-Ok.call c.in-Ok.ensures.call
-    c.in-Ok.ensures.taken c.in-Ok.ensures.faultless c.read.new.input c.without_value.result (c.is_typed.ensures.untyped c.if-is_typed.false)
-    c.in-Err-read.ensures.failed c.without_value.ensures.ends
+    ends_unread (g.S.Shelf.told c.args.shelf.now) g.R.Read.remaining g.W.Write.contents c.args.source words c.args.input c.args.output c.in-Ok.call c.in-Ok.ensures.call
+    c.in-Ok.ensures.taken c.in-Ok.ensures.faultless c.read.new.input c.without_value.result
+    (c.in-Err-read.unread.cause ≡ TooLong) (c.is_typed.ensures.untyped c.if-is_typed.false) c.in-Err-read.ensures.failed
+    c.in-Err-read.ensures.long c.without_value.ensures.ends
 
 pub returns-clause-ends : goal.returns-clause-ends
 returns-clause-ends g c =
     let words = map (λ (word : Bor (List ℕ)). word.now) c.args.words.now in
-    ends_by_job g.R.Read.remaining g.W.Write.contents c.args.source words c.args.input c.args.output c.in-Ok.call c.in-Ok.ensures.call
+    ends_by_job (g.S.Shelf.told c.args.shelf.now) g.R.Read.remaining g.W.Write.contents c.args.source words c.args.input c.args.output c.in-Ok.call c.in-Ok.ensures.call
     c.in-Ok.ensures.taken c.in-Ok.ensures.faultless c.fill.result c.read.new.input c.by_job.result
     (c.is_typed.ensures.untyped c.if-is_typed.false) (
       option_map (λ held. held.items) c.in-Ok-read.values.secret,
@@ -32,3 +35,23 @@ returns-clause-ends g c =
       c.in-Ok-read.ensures.values,
       c.fill.ensures.filled,
     ) c.by_job.ensures.ends
+
+pub returns-in-Err-clause-untouched : goal.returns-in-Err-clause-untouched
+returns-in-Err-clause-untouched g c =
+    jobless_untouched c.args.output g.W.Write.contents c.args.input c.in-Err.no_job (map (λ (word : Bor (List ℕ)). word.now) c.args.words.now)
+    c.without_job.result c.without_job.ensures.ends
+
+pub returns-then-is_typed-clause-untouched : goal.returns-then-is_typed-clause-untouched
+returns-then-is_typed-clause-untouched g c =
+    typed_untouched c.args.output c.args.input (map (λ (word : Bor (List ℕ)). word.now) c.args.words.now) c.typed.result c.typed.ensures.ends
+
+pub returns-in-Err-read-clause-untouched : goal.returns-in-Err-read-clause-untouched
+returns-in-Err-read-clause-untouched g c =
+    unread_untouched c.args.output (c.in-Err-read.unread.cause ≡ TooLong) c.read.new.input (map (λ (word : Bor (List ℕ)). word.now) c.args.words.now)
+    c.without_value.result c.without_value.ensures.ends
+
+pub returns-clause-untouched : goal.returns-clause-untouched
+returns-clause-untouched g c =
+    job_untouched c.args.output (map (λ (word : Bor (List ℕ)). word.now) c.args.words.now) c.in-Ok.call c.in-Ok.ensures.call
+    (option_map (λ held. held.items) c.in-Ok-read.values.secret) (option_map (λ held. held.items) c.in-Ok-read.values.passphrase) c.fill.result
+    c.fill.ensures.filled c.by_job.result c.by_job.ensures.untouched

@@ -1,5 +1,4 @@
-use Rattle.std.proofs.Common.{◌≡◌, ◌≤◌, ◌<◌, arith, length, subst, sym}
-use Rattle.s39_cli.specs.Values.{IsValueIn}
+use Rattle.std.proofs.Common.{◌≤◌, ◌<◌, arith, length, subst}
 use Rattle.s39_cli.proofs.Parts.{long_of_part, value_of_part}
 use Rattle.s39_cli.proofs.values.value_in.Goals as goal
 

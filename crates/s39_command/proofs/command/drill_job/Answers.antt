@@ -18,6 +18,7 @@ returns-clause-gives c =
       c.get_str.ensures ∙ first_value-rows f (codes "after"),
       subst (HasNumber (codes "limit") (rows_of f)) same limit.3,
       drill_form_there f c.form_of.result c.requires c.form_of.ensures.said c.form_of.ensures.unsaid,
+      c.get_str-expected.ensures ∙ first_value-rows f (codes "expect"),
     )
 
 pub returns-clause-range : goal.returns-clause-range

@@ -1,5 +1,13 @@
-use Rattle.s39_command.proofs.Words.{create_words_are_taken, drill_words_are_taken, recover_words_are_taken}
+use Rattle.s39_command.proofs.CreateWords.{create_words_are_taken}
+use Rattle.s39_command.proofs.Words.{drill_words_are_taken, recover_words_are_taken}
+use Rattle.s39_command.proofs.ExpectingWords.{expecting_drill_words_are_taken, expecting_recover_words_are_taken}
 use Rattle.s39_command.proofs.laws.words_are_taken.Goals as goal
 
 pub returns : goal.returns
-returns c = record { drill = drill_words_are_taken; recover = recover_words_are_taken; create = create_words_are_taken }
+returns c = record {
+  drill = drill_words_are_taken;
+  expecting_drill = expecting_drill_words_are_taken;
+  recover = recover_words_are_taken;
+  expecting_recover = expecting_recover_words_are_taken;
+  create = create_words_are_taken;
+}

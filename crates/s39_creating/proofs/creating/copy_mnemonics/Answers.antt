@@ -3,7 +3,7 @@ use Rattle.std.proofs.lemmas.List.{length-append}
 use Rattle.s39_input.specs.Input.{ended_line}
 use Rattle.s39_creating.proofs.Runs.Creating.{printed_next, printed_rest}
 use Rattle.s39_input.proofs.Texts.Fronts.{put_next}
-use Rattle.s39_creating.proofs.Runs.OneCreate.{text_once}
+use Rattle.s39_input.proofs.Runs.PrintedLines.{text_once}
 use Rattle.s39_creating.proofs.creating.copy_mnemonics.Goals as goal
 
 pub put-requires : goal.put-requires

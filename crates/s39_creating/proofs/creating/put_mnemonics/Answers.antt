@@ -1,5 +1,5 @@
 use Rattle.std.proofs.Common.{◌≡◌, ◌∙◌, length, sym, ap, arith}
-use Rattle.s39_creating.proofs.Runs.OneCreate.{text_once}
+use Rattle.s39_input.proofs.Runs.PrintedLines.{text_once}
 use Rattle.s39_creating.proofs.creating.put_mnemonics.Goals as goal
 
 pub returns-clause-put : goal.returns-clause-put

@@ -1,5 +1,5 @@
 use Rattle.std.proofs.Common.{refl}
-use Rattle.s39_creating.proofs.Runs.Creating.{printed_all}
+use Rattle.s39_input.proofs.Runs.PrintedLines.{printed_all}
 use Rattle.s39_creating.proofs.round_trips.every_backup_is_written.Goals as goal
 
 pub returns : goal.returns

@@ -7,7 +7,8 @@ use Rattle.s39_backup.specs.declared.combination.Mismatch.{Mismatch}
 use Rattle.s39_backup.specs.Outcome.{IsOutcome}
 use Rattle.s39_drilling.specs.Drill.{last_line, quorum_line, in_bytes, IsDrill, IsNext}
 use Rattle.s39_drilling.specs.Slices.{more_after}
-use Rattle.s39_drilling.proofs.Drills.Drilling.{IsDrilling, mismatch_most, drill_over, more_is}
+use Rattle.s39_drilling.proofs.Drills.Drilling.{IsDrilling, drill_over, more_is}
+use Rattle.s39_drilling.proofs.Drills.Counts.{mismatch_most}
 use Rattle.s39_drilling.proofs.Drills.Drilling.{drilling_starts, drilling_fails, drilling_goes_on, drilling_ends, drilling_fails_last}
 use Rattle.s39_drilling.proofs.drill.write_drill.Given.{Over}
 use Rattle.s39_drilling.proofs.drill.write_drill.Goals.{After-write_text, After-write_text-then-left-eq0}
@@ -76,7 +77,7 @@ loop-outcome-preserved g c =
           rw c.mismatch_in-mismatches.ensures (drilling_goes_on c.drill_laws.ensures (outcome g at) (drilling g at) (is_outcome g at)
           (rw (line g at) at c.in_ok-write_text.ensures) c.unwrap-quorum.result first);
       some = omega (arith, inv.some);
-      counted = let counted = c.mismatch_in-mismatches.ensures in let few = mismatch_most (outcome g at) in omega (arith, inv.counted, inv.some);
+      counted = let counted = c.mismatch_in-mismatches.ensures in let few = mismatch_most c.args.form (outcome g at) in omega (arith, inv.counted, inv.some);
       looks = let more = c.following-next.ensures.looks in omega (arith, inv.looks, inv.some);
       passphrase = c.outcome_of-outcome.ensures.passphrase ∙ inv.passphrase;
       params = rw c.outcome_of-outcome.ensures.params inv.params;

@@ -14,7 +14,7 @@ returns-clause-all_lines c = λ form asked random text limit output answer plan 
     c.whole_backups_meet_the_thresholds.ensures asked random text set plan created read
     (c.accepted_inputs_are_share_sets.ensures (whole text) set read) in
     let listed = lists_whole form set meets asked.secret limit output answer gives in
-    (set, read, listed.0, listed.1)
+    (set, read, listed)
 
 pub returns-clause-some_lines : goal.returns-clause-some_lines
 returns-clause-some_lines c = λ form asked random text bytes after limit output answer plan created lines drills.

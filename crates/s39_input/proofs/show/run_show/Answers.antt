@@ -1,20 +1,17 @@
-use Rattle.std.proofs.Common.{subst, sym, ◌∙◌, ap, ◌+◌}
-use Rattle.s39_input.specs.Show.{IsShowOutput}
+use Rattle.std.proofs.Common.{refl, subst, sym}
+use Rattle.s39_words.specs.Reading.{Reads}
+use Rattle.s39_input.specs.declared.fault.LineRefusal.TheVariants.{Word}
+use Rattle.s39_input.specs.Lines.{Says}
+use Rattle.s39_input.specs.Show.{IsShowOutput, line_text}
 use Rattle.s39_input.specs.Runs.{Runs}
-use Rattle.s39_input.proofs.Runs.Devices.{OfInput-map, some_input}
-use Rattle.s39_input.proofs.Runs.Shown.{answered, answers_read_failures, runs_shown, shown_failures}
+use Rattle.s39_input.proofs.Runs.Answered.{run_answered}
+use Rattle.s39_input.proofs.Taking.Held.{says_some}
 use Rattle.s39_input.proofs.show.run_show.Goals as goal
 
 pub returns : goal.returns
 returns g c =
-    let every = c.every_text_has_a_reading.ensures in
-    let run = c.take_lines.ensures in
-    let (input, over) = some_input g.R.Read.remaining c.args.input.now c.take_lines.new.input _ run.runs in
     subst (Runs g.R.Read.remaining g.W.Write.contents IsShowOutput c.args.input.now c.take_lines.new.input c.args.output.now c.take_lines.new.taker)
-    (sym (answered c.take_lines.result c.map_err.result c.map_err.ensures.cases)) (record {
-      output = OfInput-map run.runs
-          (λ input. runs_shown g.W.Write.contents every input c.args.output.now c.take_lines.new.taker c.take_lines.result);
-      read_failures_are = run.failures ∙ ap (λ n. c.args.input.now.failures + n) (sym (answers_read_failures c.take_lines.result));
-      write_failures_are = shown_failures g.W.Write.contents every input c.args.output.now c.take_lines.new.taker
-          c.take_lines.result over;
-    })
+    (sym c.answered.ensures)
+    (run_answered g.W.Write.contents (Says Reads Word) line_text (λ output. output) (λ old said new. Unit {0}) (λ s. tt) (λ s t u said more p q. tt)
+    (says_some Reads Word c.every_text_has_a_reading.ensures) (λ said. tt) (λ s. tt) c.args.output.now (λ said new follows. refl)
+    c.take_lines.new.taker c.take_lines.result c.take_lines.ensures.runs c.take_lines.ensures.failures)

@@ -5,7 +5,7 @@ use Rattle.s39_reading.proofs.laws.refusals_have_causes.Goals as goal
 
 pub returns : goal.returns
 returns g c = record {
-  recover = λ form passphrase reader read_to writer written_to bad runs.
+  recover = λ form expected passphrase reader read_to writer written_to bad runs.
       let (input, text, is) = of_some g.R.Read.remaining g.W.Write.contents _ reader read_to writer written_to _ refl runs in
-      recover_cause form passphrase input text bad is;
+      recover_cause form expected passphrase input text bad is;
 }

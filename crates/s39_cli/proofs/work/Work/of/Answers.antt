@@ -1,13 +1,13 @@
 use Rattle.std.proofs.Common.{refl}
 use Rattle.std.proofs.lemmas.Result.{err_from_is_err_and}
-use Rattle.s39_cli.proofs.Unreadiness.{bad_cursor}
+use Rattle.s39_cli.proofs.Unreadiness.{bad_cursor, bad_fingerprint}
 use Rattle.s39_cli.proofs.work.Work.of.Goals as goal
 
 pub returns-in_err-after-in-Drill-clause-refused : goal.returns-in_err-after-in-Drill-clause-refused
 returns-in_err-after-in-Drill-clause-refused c =
     let p = err_from_is_err_and c.from_residual-in_err-after-in-Drill.result c.from_residual-in_err-after-in-Drill.ensures.1 in
-    rw (p.1, p.2) (bad_cursor c.args.job c.in-Drill.passphrase c.in-Drill.after c.in-Drill.limit c.in-Drill.form c.in-Drill.is
-    c.in_err-after-in-Drill.ensures.refused)
+    rw (p.1, p.2) (bad_cursor c.args.job c.in-Drill.passphrase c.in-Drill.after c.in-Drill.limit c.in-Drill.form
+    c.in-Drill.expected c.in-Drill.is c.in_err-after-in-Drill.ensures.refused)
 
 pub returns-in_ok-plan-in-Create-clause-work : goal.returns-in_ok-plan-in-Create-clause-work
 returns-in_ok-plan-in-Create-clause-work c = rw c.in-Create.is (
@@ -20,15 +20,23 @@ returns-in_ok-plan-in-Create-clause-work c = rw c.in-Create.is (
   },
 )
 
-pub returns-in_ok-after-in-Drill-clause-work : goal.returns-in_ok-after-in-Drill-clause-work
-returns-in_ok-after-in-Drill-clause-work c = rw c.in-Drill.is (
+pub returns-in_err-noted-in-Drill-clause-refused : goal.returns-in_err-noted-in-Drill-clause-refused
+returns-in_err-noted-in-Drill-clause-refused c =
+    let p = err_from_is_err_and c.from_residual-in_err-noted-in-Drill.result c.from_residual-in_err-noted-in-Drill.ensures.1 in
+    rw (p.1, p.2) (bad_fingerprint c.args.job c.in-Drill.passphrase c.in-Drill.after c.in-Drill.limit c.in-Drill.form c.in-Drill.expected
+    c.in_ok-after-in-Drill.after c.in-Drill.is c.in_ok-after-in-Drill.ensures.cursor c.in_err-noted-in-Drill.ensures.refused)
+
+pub returns-in_ok-noted-in-Drill-clause-work : goal.returns-in_ok-noted-in-Drill-clause-work
+returns-in_ok-noted-in-Drill-clause-work c = rw c.in-Drill.is (
   _,
   refl,
   record {
+    noted = c.in_ok-noted-in-Drill.noted;
     passphrase_is = refl;
     cursor = c.in_ok-after-in-Drill.ensures.cursor;
     limit_is = refl;
-    form_is = refl;
+    noted_is = c.in_ok-noted-in-Drill.ensures.noted;
+    form_is = c.told_in.ensures;
   },
 )
 

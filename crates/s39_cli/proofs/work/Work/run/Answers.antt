@@ -15,16 +15,16 @@ use Rattle.s39_cli.specs.Work.{IsWorkOutput}
 use Rattle.s39_cli.proofs.Works.{Runs-judged}
 use Rattle.s39_cli.proofs.work.Work.run.Goals as goal
 
-pub returns-in-Show : goal.returns-in-Show
-returns-in-Show g c =
+pub returns-in-Show-clause-runs : goal.returns-in-Show-clause-runs
+returns-in-Show-clause-runs g c =
     subst (λ (w : Work). Runs g.R.Read.remaining g.W.Write.contents (IsWorkOutput w) c.args.input.now c.run_show.new.input c.args.output.now
     c.run_show.new.output c.where_done.result) (sym c.in-Show.is)
     (Runs-judged g.R.Read.remaining g.W.Write.contents where_done IsShowOutput (IsWorkOutput work.Show) c.args.input.now c.run_show.new.input
     c.args.output.now c.run_show.new.output c.run_show.result c.where_done.result c.run_show.ensures c.where_done.ensures
     (λ input text full output. (full, output, refl)))
 
-pub returns-in-Create : goal.returns-in-Create
-returns-in-Create g c =
+pub returns-in-Create-clause-runs : goal.returns-in-Create-clause-runs
+returns-in-Create-clause-runs g c =
     let creation = c.in-Create.creation in
     subst (λ (w : Work). Runs g.R.Read.remaining g.W.Write.contents (IsWorkOutput w) c.args.input.now c.run_create.new.input c.args.output.now
     c.run_create.new.output c.where_done-in-Create.result) (sym c.in-Create.is)
@@ -43,19 +43,20 @@ returns-in-Create g c =
       refl,
     )))
 
-pub returns-in-Recover : goal.returns-in-Recover
-returns-in-Recover g c =
+pub returns-in-Recover-clause-runs : goal.returns-in-Recover-clause-runs
+returns-in-Recover-clause-runs g c =
     let passphrase = c.in-Recover.passphrase in
     let form = c.in-Recover.form in
+    let expected = c.in-Recover.expected in
     subst (λ (w : Work). Runs g.R.Read.remaining g.W.Write.contents (IsWorkOutput w) c.args.input.now c.run_recover.new.input c.args.output.now
     c.run_recover.new.output c.where_done-in-Recover.result) (sym c.in-Recover.is)
-    (Runs-judged g.R.Read.remaining g.W.Write.contents where_done (IsRecoverOutput form passphrase.now) (IsWorkOutput (work.Recover passphrase form))
+    (Runs-judged g.R.Read.remaining g.W.Write.contents where_done (IsRecoverOutput form expected passphrase.now) (IsWorkOutput (work.Recover passphrase form expected))
     c.args.input.now c.run_recover.new.input c.args.output.now c.run_recover.new.output c.run_recover.result
     c.where_done-in-Recover.result c.run_recover.ensures.runs c.where_done-in-Recover.ensures
     (λ input text full output. (full, output, refl)))
 
-pub returns-in-Drill : goal.returns-in-Drill
-returns-in-Drill g c =
+pub returns-in-Drill-clause-runs : goal.returns-in-Drill-clause-runs
+returns-in-Drill-clause-runs g c =
     let drill = c.in-Drill.drill in
     subst (λ (w : Work). Runs g.R.Read.remaining g.W.Write.contents (IsWorkOutput w) c.args.input.now c.run_drill.new.input c.args.output.now
     c.run_drill.new.output c.without_mismatches.result) (sym c.in-Drill.is)
@@ -66,16 +67,21 @@ returns-in-Drill g c =
     c.args.input.now c.run_drill.new.input c.args.output.now c.run_drill.new.output c.run_drill.result) c.as_ref.ensures.value c.run_drill.ensures.runs)
     c.without_mismatches.ensures (λ input text full output. (full, output, refl)))
 
-pub returns-in-Status : goal.returns-in-Status
-returns-in-Status g c =
+pub returns-in-Status-clause-runs : goal.returns-in-Status-clause-runs
+returns-in-Status-clause-runs g c =
     subst (λ (w : Work). Runs g.R.Read.remaining g.W.Write.contents (IsWorkOutput w) c.args.input.now c.run_status.new.input c.args.output.now
     c.run_status.new.output c.with_enough.result) (sym c.in-Status.is)
     (Runs-judged g.R.Read.remaining g.W.Write.contents is_enough IsStatusOutput (IsWorkOutput work.Status) c.args.input.now c.run_status.new.input
     c.args.output.now c.run_status.new.output c.run_status.result c.with_enough.result c.run_status.ensures.runs c.with_enough.ensures
     (λ input text full output. (full, output, refl)))
 
-pub returns-in-Reissue : goal.returns-in-Reissue
-returns-in-Reissue g c =
+pub returns-in-Repair-clause-runs : goal.returns-in-Repair-clause-runs
+returns-in-Repair-clause-runs g c =
+    subst (λ (w : Work). Runs g.R.Read.remaining g.W.Write.contents (IsWorkOutput w) c.args.input.now c.run_repair.new.input c.args.output.now
+    c.run_repair.new.output c.run_repair.result) (sym c.in-Repair.is) c.run_repair.ensures
+
+pub returns-in-Reissue-clause-runs : goal.returns-in-Reissue-clause-runs
+returns-in-Reissue-clause-runs g c =
     let reissue = c.in-Reissue.reissue in
     subst (λ (w : Work). Runs g.R.Read.remaining g.W.Write.contents (IsWorkOutput w) c.args.input.now c.run_reissue.new.input c.args.output.now
     c.run_reissue.new.output c.where_done-in-Reissue.result) (sym c.in-Reissue.is)

@@ -1,0 +1,87 @@
+-- A recovery of the same lines gives one answer and one memory.
+use Rattle.std.proofs.Common.{◌≡◌, ◌≢◌, ℕ, ◌<◌, List, [], ◌++◌, length, drop, length-append, refl, sym, ap, subst, ◌∙◌, inl, inr}
+use Rattle.std.proofs.Common.{arith}
+use Rattle.std.proofs.Common.{Option, Some, None, Result, Ok, Err}
+use Rattle.std.proofs.lemmas.List.{get_or_append_left}
+use Rattle.s39_kdf.specs.Bytes.{AreBytes}
+use Rattle.s39_input.specs.declared.fault.Fault.{Fault}
+use Rattle.s39_kdf.specs.Noted.{noted_in}
+use Rattle.s39_kdf.specs.declared.noted.BadFingerprint.{BadFingerprint}
+use Rattle.s39_kdf.specs.declared.noted.NotedFingerprint.{NotedFingerprint}
+use Rattle.s39_kdf.specs.declared.secret_form.SecretForm.TheVariants.{Digits}
+use Rattle.s39_input.specs.Input.{Input, whole}
+use Rattle.s39_reading.specs.Recover.{secret_line, IsRecoverOutput}
+use Rattle.s39_reading.proofs.Texts.SecretLines.{same_secret, same_size}
+use Rattle.s39_c.specs.declared.answer.ShamirAnswer.{ShamirAnswer}
+use Rattle.s39_c.specs.Answers.{Gives, too_short, refused}
+use Rattle.s39_c.specs.Recovering.{IsExpected, GivesSecret, GivesExpectedSecret}
+use Rattle.s39_c.proofs.OneAnswer.{gives_once}
+
+-- what stands in front of bytes are bytes
+front_bytes : (front rest : List ℕ) → AreBytes (front ++ rest) → AreBytes front
+front_bytes front rest bytes k d within =
+    subst (λ (b : ℕ). b < 256) (get_or_append_left front rest d k within) (bytes k d (omega (arith, within, length-append front rest)))
+
+secret_given_once : (s t old new other : List ℕ) (answer another : ShamirAnswer) → AreBytes new → AreBytes other → secret_line Digits s ≡ secret_line Digits t
+    → Gives s old new answer → Gives t old other another → (new ≡ other) × (answer ≡ another)
+secret_given_once s t old new other answer another bytes others same (inl (fits, is, says)) (inl (fits', is', says')) =
+    let secrets : t ≡ s = same_secret t s (front_bytes t (drop (length t) old) (subst AreBytes is' others))
+    (front_bytes s (drop (length s) old) (subst AreBytes is bytes)) (sym same) in
+    gives_once s old new other answer another (inl (fits, is, says))
+    (subst (λ (x : List ℕ). Gives x old other another) secrets (inl (fits', is', says')))
+secret_given_once s t old new other answer another bytes others same (inl (fits, is, says)) (inr (long, is', says')) =
+    absurd (omega (arith, fits, long, same_size s t same))
+secret_given_once s t old new other answer another bytes others same (inr (long, is, says)) (inl (fits, is', says')) =
+    absurd (omega (arith, fits, long, same_size s t same))
+secret_given_once s t old new other answer another bytes others same (inr (long, is, says)) (inr (long', is', says')) =
+    (is ∙ sym is', says ∙ ap too_short (same_size s t same) ∙ sym says')
+
+abbrev noted_result : Result NotedFingerprint BadFingerprint → Result NotedFingerprint BadFingerprint
+noted_result result = result
+
+module _ (one_recover_output : (expected : Option NotedFingerprint) (passphrase : List ℕ) (input : Input) (text other : List ℕ)
+    (answer another : Result (Unit {0}) Fault) → IsRecoverOutput Digits expected passphrase input text answer
+    → IsRecoverOutput Digits expected passphrase input other another → (text ≡ other) × (answer ≡ another)) where
+  secret_once : (expected : Option NotedFingerprint) (passphrase lines old new other : List ℕ) (answer another : ShamirAnswer) → AreBytes new → AreBytes other
+      → GivesSecret (IsRecoverOutput Digits expected passphrase (whole lines)) old new answer
+      → GivesSecret (IsRecoverOutput Digits expected passphrase (whole lines)) old other another → (new ≡ other) × (answer ≡ another)
+  secret_once expected passphrase lines old new other answer another bytes others (inl (s, output, gives)) (inl (t, output', gives')) =
+      let same = (one_recover_output expected passphrase (whole lines) (secret_line Digits s) (secret_line Digits t) (Ok tt) (Ok tt) output output').0 in
+      secret_given_once s t old new other answer another bytes others same gives gives'
+  secret_once expected passphrase lines old new other answer another bytes others (inl (s, output, gives)) (inr (fault, output', is, says)) =
+      let same = (one_recover_output expected passphrase (whole lines) (secret_line Digits s) [] (Ok tt) (Err fault) output output').1 in
+      absurd (cc)
+  secret_once expected passphrase lines old new other answer another bytes others (inr (fault, output', is, says)) (inl (s, output, gives)) =
+      let same = (one_recover_output expected passphrase (whole lines) (secret_line Digits s) [] (Ok tt) (Err fault) output output').1 in
+      absurd (cc)
+  secret_once expected passphrase lines old new other answer another bytes others (inr (fault, output, is, says)) (inr (fault', output', is', says')) =
+      let same = (one_recover_output expected passphrase (whole lines) [] [] (Err fault) (Err fault') output output').1 in
+      let faults : fault ≡ fault' = cc in
+      (is ∙ sym is', says ∙ ap refused faults ∙ sym says')
+
+  -- a text stands for one fingerprint, or for none
+  expected_once : (text : List ℕ) (expected other : Option NotedFingerprint) → IsExpected text expected → IsExpected text other → expected ≡ other
+  expected_once text None None is also = refl
+  expected_once text None (Some noted) is also = absurd (also.0 is)
+  expected_once text (Some noted) None is also = absurd (is.0 also)
+  expected_once text (Some noted) (Some other) is also =
+      let same : noted_result (Ok noted) ≡ noted_result (Ok other) = sym is.1 ∙ also.1 in cc
+
+  not_bad : (text : List ℕ) (expected : Option NotedFingerprint) (bad : BadFingerprint) → IsExpected text expected → text ≢ [] → noted_in text ≡ Err bad → ⊥
+  not_bad text None bad is some refused = some is
+  not_bad text (Some noted) bad is some refused = let differ : noted_result (Ok noted) ≡ noted_result (Err bad) = sym is.1 ∙ refused in cc
+
+  pub expected_secret_once : (passphrase lines text old new other : List ℕ) (answer another : ShamirAnswer) → AreBytes new → AreBytes other
+      → GivesExpectedSecret (λ noted. IsRecoverOutput Digits noted passphrase (whole lines)) text old new answer
+      → GivesExpectedSecret (λ noted. IsRecoverOutput Digits noted passphrase (whole lines)) text old other another
+      → (new ≡ other) × (answer ≡ another)
+  expected_secret_once passphrase lines text old new other answer another bytes others (inl (some, bad, is, says)) (inl (some', bad', is', says')) =
+      (is ∙ sym is', says ∙ sym says')
+  expected_secret_once passphrase lines text old new other answer another bytes others (inl (some, bad, is, says)) (inr (expected, of, gives)) =
+      absurd (not_bad text expected bad.0 of some bad.1)
+  expected_secret_once passphrase lines text old new other answer another bytes others (inr (expected, of, gives)) (inl (some, bad, is, says)) =
+      absurd (not_bad text expected bad.0 of some bad.1)
+  expected_secret_once passphrase lines text old new other answer another bytes others (inr (expected, of, gives)) (inr (expected', of', gives')) =
+      secret_once expected passphrase lines old new other answer another bytes others gives
+      (subst (λ (e : Option NotedFingerprint). GivesSecret (IsRecoverOutput Digits e passphrase (whole lines)) old other another)
+      (expected_once text expected' expected of' of) gives')
