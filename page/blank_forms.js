@@ -2,8 +2,8 @@
 import { choice, element, paragraph, tick } from "./dom.js";
 import { planNames, saidPlan, saidTakes } from "./plan.js";
 import { PlanChoice } from "./plan_choice.js";
+import { say } from "./say.js";
 import { ask } from "./screen.js";
-import { say } from "./texts.js";
 
 /** @typedef {import("./plan.js").Plan} Plan */
 

@@ -1,16 +1,15 @@
 // The task 'Check papers': papers are typed, and every quorum among them is tried.
-import { collectPapers } from "./collect.js";
+import { askForMore, askWhatNext, collectPapers } from "./collect.js";
 import { element, paragraph } from "./dom.js";
-import { runDrill } from "./drill.js";
+import { askToDrill, runDrill } from "./drill.js";
 import { askPassphrase } from "./passphrase.js";
-import { picture } from "./picture.js";
 import { saidRefusal } from "./refusals.js";
-import { ask } from "./screen.js";
-import { counted, say } from "./texts.js";
+import { counted, say } from "./say.js";
 
 /** @typedef {import("./client.js").Desk} Desk */
 /** @typedef {import("./desk.js").Status} Status */
 /** @typedef {import("./desk.js").Kind} Kind */
+/** @typedef {import("./drill.js").Verdict} Verdict */
 
 /**
  * Checks papers.
@@ -18,48 +17,78 @@ import { counted, say } from "./texts.js";
  * @param {Desk} desk
  */
 export async function checkPapers(desk) {
-  const { status, kinds } = await collectPapers(desk, say("check.title"), say("check.intro"));
-  if (status.enough) await drillWithPassphrase(desk, status, kinds[0], say("check.drill"));
-  else await tellFound(status, kinds);
+  const saidFew = (/** @type {Kind[]} */ kinds) => {
+    const sound = say("check.sound", { papers: counted(kinds.length, "paper"), names: kinds.map((it) => it.name).join(", ") });
+    return [paragraph(sound, "good"), paragraph(say("check.too_few"))];
+  };
+  await collectAndCheck(desk, { title: say("check.title"), intro: say("check.intro") }, saidFew);
 }
 
 /**
- * Asks for the passphrase and the noted fingerprint, and drills, until the owner is content.
+ * Lets the owner type papers, and drills, until the owner is content.
+ *
+ * @param {Desk} desk
+ * @param {{title: string, intro: string, repaired?: string}} what
+ * @param {(kinds: Kind[]) => HTMLElement[]} saidFew says what too few papers show
+ */
+export async function collectAndCheck(desk, what, saidFew) {
+  for (;;) {
+    const found = await collectPapers(desk, what);
+    if (found === null) return;
+    const { status, kinds } = found;
+    const tooFew = () => askForMore(say("check.done.few"), saidFew(kinds), status, kinds);
+    const answer = status.enough ? await drillWithPassphrase(desk, status, kinds[0], say("check.drill")) : await tooFew();
+    if (answer === "end") return;
+  }
+}
+
+/**
+ * Asks for the passphrase and the noted fingerprint, and drills. Returns whether the owner wants to go back to the papers.
  *
  * @param {Desk} desk
  * @param {Status} status
  * @param {Kind} kind
  * @param {string} title
+ * @returns {Promise<"papers" | "end">}
  */
 export async function drillWithPassphrase(desk, status, kind, title) {
   let fault = "";
+  /** @type {string | null} */
+  let noted = null;
   for (;;) {
-    const noted = await askPassphrase(desk, { title, fault });
-    const verdict = await runDrill(desk, status, kind, { title, noted });
+    /** @type {string | null} */
+    const given = await askPassphrase(desk, { title, fault, noted });
+    if (given === null) return "papers";
+    noted = given;
+    if (!(await askToDrill(desk, status, kind, { title, hasBack: true }))) {
+      fault = "";
+      continue;
+    }
+    const verdict = await runDrill(desk, status, { title, noted });
     if ("refused" in verdict) {
       fault = saidRefusal(verdict.refused);
       continue;
     }
-    const { isGood, fingerprint } = verdict;
-    const news = noted === "" && isGood && fingerprint ? [paragraph(say("noted.first")), element("p", { class: "fingerprint" }, fingerprint)] : [];
-    const told = [paragraph(say(isGood ? "check.good" : "check.bad"), isGood ? "good" : "bad"), ...news, paragraph(say("close"))];
-    const answer = await ask(say("check.done"), told, [
-      { key: "end", label: say("end"), kind: "primary" },
-      { key: "again", label: say("check.again") },
-    ]);
-    if (answer === "end") return;
+    const answer = await tellVerdict(verdict, noted);
+    if (answer !== "again") return answer;
     fault = "";
   }
 }
 
 /**
- * Says which papers were found sound, and what is missing.
+ * Says what a drill found, and what to do.
  *
- * @param {Status} status
- * @param {Kind[]} kinds
+ * @param {Verdict} verdict
+ * @param {string} noted
  */
-async function tellFound(status, kinds) {
-  const sound = say("check.sound", { papers: counted(kinds.length, "paper"), names: kinds.map((it) => it.name).join(", ") });
-  const children = [paragraph(sound, "good"), paragraph(say("check.too_few")), picture(status, kinds[0].groupCount), paragraph(say("close"))];
-  await ask(say("check.done"), children, [{ key: "end", label: say("end"), kind: "primary" }]);
+function tellVerdict({ result, fingerprint, sentences }, noted) {
+  const isGood = result === "good";
+  const told = [
+    ...sentences.map((text) => paragraph(text, isGood ? "good" : "bad")),
+    isGood ? null : paragraph(say(`check.${result}`)),
+    ...(noted === "" && isGood && fingerprint ? [paragraph(say("noted.first")), element("p", { class: "fingerprint" }, fingerprint)] : []),
+    paragraph(say("close")),
+  ];
+  const next = { good: "end", stopped: "again", other: "again", none: "again", some: "papers", several: "papers" }[result];
+  return askWhatNext(say(`check.done.${result}`), told, next, isGood);
 }

@@ -1,51 +1,91 @@
 // The screen on which papers are typed, one after the other.
-import { Declined } from "./client.js";
 import { button, element, paragraph } from "./dom.js";
 import { PaperEntry } from "./paper_entry.js";
 import { picture, saidWhole } from "./picture.js";
-import { saidError } from "./refusals.js";
-import { show } from "./screen.js";
-import { say } from "./texts.js";
+import { saidError, wordsToLookAt } from "./refusals.js";
+import { say } from "./say.js";
+import { ask, show } from "./screen.js";
 
 /** @typedef {import("./client.js").Desk} Desk */
 /** @typedef {import("./desk.js").Status} Status */
 /** @typedef {import("./desk.js").Kind} Kind */
 /** @typedef {import("./paper_entry.js").Answer} Answer */
 
-const UNKNOWN_WORD = 11;
 const USUAL_WORDS = 20;
 
+/** @typedef {{status: Status, kinds: Kind[]}} Collected */
+
 /**
- * Lets the owner type papers, and returns what they are together. The worker holds them.
+ * Lets the owner type papers, beside those that the worker holds already, and returns what they are together. Before the first
+ * paper, the owner can go back: then it returns null.
  *
  * @param {Desk} desk
- * @param {string} title
- * @param {string} intro
- * @returns {Promise<{status: Status, kinds: Kind[]}>}
+ * @param {{title: string, intro: string, repaired?: string}} what `repaired` is the name of a paper that was repaired, if there is one
+ * @returns {Promise<Collected | null>}
  */
-export function collectPapers(desk, title, intro) {
-  return new Promise((resolve) => new Collection(desk, (status, kinds) => resolve({ status, kinds })).show(title, intro));
+export async function collectPapers(desk, { title, intro, repaired = "" }) {
+  /** @type {Kind[]} */
+  const kinds = await desk.ask("kinds");
+  const status = kinds.length ? await desk.ask("status") : null;
+  return new Promise((resolve) => new Collection(desk, { kinds, status, repaired, onEnd: resolve }).show(title, intro));
+}
+
+/**
+ * Says that the papers aren't enough, and what is missing. Returns whether the owner wants to type more.
+ *
+ * @param {string} title
+ * @param {(Node | null)[]} told
+ * @param {Status} status
+ * @param {Kind[]} kinds
+ * @returns {Promise<"papers" | "end">}
+ */
+export function askForMore(title, told, status, kinds) {
+  return ask(title, [...told, picture(status, kinds[0].groupCount), paragraph(say("close"))], [
+    { key: "papers", label: say("collect.more"), kind: "primary" },
+    { key: "end", label: say("end") },
+  ]);
+}
+
+/**
+ * Says how a task ended. Returns whether the owner wants to end it, to try again with the same papers, or to go back to the papers.
+ *
+ * @param {string} title
+ * @param {(Node | null)[]} told
+ * @param {string} likely the answer that most owners give then
+ * @param {boolean} [isGood] whether the result is good, so that there is nothing to try again
+ * @returns {Promise<"end" | "again" | "papers">}
+ */
+export function askWhatNext(title, told, likely, isGood = false) {
+  const answers = /** @type {const} */ ([["end", "end"], ["again", "again"], ["papers", "collect.back"]]);
+  const ordered = answers.filter(([key]) => key !== "again" || !isGood).sort(([a], [b]) => Number(b === likely) - Number(a === likely));
+  return ask(title, told, ordered.map(([key, label]) => ({ key, label: say(label), kind: key === likely ? "primary" : "" })));
 }
 
 class Collection {
   #desk;
+  #kinds;
+  #status;
+  #repaired;
   #onEnd;
-  /** @type {Kind[]} */
-  #kinds = [];
-  /** @type {Status | null} */
-  #status = null;
   #found = element("div", { class: "found" });
   #fault = element("p", { class: "fault", role: "alert" });
+  // What is asked if words were typed and not read.
+  #question = element("div", { class: "buttons" });
+  #back = button(say("back"), () => this.#onEnd(null));
   #entry;
 
   /**
    * @param {Desk} desk
-   * @param {(status: Status, kinds: Kind[]) => void} onEnd
+   * @param {{kinds: Kind[], status: Status | null, repaired: string, onEnd: (found: Collected | null) => void}} start `kinds` are the
+   *   papers that the worker holds
    */
-  constructor(desk, onEnd) {
+  constructor(desk, { kinds, status, repaired, onEnd }) {
     this.#desk = desk;
+    this.#kinds = kinds;
+    this.#status = status;
+    this.#repaired = repaired;
     this.#onEnd = onEnd;
-    this.#entry = new PaperEntry(desk.begun.words, USUAL_WORDS, (line) => this.#take(line));
+    this.#entry = new PaperEntry(desk.begun.words, kinds[0]?.words ?? USUAL_WORDS, (line) => this.#take(line));
   }
 
   /**
@@ -54,7 +94,8 @@ class Collection {
    */
   show(title, intro) {
     const ended = button(say("collect.end"), () => this.#end(), "primary");
-    show(title, paragraph(intro), this.#entry.element, this.#found, this.#fault, element("div", { class: "buttons" }, ended));
+    show(title, paragraph(intro), this.#entry.element, this.#found, this.#fault, this.#question, element("div", { class: "buttons" }, ended, this.#back));
+    this.#draw();
     this.#entry.focus();
   }
 
@@ -69,10 +110,9 @@ class Collection {
       this.#status = status;
       this.#draw();
       const told = say(isNew ? "collect.taken" : "collect.repeated", { name: kind.name });
-      return { isTaken: true, text: `${told} ${saidWhole(status)}` };
+      return { isTaken: true, text: `${told} ${saidWhole(status, kind.groupCount)}` };
     } catch (error) {
-      const word = error instanceof Declined && error.refused.code === UNKNOWN_WORD ? error.refused.details[0] - 1 : undefined;
-      return { isTaken: false, text: saidError(error), word };
+      return { isTaken: false, text: saidError(error), words: wordsToLookAt(error) };
     }
   }
 
@@ -81,23 +121,51 @@ class Collection {
     this.#status = await this.#desk.ask("drop", { name });
     this.#kinds = this.#kinds.filter((it) => it.name !== name);
     this.#draw();
+    this.#entry.say(say("collect.dropped", { name }));
     this.#entry.focus();
   }
 
   #draw() {
-    this.#fault.textContent = "";
+    this.#say("");
+    this.#back.classList.toggle("hide", this.#kinds.length > 0);
     const rows = this.#kinds.map(({ name, words }) =>
-      element("li", {}, say("collect.row", { name, words }), button(say("collect.drop", { name }), () => this.#drop(name), "small")),
+      element("li", {}, say(name === this.#repaired ? "collect.row.repaired" : "collect.row", { name, words }), button(say("collect.drop", { name }), () => this.#drop(name), "small")),
     );
-    this.#found.replaceChildren(
-      element("h2", {}, say("collect.found")),
-      element("ul", { class: "rows" }, ...rows),
-      ...(this.#status ? [picture(this.#status, this.#kinds[0].groupCount)] : []),
-    );
+    this.#found.replaceChildren();
+    if (!this.#status) return;
+    this.#found.append(element("h2", {}, say("collect.found")), element("ul", { class: "rows" }, ...rows), picture(this.#status, this.#kinds[0].groupCount));
   }
 
+  /**
+   * Says what keeps the owner here, and asks for an answer if there are answers.
+   *
+   * @param {string} fault
+   * @param {HTMLButtonElement[]} answers
+   */
+  #say(fault, ...answers) {
+    this.#fault.textContent = fault;
+    this.#question.replaceChildren(...answers);
+    answers[0]?.focus();
+  }
+
+  /** Ends the typing. Words that weren't read as a paper would be lost, so the owner is asked first. */
   #end() {
-    if (this.#status) this.#onEnd(this.#status, this.#kinds);
-    else this.#fault.textContent = say("collect.none");
+    if (!this.#entry.isEmpty) {
+      this.#say(say("collect.unread"), button(say("collect.unread.stay"), () => this.#stay(), "small"), button(say("collect.unread.drop"), () => this.#leaveOut(), "small"));
+    } else if (this.#status) {
+      this.#onEnd({ status: this.#status, kinds: this.#kinds });
+    } else {
+      this.#say(say("collect.none"));
+    }
+  }
+
+  #stay() {
+    this.#say("");
+    this.#entry.focus();
+  }
+
+  #leaveOut() {
+    this.#entry.clear();
+    this.#end();
   }
 }

@@ -6,12 +6,13 @@ import { selfTest } from "./self_test.js";
 /** @typedef {import("../bindings/js/shamir.js").Engine} Engine */
 /** @typedef {{group: number, threshold: number, names: string[]}} GroupStatus */
 /** @typedef {{complete: number, required: number, enough: boolean, groups: GroupStatus[]}} Status */
-/** @typedef {{names: string[], fingerprint: string | null, mismatch: number | null}} Tried */
-/** @typedef {{name: string, words: number, secretBytes: number, exponent: number, extendable: boolean, groupCount: number, groupThreshold: number}} Kind */
+/** @typedef {{names: string[], fingerprint: string | null, expected: boolean | null, mismatch: number | null}} Tried */
+/** @typedef {{name: string, words: number, secretBytes: number, exponent: number, extendable: boolean, groupCount: number, groupThreshold: number, memberThreshold: number}} Kind */
 /** @typedef {{papers: Uint8Array[], shown: Uint8Array[], passphrase: Uint8Array, fingerprint: string}} Held */
 /** @typedef {{code: number, line: number | null, details: number[], text: string}} Refused */
 
-const DIGEST_MISMATCH = 51;
+const BAD_CHECKSUM = 13;
+const NO_SHARES = 29;
 
 /** @type {Engine} */
 let engine;
@@ -34,13 +35,27 @@ function clear() {
 }
 
 /**
+ * Reads a paper. If its checksum is wrong, the refusal is the one by which the engine says where to look.
+ *
+ * @param {Uint8Array} line
+ */
+function parsed(line) {
+  try {
+    return engine.parse(line);
+  } catch (error) {
+    if (error instanceof Refusal && error.code === BAD_CHECKSUM) wipe(...engine.repairBytes(line));
+    throw error;
+  }
+}
+
+/**
  * Returns what a paper is, without its value.
  *
  * @param {Uint8Array} line
  * @returns {Kind}
  */
 function kindOf(line) {
-  const share = engine.parse(line);
+  const share = parsed(line);
   wipe(share.value);
   return {
     name: `${share.groupIndex}.${share.memberIndex}`,
@@ -50,6 +65,7 @@ function kindOf(line) {
     extendable: share.extendable,
     groupCount: share.groupCount,
     groupThreshold: share.groupThreshold,
+    memberThreshold: share.memberThreshold,
   };
 }
 
@@ -125,6 +141,21 @@ function passphrase({ passphrase }) {
 }
 
 /**
+ * Throws the engine's refusal of a passphrase, if it refuses it. Without papers it derives no key.
+ *
+ * @param {{passphrase: Uint8Array}} given
+ */
+function tryPassphrase({ passphrase }) {
+  try {
+    engine.recover([], { passphrase });
+  } catch (error) {
+    if (!(error instanceof Refusal) || error.code !== NO_SHARES) throw error;
+  } finally {
+    wipe(passphrase);
+  }
+}
+
+/**
  * Returns the bytes that hexadecimal digits stand for, or null if these aren't digits of bytes.
  *
  * @param {Uint8Array} digits
@@ -177,12 +208,29 @@ function make({ plan, bytes, digits, exponent, extendable }) {
 }
 
 /**
- * Computes one paper from those that were typed, and keeps it to be shown.
+ * Computes one paper from those that were typed, and keeps it to be shown. Returns its place among those.
  *
  * @param {{plan: string, name: string}} given
  */
 function reissue({ plan, name }) {
   held.shown.push(...engine.reissueBytes(plan, name, held.papers));
+  return held.shown.length - 1;
+}
+
+/**
+ * Finds the papers that fit what can be read of one, and keeps them to be shown. Returns what they are.
+ *
+ * @param {{line: Uint8Array}} given
+ */
+function repair({ line }) {
+  wipe(...held.shown);
+  held.shown = [];
+  try {
+    held.shown = engine.repairBytes(line);
+    return held.shown.map(kindOf);
+  } finally {
+    wipe(line);
+  }
 }
 
 /**
@@ -200,17 +248,31 @@ function typedBack({ index, line }) {
 }
 
 /**
+ * Yields what each quorum of papers gives: whether its secret has the fingerprint `expect`, or its fingerprint if that is empty.
+ *
+ * @param {Uint8Array[]} papers
+ * @param {string} expect
+ * @returns {Generator<Tried, void, void>}
+ */
+function* outcomes(papers, expect) {
+  const form = expect === "" ? { fingerprints: true } : { expect };
+  for (const { names, fingerprint, expected, mismatch } of engine.drill(papers, { passphrase: held.passphrase, ...form })) {
+    yield { names: names.split("+"), fingerprint, expected, mismatch };
+  }
+}
+
+/**
  * Tries every quorum, or the first `limit`, and passes on what they give in parts.
  *
- * @param {{limit: number}} given
+ * @param {{limit: number, expect: string}} given
  * @param {(part: Tried[]) => void} tell
  */
-function drill({ limit }, tell) {
+function drill({ limit, expect }, tell) {
   /** @type {Tried[]} */
   let part = [];
   let [tried, told] = [0, performance.now()];
-  for (const outcome of engine.drill(held.papers, { passphrase: held.passphrase, fingerprints: true })) {
-    part.push({ names: outcome.names.split("+"), fingerprint: outcome.fingerprint, mismatch: outcome.mismatch });
+  for (const outcome of outcomes(held.papers, expect)) {
+    part.push(outcome);
     tried += 1;
     if (performance.now() - told > 100) {
       tell(part);
@@ -224,20 +286,11 @@ function drill({ limit }, tell) {
 /**
  * Tries the one quorum that these papers are.
  *
- * @param {{names: string[]}} given
- * @returns {Tried}
+ * @param {{names: string[], expect: string}} given
+ * @returns {Tried[]}
  */
-function tryOne({ names }) {
-  const lines = held.papers.filter((paper) => names.includes(kindOf(paper).name));
-  try {
-    const secret = engine.recover(lines, { passphrase: held.passphrase });
-    const fingerprint = engine.fingerprint(secret);
-    wipe(secret);
-    return { names, fingerprint, mismatch: null };
-  } catch (error) {
-    if (error instanceof Refusal && error.code === DIGEST_MISMATCH) return { names, fingerprint: null, mismatch: error.details[0] };
-    throw error;
-  }
+function tryOne({ names, expect }) {
+  return [...outcomes(held.papers.filter((paper) => names.includes(kindOf(paper).name)), expect)];
 }
 
 /** Recovers the secret, and returns its fingerprint. */
@@ -274,8 +327,10 @@ const CALLS = {
   add,
   drop,
   passphrase,
+  tryPassphrase,
   make,
   reissue,
+  repair,
   typedBack,
   drill,
   tryOne,

@@ -136,7 +136,7 @@ export function large(label, hint, onPress, attributes = {}) {
  * @template {string} K
  * @param {string} legend
  * @param {{key: K, label: string, hint?: string}[]} options
- * @param {K} first the choice that is taken at first
+ * @param {K | null} first the choice that is taken at first, or null if none is
  * @param {(key: K) => void} onChoose
  */
 export function choice(legend, options, first, onChoose) {
@@ -158,7 +158,8 @@ export function choice(legend, options, first, onChoose) {
     buttons[next].focus();
   };
   const buttons = options.map(({ key, label, hint = "" }, index) => {
-    const state = { role: "radio", "aria-checked": String(key === first), tabindex: key === first ? "0" : "-1" };
+    const isReached = first === null ? index === 0 : key === first;
+    const state = { role: "radio", "aria-checked": String(key === first), tabindex: isReached ? "0" : "-1" };
     return large(label, hint, () => take(index), state);
   });
   return element(

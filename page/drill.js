@@ -1,15 +1,20 @@
 // The drill: each quorum of the papers that were typed, in a table that fills, and what they say together.
 import { Declined, Stopped } from "./client.js";
 import { button, element, paragraph } from "./dom.js";
-import { count, fingerprints, gives, quorumWith, suspects, TRIED_FIRST, TRIED_WHOLE } from "./quorums.js";
+import { count, fingerprints, isRight, quorumWith, suspects, TRIED_FIRST, TRIED_WHOLE } from "./quorums.js";
+import { counted, say, saidTime } from "./say.js";
 import { announce, ask, show } from "./screen.js";
-import { counted, say, saidTime } from "./texts.js";
 
 /** @typedef {import("./client.js").Desk} Desk */
 /** @typedef {import("./desk.js").Status} Status */
 /** @typedef {import("./desk.js").Tried} Tried */
 /** @typedef {import("./desk.js").Kind} Kind */
-/** @typedef {{isGood: boolean, fingerprint: string | null}} Verdict */
+/**
+ * What a drill found: no fault, or that it was stopped, or that all quorums give another secret than the expected one, that none
+ * gives it, that some don't, or that they give several secrets. With it the sentences that say so.
+ *
+ * @typedef {{result: "good" | "stopped" | "other" | "none" | "some" | "several", fingerprint: string | null, sentences: string[]}} Verdict
+ */
 
 /** From this exponent on, a drill says how long it takes. */
 const LONG_EXPONENT = 5;
@@ -39,32 +44,44 @@ export function warnedTime(desk, kind) {
 }
 
 /**
- * Runs a drill over the papers that the worker holds, shows the verdict, and returns it, or the engine's refusal of the passphrase.
+ * Says what a drill over the papers tries. Returns whether to start it; if not, the owner goes back.
  *
  * @param {Desk} desk
  * @param {Status} status
  * @param {Kind} kind
- * @param {{title: string, noted: string, isOwn?: boolean}} what `noted` is the expected fingerprint, or empty. `isOwn` says that it is
- *   that of the secret that was just backed up, and not one that was noted
- * @returns {Promise<Verdict | {isGood: false, refused: import("./desk.js").Refused}>}
+ * @param {{title: string, hasBack: boolean}} what
  */
-export async function runDrill(desk, status, kind, { title, noted, isOwn = false }) {
+export async function askToDrill(desk, status, kind, { title, hasBack }) {
   const total = count(status);
-  const isWhole = total <= TRIED_WHOLE;
   const intro = [
     paragraph(say("drill.what")),
-    paragraph(say(isWhole ? "drill.count" : "drill.count_part", { total: said(total), first: TRIED_FIRST })),
+    paragraph(say(total <= TRIED_WHOLE ? "drill.count" : "drill.count_part", { total: said(total), first: TRIED_FIRST })),
   ];
   const slow = warnedTime(desk, kind);
   if (slow) intro.push(paragraph(slow, "note"));
-  await ask(title, intro, [{ key: "go", label: say("drill.start"), kind: "primary" }]);
+  const back = hasBack ? [{ key: "back", label: say("back") }] : [];
+  return (await ask(title, intro, [{ key: "go", label: say("drill.start"), kind: "primary" }, ...back])) === "go";
+}
+
+/**
+ * Runs a drill over the papers that the worker holds, shows the verdict, and returns it, or the engine's refusal of the passphrase.
+ *
+ * @param {Desk} desk
+ * @param {Status} status
+ * @param {{title: string, noted: string, isOwn?: boolean}} what `noted` is the expected fingerprint, or empty. `isOwn` says that it is
+ *   that of the secret that was just backed up, and not one that was noted
+ * @returns {Promise<Verdict | {refused: import("./desk.js").Refused}>}
+ */
+export async function runDrill(desk, status, { title, noted, isOwn = false }) {
+  const total = count(status);
+  const isWhole = total <= TRIED_WHOLE;
   const table = new Table(title, total, noted, () => desk.stop());
   let isStopped = false;
   try {
-    await desk.askLong("drill", { limit: isWhole ? 0 : TRIED_FIRST }, (part) => table.add(part));
-    if (!isWhole) await tryEachPaper(desk, status, table);
+    await desk.askLong("drill", { limit: isWhole ? 0 : TRIED_FIRST, expect: noted }, (part) => table.add(part));
+    if (!isWhole) await tryEachPaper(desk, status, noted, table);
   } catch (error) {
-    if (error instanceof Declined && error.refused.code === PASSPHRASE) return { isGood: false, refused: error.refused };
+    if (error instanceof Declined && error.refused.code === PASSPHRASE) return { refused: error.refused };
     if (!(error instanceof Stopped)) throw error;
     isStopped = true;
   }
@@ -76,15 +93,16 @@ export async function runDrill(desk, status, kind, { title, noted, isOwn = false
  *
  * @param {Desk} desk
  * @param {Status} status
+ * @param {string} expect
  * @param {Table} table
  */
-async function tryEachPaper(desk, status, table) {
+async function tryEachPaper(desk, status, expect, table) {
   const known = new Set(table.tried.map((it) => it.names.join("+")));
   for (const name of status.groups.flatMap((it) => it.names)) {
     const names = quorumWith(status, name);
     if (names === null || known.has(names.join("+"))) continue;
     known.add(names.join("+"));
-    table.add([await desk.askLong("tryOne", { names })]);
+    table.add(await desk.askLong("tryOne", { names, expect }));
   }
 }
 
@@ -148,24 +166,21 @@ class Table {
 
   /** @param {Tried} tried */
   #row(tried) {
-    const isExpected = this.#noted !== "" && gives(tried, this.#noted);
-    const kind = isExpected || (this.#noted === "" && tried.fingerprint !== null) ? "expected" : "other";
+    const kind = tried.expected || tried.fingerprint !== null ? "expected" : "other";
     this.#rows[kind] += 1;
     if (this.#rows[kind] > ROWS_MAX) {
       this.#more.textContent = say("drill.more_rows", { rows: ROWS_MAX });
       return null;
     }
-    return element("tr", { class: kind }, element("td", {}, tried.names.join(" + ")), element("td", {}, this.#gave(tried, isExpected)));
+    return element("tr", { class: kind }, element("td", {}, tried.names.join(" + ")), element("td", {}, this.#gave(tried)));
   }
 
-  /**
-   * @param {Tried} tried
-   * @param {boolean} isExpected
-   */
-  #gave({ fingerprint, mismatch }, isExpected) {
+  /** @param {Tried} tried */
+  #gave({ fingerprint, expected, mismatch }) {
     if (mismatch === OF_GROUPS) return say("drill.mismatch_groups");
     if (mismatch !== null) return say("drill.mismatch", { group: mismatch });
-    return isExpected ? say("drill.expected", { fingerprint: fingerprint ?? "" }) : say("drill.fingerprint", { fingerprint: fingerprint ?? "" });
+    if (fingerprint !== null) return say("drill.fingerprint", { fingerprint });
+    return expected ? say("drill.expected", { fingerprint: this.#noted }) : say("drill.other");
   }
 
   /**
@@ -177,20 +192,20 @@ class Table {
    */
   end(isStopped, isOwn) {
     this.#bar.remove();
-    const { isGood, sentences } = verdictOf(this.tried, this.#total, this.#noted, isOwn);
+    const { result, sentences } = verdictOf(this.tried, this.#total, this.#noted, isOwn);
     if (this.tried.length === 0) {
       sentences.length = 0;
       this.#scroll.remove();
     }
     const isWhole = !isStopped && BigInt(this.tried.length) === this.#total;
     if (!isWhole) sentences.unshift(say("drill.part", { tried: said(this.tried.length), total: said(this.#total) }));
-    const isRight = isGood && !isStopped;
-    this.#verdict.append(...sentences.map((text) => paragraph(text, isRight ? "good" : "bad")));
+    /** @type {Verdict} */
+    const verdict = { result: isStopped ? "stopped" : result, fingerprint: fingerprints(this.tried)[0]?.[0] ?? null, sentences };
+    this.#verdict.append(...sentences.map((text) => paragraph(text, verdict.result === "good" ? "good" : "bad")));
     this.#progress.textContent = "";
     announce(sentences.join(" "));
     return new Promise((resolve) => {
-      const fingerprint = fingerprints(this.tried)[0]?.[0] ?? null;
-      const next = button(say("continue"), () => resolve({ isGood: isRight, fingerprint }), "primary");
+      const next = button(say("continue"), () => resolve(verdict), "primary");
       this.#buttons.replaceChildren(next);
       next.focus();
       document.querySelector("h1")?.replaceChildren(say("drill.done"));
@@ -199,25 +214,26 @@ class Table {
 }
 
 /**
- * Returns whether a drill found what was expected, and says what it found.
+ * Returns what a drill found, and says it.
  *
  * @param {Tried[]} tried
  * @param {bigint} total
  * @param {string} noted
  * @param {boolean} isOwn
+ * @returns {{result: Verdict["result"], sentences: string[]}}
  */
 function verdictOf(tried, total, noted, isOwn) {
   const found = fingerprints(tried);
-  const wanted = noted !== "" ? noted : found[0]?.[0] ?? "";
-  const right = tried.filter((it) => gives(it, wanted));
-  const wrong = tried.filter((it) => !gives(it, wanted));
+  const fingerprint = noted !== "" ? noted : found[0]?.[0] ?? "";
+  const right = tried.filter((it) => isRight(it, fingerprint));
+  const wrong = tried.filter((it) => !isRight(it, fingerprint));
   const quorums = counted(tried.length, "quorum");
   if (tried.length > 0 && wrong.length === 0) {
     const whole = BigInt(tried.length) === total ? "all" : "tried";
     const which = noted === "" ? "same" : isOwn ? "own" : "noted";
-    return { isGood: true, sentences: [say(`verdict.${whole}.${which}`, { quorums, fingerprint: wanted })] };
+    return { result: "good", sentences: [say(`verdict.${whole}.${which}`, { quorums, fingerprint })] };
   }
-  return { isGood: false, sentences: saidWrong(right, wrong, found, noted, quorums) };
+  return wrongVerdict(right, wrong, found.length, noted, quorums);
 }
 
 /**
@@ -225,17 +241,22 @@ function verdictOf(tried, total, noted, isOwn) {
  *
  * @param {Tried[]} right
  * @param {Tried[]} wrong
- * @param {[string, number][]} found
+ * @param {number} secrets how many fingerprints were found, if none is expected
  * @param {string} noted
  * @param {string} quorums
+ * @returns {{result: Verdict["result"], sentences: string[]}}
  */
-function saidWrong(right, wrong, found, noted, quorums) {
-  if (noted !== "" && right.length === 0) {
-    return found.length === 1 ? [say("verdict.none.one", { quorums, fingerprint: found[0][0] })] : [say("verdict.none", { quorums })];
+function wrongVerdict(right, wrong, secrets, noted, quorums) {
+  if (right.length === 0) {
+    const mismatched = wrong.filter((it) => it.mismatch !== null).length;
+    // The passphrase changes nothing about papers that don't belong together.
+    if (mismatched === wrong.length) return { result: "some", sentences: [say("verdict.nothing", { quorums })] };
+    const result = mismatched === 0 ? "other" : "none";
+    return { result, sentences: [say(`verdict.${result}`, { quorums })] };
   }
-  if (noted === "" && found.length !== 1) return [say("verdict.several", { quorums, secrets: counted(found.length, "secret") })];
+  if (secrets > 1) return { result: "several", sentences: [say("verdict.several", { quorums, secrets: counted(secrets, "secret") })] };
   const sentences = [say(noted === "" ? "verdict.some.unnoted" : "verdict.some", { wrong: wrong.length, quorums })];
   const names = suspects(right, wrong);
   if (names.length) sentences.push(say(`verdict.suspects.${names.length === 1 ? "one" : "many"}`, { names: names.join(", ") }));
-  return sentences;
+  return { result: "some", sentences };
 }

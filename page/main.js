@@ -4,15 +4,16 @@ import { checkPapers } from "./check_papers.js";
 import { Desk } from "./client.js";
 import { button, element, large, paragraph } from "./dom.js";
 import { makeBackup } from "./make_backup.js";
+import { readDamaged } from "./read_damaged.js";
 import { recoverSecret } from "./recover.js";
 import { replacePaper } from "./replace.js";
-import { announce, ask, conceal, isTouched, setTouched, show } from "./screen.js";
-import { say } from "./texts.js";
+import { say } from "./say.js";
+import { announce, ask, askAbove, conceal, isTouched, isUnfinished, setTouched, setUnfinished, show } from "./screen.js";
 
-/** @typedef {{key: "make" | "check" | "recover" | "replace" | "blank", run: (desk: Desk) => Promise<void>, isSecret: boolean}} Task */
+/** @typedef {{key: "make" | "check" | "recover" | "replace" | "damaged" | "blank", run: (desk: Desk) => Promise<void>, isSecret: boolean}} Task */
 
 /**
- * The tasks of the first screen. A further task, such as the reading of a damaged paper, is one more row.
+ * The tasks of the first screen.
  *
  * @type {Task[]}
  */
@@ -21,6 +22,7 @@ const TASKS = [
   { key: "check", run: checkPapers, isSecret: true },
   { key: "recover", run: recoverSecret, isSecret: true },
   { key: "replace", run: replacePaper, isSecret: true },
+  { key: "damaged", run: readDamaged, isSecret: true },
   { key: "blank", run: blankForms, isSecret: false },
 ];
 
@@ -112,8 +114,21 @@ async function clearAll(tried) {
   document.getElementById("sheet")?.replaceChildren();
   home(tried, isTouched() ? [`${say("cleared")} ${say("close")}`] : []);
   setTouched(false);
+  setUnfinished(false);
   await ended?.end();
   if (ended) announce(say("cleared"));
+}
+
+/**
+ * Clears everything, or asks first if papers are half written. Nothing secret shows while it asks.
+ *
+ * @param {Desk} tried
+ */
+function clearOrAsk(tried) {
+  if (isUnfinished()) {
+    conceal();
+    askAbove(say("clear.unfinished"), say("clear.stay"), say("clear.yes"), () => clearAll(tried));
+  } else clearAll(tried);
 }
 
 /** Returns what the browser lacks, or null. */
@@ -140,7 +155,7 @@ function refuse(why) {
  */
 function watch(tried) {
   const clear = /** @type {HTMLElement} */ (document.getElementById("clear"));
-  clear.append(button(say("clear"), () => clearAll(tried)));
+  clear.append(button(say("clear"), () => clearOrAsk(tried)));
   document.addEventListener("visibilitychange", () => {
     document.body.classList.toggle("away", document.hidden);
     if (document.hidden) conceal();

@@ -1,14 +1,14 @@
 // The task 'Make a backup': a plan, a secret, a passphrase, the papers one by one, typed back, drilled, and the fingerprint.
 import { Stopped } from "./client.js";
 import { choice, element, hidden, labelled, paragraph, tick, bytesOf } from "./dom.js";
-import { runDrill } from "./drill.js";
+import { askToDrill, runDrill } from "./drill.js";
 import { passphraseFields } from "./passphrase.js";
 import { planNames, planText, saidPlan, saidTakes } from "./plan.js";
 import { PlanChoice } from "./plan_choice.js";
 import { saidError, saidRefusal } from "./refusals.js";
-import { ask, setTouched, showWork } from "./screen.js";
+import { say, saidTime } from "./say.js";
+import { ask, setTouched, setUnfinished, showWork } from "./screen.js";
 import { showPaper, typeBack } from "./show_paper.js";
-import { say, saidTime } from "./texts.js";
 
 /** @typedef {import("./client.js").Desk} Desk */
 /** @typedef {import("./plan.js").Plan} Plan */
@@ -28,11 +28,13 @@ const LONG_EXPONENT = 5;
  * @param {Desk} desk
  */
 export async function makeBackup(desk) {
-  const plan = await askPlan(desk);
-  const isOwn = await create(desk, plan);
+  const made = await planAndCreate(desk);
+  if (made === null) return;
+  const { plan, isOwn } = made;
   const names = planNames(plan);
   const papers = names.map((name, index) => ({ index, name, takes: saidTakes(plan, name) }));
   const place = (/** @type {number} */ index) => say("paper.place", { number: index + 1, count: names.length });
+  setUnfinished(true);
   for (const paper of papers) await showPaper(desk, paper, place(paper.index));
   const words = await wordsOfPaper(desk);
   await ask(say("back.begin.title"), [paragraph(say("back.begin"))], [{ key: "go", label: say("continue"), kind: "primary" }]);
@@ -40,6 +42,20 @@ export async function makeBackup(desk) {
     while (!(await typeBack(desk, paper, place(paper.index), words))) await showPaper(desk, paper, place(paper.index));
   }
   await drillAndNote(desk, plan, isOwn);
+}
+
+/**
+ * Asks for the plan and the secret until the papers are made. Returns null if the owner goes back to the first screen.
+ *
+ * @param {Desk} desk
+ */
+async function planAndCreate(desk) {
+  const chosen = new PlanChoice();
+  while (await askPlan(desk, chosen)) {
+    const isOwn = await create(desk, chosen.plan);
+    if (isOwn !== null) return { plan: chosen.plan, isOwn };
+  }
+  return null;
 }
 
 /**
@@ -55,20 +71,23 @@ async function wordsOfPaper(desk) {
 }
 
 /**
- * Asks for a plan that the engine takes.
+ * Asks for a plan that the engine takes. Returns whether one is chosen; if not, the owner goes back.
  *
  * @param {Desk} desk
- * @returns {Promise<Plan>}
+ * @param {PlanChoice} chosen
  */
-async function askPlan(desk) {
-  const chosen = new PlanChoice();
+async function askPlan(desk, chosen) {
   let fault = "";
   for (;;) {
     const children = [fault ? paragraph(fault, "fault") : null, paragraph(say("plan.what")), chosen.element, paragraph(say("names.sentence"), "hint")];
-    await ask(say("make.plan"), children, [{ key: "go", label: say("continue"), kind: "primary" }]);
+    const answer = await ask(say("make.plan"), children, [
+      { key: "go", label: say("continue"), kind: "primary" },
+      { key: "back", label: say("back") },
+    ]);
+    if (answer === "back") return false;
     try {
       await desk.ask("plan", { plan: planText(chosen.plan), bytes: 16 });
-      return chosen.plan;
+      return true;
     } catch (error) {
       fault = saidError(error);
     }
@@ -77,18 +96,18 @@ async function askPlan(desk) {
 
 /** The fields for the secret. */
 class SecretFields {
-  /** @type {Source} */
-  source = "new16";
   #digits = hidden(say("secret.digits"), { show: say("show"), hide: say("hide"), hint: say("secret.digits.hint") });
 
-  constructor() {
+  /** @param {Source} source what is chosen at first */
+  constructor(source) {
+    this.source = source;
     const options = /** @type {const} */ (["new16", "new32", "own"]).map((key) => ({ key, label: say(`secret.${key}`), hint: say(`secret.${key}.hint`) }));
-    this.#digits.box.hidden = true;
+    this.#digits.box.hidden = source !== "own";
     const pick = (/** @type {Source} */ key) => {
       this.source = key;
       this.#digits.box.hidden = key !== "own";
     };
-    this.element = element("div", {}, choice(say("secret.legend"), options, "new16", pick), this.#digits.box);
+    this.element = element("div", {}, choice(say("secret.legend"), options, source, pick), this.#digits.box);
   }
 
   missing() {
@@ -107,15 +126,18 @@ class MoreFields {
   #extendable = tick(say("more.extendable"), () => {});
   #exponent;
 
-  /** @param {Desk} desk */
-  constructor(desk) {
+  /**
+   * @param {Desk} desk
+   * @param {{exponent: number, extendable: boolean}} first
+   */
+  constructor(desk, { exponent, extendable }) {
     const time = element("p", { class: "hint" });
     const told = () => (time.textContent = say("more.time", { time: saidTime((desk.begun.milliseconds / 1000) * 2 ** this.exponent) }));
     this.#exponent = labelled(say("more.exponent"), "number", {
       hint: say("more.exponent.hint"),
-      attributes: { min: "0", max: String(EXPONENT_MAX), value: String(EXPONENT), class: "count", input: told },
+      attributes: { min: "0", max: String(EXPONENT_MAX), value: String(exponent), class: "count", input: told },
     });
-    this.#extendable.field.checked = true;
+    this.#extendable.field.checked = extendable;
     told();
     const inside = [this.#extendable.box, paragraph(say("more.extendable.hint"), "hint"), this.#exponent.box, time];
     this.element = element("details", {}, element("summary", {}, say("more.title")), ...inside);
@@ -136,33 +158,42 @@ class MoreFields {
 }
 
 /**
- * Asks for the secret and the passphrase, and makes the backup. Returns whether the secret is the owner's own.
+ * Asks for the secret and the passphrase, and makes the backup. Returns whether the secret is the owner's own, or null if the owner
+ * goes back.
  *
  * @param {Desk} desk
  * @param {Plan} plan
  */
 async function create(desk, plan) {
   let fault = "";
+  // What was chosen stays after a refusal, and what is secret is typed again.
+  let chosen = { source: /** @type {Source} */ ("new16"), exponent: EXPONENT, extendable: true };
   for (;;) {
-    const [secret, more, passphrase] = [new SecretFields(), new MoreFields(desk), passphraseFields(true)];
+    const [secret, more, passphrase] = [new SecretFields(chosen.source), new MoreFields(desk, chosen), passphraseFields(desk, true)];
     /** @type {{secret: Secret, passphrase: Uint8Array} | null} */
     let typed = null;
     const isReady = () => {
       const lacks = secret.missing() ?? passphrase.missing() ?? more.missing();
-      if (lacks === null) typed = { secret: secret.read(), passphrase: passphrase.read() };
-      return lacks;
+      if (lacks !== null) return lacks;
+      typed = { secret: secret.read(), passphrase: passphrase.read() };
+      chosen = { source: secret.source, exponent: more.exponent, extendable: more.extendable };
+      return null;
     };
     const children = [
-      fault ? paragraph(fault, "fault") : null,
+      ...(fault ? [paragraph(fault, "fault"), paragraph(say("passphrase.emptied"), "fault")] : []),
       secret.element,
       element("h2", {}, say("passphrase.heading")),
       paragraph(say("passphrase.new")),
       passphrase.box,
       more.element,
     ];
-    await ask(say("make.secret"), children, [{ key: "go", label: say("make.create"), kind: "primary", isReady }]);
-    fault = await created(desk, plan, /** @type {any} */ (typed), more);
-    if (fault === "") return secret.source === "own";
+    const answer = await ask(say("make.secret"), children, [
+      { key: "go", label: say("make.create"), kind: "primary", isReady },
+      { key: "back", label: say("back") },
+    ]);
+    if (answer === "back") return null;
+    fault = await created(desk, plan, /** @type {any} */ (typed), chosen);
+    if (fault === "") return chosen.source === "own";
   }
 }
 
@@ -172,7 +203,7 @@ async function create(desk, plan) {
  * @param {Desk} desk
  * @param {Plan} plan
  * @param {{secret: Secret, passphrase: Uint8Array}} typed
- * @param {MoreFields} more
+ * @param {{exponent: number, extendable: boolean}} chosen
  */
 async function created(desk, plan, { secret, passphrase }, { exponent, extendable }) {
   setTouched(true);
@@ -199,15 +230,31 @@ async function created(desk, plan, { secret, passphrase }, { exponent, extendabl
  */
 async function drillAndNote(desk, plan, isOwn) {
   const fingerprint = await desk.ask("fingerprint");
-  const [status, kinds] = [await desk.ask("status"), await desk.ask("kinds")];
-  const verdict = await runDrill(desk, status, kinds[0], { title: say("make.drill"), noted: fingerprint, isOwn: true });
-  if (!verdict.isGood) {
-    const text = "refused" in verdict ? saidRefusal(verdict.refused) : "";
-    await ask(say("make.failed.title"), [paragraph(say("make.failed"), "bad"), paragraph(text)], [{ key: "end", label: say("end"), kind: "primary" }]);
-    return;
-  }
-  const noting = [paragraph(say("noted.new")), element("p", { class: "fingerprint" }, fingerprint), paragraph(say(isOwn ? "noted.own" : "noted.drawn"))];
-  await ask(say("noted.title"), noting, [{ key: "go", label: say("noted.done"), kind: "primary" }]);
+  if (!(await drillUntilDone(desk, fingerprint))) return;
+  setUnfinished(false);
+  const noting = [paragraph(say("noted.new")), element("p", { class: "fingerprint" }, fingerprint), paragraph(say(isOwn ? "noted.own" : "noted.drawn")), paragraph(say("noted.apart"))];
+  const skip = isOwn ? [{ key: "skip", label: say("noted.skip") }] : [];
+  await ask(say("noted.title"), noting, [{ key: "go", label: say("noted.done"), kind: "primary" }, ...skip]);
   const done = [paragraph(saidPlan(plan), "good"), paragraph(say("make.keep")), paragraph(say("close"))];
   await ask(say("make.done"), done, [{ key: "end", label: say("end"), kind: "primary" }]);
+}
+
+/**
+ * Drills with what was typed back. A drill that was stopped can be tried again. Returns whether all quorums give the secret.
+ *
+ * @param {Desk} desk
+ * @param {string} fingerprint
+ */
+async function drillUntilDone(desk, fingerprint) {
+  const [status, kinds] = [await desk.ask("status"), await desk.ask("kinds")];
+  for (;;) {
+    await askToDrill(desk, status, kinds[0], { title: say("make.drill"), hasBack: false });
+    const verdict = await runDrill(desk, status, { title: say("make.drill"), noted: fingerprint, isOwn: true });
+    const result = "refused" in verdict ? "none" : verdict.result;
+    if (result === "good") return true;
+    const texts = "refused" in verdict ? [saidRefusal(verdict.refused)] : verdict.sentences;
+    const told = [...texts.map((text) => paragraph(text, "bad")), paragraph(say(result === "stopped" ? "make.unproved" : "make.failed"))];
+    const again = result === "stopped" ? /** @type {const} */ ([{ key: "again", label: say("make.again"), kind: "primary" }]) : [];
+    if ((await ask(say("make.failed.title"), told, [...again, { key: "end", label: say("end") }])) === "end") return false;
+  }
 }

@@ -1,11 +1,15 @@
 // The entry of a paper: a numbered field for each word, and the answer to the whole.
 import { button, element, labelled } from "./dom.js";
+import { say } from "./say.js";
 import { announce } from "./screen.js";
 import { seemsBip39 } from "./spelling.js";
-import { say } from "./texts.js";
 import { WordField } from "./word_field.js";
 
-/** @typedef {{isTaken: boolean, text: string, word?: number}} Answer */
+/**
+ * An answer to a whole paper. If it is taken, the fields are emptied for the next one. `words` are those to look at, counted from 0.
+ *
+ * @typedef {{isTaken: boolean, text: string, isFault?: boolean, words?: number[]}} Answer
+ */
 
 const USUAL = [20, 33];
 const COUNT_MAX = 128;
@@ -13,6 +17,7 @@ const COUNT_MAX = 128;
 export class PaperEntry {
   #list;
   #onPaper;
+  #onChange;
   /** @type {WordField[]} */
   #fields = [];
   #grid = element("div", { class: "words" });
@@ -21,30 +26,57 @@ export class PaperEntry {
     attributes: { min: "1", max: String(COUNT_MAX), class: "count", change: () => this.#counted() },
   });
   #isAsked = false;
+  // Whether the answer says only what is missing, so that it ends with the next change.
+  #isMissing = false;
 
   /**
    * @param {readonly string[]} list the word list
    * @param {number} count how many words the paper has at first
    * @param {(line: Uint8Array) => Promise<Answer>} onPaper takes the bytes of a paper over, and answers
+   * @param {(() => void) | null} [onChange] only for a damaged paper, in which a question mark may stand for letters: it is called
+   *   when a field changes
    */
-  constructor(list, count, onPaper) {
+  constructor(list, count, onPaper, onChange = null) {
     this.#list = list;
     this.#onPaper = onPaper;
+    this.#onChange = onChange;
     const quick = USUAL.map((it) => button(say("entry.words", { count: it }), () => this.setCount(it), "small"));
     this.element = element(
       "div",
       { class: "entry" },
-      element("p", { class: "hint" }, say("entry.hint")),
+      element("p", { class: "hint" }, say(onChange ? "damaged.hint" : "entry.hint")),
       element("div", { class: "counts" }, this.#count.box, ...quick),
       this.#grid,
       element("div", { class: "buttons" }, button(say("entry.read"), () => this.#read(), "primary"), button(say("entry.empty"), () => this.#emptied())),
       this.#answer,
     );
+    // Before the field itself hears of it, since the field may ask for a new answer.
+    this.element.addEventListener("input", () => this.#changed(), true);
     this.setCount(count);
   }
 
   get count() {
     return this.#fields.length;
+  }
+
+  /** Whether nothing is typed. */
+  get isEmpty() {
+    return this.#typed.length === 0;
+  }
+
+  /** What stands in each field. */
+  get words() {
+    return this.#fields.map((field) => field.word);
+  }
+
+  get #typed() {
+    return this.words.filter((word) => word !== "");
+  }
+
+  /** Takes the answer away that an earlier state of the fields got. What the engine refused stays until the next answer. */
+  #changed() {
+    if (this.#isMissing || this.#onChange) this.say("");
+    this.#onChange?.();
   }
 
   /** Moves the focus to the first field. */
@@ -59,7 +91,7 @@ export class PaperEntry {
    */
   setCount(count) {
     const events = {
-      completed: (/** @type {number} */ at) => this.#completed(at),
+      completed: (/** @type {number} */ at, /** @type {boolean} */ isBySpelling) => this.#completed(at, isBySpelling),
       back: (/** @type {number} */ at) => this.#fields[Math.max(0, at - 1)].focus(),
       spread: (/** @type {number} */ at, /** @type {string[]} */ words) => this.#spread(at, words),
       ended: () => this.#ended(),
@@ -70,11 +102,12 @@ export class PaperEntry {
       removed.box.remove();
     }
     while (this.#fields.length < count) {
-      const added = new WordField(this.#fields.length, this.#list, events);
+      const added = new WordField(this.#fields.length, this.#list, this.#onChange !== null, events);
       this.#fields.push(added);
       this.#grid.append(added.box);
     }
     this.#count.field.value = String(count);
+    this.#changed();
   }
 
   #counted() {
@@ -86,12 +119,13 @@ export class PaperEntry {
   /** Empties the fields. */
   clear() {
     for (const field of this.#fields) field.set("");
-    this.#fields[0].focus();
   }
 
   #emptied() {
     this.say("");
+    this.#changed();
     this.clear();
+    this.focus();
   }
 
   /**
@@ -99,6 +133,7 @@ export class PaperEntry {
    * @param {string[]} words
    */
   #spread(at, words) {
+    this.#changed();
     const isWhole = at === 0 && words.length >= USUAL[0];
     if (isWhole || at + words.length > this.count) this.setCount(Math.min(COUNT_MAX, at + words.length));
     words.slice(0, COUNT_MAX - at).forEach((word, index) => this.#fields[at + index].set(word));
@@ -109,10 +144,25 @@ export class PaperEntry {
     else if (this.#isFull) this.#read();
   }
 
-  /** @param {number} at */
-  #completed(at) {
-    if (this.#isFull) this.#read();
-    else this.#next(at)?.focus();
+  /**
+   * @param {number} at
+   * @param {boolean} isBySpelling
+   */
+  #completed(at, isBySpelling) {
+    this.#changed();
+    if (this.#isFull) this.#read(isBySpelling);
+    else this.#go(this.#next(at), isBySpelling);
+  }
+
+  /**
+   * Moves the focus to a field. `isArriving` says that it comes there by itself, after the letters of a word.
+   *
+   * @param {WordField | undefined} field
+   * @param {boolean} isArriving
+   */
+  #go(field, isArriving) {
+    if (isArriving) field?.arrive();
+    else field?.focus();
   }
 
   /**
@@ -139,6 +189,7 @@ export class PaperEntry {
    * @param {boolean} [isFault]
    */
   say(text, isFault = false) {
+    this.#isMissing = false;
     this.#answer.textContent = text;
     this.#answer.classList.toggle("fault", isFault);
     announce(text);
@@ -146,7 +197,7 @@ export class PaperEntry {
 
   /** Returns the words as the bytes of a line. */
   #line() {
-    const words = this.#fields.map((field) => field.word).filter((word) => word !== "");
+    const words = this.#typed;
     const bytes = new Uint8Array(words.reduce((sum, word) => sum + 4 * word.length + 1, 0));
     let end = 0;
     for (const word of words) {
@@ -160,27 +211,36 @@ export class PaperEntry {
 
   /** Returns what is wrong before the engine is asked, or null. */
   #missing() {
-    const words = this.#fields.map((field) => field.word).filter((word) => word !== "");
+    const words = this.#typed;
     if (seemsBip39(this.#list, words)) return say("entry.bip39", { count: words.length });
     const empty = this.#fields.findIndex((field) => field.word === "");
     if (empty < 0) return null;
-    if (words.length) this.#fields[empty].focus();
-    return words.length ? say("entry.missing", { number: empty + 1, count: words.length, fields: this.count }) : say("entry.nothing");
+    if (words.length === 0) return say("entry.nothing");
+    this.#fields[empty].focus();
+    return say(this.#onChange ? "damaged.missing" : "entry.missing", { number: empty + 1, count: words.length, fields: this.count });
   }
 
-  /** Asks for the answer to the whole paper. */
-  async #read() {
+  /**
+   * Asks for the answer to the whole paper.
+   *
+   * @param {boolean} [isBySpelling] whether the letters of a word ended the paper
+   */
+  async #read(isBySpelling = false) {
     if (this.#isAsked) return;
     const missing = this.#missing();
     if (missing !== null) {
       this.say(missing, true);
+      this.#isMissing = true;
       return;
     }
     this.#isAsked = true;
-    const { isTaken, text, word } = await this.#onPaper(this.#line()).finally(() => (this.#isAsked = false));
+    const { isTaken, text, isFault = !isTaken, words = [] } = await this.#onPaper(this.#line()).finally(() => (this.#isAsked = false));
     if (!this.element.isConnected) return;
-    this.say(text, !isTaken);
+    this.say(text, isFault);
     if (isTaken) this.clear();
-    else if (word !== undefined) this.#fields[word]?.focus();
+    for (const word of words) this.#fields[word]?.doubt();
+    // Letters of the last word may still come. They must not replace the word to look at.
+    if (words.length && !isBySpelling) this.#fields[words[0]]?.select();
+    else if (isTaken || words.length) this.#go(this.#fields[words[0] ?? 0], isBySpelling);
   }
 }

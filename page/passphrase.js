@@ -1,70 +1,100 @@
 // The questions for the passphrase and for the noted fingerprint.
 import { element, hidden, labelled, paragraph, tick, bytesOf } from "./dom.js";
+import { saidError } from "./refusals.js";
+import { say } from "./say.js";
 import { ask } from "./screen.js";
-import { say } from "./texts.js";
 
 /** @typedef {import("./client.js").Desk} Desk */
 
 const FINGERPRINT = /^[0-9a-f]{8}$/;
 
 /**
- * Makes fields for a passphrase, which is typed once or twice.
+ * Makes fields for a passphrase, which is typed once or twice. What wallets don't take is told as soon as it is typed.
  *
+ * @param {Desk} desk
  * @param {boolean} isTwice
  */
-export function passphraseFields(isTwice) {
+export function passphraseFields(desk, isTwice) {
   const texts = { show: say("show"), hide: say("hide") };
   const first = hidden(say("passphrase.label"), { ...texts, hint: say("passphrase.hint") });
   const again = isTwice ? hidden(say("passphrase.again"), texts) : null;
   const none = tick(say("passphrase.none"), () => {});
-  const box = element("div", { class: "fields" }, first.box, again?.box ?? null, none.box);
+  const fault = element("p", { class: "fault", role: "alert" });
+  first.field.addEventListener("input", async () => {
+    none.field.checked = false;
+    const told = await refusalOf(desk, first.field.value);
+    if (fault.textContent !== told) fault.textContent = told;
+  });
+  const box = element("div", { class: "fields" }, first.box, fault, again?.box ?? null, none.box);
   /** Returns what is missing, or null. */
   const missing = () => {
     const typed = first.field.value;
     if (none.field.checked) return typed || again?.field.value ? say("passphrase.both") : null;
     if (typed === "") return say("passphrase.missing");
+    if (fault.textContent !== "") return say("passphrase.unfit");
     return again && again.field.value !== typed ? say("passphrase.differ") : null;
   };
   return { box, missing, read: () => bytesOf(first.field.value) };
 }
 
 /**
- * Asks for the passphrase, which the worker then holds, and for the noted fingerprint if `isNoted` says so. Returns the
- * fingerprint, or an empty text if none was noted.
+ * Returns what the engine says against a passphrase, or an empty text. It answers in the order in which it is asked.
  *
  * @param {Desk} desk
- * @param {{title: string, fault?: string, isNoted?: boolean}} what
+ * @param {string} typed
  */
-export async function askPassphrase(desk, { title, fault = "", isNoted = true }) {
-  const { box, missing, read } = passphraseFields(false);
-  const noted = labelled(say("noted.label"), "text", { hint: say("noted.hint"), attributes: { maxlength: "8" } });
-  const unnoted = tick(say("noted.none"), () => {});
-  const typed = () => noted.field.value.trim().toLowerCase();
-  const notedMissing = () => {
-    if (!isNoted || (unnoted.field.checked && typed() === "")) return null;
-    if (typed() === "") return say("noted.missing");
-    return unnoted.field.checked || !FINGERPRINT.test(typed()) ? say("noted.wrong") : null;
+async function refusalOf(desk, typed) {
+  const passphrase = bytesOf(typed);
+  try {
+    await desk.ask("tryPassphrase", { passphrase }, [passphrase.buffer]);
+    return "";
+  } catch (error) {
+    return saidError(error);
+  }
+}
+
+/**
+ * Makes the field for the noted fingerprint, and the box that says that none was noted.
+ *
+ * @param {string | null} noted what was said before, or null
+ */
+function notedFields(noted) {
+  const none = tick(say("noted.none"), () => {});
+  const { box, field } = labelled(say("noted.label"), "text", { hint: say("noted.hint"), attributes: { maxlength: "16", input: () => (none.field.checked = false) } });
+  field.value = noted ?? "";
+  none.field.checked = noted === "";
+  const read = () => field.value.replace(/\s/g, "").toLowerCase();
+  /** Returns what is missing, or null. */
+  const missing = () => {
+    if (none.field.checked) return read() === "" ? null : say("noted.both");
+    if (read() === "") return say("noted.missing");
+    return FINGERPRINT.test(read()) ? null : say("noted.wrong");
   };
-  let fingerprint = "";
+  return { box: element("div", { class: "fields" }, box, none.box), missing, read };
+}
+
+/**
+ * Asks for the passphrase, which the worker then holds, and for the noted fingerprint. Returns the fingerprint, or an empty text if
+ * none was noted, or null if the owner wants to go back.
+ *
+ * @param {Desk} desk
+ * @param {{title: string, fault: string, noted: string | null}} what `noted` is the fingerprint that was given before, or null
+ */
+export async function askPassphrase(desk, { title, fault, noted }) {
+  const [passphrase, fingerprint] = [passphraseFields(desk, false), notedFields(noted)];
+  const typed = { passphrase: new Uint8Array(), fingerprint: "" };
   const isReady = () => {
-    const lacks = missing() ?? notedMissing();
-    if (lacks === null) fingerprint = isNoted ? typed() : "";
+    const lacks = passphrase.missing() ?? fingerprint.missing();
+    if (lacks === null) Object.assign(typed, { passphrase: passphrase.read(), fingerprint: fingerprint.read() });
     return lacks;
   };
-  /** @type {Uint8Array} */
-  let passphrase = new Uint8Array();
-  const children = [
-    fault ? paragraph(fault, "fault") : null,
-    paragraph(say("passphrase.why")),
-    box,
-    ...(isNoted ? [element("div", { class: "fields" }, noted.box, unnoted.box)] : []),
-  ];
-  const ready = () => {
-    const lacks = isReady();
-    if (lacks === null) passphrase = read();
-    return lacks;
-  };
-  await ask(title, children, [{ key: "go", label: say("continue"), kind: "primary", isReady: ready }]);
-  await desk.ask("passphrase", { passphrase }, [passphrase.buffer]);
-  return fingerprint;
+  const refused = fault ? [paragraph(fault, "fault"), paragraph(say("passphrase.emptied"), "fault")] : [];
+  const children = [...refused, paragraph(say("passphrase.why")), passphrase.box, fingerprint.box];
+  const answer = await ask(title, children, [
+    { key: "go", label: say("continue"), kind: "primary", isReady },
+    { key: "back", label: say("collect.back") },
+  ]);
+  if (answer === "back") return null;
+  await desk.ask("passphrase", { passphrase: typed.passphrase }, [typed.passphrase.buffer]);
+  return typed.fingerprint;
 }

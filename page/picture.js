@@ -1,6 +1,6 @@
 // What is complete and what is missing, group by group: a picture that is also text.
 import { element } from "./dom.js";
-import { counted, say } from "./texts.js";
+import { counted, say } from "./say.js";
 
 /** @typedef {import("./desk.js").Status} Status */
 /** @typedef {import("./desk.js").GroupStatus} GroupStatus */
@@ -9,11 +9,12 @@ import { counted, say } from "./texts.js";
  * Says how a group stands.
  *
  * @param {GroupStatus} group
+ * @param {boolean} isOnly whether the backup has no other group
  */
-function saidGroup({ threshold, names }) {
+function saidGroup({ threshold, names }, isOnly) {
   const here = say("status.here", { names: names.join(", ") });
   const missing = threshold - names.length;
-  return missing > 0 ? `${here} ${say("status.missing", { more: counted(missing, "paper") })}` : `${here} ${say("status.complete")}`;
+  return missing > 0 ? `${here} ${say("status.missing", { more: counted(missing, "paper") })}` : `${here} ${say(isOnly ? "status.complete.only" : "status.complete")}`;
 }
 
 /**
@@ -37,24 +38,27 @@ export function picture(status, groupCount) {
   const rows = Array.from({ length: groupCount }, (_, group) => {
     const found = status.groups.find((it) => it.group === group);
     const isComplete = found !== undefined && found.names.length >= found.threshold;
-    const told = found ? saidGroup(found) : say("status.none");
+    const told = found ? saidGroup(found, groupCount === 1) : say("status.none");
     return element(
       "li",
       { class: isComplete ? "group complete" : "group" },
-      element("strong", {}, say("status.group", { group })),
+      element("strong", {}, groupCount === 1 ? say("status.only") : say("status.group", { group })),
       found ? boxes(found) : null,
       element("span", {}, told),
     );
   });
-  return element("div", { class: "picture" }, element("p", { class: status.enough ? "good" : "note" }, saidWhole(status)), element("ul", {}, ...rows));
+  return element("div", { class: "picture" }, element("p", { class: status.enough ? "good" : "note" }, saidWhole(status, groupCount)), element("ul", {}, ...rows));
 }
 
 /**
- * Says whether the papers are enough.
+ * Says whether the papers are enough. An owner whose backup has one group needn't know of groups.
  *
  * @param {Status} status
+ * @param {number} groupCount
  */
-export function saidWhole({ complete, required, enough }) {
+export function saidWhole({ complete, required, enough, groups }, groupCount) {
   if (enough) return say("status.enough");
-  return say("status.not_enough", { complete: counted(complete, "group"), required: counted(required, "group") });
+  if (groupCount > 1) return say("status.not_enough", { needed: counted(required, "whole"), here: complete });
+  const [{ threshold, names }] = groups;
+  return say("status.not_enough", { needed: counted(threshold, "paper"), here: names.length });
 }

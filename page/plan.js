@@ -1,9 +1,10 @@
 // A plan: how many groups are needed, and of each group how many members it has and needs. The engine decides which plans are
 // right; this only writes their text and says them in words.
-import { counted, say } from "./texts.js";
+import { counted, say } from "./say.js";
 
 /** @typedef {{needed: number, members: number}} Group */
 /** @typedef {{needed: number, groups: Group[]}} Plan */
+/** @typedef {import("./desk.js").Kind} Kind */
 
 /**
  * Returns the text of a plan, as the engine takes it.
@@ -62,8 +63,25 @@ export function saidPlan(plan) {
 export function saidTakes(plan, name) {
   if (plan.groups.length === 1) return saidPlan(plan);
   const group = Number(name.split(".")[0]);
-  const { needed } = plan.groups[group];
+  return saidUse(group, plan.groups[group].needed, plan.needed);
+}
+
+/**
+ * Says what a paper takes to be of use, as far as the paper itself says so.
+ *
+ * @param {Kind} kind
+ */
+export function saidTakesAlone({ name, groupCount, groupThreshold, memberThreshold }) {
+  if (groupCount > 1) return saidUse(Number(name.split(".")[0]), memberThreshold, groupThreshold);
+  return memberThreshold === 1 ? say("plan.sentence.one") : say("takes.papers", { needed: memberThreshold });
+}
+
+/**
+ * @param {number} group
+ * @param {number} needed how many papers the group needs
+ * @param {number} groups how many groups the secret needs
+ */
+function saidUse(group, needed, groups) {
   const own = needed === 1 ? say("takes.alone", { group }) : say("takes.members", { needed, group });
-  if (plan.needed === 1) return own;
-  return `${own} ${say("takes.groups", { groups: counted(plan.needed, "group") })}`;
+  return groups === 1 ? own : `${own} ${say("takes.groups", { groups: counted(groups, "group") })}`;
 }

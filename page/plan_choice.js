@@ -1,8 +1,8 @@
 // The choice of a plan: proposals in plain words, or groups and members by buttons.
 import { button, choice, element, paragraph } from "./dom.js";
 import { saidPlan } from "./plan.js";
+import { say } from "./say.js";
 import { announce } from "./screen.js";
-import { say } from "./texts.js";
 
 /** @typedef {import("./plan.js").Plan} Plan */
 /** @typedef {import("./plan.js").Group} Group */

@@ -64,13 +64,13 @@ export function quorumWith(status, name) {
 }
 
 /**
- * Whether a quorum gave the secret with this fingerprint.
+ * Whether a quorum gave the expected secret, or, if none is expected, the one with this fingerprint.
  *
  * @param {Tried} tried
- * @param {string} fingerprint
+ * @param {string | null} fingerprint
  */
-export function gives(tried, fingerprint) {
-  return tried.fingerprint === fingerprint;
+export function isRight(tried, fingerprint) {
+  return tried.expected ?? (tried.fingerprint !== null && tried.fingerprint === fingerprint);
 }
 
 /**

@@ -1,14 +1,13 @@
 // The task 'Recover': papers are typed, and the secret is compared by its fingerprint. Its digits show only while a button is
 // pressed.
 import { Declined, Stopped } from "./client.js";
-import { collectPapers } from "./collect.js";
+import { askForMore, askWhatNext, collectPapers } from "./collect.js";
 import { element, paragraph, shownText, zero } from "./dom.js";
 import { warnedTime } from "./drill.js";
 import { askPassphrase } from "./passphrase.js";
-import { picture } from "./picture.js";
 import { saidError } from "./refusals.js";
-import { ask, concealLater, setTouched, showWork } from "./screen.js";
-import { say } from "./texts.js";
+import { say } from "./say.js";
+import { concealLater, setTouched, showWork } from "./screen.js";
 
 /** @typedef {import("./client.js").Desk} Desk */
 /** @typedef {import("./desk.js").Kind} Kind */
@@ -21,22 +20,38 @@ const PASSPHRASE = 41;
  * @param {Desk} desk
  */
 export async function recoverSecret(desk) {
-  const { status, kinds } = await collectPapers(desk, say("recover.title"), say("recover.intro"));
-  if (!status.enough) {
-    const children = [paragraph(say("recover.too_few"), "bad"), picture(status, kinds[0].groupCount), paragraph(say("close"))];
-    await ask(say("recover.title"), children, [{ key: "end", label: say("end"), kind: "primary" }]);
-    return;
-  }
-  let fault = "";
   for (;;) {
-    const noted = await askPassphrase(desk, { title: say("recover.passphrase"), fault });
-    const { fingerprint, refused, text } = await recovered(desk, kinds[0]);
-    if (refused === PASSPHRASE) {
-      fault = text;
-      continue;
-    }
-    if ((await tell(desk, noted, fingerprint, text)) === "end") return;
-    fault = "";
+    const found = await collectPapers(desk, { title: say("recover.title"), intro: say("recover.intro") });
+    if (found === null) return;
+    const { status, kinds } = found;
+    const tooFew = () => askForMore(say("recover.few"), [paragraph(say("recover.too_few"), "bad")], status, kinds);
+    const answer = status.enough ? await recoverFrom(desk, kinds[0]) : await tooFew();
+    if (answer === "end") return;
+  }
+}
+
+/**
+ * Asks for the passphrase, and recovers the secret. Returns whether the owner wants to go back to the papers.
+ *
+ * @param {Desk} desk
+ * @param {Kind} kind
+ * @returns {Promise<"papers" | "end">}
+ */
+async function recoverFrom(desk, kind) {
+  let fault = "";
+  /** @type {string | null} */
+  let noted = null;
+  for (;;) {
+    /** @type {string | null} */
+    const given = await askPassphrase(desk, { title: say("recover.passphrase"), fault, noted });
+    if (given === null) return "papers";
+    noted = given;
+    const { fingerprint, refused, text } = await recovered(desk, kind);
+    fault = refused === PASSPHRASE ? text : "";
+    if (fault !== "") continue;
+    const failed = [paragraph(text, "bad"), paragraph(say("close"))];
+    const answer = fingerprint === "" ? await askWhatNext(say("recover.failed"), failed, refused ? "papers" : "again") : await tell(desk, noted, fingerprint);
+    if (answer !== "again") return answer;
   }
 }
 
@@ -57,27 +72,22 @@ async function recovered(desk, kind) {
 }
 
 /**
+ * Says which secret was recovered. Its digits are offered unless it is known to be another one than the owner's.
+ *
  * @param {Desk} desk
  * @param {string} noted
  * @param {string} fingerprint
- * @param {string} fault
  */
-async function tell(desk, noted, fingerprint, fault) {
-  const answers = /** @type {{key: "end" | "again", label: string, kind?: string}[]} */ ([
-    { key: "end", label: say("end"), kind: "primary" },
-    { key: "again", label: say("check.again") },
-  ]);
-  if (fingerprint === "") return ask(say("recover.failed"), [paragraph(fault, "bad"), paragraph(say("close"))], answers);
+async function tell(desk, noted, fingerprint) {
   const which = noted === "" ? "unnoted" : noted === fingerprint ? "same" : "other";
+  const offered = which === "other" ? [] : [element("h2", {}, say("digits.title")), paragraph(say("digits.what")), digits(desk)];
   const children = [
     paragraph(say(`recover.${which}`, { fingerprint, noted }), which === "other" ? "bad" : which === "same" ? "good" : "note"),
     element("p", { class: "fingerprint" }, fingerprint),
-    element("h2", {}, say("digits.title")),
-    paragraph(say("digits.what")),
-    digits(desk),
+    ...offered,
     paragraph(say("close")),
   ];
-  return ask(say("recover.done"), children, answers);
+  return askWhatNext(say(`recover.done.${which}`), children, which === "other" ? "again" : "end", which === "same");
 }
 
 /**

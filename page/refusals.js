@@ -1,41 +1,71 @@
 // What a refusal of the engine means to an owner, and what to do.
 import { Declined } from "./client.js";
-import { counted, hasText, say } from "./texts.js";
+import { counted, hasText, say } from "./say.js";
 
 /** @typedef {import("./desk.js").Refused} Refused */
 
+const UNKNOWN_WORD = 11;
+const WRONG_WORD = 18;
+const DIGEST_MISMATCH = 51;
+const UNDETERMINED = 66;
 /** The number that stands for the group shares in place of a group. */
 const OF_GROUPS = 16;
 
 /**
- * Says which members and groups a paper that isn't determined lacks.
+ * Says what a paper that isn't determined takes: papers of its group, or complete groups besides it and one paper fewer.
  *
  * @param {number[]} details
+ * @param {boolean} isOnly whether the backup has one group
  */
-function saidUndetermined([first, second]) {
+function saidUndetermined([first, second], isOnly) {
   const [members, threshold, groups, required] = [24, 16, 8, 0].map((bits) => Math.floor(second / 2 ** bits) % 256);
-  const name = `${Math.floor(first / 256)}.${first % 256}`;
-  const group = Math.floor(first / 256);
-  return say("refused.66", { name, group, members, more: counted(threshold - members, "paper"), groups, required });
+  const [group, missing] = [Math.floor(first / 256), threshold - members];
+  const key = isOnly ? "only.refused.66" : missing > 1 ? "refused.66.fewer" : "refused.66";
+  const values = { group, more: counted(missing, "paper"), fewer: counted(missing - 1, "paper"), whole: counted(required, "whole"), groups: Math.min(groups, required) };
+  return `${say(key, values)} (${UNDETERMINED})`;
 }
 
 /**
  * Says a refusal in words, with the engine's own number and text.
  *
  * @param {Refused} refused
+ * @param {string} [task] the task, if it has its own words for some refusals
  */
-export function saidRefusal({ code, details, text }) {
+export function saidRefusal({ code, details, text }, task = "") {
+  if (code === UNDETERMINED) return saidUndetermined(details, task === "only");
   const [first, second] = details;
-  const key = code === 51 && first === OF_GROUPS ? "refused.51.groups" : `refused.${code}`;
-  const said = code === 66 ? saidUndetermined(details) : hasText(key) ? say(key, { first, second }) : say("refused.other");
-  return `${said} (${code}: ${text})`;
+  const name = `refused.${code}${formOf(code, details)}`;
+  const key = [`${task}.${name}`, name, "refused.other"].find(hasText) ?? "";
+  return `${say(key, { first, second })} (${code}: ${text})`;
+}
+
+/**
+ * Returns what the details change in the text of a refusal.
+ *
+ * @param {number} code
+ * @param {number[]} details
+ */
+function formOf(code, [first, second]) {
+  if (code === DIGEST_MISMATCH && first === OF_GROUPS) return ".groups";
+  return code === WRONG_WORD && second !== 0 ? ".two" : "";
 }
 
 /**
  * Says what an error means: a refusal in words, and anything else as a fault of the page.
  *
  * @param {unknown} error
+ * @param {string} [task]
  */
-export function saidError(error) {
-  return error instanceof Declined ? saidRefusal(error.refused) : say("fault.other");
+export function saidError(error, task = "") {
+  return error instanceof Declined ? saidRefusal(error.refused, task) : say("fault.other");
+}
+
+/**
+ * Returns the words of a paper that an error tells the owner to look at, counted from 0.
+ *
+ * @param {unknown} error
+ */
+export function wordsToLookAt(error) {
+  if (!(error instanceof Declined) || ![UNKNOWN_WORD, WRONG_WORD].includes(error.refused.code)) return [];
+  return error.refused.details.filter((number) => number > 0).map((number) => number - 1);
 }

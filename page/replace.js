@@ -1,13 +1,13 @@
 // The task 'Replace a paper': papers that were destroyed are computed from the others, written down, typed back and drilled.
 import { drillWithPassphrase } from "./check_papers.js";
 import { Declined } from "./client.js";
-import { collectPapers } from "./collect.js";
+import { askForMore, collectPapers } from "./collect.js";
 import { choice, element, labelled, paragraph } from "./dom.js";
 import { planNames, planText, saidTakes } from "./plan.js";
 import { saidError } from "./refusals.js";
+import { say } from "./say.js";
 import { ask } from "./screen.js";
 import { writeAndTypeBack } from "./show_paper.js";
-import { say } from "./texts.js";
 
 /** @typedef {import("./client.js").Desk} Desk */
 /** @typedef {import("./desk.js").Status} Status */
@@ -24,81 +24,177 @@ const UNDETERMINED = 66;
  * @param {Desk} desk
  */
 export async function replacePaper(desk) {
-  if ((await askWhy()) === "other") {
-    await ask(say("replace.new.title"), [paragraph(say("replace.new"), "note")], [{ key: "end", label: say("end"), kind: "primary" }]);
-    return;
+  for (;;) {
+    const why = await askWhy();
+    if (why === "back") return;
+    const answer = why === "other" ? await tellNew() : await replaceDestroyed(desk);
+    if (answer === "end") return;
   }
-  const { status, kinds } = await collectPapers(desk, say("replace.title"), say("replace.intro"));
-  let { plan, missing, fault } = await planAndMissing(desk, status, kinds[0], "");
-  while (fault !== "") ({ plan, missing, fault } = await planAndMissing(desk, status, kinds[0], fault));
+}
+
+/**
+ * Says that a new backup is the right answer.
+ *
+ * @returns {Promise<"end" | "back">}
+ */
+function tellNew() {
+  const steps = element("ol", {}, ...["recover", "make", "destroy"].map((key) => element("li", {}, say(`replace.new.${key}`))));
+  const told = [paragraph(say("replace.new"), "note"), steps, paragraph(say("replace.new.move"))];
+  return ask(say("replace.new.title"), told, [
+    { key: "end", label: say("end"), kind: "primary" },
+    { key: "back", label: say("back") },
+  ]);
+}
+
+/**
+ * Replaces papers that were destroyed.
+ *
+ * @param {Desk} desk
+ * @returns {Promise<"end" | "back">}
+ */
+async function replaceDestroyed(desk) {
+  /** @type {Plan | null} */
+  let plan = null;
+  for (;;) {
+    const collected = await collectPapers(desk, { title: say("replace.title"), intro: say("replace.intro") });
+    if (collected === null) return "back";
+    const { status, kinds } = collected;
+    if (!mayDetermine(status)) {
+      const key = kinds[0].groupCount === 1 ? "replace.none_yet.only" : "replace.none_yet";
+      if ((await tellFew(status, kinds, key)) === "end") return "end";
+      continue;
+    }
+    /** @type {{plan: Plan, missing: Missing[]} | "papers"} */
+    const found = await planAndMissing(desk, status, kinds[0], plan);
+    if (found === "papers") continue;
+    plan = found.plan;
+    const answer = (await writeMissing(desk, found.plan, found.missing, kinds[0].words)) ?? (await drillRest(desk, kinds[0]));
+    if (answer === "end") return answer;
+  }
+}
+
+/**
+ * Whether papers may determine a missing one, whatever the plan is: they are enough, or a group of several is complete.
+ *
+ * @param {Status} status
+ */
+function mayDetermine({ enough, groups }) {
+  return enough || groups.some(({ threshold, names }) => threshold > 1 && names.length >= threshold);
+}
+
+/**
+ * Says that the papers are too few. Returns whether the owner wants to type more.
+ *
+ * @param {Status} status
+ * @param {Kind[]} kinds
+ * @param {string} key what too few papers mean here
+ */
+function tellFew(status, kinds, key) {
+  return askForMore(say("replace.few"), [paragraph(say(key), "note")], status, kinds);
+}
+
+/**
+ * Lets the owner write missing papers, as many as are wanted. Returns whether the owner wants to go back to the papers, or null.
+ *
+ * @param {Desk} desk
+ * @param {Plan} plan
+ * @param {Missing[]} missing
+ * @param {number} words
+ */
+async function writeMissing(desk, plan, missing, words) {
   for (;;) {
     const chosen = await askWhich(missing);
-    if (chosen === null) break;
-    await writeAndTypeBack(desk, { index: chosen.index, name: chosen.name, takes: saidTakes(plan, chosen.name) }, kinds[0].words);
+    if (chosen === "papers") return chosen;
+    if (chosen === "drill") return null;
+    await writeAndTypeBack(desk, { index: chosen.index, name: chosen.name, takes: saidTakes(plan, chosen.name) }, words);
     missing.splice(missing.indexOf(chosen), 1);
   }
-  await drillRest(desk, kinds[0]);
 }
 
 /**
- * Asks what became of the paper.
+ * Asks what became of the paper, unless the owner goes back.
  *
- * @returns {Promise<"destroyed" | "other">}
+ * @returns {Promise<"destroyed" | "other" | "back">}
  */
 async function askWhy() {
-  /** @type {"destroyed" | "other"} */
-  let why = "destroyed";
+  // Neither is chosen at first: whoever goes on in a hurry must not get the words of a lost paper again.
+  /** @type {"destroyed" | "other" | null} */
+  let why = null;
   const options = /** @type {const} */ (["destroyed", "other"]).map((key) => ({ key, label: say(`replace.${key}`), hint: say(`replace.${key}.hint`) }));
-  const asked = choice(say("replace.why"), options, "destroyed", (key) => (why = key));
-  await ask(say("replace.title"), [asked], [{ key: "go", label: say("continue"), kind: "primary" }]);
-  return why;
+  const asked = choice(say("replace.why"), options, null, (key) => (why = key));
+  const isReady = () => (why === null ? say("replace.why.missing") : null);
+  const answer = await ask(say("replace.title"), [asked], [
+    { key: "go", label: say("continue"), kind: "primary", isReady },
+    { key: "back", label: say("back") },
+  ]);
+  return answer === "back" ? answer : /** @type {any} */ (why);
 }
 
 /**
- * Asks for the plan, and finds the missing papers. `fault` says why the engine refuses the plan.
+ * Asks for the plan until the engine takes it, and finds the missing papers. Or the owner goes back to the papers.
  *
  * @param {Desk} desk
  * @param {Status} status
  * @param {Kind} kind
- * @param {string} fault what was wrong with the plan before
+ * @param {Plan | null} before the plan that was given before
+ * @returns {Promise<{plan: Plan, missing: Missing[]} | "papers">}
  */
-async function planAndMissing(desk, status, kind, fault) {
-  const plan = await askPlan(status, kind, fault);
-  return { plan, ...(await findMissing(desk, plan, status)) };
+async function planAndMissing(desk, status, kind, before) {
+  let [plan, fault] = [before, ""];
+  for (;;) {
+    plan = await askPlan(status, kind, plan, fault);
+    if (plan === null) return "papers";
+    const found = await findMissing(desk, plan, status);
+    if (found.fault === "") return { plan, missing: found.missing };
+    fault = found.fault;
+  }
 }
 
 /**
- * Asks what only the owner knows: how many members each group has.
+ * Asks what only the owner knows: how many members each group has. Returns null if the owner wants to go back to the papers.
  *
  * @param {Status} status
  * @param {Kind} kind
- * @param {string} fault
- * @returns {Promise<Plan>}
+ * @param {Plan | null} before the plan that was given before
+ * @param {string} fault what was wrong with it
+ * @returns {Promise<Plan | null>}
  */
-async function askPlan(status, kind, fault) {
-  const rows = Array.from({ length: kind.groupCount }, (_, group) => {
-    const found = status.groups.find((it) => it.group === group);
-    const attributes = { min: "1", max: String(MEMBERS_MAX), class: "count" };
-    const needed = found ? null : labelled(say("replace.needed", { group }), "number", { hint: say("replace.needed.hint"), attributes });
-    const least = found?.threshold === 1 ? 1 : 0;
-    const members = labelled(say("replace.members", { group }), "number", {
-      hint: found ? say(found.threshold === 1 ? "replace.members.hint.one" : "replace.members.hint", { threshold: found.threshold }) : "",
-      attributes: { ...attributes, ...(least ? { value: "1" } : {}) },
-    });
-    const box = element("fieldset", {}, element("legend", {}, say("status.group", { group })), needed?.box ?? null, members.box);
-    return { box, read: () => ({ needed: found ? found.threshold : Number(needed?.field.value), members: Number(members.field.value) }) };
-  });
-  const isReady = () => (rows.every(({ read }) => isGroup(read())) ? null : say("replace.members.wrong"));
-  /** @type {Plan} */
-  let plan = { needed: kind.groupThreshold, groups: [] };
-  const ready = () => {
-    const lacks = isReady();
-    if (lacks === null) plan = { needed: kind.groupThreshold, groups: rows.map(({ read }) => read()) };
-    return lacks;
+async function askPlan(status, kind, before, fault) {
+  const rows = Array.from({ length: kind.groupCount }, (_, group) => groupFields(status, kind, group, before?.groups[group] ?? null));
+  const read = () => ({ needed: kind.groupThreshold, groups: rows.map((row) => row.read()) });
+  let plan = read();
+  const isReady = () => {
+    plan = read();
+    return plan.groups.every(isGroup) ? null : say("replace.members.wrong");
   };
-  const children = [fault ? paragraph(fault, "fault") : null, paragraph(say("replace.plan")), ...rows.map(({ box }) => box)];
-  await ask(say("replace.plan.title"), children, [{ key: "go", label: say("continue"), kind: "primary", isReady: ready }]);
-  return plan;
+  const children = [fault ? paragraph(fault, "fault") : null, paragraph(say("replace.plan")), paragraph(say("replace.forgotten")), ...rows.map(({ box }) => box)];
+  const answer = await ask(say("replace.plan.title"), children, [
+    { key: "go", label: say("continue"), kind: "primary", isReady },
+    { key: "papers", label: say("collect.back") },
+  ]);
+  return answer === "go" ? plan : null;
+}
+
+/**
+ * Makes the fields of a group: how many members it has, and how many it needs if no paper says so.
+ *
+ * @param {Status} status
+ * @param {Kind} kind
+ * @param {number} group
+ * @param {{needed: number, members: number} | null} before
+ */
+function groupFields(status, { groupCount }, group, before) {
+  const found = status.groups.find((it) => it.group === group);
+  const number = (/** @type {number | undefined} */ value) => ({ min: "1", max: String(MEMBERS_MAX), class: "count", ...(value ? { value: String(value) } : {}) });
+  const hint = found ? say(found.threshold === 1 ? "replace.members.hint.one" : "replace.members.hint", { threshold: found.threshold }) : "";
+  const needed = found ? null : labelled(say("replace.needed", { group }), "number", { hint: say("replace.needed.hint"), attributes: number(before?.needed) });
+  const members = labelled(say(groupCount === 1 ? "replace.members.only" : "replace.members", { group }), "number", {
+    hint,
+    attributes: number(before?.members ?? (found?.threshold === 1 ? 1 : undefined)),
+  });
+  const legend = groupCount === 1 ? say("status.only") : say("status.group", { group });
+  const box = element("fieldset", {}, element("legend", {}, legend), needed?.box ?? null, members.box);
+  return { box, read: () => ({ needed: found ? found.threshold : Number(needed?.field.value), members: Number(members.field.value) }) };
 }
 
 /** @param {{needed: number, members: number}} group */
@@ -119,26 +215,24 @@ async function findMissing(desk, plan, status) {
   const here = status.groups.flatMap(({ names }) => names);
   const names = planNames(plan).filter((it) => !here.includes(it));
   const missing = [];
-  let index = 0;
   for (const name of names.length ? names : here.slice(0, 1)) {
     try {
-      await desk.ask("reissue", { plan: planText(plan), name });
+      const index = await desk.ask("reissue", { plan: planText(plan), name });
       missing.push({ name, index, text: "" });
-      index += 1;
     } catch (error) {
       // Any other refusal is about the plan or the papers, so it is the same for each name.
       if (!(error instanceof Declined) || error.refused.code !== UNDETERMINED) return { missing: [], fault: saidError(error) };
-      missing.push({ name, index: -1, text: saidError(error) });
+      missing.push({ name, index: -1, text: saidError(error, plan.groups.length === 1 ? "only" : "") });
     }
   }
   return { missing: names.length ? missing : [], fault: "" };
 }
 
 /**
- * Lists the missing papers, and asks which one to write down. Returns null if none.
+ * Lists the missing papers, and asks which one to write down, or what else to do.
  *
  * @param {Missing[]} missing
- * @returns {Promise<Missing | null>}
+ * @returns {Promise<Missing | "papers" | "drill">}
  */
 async function askWhich(missing) {
   const told = missing.filter(({ index }) => index < 0);
@@ -146,25 +240,23 @@ async function askWhich(missing) {
   const intro = missing.length === 0 ? say("replace.none") : found.length ? say("replace.found", { names: found.map(({ name }) => name).join(", ") }) : say("replace.untold");
   const rows = told.map(({ name, text }) => element("li", {}, `${name}: ${text}`));
   const children = [paragraph(intro), rows.length ? element("ul", { class: "rows" }, ...rows) : null];
-  const answers = [
+  const answers = /** @type {{key: string, label: string, kind?: string}[]} */ ([
     ...found.map(({ name }, at) => ({ key: name, label: say("replace.write", { name }), kind: at ? "" : "primary" })),
-    { key: "", label: say("replace.end"), kind: found.length ? "" : "primary" },
-  ];
+    ...(told.length ? [{ key: "papers", label: say("collect.more"), kind: found.length ? "" : "primary" }] : []),
+    { key: "drill", label: say("replace.end"), kind: missing.length ? "" : "primary" },
+  ]);
   const chosen = await ask(say("replace.which"), children, answers);
-  return found.find(({ name }) => name === chosen) ?? null;
+  return found.find(({ name }) => name === chosen) ?? (chosen === "papers" ? "papers" : "drill");
 }
 
 /**
- * Drills with all papers that were typed, if they are enough.
+ * Drills with all papers that were typed, if they are enough. Returns whether the owner wants to go back to the papers.
  *
  * @param {Desk} desk
  * @param {Kind} kind
  */
 async function drillRest(desk, kind) {
-  const status = await desk.ask("status");
-  if (status.enough) {
-    await drillWithPassphrase(desk, status, kind, say("replace.drill"));
-    return;
-  }
-  await ask(say("replace.title"), [paragraph(say("replace.too_few"), "note"), paragraph(say("close"))], [{ key: "end", label: say("end"), kind: "primary" }]);
+  const [status, kinds] = [await desk.ask("status"), await desk.ask("kinds")];
+  if (status.enough) return drillWithPassphrase(desk, status, kind, say("replace.drill"));
+  return tellFew(status, kinds, "replace.too_few");
 }

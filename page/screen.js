@@ -1,6 +1,6 @@
 // The one screen that the page shows at a time, what a screen reader is told, and what leaves the page's elements with it.
-import { button, element } from "./dom.js";
-import { say } from "./texts.js";
+import { button, element, paragraph } from "./dom.js";
+import { say } from "./say.js";
 
 /** @typedef {import("./dom.js").Child} Child */
 
@@ -14,6 +14,9 @@ const live = /** @type {HTMLElement} */ (document.getElementById("live"));
  */
 const shown = new Set();
 let touched = false;
+let unfinished = false;
+// What the next screen says first.
+let news = "";
 
 /**
  * Says something to a screen reader.
@@ -34,6 +37,25 @@ export function isTouched() {
 /** @param {boolean} is */
 export function setTouched(is) {
   touched = is;
+}
+
+/** Whether papers are half written, so that clearing would lose them. */
+export function isUnfinished() {
+  return unfinished;
+}
+
+/** @param {boolean} is */
+export function setUnfinished(is) {
+  unfinished = is;
+}
+
+/**
+ * Takes a good news, which the next screen says first.
+ *
+ * @param {string} text
+ */
+export function tellNext(text) {
+  news = text;
 }
 
 /**
@@ -68,6 +90,11 @@ export function show(title, ...children) {
   leave();
   const heading = element("h1", { tabindex: "-1" }, title);
   main.append(heading);
+  if (news !== "") {
+    main.append(paragraph(news, "good"));
+    announce(news);
+    news = "";
+  }
   for (const child of children) if (child !== null) main.append(child);
   window.scrollTo(0, 0);
   heading.focus();
@@ -90,6 +117,8 @@ export function ask(title, children, answers) {
       button(
         label,
         () => {
+          // What an earlier try was refused for doesn't stay beside what this one lacks.
+          for (const it of main.querySelectorAll(":scope > .fault")) if (it !== fault) it.remove();
           fault.textContent = isReady() ?? "";
           if (fault.textContent === "") resolve(key);
         },
@@ -97,7 +126,45 @@ export function ask(title, children, answers) {
       ),
     );
     show(title, ...children, fault, element("div", { class: "buttons" }, ...buttons));
+    goOnByEnter(buttons.find((it) => it.classList.contains("primary")));
   });
+}
+
+/**
+ * Lets Enter in a field of the screen go to the next field that is empty, or press the button that goes on.
+ *
+ * @param {HTMLButtonElement | undefined} next
+ */
+function goOnByEnter(next) {
+  const fields = [...main.querySelectorAll("input")].filter((it) => it.type !== "checkbox");
+  const pressed = (/** @type {KeyboardEvent} */ event) => {
+    if (event.key !== "Enter") return;
+    event.preventDefault();
+    const after = fields.slice(fields.indexOf(/** @type {HTMLInputElement} */ (event.target)) + 1);
+    const empty = after.find((it) => it.value === "" && it.getClientRects().length > 0);
+    if (empty) empty.focus();
+    else next?.click();
+  };
+  for (const field of fields) field.addEventListener("keydown", pressed);
+}
+
+/**
+ * Asks above the screen, which stays as it is.
+ *
+ * @param {string} text
+ * @param {string} stay the answer that goes back to the screen
+ * @param {string} go the other answer
+ * @param {() => void} onGo
+ */
+export function askAbove(text, stay, go, onGo) {
+  main.querySelector(":scope > .question")?.remove();
+  const staying = button(stay, () => {
+    asked.remove();
+    main.querySelector("h1")?.focus();
+  });
+  const asked = element("div", { class: "bad question" }, element("p", { role: "alert" }, text), element("div", { class: "buttons" }, staying, button(go, onGo)));
+  main.prepend(asked);
+  staying.focus();
 }
 
 /**

@@ -8,6 +8,7 @@ const PASSPHRASE = "TREZOR";
 const SOUND =
   "duckling enlarge academic academic agency result length solution fridge kidney coal piece deal husband erode duke ajar critical decision keyboard";
 const SOUND_SECRET = "bb54aac4b89dc868ba37d9cc21b2cece";
+const SOUND_FINGERPRINT = "df41d8fe";
 
 const TWO = [
   "shadow pistol academic always adequate wildlife fancy gross oasis cylinder mustang wrist rescue view short owner flip making coding armed",
@@ -31,6 +32,7 @@ const CREATED = [
   "category manual academic agency capacity goat stilt forecast expand morning repair edge crazy manual huge episode chew huge military dress",
   "category manual academic always boundary glasses pumps scramble lizard amuse lecture cards crucial spark wits quantity prisoner knit general soldier",
 ];
+const CREATED_FINGERPRINT = "2282bae5";
 
 /** @param {Uint8Array} bytes */
 function digitsOf(bytes) {
@@ -46,14 +48,13 @@ function ascending(first, count) {
 }
 
 /**
- * Returns the number of the refusal of lines, or 0.
+ * Returns the number of the refusal of a call, or 0.
  *
- * @param {Engine} engine
- * @param {string[]} lines
+ * @param {() => unknown} call
  */
-function refusalOf(engine, lines) {
+function refusalOf(call) {
   try {
-    engine.recover(lines, { passphrase: PASSPHRASE });
+    call();
     return 0;
   } catch (error) {
     if (error instanceof Refusal) return error.code;
@@ -67,13 +68,32 @@ function refusalOf(engine, lines) {
  * @param {Engine} engine
  */
 function failed(engine) {
+  try {
+    return firstFailed(engine);
+  } catch (error) {
+    if (error instanceof Refusal) return `refusal ${error.code}`;
+    throw error;
+  }
+}
+
+/** @param {Engine} engine */
+function firstFailed(engine) {
   if (digitsOf(engine.recover([SOUND], { passphrase: PASSPHRASE })) !== SOUND_SECRET) return "recover";
   if (digitsOf(engine.recover(TWO, { passphrase: PASSPHRASE })) !== TWO_SECRET) return "combine";
-  for (const [code, lines] of REFUSED) if (refusalOf(engine, lines) !== code) return `refuse ${code}`;
+  for (const [code, lines] of REFUSED) {
+    if (refusalOf(() => engine.recover(lines, { passphrase: PASSPHRASE })) !== code) return `refuse ${code}`;
+  }
+  if (engine.repair(SOUND.replace("agency", "?")).join("\n") !== SOUND) return "repair";
+  if (refusalOf(() => engine.repair(SOUND.replace("agency", "zero"))) !== 18) return "refuse 18";
   const made = engine.create("2of3", ascending(0, 16), { passphrase: PASSPHRASE, exponent: 0, extendable: true, random: ascending(16, 14) });
   if (made.join("\n") !== CREATED.join("\n")) return "create";
   for (const outcome of engine.drill(made, { passphrase: PASSPHRASE, fingerprints: true })) {
-    if (outcome.fingerprint !== engine.fingerprint(ascending(0, 16))) return "drill";
+    if (outcome.fingerprint !== CREATED_FINGERPRINT) return "drill";
+  }
+  for (const expect of [CREATED_FINGERPRINT, SOUND_FINGERPRINT]) {
+    for (const { expected } of engine.drill(made, { passphrase: PASSPHRASE, expect })) {
+      if (expected !== (expect === CREATED_FINGERPRINT)) return "drill, expected";
+    }
   }
   const random = crypto.getRandomValues(new Uint8Array(32));
   if (random.every((byte) => byte === random[0])) return "random bytes";

@@ -1,15 +1,37 @@
 // A paper on the screen, to be written down, and typed back from what was written.
-import { Declined } from "./client.js";
 import { button, element, paragraph, shownText, zero } from "./dom.js";
 import { PaperEntry } from "./paper_entry.js";
-import { saidError } from "./refusals.js";
-import { ask, concealLater, setTouched, show } from "./screen.js";
-import { say } from "./texts.js";
+import { saidError, wordsToLookAt } from "./refusals.js";
+import { say } from "./say.js";
+import { ask, concealLater, setTouched, setUnfinished, show, tellNext } from "./screen.js";
 
 /** @typedef {import("./client.js").Desk} Desk */
 /** @typedef {{index: number, name: string, takes: string}} Shown the number of a paper that the worker keeps to be shown */
 
-const UNKNOWN_WORD = 11;
+/**
+ * Shows words of a paper in a list, until the tab is hidden or the screen changes. Returns what fills the list, what empties it,
+ * and the button that shows the words again.
+ *
+ * @param {Desk} desk
+ * @param {number} index the number of a paper that the worker keeps to be shown
+ * @param {HTMLElement} list
+ * @param {(words: string[]) => HTMLElement[]} rows makes the list's elements of the paper's words
+ */
+export function shownWords(desk, index, list, rows) {
+  const again = button(say("paper.show"), () => fill(), "hide");
+  const empty = () => {
+    list.replaceChildren();
+    again.classList.remove("hide");
+  };
+  const fill = async () => {
+    again.classList.add("hide");
+    const line = await desk.ask("paper", { index });
+    if (document.hidden) empty();
+    else list.replaceChildren(...rows(shownText(line).split(" ")));
+    zero(line);
+  };
+  return { fill, empty, again };
+}
 
 /**
  * Shows a paper until the owner has written it down.
@@ -20,26 +42,9 @@ const UNKNOWN_WORD = 11;
  */
 export async function showPaper(desk, { index, name, takes }, place) {
   const list = element("ol", { class: "paper", translate: "no" });
-  const again = button(say("paper.show"), () => fill(), "hide");
-  const empty = () => {
-    list.replaceChildren();
-    again.classList.remove("hide");
-  };
-  const fill = async () => {
-    again.classList.add("hide");
-    const line = await desk.ask("paper", { index });
-    if (document.hidden) empty();
-    else list.replaceChildren(...shownText(line).split(" ").map((word) => element("li", {}, word)));
-    zero(line);
-  };
+  const { fill, empty, again } = shownWords(desk, index, list, (words) => words.map((word) => element("li", {}, word)));
   setTouched(true);
-  const children = [
-    paragraph(place, "place"),
-    paragraph(takes),
-    list,
-    again,
-    paragraph(say("paper.how"), "hint"),
-  ];
+  const children = [paragraph(place, "place"), paragraph(takes), paragraph(say("paper.how"), "hint"), list, again];
   const written = ask(say("paper.title", { name }), children, [{ key: "written", label: say("paper.written"), kind: "primary" }]);
   concealLater(empty);
   await fill();
@@ -60,11 +65,14 @@ export function typeBack(desk, { index, name }, place, words) {
     const entry = new PaperEntry(desk.begun.words, words, async (line) => {
       try {
         const { kind, isSame } = await desk.ask("typedBack", { index, line }, [line.buffer]);
-        if (isSame) resolve(true);
-        return { isTaken: isSame, text: isSame ? say("back.same", { name }) : say("back.other", { name, typed: kind.name }) };
+        if (isSame) {
+          tellNext(say("back.same", { name }));
+          resolve(true);
+        }
+        // Nothing of another paper can stay. The right one is told on the next screen.
+        return { isTaken: true, isFault: true, text: isSame ? "" : say(kind.name === name ? "back.foreign" : "back.other", { name, typed: kind.name }) };
       } catch (error) {
-        const word = error instanceof Declined && error.refused.code === UNKNOWN_WORD ? error.refused.details[0] - 1 : undefined;
-        return { isTaken: false, text: saidError(error), word };
+        return { isTaken: false, text: saidError(error), words: wordsToLookAt(error) };
       }
     });
     const again = button(say("back.again", { name }), () => resolve(false));
@@ -81,6 +89,8 @@ export function typeBack(desk, { index, name }, place, words) {
  * @param {number} words
  */
 export async function writeAndTypeBack(desk, paper, words) {
+  setUnfinished(true);
   await showPaper(desk, paper, "");
   while (!(await typeBack(desk, paper, "", words))) await showPaper(desk, paper, "");
+  setUnfinished(false);
 }

@@ -1,12 +1,33 @@
 // What was typed or pasted, as words; and words of the list that look like another word.
 
+// What a blank form prints above the words. 'paper' is a word of the list too.
+const HEADING = /slip-?0*39|paper\s+\d+\.\d+/gi;
+
 /**
- * Returns the words of a text: capitals become small letters, and numbers, commas and line feeds separate.
+ * Returns the words of a text: capitals become small letters, and numbers, commas and line feeds separate. The heading of a paper is
+ * skipped.
  *
  * @param {string} text
  */
 export function wordsOf(text) {
-  return text.toLowerCase().split(/[^\p{L}\p{M}]+/u).filter((word) => word !== "");
+  return separated(text, /[^\p{L}\p{M}]+/u);
+}
+
+/**
+ * Returns the marks of a text of a damaged paper: words, and question marks with the letters before them.
+ *
+ * @param {string} text
+ */
+export function marksOf(text) {
+  return separated(text, /[^\p{L}\p{M}?]+/u);
+}
+
+/**
+ * @param {string} text
+ * @param {RegExp} separator
+ */
+function separated(text, separator) {
+  return text.replace(HEADING, " ").toLowerCase().split(separator).filter((part) => part !== "");
 }
 
 /**
@@ -17,6 +38,16 @@ export function wordsOf(text) {
  */
 export function beginning(list, letters) {
   return list.filter((word) => word.startsWith(letters));
+}
+
+/**
+ * Whether a mark ends with a question mark, and stands for at least one word.
+ *
+ * @param {readonly string[]} list
+ * @param {string} mark
+ */
+export function isMark(list, mark) {
+  return mark.endsWith("?") && beginning(list, mark.slice(0, -1)).length > 0;
 }
 
 /**
@@ -44,7 +75,7 @@ export function readings(list, letters, rest) {
 }
 
 /**
- * Whether the letters of a field are only what was left of the word before. `isEnded` says that a space follows them.
+ * Whether the letters of a field are only what was left of the word before. `isEnded` says that they are ended, as by a space.
  *
  * @param {readonly string[]} list
  * @param {string} letters
@@ -54,7 +85,21 @@ export function readings(list, letters, rest) {
 export function isRestWhole(list, letters, rest, isEnded) {
   if (letters === "") return false;
   if (letters === rest.letters) return isEnded || beginning(list, letters).length === 0;
-  return isEnded && letters === rest.letters.slice(0, rest.toFour);
+  if (!isEnded || !rest.letters.startsWith(letters)) return false;
+  return letters.length === rest.toFour || beginning(list, letters).length !== 1;
+}
+
+/**
+ * Whether a key that ends a word ends the word before, and not that of the field that the focus came to by itself. `whole` is what
+ * stood in this field then.
+ *
+ * @param {readonly string[]} list
+ * @param {string} letters
+ * @param {string} whole
+ * @param {Rest} rest
+ */
+export function endsBefore(list, letters, whole, rest) {
+  return letters === whole || isRestWhole(list, letters, rest, true);
 }
 
 /**
@@ -106,5 +151,5 @@ const BIP39_COUNTS = [12, 24];
  * @param {readonly string[]} words
  */
 export function seemsBip39(list, words) {
-  return BIP39_COUNTS.includes(words.length) && !words.every((word) => list.includes(word));
+  return BIP39_COUNTS.includes(words.length) && !words.every((word) => word.endsWith("?") || list.includes(word));
 }

@@ -1,25 +1,38 @@
 // The field of one word. A word is complete when only one word of the list begins so. Nothing that was typed is changed into
 // another word unless the owner chooses it.
+//
+// In a field of a damaged paper, a question mark stands for letters that can't be read. There the owner ends each word, since a
+// question mark may still follow its letters.
 import { button, element, input } from "./dom.js";
-import { beginning, isRestWhole, nearest, NO_REST, readings, wordsOf } from "./spelling.js";
-import { say } from "./texts.js";
+import { say } from "./say.js";
+import { beginning, endsBefore, isMark, isRestWhole, marksOf, nearest, NO_REST, readings, wordsOf } from "./spelling.js";
 
 /**
  * @typedef {object} Events
- * @property {(at: number) => void} completed the word has ended
+ * @property {(at: number, isBySpelling: boolean) => void} completed the word has ended, by its letters alone or by a key after it
  * @property {(at: number) => void} back Backspace in an empty field
  * @property {(at: number, words: string[]) => void} spread several words came
  * @property {() => void} ended Enter
  */
 
 const OFFERED = 8;
+// After one of these keys, no letter comes that belongs to the word before.
+const MOVES = ["Tab", "Enter", "Escape", "Backspace", "Delete", "Home", "End", "PageUp", "PageDown", "ArrowLeft", "ArrowRight", "ArrowUp", "ArrowDown"];
 
 // What may still come of the last word that was completed, in its own field or in the next one.
 let rest = NO_REST;
 
+/**
+ * The field that the focus came to by itself, since the word before was complete. A key that ends a word ends the one before there.
+ *
+ * @type {WordField | null}
+ */
+let arrived = null;
+
 export class WordField {
   #at;
   #list;
+  #isDamaged;
   #events;
   #offers = element("div", { class: "offers" });
   // What stood here when the word was completed or the focus came. Letters after it may belong to the last completed word.
@@ -30,11 +43,13 @@ export class WordField {
   /**
    * @param {number} at
    * @param {readonly string[]} list
+   * @param {boolean} isDamaged whether a question mark may stand for letters
    * @param {Events} events
    */
-  constructor(at, list, events) {
+  constructor(at, list, isDamaged, events) {
     this.#at = at;
     this.#list = list;
+    this.#isDamaged = isDamaged;
     this.#events = events;
     this.field = input("text", {
       "aria-label": say("entry.word", { number: at + 1 }),
@@ -47,13 +62,14 @@ export class WordField {
     this.box = element("div", { class: "word" }, element("span", { "aria-hidden": "true", class: "number" }, String(at + 1)), this.field, this.#offers);
   }
 
-  /** The word, in small letters. */
+  /** The word or the mark, in small letters. */
   get word() {
     return this.field.value.trim().toLowerCase();
   }
 
+  /** Whether this is a word of the list, or stands for some of them. */
   get isRight() {
-    return this.#list.includes(this.word);
+    return this.#list.includes(this.word) || (this.#isDamaged && isMark(this.#list, this.word));
   }
 
   /**
@@ -62,6 +78,7 @@ export class WordField {
    * @param {string} word
    */
   set(word) {
+    this.#trust();
     this.field.value = word;
     this.#whole = this.isRight ? word : "";
     this.#mark(word !== "" && !this.isRight);
@@ -74,17 +91,50 @@ export class WordField {
     this.field.setSelectionRange(this.field.value.length, this.field.value.length);
   }
 
+  /** Moves the focus here, and selects the word, so that what is typed replaces it. */
+  select() {
+    this.focus();
+    this.field.select();
+  }
+
+  /** Moves the focus here after a word that its letters completed. More of its letters may come, and a key that ends it. */
+  arrive() {
+    this.focus();
+    arrived = this;
+  }
+
+  /** Marks the word as one to look at, until it is changed. */
+  doubt() {
+    this.box.classList.add("doubt");
+  }
+
+  get #isDoubted() {
+    return this.box.classList.contains("doubt");
+  }
+
+  #trust() {
+    this.box.classList.remove("doubt");
+  }
+
   /** @param {InputEvent} event */
   #typed(event) {
-    const value = this.field.value.toLowerCase();
+    const whole = this.#whole;
+    let value = this.field.value.toLowerCase();
     if (this.#isRestOfOwn(value)) return;
-    const words = wordsOf(value);
+    if (whole !== "" && this.#isDoubted && value.startsWith(whole)) {
+      // The owner types the word anew. No word of the list begins with another one.
+      value = value.slice(whole.length);
+      this.field.value = value;
+    }
+    this.#trust();
+    const words = this.#isDamaged ? marksOf(value) : wordsOf(value);
     if (words.length > 1) {
       this.#events.spread(this.#at, words);
       return;
     }
     const letters = words[0] ?? "";
     const isEnded = letters !== value;
+    if (isEnded) arrived = null;
     if (isRestWhole(this.#list, letters, rest, isEnded)) {
       rest = NO_REST;
       this.set("");
@@ -114,7 +164,9 @@ export class WordField {
     this.#whole = whole;
     const count = more.trim().length;
     rest = { letters: rest.letters.slice(count), toFour: Math.max(0, rest.toFour - count) };
-    if (more.trim() === "" && this.isRight) this.#events.completed(this.#at);
+    if (more.trim() !== "") return true;
+    if (arrived === this) this.#moved();
+    else if (this.isRight) this.#events.completed(this.#at, false);
     return true;
   }
 
@@ -123,41 +175,51 @@ export class WordField {
    * @param {boolean} isAdded
    */
   #grown(letters, isAdded) {
+    if (this.#isDamaged) {
+      this.#mark(!this.isRight && beginning(this.#list, letters).length === 0);
+      return;
+    }
     if (rest.letters.startsWith(letters)) {
       this.#mark(false);
       return;
     }
     const found = readings(this.#list, letters, rest);
     this.#mark(found.length === 0 || (found.length > 1 && letters.length > 4));
-    if (found.length === 1 && isAdded) this.#complete(found[0], letters);
+    if (found.length === 1 && isAdded) this.#complete(found[0], letters, true);
   }
 
   /**
    * @param {string} word
    * @param {string} letters what was typed of it, perhaps after letters of the word before
+   * @param {boolean} isBySpelling whether its letters alone completed it
    */
-  #complete(word, letters) {
+  #complete(word, letters, isBySpelling) {
     this.set(word);
     let count = Math.min(letters.length, word.length);
     while (!letters.endsWith(word.slice(0, count))) count -= 1;
+    arrived = null;
     rest = { letters: word.slice(count), toFour: Math.max(0, 4 - count) };
-    this.#events.completed(this.#at);
+    this.#events.completed(this.#at, isBySpelling);
   }
 
   /** Ends the word, as a space does. A word that isn't right stays as it is, and is marked. */
   finish() {
     const found = beginning(this.#list, this.word);
-    if (this.isRight) this.#complete(this.word, this.word);
-    else if (found.length === 1) this.#complete(found[0], found[0]);
+    if (this.isRight) this.#complete(this.word, this.word, false);
+    else if (found.length === 1) this.#complete(found[0], found[0], false);
     else {
       this.#mark(true);
-      this.#events.completed(this.#at);
+      this.#events.completed(this.#at, false);
     }
   }
 
   #left() {
     if (isRestWhole(this.#list, this.word, rest, true)) this.set("");
-    if (this.word !== "" && !this.isRight) this.#mark(true);
+    if (arrived === this) this.#moved();
+    if (this.word === "" || this.isRight) return;
+    const found = beginning(this.#list, this.word);
+    if (this.#isDamaged && found.length === 1) this.set(found[0]);
+    else this.#mark(true);
   }
 
   /**
@@ -171,23 +233,43 @@ export class WordField {
     this.#marked = isWrong ? this.word : "";
     this.field.toggleAttribute("aria-invalid", false);
     this.box.classList.toggle("right", this.isRight);
+    this.box.classList.toggle("open", this.isRight && this.word.endsWith("?"));
     this.box.classList.toggle("wrong", isWrong);
     this.#offers.replaceChildren();
     if (!isWrong) return;
     this.field.setAttribute("aria-invalid", "true");
     const found = readings(this.#list, this.word, rest);
-    const offered = found.length ? found.slice(0, OFFERED) : nearest(this.#list, this.word);
-    const told = say(found.length ? "entry.several" : "entry.unknown", { number: this.#at + 1 });
+    const offered = found.length ? found.slice(0, OFFERED) : this.#nearest();
+    const key = found.length ? "entry.several" : this.word.includes("?") && this.#isDamaged ? "damaged.mark" : "entry.unknown";
     this.#offers.append(
-      element("p", {}, told),
-      ...offered.map((word) => button(word, () => this.#complete(word, word), "small offer")),
+      element("p", {}, say(key, { number: this.#at + 1 })),
+      ...offered.map((word) => button(word, () => this.#complete(word, word, false), "small offer")),
     );
+    if (this.#isDamaged) this.#offers.append(this.#unread(found.length ? `${this.word}?` : "?"));
+  }
+
+  #nearest() {
+    const letters = this.word.replaceAll("?", "");
+    return letters === "" ? [] : nearest(this.#list, letters);
+  }
+
+  /**
+   * Makes the button that says of a word that its letters, or some of them, can't be read.
+   *
+   * @param {string} mark
+   */
+  #unread(mark) {
+    return button(say(mark === "?" ? "damaged.offer" : "damaged.offer.rest", { mark }), () => this.#complete(mark, mark, false), "small offer");
   }
 
   /** @param {KeyboardEvent} event */
   #pressed(event) {
-    if (event.key.length > 1) rest = NO_REST;
-    if (event.key === "Backspace" && this.field.value === "") {
+    const isEnding = event.key === "Enter" || (event.key === "Tab" && !event.shiftKey);
+    if (isEnding && arrived === this && endsBefore(this.#list, this.word, this.#whole, rest)) {
+      // This key ends the word before, from which the focus has already come here.
+      event.preventDefault();
+      if (this.word !== this.#whole) this.set("");
+    } else if (event.key === "Backspace" && this.field.value === "") {
       event.preventDefault();
       this.#events.back(this.#at);
     } else if (event.key === "Enter") {
@@ -195,13 +277,21 @@ export class WordField {
       if (this.word !== "") this.finish();
       this.#events.ended();
     }
+    if (MOVES.includes(event.key)) this.#moved();
+  }
+
+  /** No more letters of the word before come now. */
+  #moved() {
+    rest = NO_REST;
+    if (arrived === this) arrived = null;
   }
 
   /** @param {ClipboardEvent} event */
   #pasted(event) {
     event.preventDefault();
-    rest = NO_REST;
-    const words = wordsOf(event.clipboardData?.getData("text") ?? "");
+    this.#moved();
+    const text = event.clipboardData?.getData("text") ?? "";
+    const words = this.#isDamaged ? marksOf(text) : wordsOf(text);
     if (words.length) this.#events.spread(this.#at, words);
   }
 }

@@ -7,6 +7,8 @@ import { OF_GROUPS } from "./refusal.js";
 const LINE_FEED = 10;
 const SPACE = 32;
 const DECODER = new TextDecoder();
+const AS_EXPECTED = "as expected";
+const OTHER_SECRET = "other secret";
 
 // A part of a drill has room for this many bytes of output: the first part, and the greatest.
 export const FIRST_ROOM = 4096;
@@ -55,7 +57,8 @@ function spelled(digits) {
 }
 
 /**
- * Reads a line of a drill. After the names it has digits, or several words, the last of which is a group or `groups`.
+ * Reads a line of a drill. After the names it has digits; or whether the secret is the expected one; or several words, the last of
+ * which is a group or `groups`.
  * @param {Uint8Array} line
  * @param {boolean} fingerprints
  * @returns {Outcome}
@@ -63,14 +66,13 @@ function spelled(digits) {
 export function outcome(line, fingerprints) {
   const end = line.indexOf(SPACE);
   const last = line.lastIndexOf(SPACE);
-  const names = decoded(line.subarray(0, end));
-  if (last > end) {
-    const group = decoded(line.subarray(last + 1));
-    return { names, secret: null, fingerprint: null, mismatch: group === "groups" ? OF_GROUPS : Number(group) };
-  }
+  const outcome = { names: decoded(line.subarray(0, end)), secret: null, fingerprint: null, expected: null, mismatch: null };
   const found = line.subarray(end + 1);
-  if (fingerprints) return { names, secret: null, fingerprint: decoded(found), mismatch: null };
-  return { names, secret: spelled(found), fingerprint: null, mismatch: null };
+  if (last === end) return fingerprints ? { ...outcome, fingerprint: decoded(found) } : { ...outcome, secret: spelled(found) };
+  const told = decoded(found);
+  if (told === AS_EXPECTED || told === OTHER_SECRET) return { ...outcome, expected: told === AS_EXPECTED };
+  const group = decoded(line.subarray(last + 1));
+  return { ...outcome, mismatch: group === "groups" ? OF_GROUPS : Number(group) };
 }
 
 /**

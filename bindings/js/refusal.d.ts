@@ -35,7 +35,9 @@ export const Code: Readonly<{
     PASSPHRASE: 41;
     SECRET_LENGTH: 42;
     RANDOM_LENGTH: 43;
+    BAD_FINGERPRINT: 44;
     DIGEST_MISMATCH: 51;
+    OTHER_SECRET: 52;
     BAD_CURSOR: 61;
     NOT_A_QUORUM: 62;
     BAD_NAMES: 63;

@@ -72,14 +72,16 @@ export class Engine {
      *     const secret = shamir.recover(mnemonics.slice(1), { passphrase: "TREZOR" });
      *
      * Each line is a mnemonic, or a comment, or blank. A comment starts with #, after any spaces, tabs and carriage returns. A
-     * line has at most 1,024 bytes without its line feed, even if it is a comment. A wrong passphrase isn't detected: it gives
-     * another secret.
+     * line has at most 1,024 bytes without its line feed, even if it is a comment.
+     *
+     * If `expect` is given, and the secret has another fingerprint, the call is refused (52). Without `expect` a wrong passphrase
+     * isn't detected: it gives another secret. An empty `expect` is refused (44).
      *
      * The exponent of the mnemonics determines how long the call takes: 10,000 * 2^exponent iterations of PBKDF2, and twice as
      * many for a secret of more than 64 bytes. If no line is refused and the mnemonics have a quorum, an exponent above
      * `maxExponent` is refused before any iteration (3).
      *
-     * Throws a `Refusal` with one of the codes 3, 11 to 30, 41, 51 or 71.
+     * Throws a `Refusal` with one of the codes 3, 11 to 30, 41, 44, 51, 52 or 71.
      * @param {Lines} lines
      * @param {RecoverOptions} [options]
      * @returns {Uint8Array}
@@ -92,13 +94,14 @@ export class Engine {
      *       console.log(outcome.names, outcome.fingerprint ?? `digest mismatch in ${outcome.mismatch}`);
      *     }
      *
-     * `lines`, `passphrase` and `maxExponent` are as for `recover`. An empty `after` is refused (61). A digest mismatch is no
-     * refusal here. The engine computes the outcomes in parts, which grow while they take less than a tenth of a second.
+     * `lines`, `passphrase` and `maxExponent` are as for `recover`. An empty `after` is refused (61). If `expect` is given, outcomes
+     * say whether their secrets have this fingerprint, and no secret is copied. A digest mismatch and another secret are no refusals
+     * here. The engine computes the outcomes in parts, which grow while they take less than a tenth of a second.
      *
      * The arguments are copied at once. The copies are cleared when the iterator ends or its `return` is called; a `for` loop
      * that is left early calls it. The engine gets the arguments at the first `next`, which then throws any refusal.
      *
-     * Throws a `Refusal` with one of the codes 3, 11 to 30, 41, 61, 62 or 71.
+     * Throws a `Refusal` with one of the codes 3, 11 to 30, 41, 44, 61, 62 or 71.
      * @param {Lines} lines
      * @param {DrillOptions} [options]
      * @returns {Generator<Outcome, void, void>}
@@ -149,17 +152,23 @@ export class Engine {
      *
      * The line is a list of marks, separated as words are. A word of the word list stands for itself. Letters followed by one `?`
      * stand for every word that begins with them, and `?` alone stands for any word. A place is open if its mark stands for more
-     * than one word. One mnemonic fits, or two if the second word is open.
+     * than one word. At most two mnemonics fit, and two only if the second word is open.
      *
-     * Each open place uses up one of the three words of the checksum. With three open places, a wrong word elsewhere isn't found,
-     * and the answer may be another mnemonic. So compare the answer with all that can be read.
+     * Each open place uses up one of the three words of the checksum. With three open places, a wrong word elsewhere isn't always
+     * found, and the answer may be another mnemonic. So compare the answer with all that can be read.
      *
      * Throws a `Refusal` with one of the codes 11 to 18. For `Code.WRONG_WORD` the details are the positions, counted from 1, one of
-     * which is that of the wrong word if just one word is wrong. The second is 0 if there is one.
+     * which is that of the wrong word if just one word is wrong. The second is 0 if there is only one.
      * @param {Text} line
      * @returns {string[]}
      */
     repair(line: Text): string[];
+    /**
+     * Finds mnemonics as `repair` does, and returns the bytes of each. The caller can clear them.
+     * @param {Text} line
+     * @returns {Uint8Array[]}
+     */
+    repairBytes(line: Text): Uint8Array[];
     /**
      * Returns the fingerprint of a secret, by which its owner can recognise the secret without seeing it.
      *

@@ -23,7 +23,7 @@
  * Arguments are copied into the memory of the module. After each call, also after a refusal, everything that the call may have
  * written there is cleared, and so are the copies of the arguments. If a call traps, the whole memory is cleared, and the next
  * call uses a new instance of the module. JavaScript can't clear strings. So if no secret may stay in memory, pass texts as
- * Uint8Array, use `createBytes` and `reissueBytes`, and clear these arrays after use.
+ * Uint8Array, use `createBytes`, `reissueBytes` and `repairBytes`, and clear these arrays after use.
  */
 import { ANSWER_BYTES, Calls, Room, Struct } from "./calls.js";
 import { Copies, copied, flag, known, wholeNumber, withCopies } from "./copies.js";
@@ -55,10 +55,23 @@ const WORDS_BYTES_MAX = 7231;
 const REPAIRED_BYTES_MAX = 1980;
 const FORM_DIGITS = 0;
 const FORM_FINGERPRINTS = 1;
+const FORM_EXPECTED = 2;
 
 const SHARE_BYTES = 10;
 const NUMBER_MAX = 2 ** 32 - 1;
 const MORE = "more after ";
+
+/**
+ * Returns a text that may be left out. For the engine an empty text is one that was left out. So one that was given, and is empty,
+ * becomes a plus sign, which the engine refuses in its place.
+ * @param {Copies} own
+ * @param {Text | undefined} text
+ * @param {string} what
+ */
+function textOrNone(own, text, what) {
+  const copy = own.text(text === undefined ? "" : text, what);
+  return text === undefined || copy.length > 0 ? copy : own.text("+", what);
+}
 
 /** The engine. `load` gives one. */
 export class Engine {
@@ -155,23 +168,25 @@ export class Engine {
    *     const secret = shamir.recover(mnemonics.slice(1), { passphrase: "TREZOR" });
    *
    * Each line is a mnemonic, or a comment, or blank. A comment starts with #, after any spaces, tabs and carriage returns. A
-   * line has at most 1,024 bytes without its line feed, even if it is a comment. A wrong passphrase isn't detected: it gives
-   * another secret.
+   * line has at most 1,024 bytes without its line feed, even if it is a comment.
+   *
+   * If `expect` is given, and the secret has another fingerprint, the call is refused (52). Without `expect` a wrong passphrase
+   * isn't detected: it gives another secret. An empty `expect` is refused (44).
    *
    * The exponent of the mnemonics determines how long the call takes: 10,000 * 2^exponent iterations of PBKDF2, and twice as
    * many for a secret of more than 64 bytes. If no line is refused and the mnemonics have a quorum, an exponent above
    * `maxExponent` is refused before any iteration (3).
    *
-   * Throws a `Refusal` with one of the codes 3, 11 to 30, 41, 51 or 71.
+   * Throws a `Refusal` with one of the codes 3, 11 to 30, 41, 44, 51, 52 or 71.
    * @param {Lines} lines
    * @param {RecoverOptions} [options]
    * @returns {Uint8Array}
    */
   recover(lines, options = {}) {
-    const { passphrase = "", maxExponent = EXPONENT_MAX } = known(options, ["passphrase", "maxExponent"]);
+    const { passphrase = "", maxExponent = EXPONENT_MAX, expect } = known(options, ["passphrase", "maxExponent", "expect"]);
     const most = wholeNumber(maxExponent, "maxExponent", NUMBER_MAX);
     return withCopies((own) => {
-      const given = [own.lines(lines), own.text(passphrase, "the passphrase"), most];
+      const given = [own.lines(lines), own.text(passphrase, "the passphrase"), most, textOrNone(own, expect, "expect")];
       return this.#output("shamir_recover", given, SECRET_BYTES_MAX);
     });
   }
@@ -183,28 +198,29 @@ export class Engine {
    *       console.log(outcome.names, outcome.fingerprint ?? `digest mismatch in ${outcome.mismatch}`);
    *     }
    *
-   * `lines`, `passphrase` and `maxExponent` are as for `recover`. An empty `after` is refused (61). A digest mismatch is no
-   * refusal here. The engine computes the outcomes in parts, which grow while they take less than a tenth of a second.
+   * `lines`, `passphrase` and `maxExponent` are as for `recover`. An empty `after` is refused (61). If `expect` is given, outcomes
+   * say whether their secrets have this fingerprint, and no secret is copied. A digest mismatch and another secret are no refusals
+   * here. The engine computes the outcomes in parts, which grow while they take less than a tenth of a second.
    *
    * The arguments are copied at once. The copies are cleared when the iterator ends or its `return` is called; a `for` loop
    * that is left early calls it. The engine gets the arguments at the first `next`, which then throws any refusal.
    *
-   * Throws a `Refusal` with one of the codes 3, 11 to 30, 41, 61, 62 or 71.
+   * Throws a `Refusal` with one of the codes 3, 11 to 30, 41, 44, 61, 62 or 71.
    * @param {Lines} lines
    * @param {DrillOptions} [options]
    * @returns {Generator<Outcome, void, void>}
    */
   drill(lines, options = {}) {
-    const names = /** @type {(keyof DrillOptions)[]} */ (["passphrase", "maxExponent", "after", "fingerprints"]);
-    const { passphrase = "", maxExponent = EXPONENT_MAX, after, fingerprints = false } = known(options, names);
+    const names = /** @type {(keyof DrillOptions)[]} */ (["passphrase", "maxExponent", "after", "fingerprints", "expect"]);
+    const { passphrase = "", maxExponent = EXPONENT_MAX, after, fingerprints = false, expect } = known(options, names);
     const most = wholeNumber(maxExponent, "maxExponent", NUMBER_MAX);
-    const form = flag(fingerprints, "fingerprints") ? FORM_FINGERPRINTS : FORM_DIGITS;
+    const isOfFingerprints = flag(fingerprints, "fingerprints");
+    if (isOfFingerprints && expect !== undefined) throw new TypeError("fingerprints and expect can't be given together");
+    const form = isOfFingerprints ? FORM_FINGERPRINTS : expect === undefined ? FORM_DIGITS : FORM_EXPECTED;
     const own = new Copies();
     try {
       const given = [own.lines(lines), own.text(passphrase, "the passphrase"), most];
-      const cursor = own.text(after === undefined ? "" : after, "after");
-      // For the engine an empty cursor is the start. An empty `after` isn't: a plus sign, which the engine refuses, takes its place.
-      const outcomes = this.#outcomes(own, given, after === undefined || cursor.length > 0 ? cursor : own.text("+", "after"), form);
+      const outcomes = this.#outcomes(own, given, textOrNone(own, after, "after"), [form, textOrNone(own, expect, "expect")]);
       outcomes.next();
       return /** @type {Generator<Outcome, void, void>} */ (outcomes);
     } catch (error) {
@@ -273,18 +289,27 @@ export class Engine {
    *
    * The line is a list of marks, separated as words are. A word of the word list stands for itself. Letters followed by one `?`
    * stand for every word that begins with them, and `?` alone stands for any word. A place is open if its mark stands for more
-   * than one word. One mnemonic fits, or two if the second word is open.
+   * than one word. At most two mnemonics fit, and two only if the second word is open.
    *
-   * Each open place uses up one of the three words of the checksum. With three open places, a wrong word elsewhere isn't found,
-   * and the answer may be another mnemonic. So compare the answer with all that can be read.
+   * Each open place uses up one of the three words of the checksum. With three open places, a wrong word elsewhere isn't always
+   * found, and the answer may be another mnemonic. So compare the answer with all that can be read.
    *
    * Throws a `Refusal` with one of the codes 11 to 18. For `Code.WRONG_WORD` the details are the positions, counted from 1, one of
-   * which is that of the wrong word if just one word is wrong. The second is 0 if there is one.
+   * which is that of the wrong word if just one word is wrong. The second is 0 if there is only one.
    * @param {Text} line
    * @returns {string[]}
    */
   repair(line) {
-    return withCopies((own) => this.#lines("shamir_repair", [own.text(line, "the line")], REPAIRED_BYTES_MAX).map(taken));
+    return this.repairBytes(line).map(taken);
+  }
+
+  /**
+   * Finds mnemonics as `repair` does, and returns the bytes of each. The caller can clear them.
+   * @param {Text} line
+   * @returns {Uint8Array[]}
+   */
+  repairBytes(line) {
+    return withCopies((own) => this.#lines("shamir_repair", [own.text(line, "the line")], REPAIRED_BYTES_MAX));
   }
 
   /**
@@ -351,7 +376,7 @@ export class Engine {
    * @param {Copies} own
    * @param {import("./calls.js").Part[]} given
    * @param {Uint8Array} cursor
-   * @param {number} form
+   * @param {[number, Uint8Array]} form The form of the listing, and the expected fingerprint.
    * @returns {Generator<Outcome | undefined, void, void>}
    */
   *#outcomes(own, given, cursor, form) {
@@ -360,10 +385,10 @@ export class Engine {
       let room = FIRST_ROOM;
       for (let last = MORE; last.startsWith(MORE); cursor = own.text(last.slice(MORE.length), "the cursor")) {
         const start = Date.now();
-        const { output, second } = this.#checked("shamir_drill", [...given, cursor, NUMBER_MAX, form, new Room(room)]);
+        const { output, second } = this.#checked("shamir_drill", [...given, cursor, NUMBER_MAX, ...form, new Room(room)]);
         room = nextRoom(room, Date.now() - start);
         own.keep(output);
-        for (const line of linesOf(output.subarray(0, second))) yield outcome(line, form === FORM_FINGERPRINTS);
+        for (const line of linesOf(output.subarray(0, second))) yield outcome(line, form[0] === FORM_FINGERPRINTS);
         last = decoded(output.subarray(second, -1));
         own.release(output);
       }

@@ -26,14 +26,16 @@ export interface Share {
   value: Uint8Array;
 }
 
-/** What one quorum of a drill recovers. Two of `secret`, `fingerprint` and `mismatch` are null. */
+/** What one quorum of a drill recovers. One of `secret`, `fingerprint`, `expected` and `mismatch` isn't null. */
 export interface Outcome {
   /** The names of its mnemonics, such as `0.0+0.2+1.0`. */
   names: string;
-  /** The secret that it recovers, unless the drill gives fingerprints. */
+  /** The secret that it recovers, unless the drill gives fingerprints or compares them. */
   secret: Uint8Array | null;
   /** The fingerprint of the secret that it recovers, if the drill gives fingerprints. */
   fingerprint: string | null;
+  /** Whether the secret that it recovers has the expected fingerprint, if the drill compares fingerprints. */
+  expected: boolean | null;
   /** The lowest group whose digest doesn't match, or `OF_GROUPS` for the digest of the group shares. */
   mismatch: number | null;
 }
@@ -76,11 +78,13 @@ export interface RecoverOptions {
   passphrase?: Text | undefined;
   /** A greater exponent of the mnemonics is refused (3). If it is left out, every exponent is taken. */
   maxExponent?: number | undefined;
+  /** The fingerprint that the secret should have: eight hexadecimal digits. If it is left out, nothing is compared. */
+  expect?: Text | undefined;
 }
 
 export interface DrillOptions extends RecoverOptions {
   /** The names of a quorum. The drill starts with the next one. If it is left out, the drill starts with the first. */
   after?: Text | undefined;
-  /** Whether outcomes have fingerprints instead of secrets. If it is left out, they have secrets. */
+  /** Whether outcomes have fingerprints instead of secrets. If it is left out, they have secrets. It can't stand with `expect`. */
   fingerprints?: boolean | undefined;
 }

@@ -31,6 +31,7 @@ else:
 HERE = pathlib.Path(__file__).resolve().parent
 NEEDED = {
     "shamir/libshamir.so": "the package is nothing without its library: `make lib` at the top of the repository puts it there",
+    "shamir/papers/texts.js": "shamir-papers says what stands in it: copy it from page/ at the top of the repository",
     "NOTICE": "it goes with every copy of the library: copy it from the top of the repository",
 }
 

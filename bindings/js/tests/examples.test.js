@@ -52,6 +52,15 @@ test("recover", () => {
   assert.notDeepEqual(shamir.recover(FIVE), SECRET);
 });
 
+test("recover, compared with the fingerprint that is expected", () => {
+  for (const expect of ["df41d8fe", "DF41D8fe", bytesOf("df41d8fe"), undefined]) {
+    assert.deepEqual(shamir.recover(FIVE, { ...KEY, expect }), SECRET);
+  }
+  for (const [passphrase, expect] of [["TREZOr", "df41d8fe"], ["TREZOR", "df41d8ff"]]) {
+    assert.throws(() => shamir.recover(FIVE, { passphrase, expect }), { code: 52, line: null, details: [0, 0], text: "other secret" });
+  }
+});
+
 test("texts, lists and bytes are the same lines", () => {
   const ended = FIVE.map((line) => `${line}\n`);
   const forms = [FIVE.join("\n"), ended.join(""), bytesOf(FIVE.join("\n")), ended, FIVE.map(bytesOf), new Set(FIVE), FIVE.values()];
@@ -61,19 +70,32 @@ test("texts, lists and bytes are the same lines", () => {
 });
 
 test("drill", () => {
-  const outcomes = FIVE_QUORUMS.map((names) => ({ names, secret: SECRET, fingerprint: null, mismatch: null }));
+  const outcomes = FIVE_QUORUMS.map((names) => ({ names, secret: SECRET, fingerprint: null, expected: null, mismatch: null }));
   assert.deepEqual([...shamir.drill(FIVE, KEY)], outcomes);
   assert.deepEqual([...shamir.drill(FIVE.slice().reverse(), { ...KEY, after: FIVE_QUORUMS[4] })], outcomes.slice(5));
   assert.deepEqual([...shamir.drill(FIVE, { ...KEY, after: bytesOf(FIVE_QUORUMS[6]) })], []);
-  const fingerprints = FIVE_QUORUMS.map((names) => ({ names, secret: null, fingerprint: "df41d8fe", mismatch: null }));
+  const fingerprints = outcomes.map((outcome) => ({ ...outcome, secret: null, fingerprint: "df41d8fe" }));
   assert.deepEqual([...shamir.drill(FIVE, { ...KEY, fingerprints: true })], fingerprints);
 });
 
+test("drill, compared with the fingerprint that is expected", () => {
+  for (const [expect, passphrase, expected] of [
+    ["df41d8fe", "TREZOR", true],
+    [bytesOf("DF41D8FE"), "TREZOR", true],
+    ["df41d8fe", "TREZOr", false],
+    ["ef41d8fe", "TREZOR", false],
+  ]) {
+    const outcomes = FIVE_QUORUMS.map((names) => ({ names, secret: null, fingerprint: null, expected, mismatch: null }));
+    assert.deepEqual([...shamir.drill(FIVE, { expect, passphrase })], outcomes);
+    assert.deepEqual([...shamir.drill(FIVE, { expect, passphrase, fingerprints: false, after: FIVE_QUORUMS[2] })], outcomes.slice(3));
+  }
+});
+
 test("drill, digests that don't match", () => {
-  for (const fingerprints of [false, true]) {
-    const [one, two] = [MISMATCHED, MISMATCHED_GROUPS].map((lines) => [...shamir.drill(lines, { fingerprints })]);
-    assert.deepEqual(one, [{ names: "0.0+0.1", secret: null, fingerprint: null, mismatch: 0 }]);
-    assert.deepEqual(two, [{ names: "0.0+1.0", secret: null, fingerprint: null, mismatch: OF_GROUPS }]);
+  for (const form of [{}, { fingerprints: true }, { expect: "df41d8fe" }]) {
+    const [one, two] = [MISMATCHED, MISMATCHED_GROUPS].map((lines) => [...shamir.drill(lines, form)]);
+    assert.deepEqual(one, [{ names: "0.0+0.1", secret: null, fingerprint: null, expected: null, mismatch: 0 }]);
+    assert.deepEqual(two, [{ names: "0.0+1.0", secret: null, fingerprint: null, expected: null, mismatch: OF_GROUPS }]);
   }
 });
 
@@ -140,7 +162,7 @@ test("repair", () => {
   const at = (marks, from) => [...words.slice(0, from - 1), ...marks, ...words.slice(from - 1 + marks.length)].join(" ");
   for (const line of [ONE, ONE.toUpperCase(), at(["?"], 5), at(["?", "?", "?"], 18), words.map((word) => `${word.slice(0, 4)}?`).join(" ")]) {
     assert.deepEqual(shamir.repair(line), [ONE]);
-    assert.deepEqual(shamir.repair(bytesOf(line)), [ONE]);
+    assert.deepEqual(shamir.repairBytes(bytesOf(line)), [bytesOf(ONE)]);
   }
   assert.deepEqual(shamir.repair(at(["?", "?", "?"], 1)), [ONE, at(["therapy", "heat", "device"], 1)]);
   for (const [line, code, details] of /** @type {[string, number, number[]][]} */ ([

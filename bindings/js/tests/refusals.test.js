@@ -63,9 +63,17 @@ const REFUSALS = [
   [42, null, [2 ** 53 - 1, 0], "secret of 9007199254740991 bytes", () => shamir.randomNeeded(PLAN, 2 ** 53 - 1)],
   [43, null, [26, 0], "random bytes: 26 needed", () => shamir.create(PLAN, SECRET, none)],
   [43, null, [26, 0], "random bytes: 26 needed", () => shamir.create(PLAN, SECRET, { random: counting(27) })],
+  [44, null, [0, 0], "bad fingerprint", () => shamir.recover("x", { expect: "df41d8f", passphrase: "a\x07" })],
+  [44, null, [0, 0], "bad fingerprint", () => shamir.recover(FIVE, { expect: "df41d8fe0" })],
+  [44, null, [0, 0], "bad fingerprint", () => shamir.recover(FIVE, { expect: "" })],
+  [44, null, [0, 0], "bad fingerprint", () => drill("x", { expect: "df41d8fg", passphrase: "a\x07" })],
+  [44, null, [0, 0], "bad fingerprint", () => drill(FIVE, { expect: counting(0) })],
   [51, null, [0, 0], "digest mismatch in group 0", () => shamir.recover(MISMATCHED)],
+  [51, null, [0, 0], "digest mismatch in group 0", () => shamir.recover(MISMATCHED, { expect: "df41d8fe" })],
   [51, null, [OF_GROUPS, 0], "digest mismatch of groups", () => shamir.recover(MISMATCHED_GROUPS)],
   [51, null, [0, 0], "digest mismatch in group 0", () => shamir.reissue("2of3", "0.2", MISMATCHED)],
+  [52, null, [0, 0], "other secret", () => shamir.recover(ONE, { expect: "df41d8fe" })],
+  [61, null, [0, 0], "bad cursor", () => drill(FIVE, { after: "0.1+", expect: "x" })],
   [61, null, [0, 0], "bad cursor", () => drill(FIVE, { after: "0.1+" })],
   [61, null, [0, 0], "bad cursor", () => drill(FIVE, { after: "" })],
   [61, null, [0, 0], "bad cursor", () => drill(FIVE, { after: counting(0) })],
@@ -105,7 +113,7 @@ test("the codes and numbers are those of the header", () => {
   const source = file("bindings/js/shamir.js").toString();
   const numbers = new Map(Array.from(header.matchAll(/^#define SHAMIR_(\w+) (\d+)$/gm), ([, name, number]) => [name, Number(number)]));
   const own = Array.from(source.matchAll(/^const (\w+_BYTES_MAX|FORM_\w+) = (\d+);$/gm), ([, name, number]) => [name, Number(number)]);
-  assert.equal(own.length, 9);
+  assert.equal(own.length, 10);
   for (const [name, number] of [...own, ["EXPONENT_MAX", EXPONENT_MAX], ["OF_GROUPS", OF_GROUPS]]) assert.equal(numbers.get(name), number);
 });
 

@@ -62,6 +62,10 @@ test("wrong types are TypeErrors", () => {
     () => shamir.randomNeeded(PLAN, "16"),
     () => shamir.randomNeeded(PLAN),
     () => shamir.recover(ONE, { maxExponent: "15" }),
+    () => shamir.recover(FIVE, { expect: 0xdf41d8fe }),
+    () => shamir.recover(FIVE, { expect: null }),
+    () => shamir.drill(FIVE, { expect: null }),
+    () => shamir.drill(FIVE, { expect: "df41d8fe", fingerprints: true }),
     () => shamir.drill(FIVE, { after: 0 }),
     () => shamir.drill(FIVE, { after: null }),
     () => shamir.drill(FIVE, { fingerprints: 1 }),
@@ -119,6 +123,8 @@ test("a string that UTF-8 can't encode is a RangeError", () => {
       () => shamir.create(text, SECRET),
       () => shamir.words(text),
       () => shamir.drill(FIVE, { after: text }),
+      () => shamir.recover(FIVE, { expect: text }),
+      () => shamir.drill(FIVE, { expect: text }),
     ]) {
       assert.throws(call, (error) => error instanceof RangeError && !error.message.includes("TREZOR"), call.toString());
     }

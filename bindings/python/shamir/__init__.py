@@ -70,9 +70,10 @@ EXPONENT_MAX = 15
 # shares, to which the members of the groups combine.
 OF_GROUPS = 16
 
-# The forms in which a drill tells secrets: their digits, or their fingerprints.
+# The forms in which a drill tells secrets: their digits, their fingerprints, or whether one is expected.
 FORM_DIGITS = 0
 FORM_FINGERPRINTS = 1
+FORM_EXPECTED = 2
 
 DRILL_ROOM = 1 << 16
 LIMIT_MAX = (1 << 32) - 1
@@ -114,7 +115,9 @@ class Code(enum.IntEnum):
     PASSPHRASE = 41
     SECRET_LENGTH = 42
     RANDOM_LENGTH = 43
+    BAD_FINGERPRINT = 44
     DIGEST_MISMATCH = 51
+    OTHER_SECRET = 52
     BAD_CURSOR = 61
     NOT_A_QUORUM = 62
     BAD_NAMES = 63
@@ -184,8 +187,8 @@ def _declared(library: ctypes.CDLL) -> ctypes.CDLL:
         ("shamir_parse", _SLICE + [ctypes.POINTER(_Share)] + _ROOM),
         ("shamir_random_needed", _SLICE + [ctypes.c_size_t]),
         ("shamir_create", _SLICE * 3 + [ctypes.c_uint32] * 2 + _SLICE + _ROOM),
-        ("shamir_recover", _SLICE * 2 + [ctypes.c_uint32] + _ROOM),
-        ("shamir_drill", _SLICE * 2 + [ctypes.c_uint32] + _SLICE + [ctypes.c_uint32] * 2 + _ROOM),
+        ("shamir_recover", _SLICE * 2 + [ctypes.c_uint32] + _SLICE + _ROOM),
+        ("shamir_drill", _SLICE * 2 + [ctypes.c_uint32] + _SLICE + [ctypes.c_uint32] * 2 + _SLICE + _ROOM),
         ("shamir_status", _SLICE + _ROOM),
         ("shamir_reissue", _SLICE * 3 + _ROOM),
         ("shamir_repair", _SLICE + _ROOM),
@@ -243,16 +246,17 @@ class Outcome:
     """What one quorum of a drill recovers.
 
     `names` are the names of its mnemonics, such as `0.0+0.2+1.0`, and `secret` is what it recovers. In a drill that is
-    asked for fingerprints, `fingerprint` is the fingerprint of the secret, and `secret` is None. In any other drill
-    `fingerprint` is None. If a digest doesn't match, both are None, and `mismatch` is the lowest group whose digest doesn't
-    match, or OF_GROUPS for the digest of the group shares. Otherwise `mismatch` is None. The repr leaves out the secret
-    and the fingerprint.
+    asked for fingerprints, `fingerprint` is the fingerprint of the secret, and `secret` is None. In a drill that expects a
+    fingerprint, `expected` says whether the secret has it, and `secret` is None. In other drills these two are None. If a digest
+    doesn't match, all three are None, and `mismatch` is the lowest group whose digest doesn't match, or OF_GROUPS for the digest
+    of the group shares. Otherwise `mismatch` is None. The repr leaves out the secret and the fingerprint.
     """
 
     names: str
     secret: Optional[bytes] = field(repr=False)
     mismatch: Optional[int] = None
     fingerprint: Optional[str] = field(default=None, repr=False)
+    expected: Optional[bool] = None
 
 
 @dataclass(frozen=True)
@@ -434,7 +438,18 @@ def _random_for(plan: bytes, secret_bytes: int) -> bytes:
     return b"" if needed.code else os.urandom(needed.first)
 
 
-def recover(lines: Lines, *, passphrase: Text = b"", max_exponent: int = EXPONENT_MAX) -> bytes:
+def _expected(expect: Optional[Text]) -> bytes:
+    """Return the digits of a fingerprint, or nothing for None.
+
+    For the library no digits mean that nothing is compared. An empty `expect` isn't a fingerprint here: a hyphen, which the
+    library refuses, takes its place.
+    """
+    return b"" if expect is None else _bytes(expect) or b"-"
+
+
+def recover(
+    lines: Lines, *, passphrase: Text = b"", max_exponent: int = EXPONENT_MAX, expect: Optional[Text] = None
+) -> bytes:
     """Recover the secret from the first quorum of mnemonics, in the order of `drill`.
 
     The call doesn't try mnemonics beyond that quorum.
@@ -442,20 +457,29 @@ def recover(lines: Lines, *, passphrase: Text = b"", max_exponent: int = EXPONEN
     `lines` is one text of lines, or an iterable of lines. Each line is a mnemonic, or a comment, or blank. A comment
     starts with #, after any spaces, tabs and carriage returns. A line has at most 1,024 bytes without its line feed,
     even if it is a comment. A line of an iterable may end with a line feed; another line feed in it raises ValueError.
-    A wrong passphrase isn't detected: it gives another secret.
+
+    `expect` is the fingerprint that the secret should have: eight hexadecimal digits, in lower or upper case. A secret with
+    another fingerprint is refused (52). If `expect` is None, a wrong passphrase isn't detected: it gives another secret.
 
     The exponent of the mnemonics determines how long the call takes: 10,000 * 2^exponent iterations of PBKDF2, and
     twice as many for a secret of more than 64 bytes. With the exponent 15 these take minutes. If no line is refused and
     the mnemonics have a quorum, an exponent above `max_exponent` is refused before any iteration (3).
 
-    Raises `Refusal` with one of the codes 3, 11 to 30, 41, 51 or 71.
+    Raises `Refusal` with one of the codes 3, 11 to 30, 41, 44, 51, 52 or 71.
     """
-    given = _slice(_joined(lines)) + _slice(_bytes(passphrase)) + (_number(max_exponent, ctypes.c_uint32),)
+    options = _slice(_bytes(passphrase)) + (_number(max_exponent, ctypes.c_uint32),) + _slice(_expected(expect))
+    given = _slice(_joined(lines)) + options
     return _filled(lambda out, room: _library.shamir_recover(*given, out, room), SECRET_BYTES_MAX)
 
 
 def drill(
-    lines: Lines, *, passphrase: Text = b"", after: Optional[Text] = None, max_exponent: int = EXPONENT_MAX, fingerprints: bool = False
+    lines: Lines,
+    *,
+    passphrase: Text = b"",
+    after: Optional[Text] = None,
+    max_exponent: int = EXPONENT_MAX,
+    fingerprints: bool = False,
+    expect: Optional[Text] = None,
 ) -> Generator[Outcome, None, None]:
     """Yield what each quorum of mnemonics recovers, in ascending order of their names.
 
@@ -470,39 +494,49 @@ def drill(
     computes the outcomes in parts. Each part has as many outcomes as fit into 64 KiB of output.
 
     With `fingerprints=True`, each outcome has the fingerprint of the secret in place of the secret, and no secret leaves the
-    library. So a check of mnemonics needs no copy of the secret.
+    library. So a check of mnemonics needs no copy of the secret. With `expect`, which is as for `recover`, each outcome says
+    whether the secret has this fingerprint, in `expected`, and no secret leaves the library either. Both together raise
+    ValueError.
 
     A digest mismatch is no refusal here. The generator looks at its arguments only at the first `next`, which then
     raises any refusal.
 
-    Raises `Refusal` with one of the codes 3, 11 to 30, 41, 61, 62 or 71.
+    Raises `Refusal` with one of the codes 3, 11 to 30, 41, 44, 61, 62 or 71.
     """
     data = _joined(lines)
     options = _slice(_bytes(passphrase)) + (_number(max_exponent, ctypes.c_uint32),)
-    form = FORM_FINGERPRINTS if _flag(fingerprints) else FORM_DIGITS
+    form = _form(fingerprints, expect)
     # For the library an empty cursor is the start. An empty `after` isn't a cursor here: a plus sign, which the library
     # refuses as a cursor, takes its place.
     cursor = b"" if after is None else _bytes(after) or b"+"
     while True:
-        given = _slice(data) + options + _slice(cursor) + (LIMIT_MAX, form)
+        given = _slice(data) + options + _slice(cursor) + (LIMIT_MAX, form) + _slice(_expected(expect))
         text, answer = _answered(lambda out, room: _library.shamir_drill(*given, out, room), DRILL_ROOM)
         # The answer says where the last line begins.
         listed, last = text[: answer.second], text[answer.second :].rstrip(b"\n")
-        yield from (_outcome(line, fingerprints) for line in listed.splitlines())
+        yield from (_outcome(line, form) for line in listed.splitlines())
         if not last.startswith(MORE):
             return
         cursor = last[len(MORE) :]
 
 
-def _outcome(line: bytes, fingerprints: bool) -> Outcome:
+def _form(fingerprints: bool, expect: Optional[Text]) -> int:
+    if _flag(fingerprints) and expect is not None:
+        raise ValueError("expect and fingerprints can't be given together")
+    return FORM_FINGERPRINTS if fingerprints else FORM_DIGITS if expect is None else FORM_EXPECTED
+
+
+def _outcome(line: bytes, form: int) -> Outcome:
     """Read a line of a drill.
 
-    After the names it has the digits of the secret or its fingerprint, or several words, the last of which is a group or
-    `groups`.
+    After the names it has the digits of the secret or its fingerprint, or `as expected`, or `other secret`, or more words, the
+    last of which is a group or `groups`.
     """
     names, *found = line.decode().split(" ")
     if len(found) == 1:
-        return Outcome(names, None, fingerprint=found[0]) if fingerprints else Outcome(names, bytes.fromhex(found[0]))
+        return Outcome(names, None, fingerprint=found[0]) if form == FORM_FINGERPRINTS else Outcome(names, bytes.fromhex(found[0]))
+    if len(found) == 2:
+        return Outcome(names, None, expected=found == ["as", "expected"])
     return Outcome(names, None, OF_GROUPS if found[-1] == "groups" else int(found[-1]))
 
 
@@ -557,13 +591,13 @@ def repair(line: Text) -> List[str]:
 
     The line is a list of marks, separated as words are. A word of the word list stands for itself. Letters followed by
     one `?` stand for every word that begins with them, and `?` alone stands for any word. A place is open if its mark
-    stands for more than one word. One mnemonic fits, or two if the second word is open.
+    stands for more than one word. At most two mnemonics fit, and two only if the second word is open.
 
     Each open place uses up one of the three words of the checksum. With three open places, a wrong word elsewhere isn't
-    found, and the answer may be another mnemonic. So compare the answer with all that can be read.
+    always found, and the answer may be another mnemonic. So compare the answer with all that can be read.
 
     Raises `Refusal` with one of the codes 11 to 18. For Code.WRONG_WORD the details are the positions, counted from 1,
-    one of which is that of the wrong word if just one word is wrong. The second is 0 if there is one.
+    one of which is that of the wrong word if just one word is wrong. The second is 0 if there is only one.
     """
     given = _slice(_bytes(line))
     return _filled(lambda out, room: _library.shamir_repair(*given, out, room), REPAIRED_BYTES_MAX).decode().splitlines()

@@ -44,6 +44,13 @@ MISMATCHED_GROUPS = [
     "academic academic acrobat easy disease prepare husky home result arcade lunar cover shame email oven tension nylon lawsuit smear antenna",
     "academic academic beard easy dragon mineral broken simple lips custody flame cylinder ending prune party scout beaver presence thank adapt",
 ]
+# Members 0 and 2 of group 0 and member 0 of group 1 of the backup of FIVE, each with another first byte of its value. Another
+# program made them.
+FORGED = [
+    "academic aluminum acrobat leaf civil drink heat negative damage union purchase photo inmate training amazing yield bucket lend glance junk",
+    "academic aluminum acrobat lungs alcohol behavior mobile ting perfect ultimate weapon join paper involve clinic acrobat jerky pencil username device",
+    "academic aluminum beard leader campus elite grant group club deploy increase divorce puny cylinder romp frequent crush reward rich email",
+]
 # This would be member 3 of group 0 of the backup of FIVE, if PLAN gave that group four members. Another program made it.
 FOURTH = "academic aluminum acrobat marathon crisis luxury step activity teammate unfair fumes endorse always ranked alto problem mailman ounce teacher bumpy"
 # With these random bytes, 2of3 gives the two mnemonics of TWO in reverse order, and one between them.
@@ -170,9 +177,40 @@ class WorkedExamples(unittest.TestCase):
         self.assertEqual(list(shamir.drill(FIVE, passphrase="TREZOR", after=names[4], fingerprints=True)), listed[5:])
         self.assertEqual(list(shamir.drill(MISMATCHED, fingerprints=True)), list(shamir.drill(MISMATCHED)))
         self.assertEqual(list(shamir.drill(FIVE, passphrase="TREZOR", fingerprints=False))[0], shamir.Outcome(names[0], SECRET))
-        self.assertEqual(repr(listed[6]), "Outcome(names='1.0+2.0', mismatch=None)")
+        self.assertEqual(repr(listed[6]), "Outcome(names='1.0+2.0', mismatch=None, expected=None)")
         for flag in (1, "yes", None):
             self.assertRaises(TypeError, next, shamir.drill(FIVE, fingerprints=flag))
+
+    def test_expected(self):
+        """With the fingerprint that the secret should have, `recover` refuses another secret, and a drill says what it finds."""
+        for noted in ["df41d8fe", "DF41D8FE", "Df41d8fE", b"df41d8fe", OddText("df41d8fe"), None]:
+            self.assertEqual(shamir.recover(FIVE, passphrase="TREZOR", expect=noted), SECRET)
+        for noted, key in [("df41d8ff", "TREZOR"), ("cf41d8fe", "TREZOR"), ("df41d8fe", "trezor"), ("df41d8fe", "")]:
+            self.refused(52, None, (0, 0), shamir.recover, FIVE, passphrase=key, expect=noted)
+            self.assertEqual([outcome.expected for outcome in shamir.drill(FIVE, passphrase=key, expect=noted)], [False] * 7)
+        names = [outcome.names for outcome in shamir.drill(FIVE)]
+        listed = [shamir.Outcome(it, None, expected=True) for it in names]
+        for room in [47, 70, 120, 1 << 16]:
+            with mock.patch.object(shamir, "DRILL_ROOM", room):
+                self.assertEqual(list(shamir.drill(FIVE, passphrase="TREZOR", expect="DF41D8FE")), listed)
+        self.assertEqual(list(shamir.drill(FIVE, passphrase="TREZOR", after=names[4], expect="df41d8fe")), listed[5:])
+        self.assertEqual(list(shamir.drill(MISMATCHED, expect="df41d8fe")), list(shamir.drill(MISMATCHED)))
+        self.assertEqual(repr(listed[6]), "Outcome(names='1.0+2.0', mismatch=None, expected=True)")
+
+    def test_bad_fingerprints(self):
+        """A text that isn't eight hexadecimal digits is refused before a passphrase and mnemonics, and after a cursor."""
+        for noted in ["df41d8f", "df41d8fe0", "df41d8fg", "", " f41d8fe", "0x41d8fe", "df41d8fe\n", b"", b"\xff" * 8, OddText()]:
+            self.refused(44, None, (0, 0), shamir.recover, "x", passphrase="a\x07", expect=noted)
+            self.refused(44, None, (0, 0), next, shamir.drill("x", passphrase="a\x07", expect=noted))
+            self.refused(61, None, (0, 0), next, shamir.drill("x", passphrase="a\x07", after="0.1+", expect=noted))
+            self.refused(3, None, (2, 0), shamir.recover, TWO, max_exponent=1, expect=noted)
+        self.refused(41, None, (2, 0), shamir.recover, "x", passphrase="a\x07", expect="df41d8fe")
+        for other in [3745634558, ["df41d8fe"]]:
+            self.assertRaises(TypeError, shamir.recover, FIVE, expect=other)
+            self.assertRaises(TypeError, next, shamir.drill(FIVE, expect=other))
+        for noted in ["df41d8fe", ""]:
+            with self.assertRaisesRegex(ValueError, "^expect and fingerprints can't be given together$"):
+                next(shamir.drill(FIVE, fingerprints=True, expect=noted))
 
     def test_no_secret_leaves(self):
         """A drill that is asked for fingerprints, and the check of the cuts, ask the library for no digits of a secret."""
@@ -181,19 +219,20 @@ class WorkedExamples(unittest.TestCase):
         with mock.patch.object(shamir._library, "shamir_drill", wraps=shamir._library.shamir_drill) as calls:
             list(shamir.drill(FIVE, passphrase="TREZOR", fingerprints=True))
             cuts.quorums("\n".join(FIVE).encode())
-        self.assertEqual({call.args[8] for call in calls.call_args_list}, {1})
+            list(shamir.drill(FIVE, passphrase="TREZOR", expect="df41d8fe"))
+        self.assertEqual([call.args[8] for call in calls.call_args_list], [1, 1, 2])
 
     def test_forms(self):
         """A drill refuses a form that it doesn't have as it refuses a limit of 0. Its answer counts the quorums, and says where the
         last line begins."""
         text, room = "\n".join(FIVE).encode(), ctypes.create_string_buffer(1024)
         drill = shamir._library.shamir_drill
-        for limit, form in [(1, 2), (0, 0), (0, 2), (1, 2**32 - 1)]:
-            answer = drill(text, len(text), b"a\x07", 2, 15, b"0.1+", 4, limit, form, room, 1024)
+        for limit, form in [(1, 3), (0, 0), (0, 2), (1, 2**32 - 1)]:
+            answer = drill(text, len(text), b"a\x07", 2, 15, b"0.1+", 4, limit, form, b"x", 1, room, 1024)
             self.assertEqual((answer.code, answer.first, answer.second, room.raw), (2, 0, 0, bytes(1024)))
-        for form, line in [(0, 45), (1, 21)]:
+        for form, line in [(0, 45), (1, 21), (2, 24)]:
             for limit, last in [(1, b"more after 0.0+0.1+1.0\n"), (4, b"more after 0.0+0.2+2.0\n"), (9, b"end\n")]:
-                answer = drill(text, len(text), b"TREZOR", 6, 15, None, 0, limit, form, room, 1024)
+                answer = drill(text, len(text), b"TREZOR", 6, 15, None, 0, limit, form, b"df41d8fe", 8, room, 1024)
                 count = min(limit, 7)
                 offset = count * line - (4 if count == 7 else 0)
                 self.assertEqual((answer.code, answer.first, answer.second), (0, count, offset))
@@ -269,6 +308,8 @@ class WorkedExamples(unittest.TestCase):
         self.refused(11, 1, (1, 0), shamir.reissue, PLAN, "0.0", "x")
         self.refused(29, None, (0, 0), shamir.reissue, PLAN, "0.0", "")
         self.refused(51, None, (0, 0), shamir.reissue, "2of3", "0.2", MISMATCHED)
+        self.refused(51, None, (0, 0), shamir.reissue, PLAN, "2.0", [*FORGED[:2], FIVE[3]])
+        self.refused(51, None, (16, 0), shamir.reissue, PLAN, "2.0", [*FIVE[:2], FORGED[2]])
         with self.assertRaisesRegex(shamir.Refusal, "^66 cannot tell 0.1: 1 of 2 members, 1 of 2 other groups$"):
             shamir.reissue(PLAN, "0.1", [FIVE[0], FIVE[3]])
 
@@ -325,13 +366,14 @@ class WorkedExamples(unittest.TestCase):
         calls = [
             (16, lambda *room: library.shamir_parse(one, len(one), shamir._Share(), *room)),
             (715, lambda *room: library.shamir_create(PLAN.encode(), 16, SECRET, 16, *key, 0, 0, bytes(range(26)), 26, *room)),
-            (16, lambda *room: library.shamir_recover(text, len(text), *key, 0, *room)),
+            (16, lambda *room: library.shamir_recover(text, len(text), *key, 0, b"df41d8fe", 8, *room)),
             (41, lambda *room: library.shamir_status(one, len(one), *room)),
             (144, lambda *room: library.shamir_reissue(PLAN.encode(), 16, b"0.1", 3, text, len(text), *room)),
             (len(one) + 1, lambda *room: library.shamir_repair(one, len(one), *room)),
             (8, lambda *room: library.shamir_fingerprint(SECRET, 16, *room)),
-            (68, lambda *room: library.shamir_drill(text, len(text), *key, 0, None, 0, 1, 0, *room)),
-            (44, lambda *room: library.shamir_drill(text, len(text), *key, 0, None, 0, 1, 1, *room)),
+            (68, lambda *room: library.shamir_drill(text, len(text), *key, 0, None, 0, 1, 0, None, 0, *room)),
+            (44, lambda *room: library.shamir_drill(text, len(text), *key, 0, None, 0, 1, 1, None, 0, *room)),
+            (47, lambda *room: library.shamir_drill(text, len(text), *key, 0, None, 0, 1, 2, b"df41d8fe", 8, *room)),
             (shamir.WORDS_BYTES_MAX, lambda *room: library.shamir_words(None, 0, *room)),
             (9, lambda *room: library.shamir_words(b"aca", 3, *room)),
             (5, library.shamir_version),
@@ -397,6 +439,8 @@ class WorkedExamples(unittest.TestCase):
                 lambda: shamir.recover([ONE, gone]),
                 lambda: shamir.parse(gone),
                 lambda: next(shamir.drill(ONE, after=gone)),
+                lambda: shamir.recover(ONE, expect=gone),
+                lambda: next(shamir.drill(ONE, expect=gone)),
             ]:
                 self.assertRaises(ValueError, call)
 
@@ -522,7 +566,7 @@ class WorkedExamples(unittest.TestCase):
         [sound], [unsound] = shamir.drill(TWO, passphrase="TREZOR"), shamir.drill(MISMATCHED)
         self.assertEqual((sound.names, len(sound.secret), sound.mismatch), ("0.0+0.2", 16, None))
         self.assertEqual((unsound.names, unsound.secret, unsound.mismatch), ("0.0+0.1", None, 0))
-        self.assertEqual(repr(sound), "Outcome(names='0.0+0.2', mismatch=None)")
+        self.assertEqual(repr(sound), "Outcome(names='0.0+0.2', mismatch=None, expected=None)")
 
     def test_after(self):
         """With `after=None`, a drill starts at the first quorum. An empty text is a bad cursor."""
@@ -587,17 +631,18 @@ class WorkedExamples(unittest.TestCase):
     def test_sizes(self):
         sizes = dict(re.findall(r"^#define SHAMIR_(\w+) (\d+)$", HEADER.read_text(), re.MULTILINE))
         names = ["SECRET_BYTES_MAX", "MNEMONICS_BYTES_MAX", "STATUS_BYTES_MAX", "FINGERPRINT_BYTES_MAX", "WORDS_BYTES_MAX", "TEXT_BYTES_MAX"]
-        for name in [*names, "EXPONENT_MAX", "FORM_DIGITS", "FORM_FINGERPRINTS"]:
+        for name in [*names, "EXPONENT_MAX", "FORM_DIGITS", "FORM_FINGERPRINTS", "FORM_EXPECTED"]:
             self.assertEqual(getattr(shamir, name), int(sizes[name]))
         self.assertEqual(ctypes.sizeof(shamir._Answer), 40)
 
     def test_null(self):
         library = shamir._library
-        self.assertEqual(library.shamir_recover(None, 0, None, 0, 0, None, 0).code, 29)
+        self.assertEqual(library.shamir_recover(None, 0, None, 0, 0, None, 0, None, 0).code, 29)
         self.assertEqual(library.shamir_version(None, 0).first, 5)
         self.assertEqual(library.shamir_random_needed(None, 0, 16).code, 31)
         self.assertEqual(library.shamir_parse(None, 0, shamir._Share(), None, 0).code, 12)
-        self.assertEqual(library.shamir_drill(None, 0, None, 0, 0, None, 0, 1, 0, None, 0).code, 29)
+        self.assertEqual(library.shamir_drill(None, 0, None, 0, 0, None, 0, 1, 0, None, 0, None, 0).code, 29)
+        self.assertEqual(library.shamir_drill(None, 0, None, 0, 0, None, 0, 1, 2, None, 0, None, 0).code, 44)
         self.assertEqual(library.shamir_words(None, 0, None, 0).first, shamir.WORDS_BYTES_MAX)
         self.assertEqual(library.shamir_words(b"x", 1, None, 0).code, 0)
         self.assertEqual(library.shamir_status(None, 0, None, 0).code, 29)

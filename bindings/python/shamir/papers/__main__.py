@@ -1,0 +1,141 @@
+"""The command `shamir-papers`."""
+from __future__ import annotations
+
+import argparse
+import os
+import signal
+import sys
+from typing import Callable, Dict, List, NoReturn, Optional, Tuple
+
+from shamir.papers import safety
+from shamir.papers.check import check_papers
+from shamir.papers.desk import Desk
+from shamir.papers.new import make_backup
+from shamir.papers.recover import recover_secret
+from shamir.papers.repair import read_damaged
+from shamir.papers.replace import replace_paper
+from shamir.papers.screen import Screen
+from shamir.papers.terminal import Ended, Terminal
+from shamir.papers.texts import say
+
+import shamir
+
+# The tasks, the key of what each is called, and the command for scripts.
+TASKS: Dict[str, Tuple[str, str]] = {
+    "new": ("home.make", "shamir create"),
+    "check": ("home.check", "shamir drill --fingerprint"),
+    "recover": ("home.recover", "shamir recover"),
+    "replace": ("home.replace", "shamir reissue"),
+    "repair": ("home.damaged", "shamir repair"),
+}
+RUN: Dict[str, Callable[[Screen, Desk], None]] = {
+    "check": check_papers,
+    "recover": recover_secret,
+    "replace": replace_paper,
+    "repair": read_damaged,
+}
+DESCRIPTION = "Makes paper backups of a wallet's secret (SLIP-0039), checks them, recovers from them, and replaces papers. It asks step by step."
+
+
+def words_of_command() -> argparse.ArgumentParser:
+    parser = argparse.ArgumentParser(prog="shamir-papers", description=DESCRIPTION, allow_abbrev=False)
+    parser.add_argument("-V", "--version", action="version", version=f"shamir-papers {shamir.__version__}")
+    tasks = parser.add_subparsers(dest="task", metavar="TASK", title="tasks (without one, it asks for one)")
+    for name, (key, _) in TASKS.items():
+        task = tasks.add_parser(name, help=say(f"{key}.hint"), description=say(f"{key}.hint"), allow_abbrev=False)
+        if name == "new":
+            task.add_argument("plan", metavar="PLAN", nargs="?", help="which papers are enough, such as 2of3, or 2/3of5,1of1 with groups")
+    return parser
+
+
+def need_terminal(task: Optional[str]) -> None:
+    """Ends with status 2 if standard input or output isn't a terminal."""
+    for stream, descriptor in [("input", 0), ("output", 1)]:
+        if not os.isatty(descriptor):
+            command = TASKS[task][1] if task else "shamir"
+            print(say("needs.terminal", stream=stream, command=command), file=sys.stderr)
+            sys.exit(2)
+
+
+def prepare(screen: Screen, kind: str, forbidden: List[str]) -> None:
+    """Says what the owner should know before the first question."""
+    told = [*safety.warnings(kind), *forbidden]
+    screen.clear(say("safety.title"))
+    for text in told:
+        screen.item(text)
+    if not told:
+        screen.item(say("safety.good"))
+    screen.item(say("safety.seen"))
+    screen.gap()
+    screen.pause(say("safety.go"))
+
+
+def ask_task(screen: Screen) -> str:
+    screen.clear(say("home.title"))
+    for number, (name, (key, _)) in enumerate(TASKS.items(), 1):
+        screen.item(f"{say(key)} ({name}). {say(f'{key}.hint')}", f"{number}  ")
+    screen.gap()
+    screen.tell(say("names.sentence"))
+    numbers = {str(number): name for number, name in enumerate(TASKS, 1)}
+    return screen.choose(say("home.choose"), {**numbers, **{name: name for name in TASKS}})
+
+
+def run(screen: Screen, desk: Desk, task: Optional[str], plan: Optional[str]) -> None:
+    chosen = task or ask_task(screen)
+    if chosen == "new":
+        make_backup(screen, desk, plan)
+    else:
+        RUN[chosen](screen, desk)
+
+
+def end_by(number: int) -> NoReturn:
+    """Ends as a signal asks. What the keyboard ends has the status 130."""
+    if number not in (signal.SIGINT, signal.SIGQUIT):
+        signal.signal(number, signal.SIG_DFL)
+        os.kill(os.getpid(), number)
+    os._exit(130)
+
+
+def told(text: str) -> None:
+    try:
+        os.write(2, f"{text}\n".encode())
+    except OSError:
+        # The terminal is no longer there.
+        pass
+
+
+def main() -> None:
+    if sys.version_info < (3, 10):
+        sys.exit("shamir-papers needs Python 3.10 or later")
+    signal.signal(signal.SIGINT, signal.SIG_DFL)
+    args = words_of_command().parse_args()
+    need_terminal(args.task)
+    safety.start_overwriting()
+    forbidden = safety.protect()
+    kind = os.environ.get("TERM", "")
+    terminal, desk = Terminal(0, 1, kind), Desk()
+    ended: Optional[int] = None
+    is_failed = False
+    try:
+        terminal.open()
+        screen = Screen(terminal)
+        prepare(screen, kind, forbidden)
+        run(screen, desk, args.task, getattr(args, "plan", None))
+    except Ended as by:
+        ended = by.number
+    except Exception:
+        # No text of an error is shown, as it could hold what was typed.
+        is_failed = True
+    finally:
+        terminal.close()
+        desk.clear()
+    if ended is not None:
+        told(say("ended.unfinished" if desk.is_unfinished else "ended"))
+        end_by(ended)
+    told(say("failed" if is_failed else "closed"))
+    # A thread that was stopped may still wait for the library.
+    os._exit(1 if is_failed else 0)
+
+
+if __name__ == "__main__":
+    main()

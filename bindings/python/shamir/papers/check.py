@@ -1,0 +1,64 @@
+"""The task 'check': papers are typed, and every quorum among them is tried."""
+from __future__ import annotations
+
+from shamir.papers.collect import ask_for_more, collect
+from shamir.papers.desk import Desk
+from shamir.papers.drill import Verdict, run_drill
+from shamir.papers.questions import ask_noted, ask_passphrase
+from shamir.papers.screen import Screen
+from shamir.papers.texts import say
+
+NEXT = {"good": "good", "stopped": "again", "other": "again", "none": "again", "some": "papers", "several": "papers"}
+
+
+def check_papers(screen: Screen, desk: Desk) -> None:
+    collect_and_check(screen, desk, say("check.title"), say("check.intro"), say("check.too_few"))
+
+
+def collect_and_check(screen: Screen, desk: Desk, title: str, intro: str, too_few: str) -> None:
+    """Lets the owner type papers, and drills, until the owner is content. `too_few` says what too few papers show."""
+    while True:
+        collect(screen, desk, title, intro)
+        if desk.status().enough:
+            is_more = drill_with_passphrase(screen, desk, say("check.drill")) == "p"
+        else:
+            is_more = ask_for_more(screen, desk, say("check.done.few"), too_few, False)
+        if not is_more:
+            return
+
+
+def drill_with_passphrase(screen: Screen, desk: Desk, title: str) -> str:
+    """Asks for the passphrase and the noted fingerprint, and drills. Returns 'p' if the owner wants to go back to the papers, and
+    'e' to end."""
+    while True:
+        screen.clear(title)
+        desk.set_passphrase(ask_passphrase(screen))
+        noted = ask_noted(screen)
+        screen.gap()
+        try:
+            verdict = run_drill(screen, desk, noted)
+        finally:
+            desk.forget_passphrase()
+        answer = _tell(screen, verdict, noted)
+        if answer != "t":
+            return answer
+
+
+def _tell(screen: Screen, verdict: Verdict, noted: str) -> str:
+    """Says what a drill found, and what to do. Returns what the owner wants then."""
+    is_good = verdict.result == "good"
+    screen.tell(say(f"check.done.{verdict.result}"), "strong")
+    for sentence in verdict.sentences:
+        screen.tell(sentence, "good" if is_good else "bad")
+    if not is_good:
+        screen.tell(say("check.none" if verdict.result == "other" else f"check.{verdict.result}"))
+    elif not noted and verdict.fingerprint:
+        screen.tell(say("noted.first"))
+    return ask_next(screen, NEXT[verdict.result])
+
+
+def ask_next(screen: Screen, likely: str) -> str:
+    """Asks whether to end ('e'), to try again with the same papers ('t'), or to go back to the papers ('p'). A good result needs no
+    second try."""
+    answers = {"e": "e", "p": "p"} if likely == "good" else {"e": "e", "t": "t", "p": "p"}
+    return screen.choose(say(f"next.{likely}"), answers, {"again": "t", "papers": "p"}.get(likely, "e"))

@@ -1,0 +1,108 @@
+"""The papers that are typed, one after the other, and what they are together."""
+from __future__ import annotations
+
+from typing import Iterator
+
+import shamir
+from shamir.papers.desk import Desk, Paper
+from shamir.papers.entry import Entry, ask_paper
+from shamir.papers.refusals import said_refusal
+from shamir.papers.screen import Screen
+from shamir.papers.spelling import DROP
+from shamir.papers.texts import counted, say
+
+
+def collect(screen: Screen, desk: Desk, title: str, intro: str) -> None:
+    """Lets the owner type papers, beside those that are here already, until Enter alone is typed."""
+    screen.clear(title)
+    screen.tell(intro)
+    screen.tell(say("entry.how"))
+    entry = Entry(screen, len(desk.papers[0].words) if desk.papers else None)
+    if desk.papers:
+        screen.tell(f"{say('collect.found')}:")
+        for here in desk.papers:
+            screen.item(say("collect.row.repaired" if here.is_repaired else "collect.row", name=here.name, words=len(here.words)))
+        screen.tell(say("entry.drop", sign=DROP, name=desk.papers[0].name))
+        show_status(screen, desk)
+    while True:
+        number = len(desk.papers) + 1
+        marks = entry.read(say("entry.paper" if desk.papers else "entry.paper.first", number=number))
+        if marks and marks[0].startswith(DROP):
+            _drop(screen, desk, marks[0][len(DROP) :])
+        elif marks:
+            paper = ask_paper(screen, marks)
+            if paper is not None:
+                _take(screen, desk, title, paper)
+        elif desk.papers:
+            return
+        else:
+            screen.tell(say("collect.none"), "bad")
+        entry.wanted = len(desk.papers[0].words) if desk.papers else None
+
+
+def _take(screen: Screen, desk: Desk, title: str, paper: Paper) -> None:
+    """Takes a paper, clears its words, and says what is complete; or says why it doesn't belong to the others."""
+    try:
+        is_new = desk.add(paper)
+    except shamir.Refusal as refusal:
+        screen.drop_typed()
+        screen.tell(said_refusal(refusal), "bad")
+        screen.tell(say("entry.drop", sign=DROP, name=desk.papers[-1].name))
+        return
+    screen.clear(title)
+    key = "collect.repeated" if not is_new else "collect.row.repaired" if paper.is_repaired else "collect.taken"
+    screen.tell(say(key, name=paper.name, words=len(paper.words)), "good" if key == "collect.taken" else "bad")
+    show_status(screen, desk)
+
+
+def _drop(screen: Screen, desk: Desk, name: str) -> None:
+    is_dropped = desk.drop(name)
+    screen.tell(say("collect.dropped" if is_dropped else "entry.drop.none", name=name), "" if is_dropped else "bad")
+    if desk.papers:
+        show_status(screen, desk)
+
+
+def show_status(screen: Screen, desk: Desk) -> None:
+    """Shows what is complete and what is missing, group by group."""
+    status, count = desk.status(), desk.papers[0].group_count
+    for row in _rows(status, count):
+        screen.item(row)
+    screen.tell(said_whole(status, count), "good" if status.enough else "")
+
+
+def _rows(status: shamir.Status, count: int) -> Iterator[str]:
+    found = {group.group: group for group in status.groups}
+    for group in range(count):
+        told = _group(found[group], count == 1) if group in found else say("status.none")
+        yield say("status.line", group=say("status.only") if count == 1 else say("status.group", group=group), told=told)
+
+
+def _group(group: shamir.GroupStatus, is_only: bool) -> str:
+    """Says how a group stands. `is_only` says that the backup has no other."""
+    missing = group.threshold - len(group.names)
+    more = say("status.missing", more=counted(missing, "paper")) if missing > 0 else say("status.complete.only" if is_only else "status.complete")
+    return f"{say('status.here', names=', '.join(group.names))} {more}"
+
+
+def said_whole(status: shamir.Status, count: int) -> str:
+    """Says whether the papers are enough. An owner whose backup has one group needn't know of groups."""
+    if status.enough:
+        return say("status.enough")
+    if count > 1:
+        return say("status.not_enough", needed=counted(status.required, "whole"), here=status.complete)
+    [group] = status.groups
+    return say("status.not_enough", needed=counted(group.threshold, "paper"), here=len(group.names))
+
+
+def ask_for_more(screen: Screen, desk: Desk, title: str, told: str, is_fault: bool) -> bool:
+    """Says that the papers aren't enough, and what is missing. Returns whether the owner wants to type more."""
+    screen.clear(title)
+    sound = [paper.name for paper in desk.papers if not paper.is_repaired]
+    if sound:
+        screen.tell(say("check.sound", papers=counted(len(sound), "paper"), names=", ".join(sound)), "good")
+    for paper in desk.papers:
+        if paper.is_repaired:
+            screen.tell(say("collect.row.repaired", name=paper.name, words=len(paper.words)), "bad")
+    screen.tell(told, "bad" if is_fault else "")
+    show_status(screen, desk)
+    return screen.choose(say("more.papers"), {"": True, "e": False}, "")

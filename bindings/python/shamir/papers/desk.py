@@ -1,0 +1,137 @@
+"""What a task has of papers, secrets and passphrases, and what it asks the library about them."""
+from __future__ import annotations
+
+import ctypes
+from dataclasses import dataclass, field
+from typing import Iterator, List, Optional, Sequence, Tuple
+
+import shamir
+from shamir.papers.line import wipe
+from shamir.papers.quorums import Tried
+
+
+@dataclass(frozen=True)
+class Paper:
+    """A paper that the library found sound: its words, and what they say of the backup. `is_repaired` says that the library found some
+    of the words."""
+
+    line: str = field(repr=False)
+    name: str
+    group: int
+    exponent: int
+    secret_bytes: int
+    group_count: int
+    group_threshold: int
+    member_threshold: int
+    is_repaired: bool = False
+
+    @property
+    def words(self) -> List[str]:
+        return self.line.split()
+
+
+def paper_of(line: str) -> Paper:
+    """Reads a paper, or raises the library's refusal."""
+    share = shamir.parse(line)
+    name = f"{share.group_index}.{share.member_index}"
+    counts = share.group_count, share.group_threshold, share.member_threshold
+    return Paper(line, name, share.group_index, share.exponent, len(share.value), *counts)
+
+
+def find_fault(line: str) -> None:
+    """Raises the refusal that says where the wrong word of a paper is, if the library can tell."""
+    shamir.repair(line)
+
+
+def is_same(one: Paper, other: Paper) -> bool:
+    """Whether two papers spell the same share."""
+    return shamir.parse(one.line) == shamir.parse(other.line)
+
+
+def drawn(count: int) -> bytearray:
+    """Returns random bytes of the system."""
+    found = bytearray(count)
+    buffer = (ctypes.c_char * count).from_buffer(found)
+    given = ctypes.CDLL(None, use_errno=True).getrandom(buffer, ctypes.c_size_t(count), ctypes.c_uint(0))
+    if given != count:
+        raise OSError(ctypes.get_errno(), "the system gives no random bytes")
+    return found
+
+
+class Desk:
+    """The papers that were typed, in the order of typing, the papers to be shown, and the passphrase."""
+
+    def __init__(self) -> None:
+        self.papers: List[Paper] = []
+        self.passphrase = bytearray()
+        # Whether papers of a new backup are shown that isn't made yet.
+        self.is_unfinished = False
+
+    def clear(self) -> None:
+        """Drops the papers, and overwrites the passphrase."""
+        wipe(self.passphrase)
+        self.passphrase = bytearray()
+        self.papers = []
+
+    def set_passphrase(self, passphrase: bytearray) -> None:
+        wipe(self.passphrase)
+        self.passphrase = passphrase
+
+    def forget_passphrase(self) -> None:
+        self.set_passphrase(bytearray())
+
+    @property
+    def lines(self) -> List[str]:
+        return [paper.line for paper in self.papers]
+
+    def add(self, paper: Paper) -> bool:
+        """Takes a paper, or raises the refusal of a paper that doesn't belong to the others. Returns whether it is a new one."""
+        shamir.status([*self.lines, paper.line])
+        if any(is_same(paper, it) for it in self.papers):
+            return False
+        self.papers.append(paper)
+        return True
+
+    def drop(self, name: str) -> bool:
+        """Puts a paper away again. Returns whether it was there."""
+        kept = [paper for paper in self.papers if paper.name != name]
+        is_dropped = len(kept) < len(self.papers)
+        self.papers = kept
+        return is_dropped
+
+    def status(self) -> shamir.Status:
+        return shamir.status(self.lines)
+
+    def make(self, plan: str, secret: bytearray, exponent: int, extendable: bool) -> Tuple[List[Paper], str]:
+        """Makes a backup. Returns its papers, and the fingerprint of the secret."""
+        lines = shamir.create(plan, secret, passphrase=self.passphrase, exponent=exponent, extendable=extendable)
+        return [paper_of(line) for line in lines], shamir.fingerprint(secret)
+
+    def reissue(self, plan: str, name: str) -> Paper:
+        return paper_of(shamir.reissue(plan, name, self.lines)[0])
+
+    def recover(self) -> bytearray:
+        return bytearray(shamir.recover(self.lines, passphrase=self.passphrase))
+
+    def _outcomes(self, lines: List[str], expect: str) -> Iterator[Tried]:
+        """Yields what each quorum of lines gives: whether its secret has the fingerprint `expect`, or its fingerprint if that is
+        empty."""
+        for it in shamir.drill(lines, passphrase=self.passphrase, fingerprints=not expect, expect=expect or None):
+            yield Tried(tuple(it.names.split("+")), it.fingerprint, it.mismatch, it.expected)
+
+    def try_all(self, tried: List[Tried], expect: str, limit: Optional[int] = None) -> None:
+        """Tries every quorum, or the first `limit`, and adds what they give to a list."""
+        for outcome in self._outcomes(self.lines, expect):
+            tried.append(outcome)
+            if len(tried) == limit:
+                return
+
+    def try_one(self, names: Sequence[str], expect: str) -> Tried:
+        """Tries the one quorum that these papers are."""
+        [outcome] = self._outcomes([paper.line for paper in self.papers if paper.name in names], expect)
+        return outcome
+
+
+def derivation_seconds(measured: float, exponent: int, secret_bytes: int) -> float:
+    """Returns how long one recovery takes, if 10,000 iterations of the key derivation take `measured` seconds."""
+    return measured * 2.0**exponent * (2 if secret_bytes > 64 else 1)

@@ -1,0 +1,132 @@
+"""The drill: each quorum of the papers that were typed, and what they say together."""
+from __future__ import annotations
+
+import functools
+import time
+from dataclasses import dataclass
+from typing import List, Optional, Sequence, Tuple
+
+import shamir
+from shamir.papers.desk import Desk, Paper, derivation_seconds
+from shamir.papers.quorums import TRIED_FIRST, TRIED_WHOLE, Tried, count, fingerprints, gives, quorum_with, suspects
+from shamir.papers.screen import Screen, Stopped
+from shamir.papers.texts import counted, said_time, say
+
+# From this exponent on, a task says how long it takes.
+LONG_EXPONENT = 5
+NAMED_MAX = 8
+
+
+@dataclass
+class Verdict:
+    """What a drill found: 'good', 'stopped', or that all quorums give another secret than the expected one ('other'), that none gives
+    it ('none'), that some don't ('some'), or that they give several secrets ('several'). With it the sentences that say so."""
+
+    result: str
+    fingerprint: Optional[str]
+    sentences: List[str]
+
+
+def measured() -> float:
+    """Returns how many seconds 10,000 iterations of the key derivation take here."""
+    begun = time.monotonic()
+    shamir.create("1of1", bytes(16), exponent=0)
+    return time.monotonic() - begun
+
+
+def warned_time(screen: Screen, paper: Paper) -> None:
+    """Says how long one recovery takes, if that is long."""
+    if paper.exponent >= LONG_EXPONENT:
+        screen.tell(say("time.long", exponent=paper.exponent, time=said_time(derivation_seconds(measured(), paper.exponent, paper.secret_bytes))))
+
+
+def run_drill(screen: Screen, desk: Desk, noted: str, is_own: bool = False) -> Verdict:
+    """Runs a drill, with progress, and returns what it found. The library's refusal of the passphrase is raised.
+
+    `noted` is the expected fingerprint, or empty. `is_own` says that it is that of the secret that was just backed up.
+    """
+    status, tried = desk.status(), list[Tried]()
+    total = count(status)
+    is_whole = total <= TRIED_WHOLE
+    screen.tell(say("drill.what"))
+    screen.tell(say("drill.count" if is_whole else "drill.count_part", total=f"{total:,}", first=f"{TRIED_FIRST:,}"))
+    warned_time(screen, desk.papers[0])
+    is_stopped = False
+    try:
+        _try(screen, desk, status, tried, noted)
+    except Stopped:
+        is_stopped = True
+    return verdict_of(list(tried), total, noted, is_own, is_stopped)
+
+
+def _try(screen: Screen, desk: Desk, status: shamir.Status, tried: List[Tried], noted: str) -> None:
+    """Tries every quorum, or, if there are too many, the first ones, and one with each paper that none of these has."""
+    total = count(status)
+    is_whole = total <= TRIED_WHOLE
+
+    def progress() -> str:
+        return say("drill.tried", tried=f"{len(tried):,}", total=f"{total:,}")
+
+    screen.work(lambda: desk.try_all(tried, noted, None if is_whole else TRIED_FIRST), progress, is_stoppable=True)
+    known = {it.names for it in tried}
+    for name in [name for group in status.groups for name in group.names if not is_whole]:
+        names = quorum_with(status, name)
+        if names is not None and names not in known:
+            known.add(names)
+            tried.append(screen.work(functools.partial(desk.try_one, names, noted), progress, is_stoppable=True))
+
+
+def verdict_of(tried: Sequence[Tried], total: int, noted: str, is_own: bool, is_stopped: bool) -> Verdict:
+    """Returns what the outcomes of a drill say together."""
+    found = fingerprints(tried)
+    fingerprint = found[0][0] if found else None
+    result, sentences = _verdict(tried, total, noted, is_own, found) if tried else ("none", list[str]())
+    if is_stopped or len(tried) != total:
+        sentences.insert(0, say("drill.part", tried=f"{len(tried):,}", total=f"{total:,}"))
+    return Verdict("stopped" if is_stopped else result, fingerprint, sentences)
+
+
+def _verdict(tried: Sequence[Tried], total: int, noted: str, is_own: bool, found: List[Tuple[str, int]]) -> Tuple[str, List[str]]:
+    wanted = noted or (found[0][0] if found else "")
+    right = [it for it in tried if gives(it, wanted)]
+    wrong = [it for it in tried if not gives(it, wanted)]
+    quorums = counted(len(tried), "quorum")
+    if not wrong:
+        whole = "all" if len(tried) == total else "tried"
+        which = "same" if not noted else "own" if is_own else "noted"
+        return "good", [say(f"verdict.{whole}.{which}", quorums=quorums, fingerprint=wanted)]
+    return _wrong(right, wrong, found, noted, quorums)
+
+
+def _wrong(right: List[Tried], wrong: List[Tried], found: List[Tuple[str, int]], noted: str, quorums: str) -> Tuple[str, List[str]]:
+    """Says which quorums are wrong, and which papers may be."""
+    if not right:
+        mismatched = sum(it.mismatch is not None for it in wrong)
+        # The passphrase changes nothing about papers that don't belong together.
+        if mismatched == len(wrong):
+            return "some", [say("verdict.nothing", quorums=quorums)]
+        result = "none" if mismatched else "other"
+        return result, [say(f"verdict.{result}", quorums=quorums)]
+    if not noted and len(found) > 1:
+        return "several", [say("verdict.several", quorums=quorums, secrets=counted(len(found), "secret")), *_gave([*right, *wrong], found)]
+    sentences = [say("verdict.some" if noted else "verdict.some.unnoted", wrong=len(wrong), quorums=quorums), _named(wrong)]
+    names = suspects(right, wrong)
+    if names:
+        sentences.append(say(f"verdict.suspects.{'one' if len(names) == 1 else 'many'}", names=", ".join(names)))
+    return "some", sentences
+
+
+def _named(wrong: Sequence[Tried]) -> str:
+    """Names the quorums that are wrong, or the first of them."""
+    names = ", ".join("+".join(it.names) for it in wrong[:NAMED_MAX])
+    more = len(wrong) - NAMED_MAX
+    return say("verdict.wrong.more", names=names, more=more) if more > 0 else say("verdict.wrong", names=names)
+
+
+def _gave(tried: Sequence[Tried], found: List[Tuple[str, int]]) -> List[str]:
+    """Says for the first fingerprints how many quorums give each, and one that does."""
+    said = []
+    for fingerprint, times in found[:NAMED_MAX]:
+        names = next("+".join(it.names) for it in tried if gives(it, fingerprint))
+        said.append(say("verdict.gave", fingerprint=fingerprint, quorums=counted(times, "quorum"), names=names))
+    return said

@@ -1,0 +1,131 @@
+"""A line that is typed: shown or hidden, with Backspace, Ctrl-U and Ctrl-W, and words that complete themselves.
+
+Python's readline isn't used: it keeps copies of what is typed, reads the owner's settings, and can't be hidden by Ctrl-Z.
+"""
+from __future__ import annotations
+
+import signal
+from typing import Callable, List, Optional
+
+from shamir.papers.terminal import Ended, Terminal
+
+ENTER, ESCAPE, TAB, SPACE = (10, 13), 27, 9, 32
+END_OF_INPUT, BACKSPACE, ERASE_LINE, ERASE_WORD = 4, (8, 127), 21, 23
+LENGTH_MAX = 2000
+SHOWN_MAX = 10
+
+# Returns the words that begin with these letters.
+Completer = Callable[[str], List[str]]
+
+
+def wipe(buffer: bytearray) -> None:
+    """Overwrites a buffer."""
+    buffer[:] = bytes(len(buffer))
+
+
+class Line:
+    """A line that is being typed. `prompt` stands before it, and is shorter than a row of the terminal."""
+
+    def __init__(self, terminal: Terminal, prompt: str, complete: Optional[Completer] = None, is_hidden: bool = False):
+        self._terminal, self._prompt = terminal, prompt
+        self._complete, self._is_hidden = complete, is_hidden
+        self._typed = bytearray()
+
+    def read(self) -> bytearray:
+        """Returns what is typed, without its end."""
+        self._terminal.write(self._prompt)
+        while True:
+            key = self._terminal.key()
+            if key in ENTER:
+                self._end_word()
+                self._terminal.write("\n")
+                return self._typed
+            self._take(key)
+
+    def _take(self, key: int) -> None:
+        if key == END_OF_INPUT:
+            if not self._typed:
+                raise Ended(signal.SIGINT)
+        elif key in BACKSPACE:
+            self._shorten(len(self._typed) - self._last_length())
+        elif key == ERASE_LINE:
+            self._shorten(0)
+        elif key == ERASE_WORD:
+            self._shorten(self._typed.rstrip(b" ").rfind(b" ") + 1)
+        elif key == ESCAPE:
+            self._skip_sequence()
+        elif key == TAB:
+            self._offer()
+        elif key >= SPACE and len(self._typed) < LENGTH_MAX:
+            if key in b" ,":
+                self._end_word()
+            self._add(bytes([key]))
+
+    def _add(self, more: bytes) -> None:
+        self._typed += more
+        if not self._is_hidden:
+            self._terminal.write(_shown(more))
+
+    def _last_length(self) -> int:
+        """Returns how many bytes the last character has."""
+        count = 1
+        while count < len(self._typed) and self._typed[-count] & 0xC0 == 0x80:
+            count += 1
+        return min(count, len(self._typed))
+
+    def _shorten(self, length: int) -> None:
+        cut = len(self._typed) - length
+        if cut <= 0:
+            return
+        before = len(self._prompt) + len(_shown(self._typed))
+        kept = self._typed[:length]
+        wipe(self._typed)
+        self._typed = kept
+        if self._is_hidden:
+            return
+        if self._terminal.is_plain:
+            self._terminal.write("\b \b" * (before - len(self._prompt) - len(_shown(kept))))
+            return
+        up = (before - 1) // self._terminal.size.columns
+        self._terminal.write("\r" + (f"\x1b[{up}A" if up else "") + "\x1b[J" + self._prompt + _shown(kept))
+
+    def _skip_sequence(self) -> None:
+        """Skips what a key such as an arrow sends after an Escape."""
+        if not self._terminal.is_typed(0.05):
+            return
+        key = self._terminal.key()
+        while key in b"[O;0123456789" and self._terminal.is_typed(0.05):
+            key = self._terminal.key()
+
+    def _letters(self) -> str:
+        """Returns the letters of the word that is being typed."""
+        return self._typed.replace(b",", b" ").split(b" ")[-1].decode("utf-8", "replace").lower()
+
+    def _found(self) -> List[str]:
+        letters = self._letters()
+        return self._complete(letters) if self._complete and letters.isalpha() else []
+
+    def _end_word(self) -> None:
+        """Completes the word that was typed, if only one word begins so."""
+        found = self._found()
+        if len(found) == 1:
+            self._add(found[0][len(self._letters()) :].encode())
+
+    def _offer(self) -> None:
+        """Completes the word as far as all words agree that begin so, or shows them."""
+        found, letters = self._found(), self._letters()
+        if len(found) == 1:
+            self._end_word()
+            self._add(b" ")
+        elif found:
+            count = max(at for at in range(len(letters), len(min(found, key=len)) + 1) if len({word[:at] for word in found}) == 1)
+            if count > len(letters):
+                self._add(found[0][len(letters) : count].encode())
+            else:
+                more = " .." if len(found) > SHOWN_MAX else ""
+                self._terminal.write("\n" + " ".join(found[:SHOWN_MAX]) + more + "\n" + self._prompt + _shown(self._typed))
+
+
+def _shown(data: bytes) -> str:
+    """Returns what a terminal shows of these bytes: one sign for each character, and ? for what isn't ASCII."""
+    return "".join(chr(byte) if SPACE <= byte < 127 else "?" for byte in data if byte & 0xC0 != 0x80)

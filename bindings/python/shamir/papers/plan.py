@@ -1,0 +1,86 @@
+"""A plan: how many groups are needed, and of each group how many members it has and needs.
+
+The library decides which plans are right. This reads the text of a plan that it took, and says it in words.
+"""
+from __future__ import annotations
+
+import re
+from dataclasses import dataclass
+from typing import Iterator, List, Tuple
+
+from shamir.papers.desk import Paper
+from shamir.papers.texts import counted, say
+
+Group = Tuple[int, int]
+
+
+@dataclass(frozen=True)
+class Plan:
+    """The number of groups that are needed, and of each group how many members it needs and has."""
+
+    needed: int
+    groups: Tuple[Group, ...]
+
+    @property
+    def text(self) -> str:
+        parts = [f"{needed}of{members}" for needed, members in self.groups]
+        return parts[0] if len(parts) == 1 and self.needed == 1 else f"{self.needed}/{','.join(parts)}"
+
+    @property
+    def names(self) -> List[str]:
+        return [f"{group}.{member}" for group, (_, members) in enumerate(self.groups) for member in range(members)]
+
+
+def plan_of(text: str) -> Plan:
+    """Reads the text of a plan that the library took."""
+    head, _, rest = text.rpartition("/")
+    numbers = [int(number) for number in re.findall(r"\d+", rest)]
+    return Plan(int(head or 1), tuple(zip(numbers[::2], numbers[1::2])))
+
+
+def _members(needed: int, members: int) -> str:
+    if members == 1:
+        return say("plan.only")
+    return say("plan.each", members=members) if needed == members else say("plan.any", needed=needed, members=members)
+
+
+def said_plan(plan: Plan) -> str:
+    """Says what recovers the secret."""
+    return " ".join([_head(plan), *_groups(plan)])
+
+
+def _head(plan: Plan) -> str:
+    if len(plan.groups) == 1:
+        [(needed, members)] = plan.groups
+        if members == 1:
+            return say("plan.sentence.one")
+        return say("plan.sentence.each" if needed == members else "plan.sentence.any", needed=needed, members=members)
+    count = len(plan.groups)
+    which = "all_groups" if plan.needed == count else "one_group" if plan.needed == 1 else "groups"
+    return say(f"plan.sentence.{which}", needed=plan.needed, count=count)
+
+
+def _groups(plan: Plan) -> Iterator[str]:
+    if len(plan.groups) > 1:
+        said = (say("plan.group", group=at, members=_members(*group)) for at, group in enumerate(plan.groups))
+        yield "; ".join(said) + "."
+
+
+def said_takes(plan: Plan, name: str) -> str:
+    """Says what a paper of a plan takes to be of use."""
+    if len(plan.groups) == 1:
+        return said_plan(plan)
+    group = int(name.split(".")[0])
+    return _use(group, plan.groups[group][0], plan.needed)
+
+
+def said_takes_alone(paper: Paper) -> str:
+    """Says what a paper takes to be of use, as far as the paper itself says so."""
+    if paper.group_count > 1:
+        return _use(paper.group, paper.member_threshold, paper.group_threshold)
+    return say("plan.sentence.one") if paper.member_threshold == 1 else say("takes.papers", needed=paper.member_threshold)
+
+
+def _use(group: int, needed: int, groups: int) -> str:
+    own = say("takes.alone", group=group) if needed == 1 else say("takes.members", needed=needed, group=group)
+    return own if groups == 1 else f"{own} {say('takes.groups', groups=counted(groups, 'group'))}"

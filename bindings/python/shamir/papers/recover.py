@@ -1,0 +1,89 @@
+"""The task 'recover': papers are typed, and the secret is compared by its fingerprint. Its digits show only if asked for."""
+from __future__ import annotations
+
+from typing import Union
+
+import shamir
+from shamir.papers.check import ask_next
+from shamir.papers.collect import ask_for_more, collect
+from shamir.papers.desk import Desk
+from shamir.papers.drill import warned_time
+from shamir.papers.line import wipe
+from shamir.papers.questions import ask_noted, ask_passphrase
+from shamir.papers.quorums import Tried, gives
+from shamir.papers.refusals import said_refusal
+from shamir.papers.screen import Screen, Stopped
+from shamir.papers.texts import say
+
+DIGITS = 8
+
+
+def recover_secret(screen: Screen, desk: Desk) -> None:
+    while True:
+        collect(screen, desk, say("recover.title"), say("recover.intro"))
+        if desk.status().enough:
+            is_more = _recover(screen, desk) == "p"
+        else:
+            is_more = ask_for_more(screen, desk, say("recover.few"), say("recover.too_few"), True)
+        if not is_more:
+            return
+
+
+def _recover(screen: Screen, desk: Desk) -> str:
+    """Asks for the passphrase, and recovers the secret. Returns what the owner wants then."""
+    while True:
+        screen.clear(say("recover.passphrase"))
+        desk.set_passphrase(ask_passphrase(screen))
+        noted = ask_noted(screen)
+        screen.gap()
+        warned_time(screen, desk.papers[0])
+        found = _recovered(screen, desk)
+        answer = _tell(screen, found, noted) if isinstance(found, bytearray) else _tell_failed(screen, found)
+        if answer != "t":
+            return answer
+
+
+def _recovered(screen: Screen, desk: Desk) -> Union[bytearray, Stopped, shamir.Refusal]:
+    """Returns the secret, or why there is none."""
+    try:
+        return screen.work(desk.recover, is_stoppable=True)
+    except (Stopped, shamir.Refusal) as error:
+        return error
+    finally:
+        desk.forget_passphrase()
+
+
+def _tell_failed(screen: Screen, error: Union[Stopped, shamir.Refusal]) -> str:
+    """Says why nothing was recovered. Returns what the owner wants then."""
+    screen.tell(say("recover.failed"), "strong")
+    if isinstance(error, Stopped):
+        screen.tell(say("recover.stopped"), "bad")
+        return ask_next(screen, "again")
+    screen.tell(said_refusal(error), "bad")
+    return ask_next(screen, "papers")
+
+
+def _tell(screen: Screen, secret: bytearray, noted: str) -> str:
+    """Says which secret was recovered. Its digits are offered unless it is known to be another one than the owner's."""
+    try:
+        fingerprint = shamir.fingerprint(secret)
+        which = "unnoted" if not noted else "same" if gives(Tried((), fingerprint, None), noted) else "other"
+        screen.tell(say(f"recover.done.{which}"), "strong")
+        screen.tell(f"{say(f'recover.{which}', noted=noted)} {fingerprint}", {"same": "good", "other": "bad"}.get(which, ""))
+        if which == "other":
+            return ask_next(screen, "again")
+        screen.tell(say("digits.what"))
+        if screen.agree(say("recover.show")):
+            _show(screen, secret)
+    finally:
+        wipe(secret)
+    return ask_next(screen, "good" if which == "same" else "unnoted")
+
+
+def _show(screen: Screen, secret: bytearray) -> None:
+    """Shows the digits on a screen that is cleared after it."""
+    screen.clear(say("digits.title"))
+    digits = secret.hex()
+    screen.digits([digits[at : at + DIGITS] for at in range(0, len(digits), DIGITS)])
+    screen.pause(say("recover.clear"))
+    screen.clear(say("recover.title"))

@@ -1,0 +1,40 @@
+"""What a refusal of the library means to an owner, and what to do."""
+from __future__ import annotations
+
+from typing import Optional
+
+import shamir
+from shamir.papers.texts import counted, has_text, say
+
+
+def said_refusal(refusal: shamir.Refusal, task: str = "") -> str:
+    """Says a refusal in words, with the library's own number and text."""
+    code, (first, second) = int(refusal.code), refusal.details
+    if code == shamir.Code.UNDETERMINED:
+        return f"{_undetermined(first, second, task == 'only')} ({code})"
+    name = f"refused.{code}{_form(refusal)}"
+    key = next(key for key in (f"{task}.{name}", name, "refused.other") if has_text(key))
+    return f"{say(key, first=first, second=second)} ({code}: {refusal.text})"
+
+
+def _form(refusal: shamir.Refusal) -> str:
+    """Returns what the details change in the text of a refusal."""
+    first, second = refusal.details
+    if refusal.code == shamir.Code.DIGEST_MISMATCH and first == shamir.OF_GROUPS:
+        return ".groups"
+    return ".two" if refusal.code == shamir.Code.WRONG_WORD and second else ""
+
+
+def _undetermined(first: int, second: int, is_only: bool) -> str:
+    """Says what a paper that isn't determined takes: papers of its group, or complete groups besides it and one paper fewer."""
+    members, threshold, groups, required = (second >> bits & 0xFF for bits in (24, 16, 8, 0))
+    missing = threshold - members
+    key = "only.refused.66" if is_only else "refused.66.fewer" if missing > 1 else "refused.66"
+    more, fewer, whole = counted(missing, "paper"), counted(missing - 1, "paper"), counted(required, "whole")
+    return say(key, group=first >> 8, more=more, fewer=fewer, whole=whole, groups=min(groups, required))
+
+
+def wrong_word(refusal: shamir.Refusal) -> Optional[int]:
+    """Returns the number of the word that is wrong if only one is, or None if the library names none or two."""
+    first, second = refusal.details
+    return first if refusal.code == shamir.Code.WRONG_WORD and not second else None

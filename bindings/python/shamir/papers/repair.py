@@ -1,0 +1,63 @@
+"""The task 'repair': the library finds the words of a damaged paper that can't be read, or says where words may be wrong."""
+from __future__ import annotations
+
+from typing import List, Optional
+
+import shamir
+from shamir.papers.check import collect_and_check
+from shamir.papers.desk import Desk, Paper, paper_of
+from shamir.papers.entry import Entry, repaired, said_limits, show_found
+from shamir.papers.plan import said_takes_alone
+from shamir.papers.screen import Screen
+from shamir.papers.shown import write_and_type_back
+from shamir.papers.spelling import DROP
+from shamir.papers.texts import say
+
+
+def read_damaged(screen: Screen, desk: Desk) -> None:
+    """Reads a damaged paper. The owner may then write it anew, type it back, and check it together with other papers."""
+    paper = _ask_damaged(screen)
+    if paper is None:
+        return
+    write_and_type_back(screen, desk, paper, said_takes_alone(paper))
+    collect_and_check(screen, desk, say("damaged.check.title"), say("damaged.check.intro"), say("damaged.too_few"))
+
+
+def _ask_damaged(screen: Screen) -> Optional[Paper]:
+    """Lets the owner type what can be read. Returns the paper to be written anew, or None to end."""
+    while True:
+        screen.clear(say("damaged.title"))
+        screen.tell(say("damaged.intro"))
+        screen.item(say("damaged.letters"))
+        screen.item(say("damaged.nothing"))
+        screen.gap()
+        screen.tell(say("damaged.first"))
+        marks = Entry(screen, task="damaged").read(say("damaged.ask"))
+        if not marks or marks[0].startswith(DROP):
+            continue
+        line = " ".join(marks)
+        fits = [repaired(fit) for fit in shamir.repair(line)] if "?" in line else [paper_of(line)]
+        chosen = _tell(screen, fits, marks)
+        if chosen != "again":
+            return None if chosen == "end" else fits[int(chosen)]
+
+
+def _tell(screen: Screen, fits: List[Paper], marks: List[str]) -> str:
+    """Shows the papers that fit. Returns the place of the one to be written anew, or 'again' or 'end'."""
+    is_two = len(fits) > 1
+    screen.tell(say("damaged.two") if is_two else say("damaged.one", name=fits[0].name), "good")
+    if is_two:
+        screen.tell(say("damaged.two.why"))
+        screen.tell(say("damaged.two.which"))
+    for number, fit in enumerate(fits, 1):
+        if is_two:
+            screen.tell(say("damaged.which", number=number, name=fit.name), "strong")
+        show_found(screen, fit, marks)
+    if any("?" in mark for mark in marks):
+        screen.tell(say("damaged.compare"))
+        screen.tell(said_limits(marks))
+    else:
+        screen.tell(say("damaged.whole"))
+    screen.tell(say("damaged.next"))
+    answers = {"": "again", "e": "end", **({"1": "0", "2": "1"} if is_two else {"w": "0"})}
+    return screen.choose(say("damaged.menu.two" if is_two else "damaged.menu"), answers)

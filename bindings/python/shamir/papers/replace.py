@@ -1,0 +1,172 @@
+"""The task 'replace': papers that were destroyed are computed from the others, written down, typed back and drilled."""
+from __future__ import annotations
+
+from typing import Dict, List, Optional, Tuple
+
+import shamir
+from shamir.papers.check import drill_with_passphrase
+from shamir.papers.collect import ask_for_more, collect
+from shamir.papers.desk import Desk, Paper
+from shamir.papers.plan import Group, Plan, said_takes
+from shamir.papers.refusals import said_refusal
+from shamir.papers.screen import Screen
+from shamir.papers.shown import write_and_type_back
+from shamir.papers.texts import say
+
+MEMBERS_MAX = 16
+
+
+class Missing:
+    """The papers that are missing: those that can be written, and for each other one what it takes."""
+
+    def __init__(self) -> None:
+        self.found: Dict[str, Paper] = {}
+        self.untold: List[Tuple[str, str]] = []
+
+
+def replace_paper(screen: Screen, desk: Desk) -> None:
+    screen.clear(say("replace.title"))
+    screen.tell(say("replace.why"))
+    for number, key in enumerate(["destroyed", "other"], 1):
+        screen.item(f"{say(f'replace.{key}')}. {say(f'replace.{key}.hint')}", f"{number}  ")
+    screen.gap()
+    if screen.choose(say("replace.how"), {"1": False, "2": True}):
+        _advise(screen)
+        return
+    while True:
+        collect(screen, desk, say("replace.title"), say("replace.intro"))
+        if not _may_determine(desk.status()):
+            told = say("replace.none_yet.only" if desk.papers[0].group_count == 1 else "replace.none_yet")
+            if not ask_for_more(screen, desk, say("replace.few"), told, False):
+                return
+            continue
+        plan, missing = _plan_and_missing(screen, desk)
+        if not _write(screen, desk, plan, missing) and not _drill(screen, desk):
+            return
+
+
+def _may_determine(status: shamir.Status) -> bool:
+    """Whether papers may determine a missing one, whatever the plan is: they are enough, or a group of several is complete."""
+    return status.enough or any(1 < group.threshold <= len(group.names) for group in status.groups)
+
+
+def _advise(screen: Screen) -> None:
+    """Says how to make a new backup, which is the right answer if somebody else may have a paper."""
+    screen.clear(say("replace.new.title"))
+    screen.tell(say("replace.new"))
+    for number, key in enumerate(["recover", "make", "destroy"], 1):
+        screen.item(say(f"replace.new.{key}"), f"{number}. ")
+    screen.gap()
+    screen.tell(say("replace.new.move"))
+    screen.pause(say("screen.end"))
+
+
+def _plan_and_missing(screen: Screen, desk: Desk) -> Tuple[Plan, Missing]:
+    """Asks for the plan until the library takes it, and finds the missing papers."""
+    screen.clear(say("replace.plan.title"))
+    screen.tell(say("replace.plan"))
+    screen.tell(say("replace.forgotten"))
+    while True:
+        plan = _ask_plan(screen, desk)
+        try:
+            return plan, _missing(desk, plan)
+        except shamir.Refusal as refusal:
+            screen.tell(said_refusal(refusal), "bad")
+
+
+def _ask_plan(screen: Screen, desk: Desk) -> Plan:
+    """Asks what only the owner knows: how many members each group has."""
+    paper, found = desk.papers[0], {group.group: group for group in desk.status().groups}
+    groups: List[Group] = []
+    for number in range(paper.group_count):
+        group = found.get(number)
+        needed = group.threshold if group else _ask_needed(screen, number)
+        groups.append((needed, _ask_members(screen, number, needed, paper.group_count)))
+    return Plan(paper.group_threshold, tuple(groups))
+
+
+def _ask_members(screen: Screen, number: int, needed: int, count: int) -> int:
+    """Asks how many members a group has. The library takes no plan in which one of several members is needed."""
+    if needed == 1:
+        return 1
+    ask = say("replace.ask", needed=needed) if count == 1 else say("replace.ask.group", group=number, needed=needed)
+    return _ask_number(screen, ask)
+
+
+def _ask_needed(screen: Screen, number: int) -> int:
+    """Asks how many members a group needs of which no paper is here."""
+    screen.tell(say("replace.needed.hint"))
+    return _ask_number(screen, say("replace.ask.needed", group=number))
+
+
+def _ask_number(screen: Screen, prompt: str) -> int:
+    """Asks for a number from 1 to 16."""
+    while True:
+        typed = screen.ask(prompt).strip()
+        if typed.isdecimal() and 1 <= int(typed) <= MEMBERS_MAX:
+            return int(typed)
+        screen.tell(say("replace.members.wrong"), "bad")
+
+
+def _missing(desk: Desk, plan: Plan) -> Missing:
+    """Asks the library for each missing paper. If none is missing, it asks for one that is here, since the library then says whether
+    the plan fits the papers."""
+    here = [paper.name for paper in desk.papers]
+    names = [name for name in plan.names if name not in here]
+    missing = Missing()
+    for name in names or here[:1]:
+        try:
+            found = desk.reissue(plan.text, name)
+        except shamir.Refusal as refusal:
+            # Any other refusal is about the plan or the papers, so it is the same for each name.
+            if refusal.code != shamir.Code.UNDETERMINED:
+                raise
+            missing.untold.append((name, said_refusal(refusal, "only" if len(plan.groups) == 1 else "")))
+            continue
+        if names:
+            missing.found[name] = found
+    return missing
+
+
+def _write(screen: Screen, desk: Desk, plan: Plan, missing: Missing) -> bool:
+    """Lets the owner write missing papers, as many as are wanted. Returns whether the owner wants to go back to the papers."""
+    while True:
+        chosen = _ask_which(screen, missing)
+        if chosen == "papers":
+            return True
+        paper = missing.found.pop(chosen, None)
+        if paper is None:
+            return False
+        write_and_type_back(screen, desk, paper, said_takes(plan, paper.name))
+
+
+def _ask_which(screen: Screen, missing: Missing) -> str:
+    """Lists the missing papers. Returns the name of the one to write down, or 'papers' or 'drill'."""
+    screen.clear(say("replace.which"))
+    if missing.found:
+        screen.tell(say("replace.found", names=", ".join(missing.found)))
+    else:
+        screen.tell(say("replace.untold" if missing.untold else "replace.none"))
+    for name, text in missing.untold:
+        screen.item(f"{name}: {text}")
+    if missing.untold:
+        screen.gap()
+    answers = [(name, say("replace.menu.write", name=name)) for name in missing.found]
+    answers += [("papers", say("replace.menu.papers"))] if missing.untold else []
+    answers += [("drill", say("replace.menu.drill"))]
+    for number, (_, label) in enumerate(answers, 1):
+        screen.item(label, f"{number:>2}  ")
+    screen.gap()
+    return screen.choose(say("replace.choose"), {str(number): key for number, (key, _) in enumerate(answers, 1)}, _likely(answers))
+
+
+def _likely(answers: List[Tuple[str, str]]) -> Optional[str]:
+    """Returns the answer that Enter alone gives: the only one, or none."""
+    return "1" if len(answers) == 1 else None
+
+
+def _drill(screen: Screen, desk: Desk) -> bool:
+    """Drills with all papers that were typed, if they are enough. Returns whether the owner wants to go back to the papers."""
+    if desk.status().enough:
+        return drill_with_passphrase(screen, desk, say("replace.drill")) == "p"
+    return ask_for_more(screen, desk, say("replace.few"), say("replace.too_few"), False)

@@ -1,0 +1,190 @@
+"""What the screen shows: titles, paragraphs that fit its width, numbered words, and questions.
+
+If more is shown than fits, the screen waits for Enter before the first lines leave it.
+"""
+from __future__ import annotations
+
+import os
+import textwrap
+import threading
+import time
+from typing import Callable, Dict, Generic, Iterable, List, Optional, Sequence, TypeVar
+
+from shamir.papers.line import Completer, Line
+from shamir.papers.terminal import Terminal
+from shamir.papers.texts import said_time, say
+
+T = TypeVar("T")
+
+STYLES = {"title": "1", "good": "32", "bad": "31", "strong": "1"}
+WIDTH_MIN, WIDTH_MAX = 20, 76
+COLUMNS_MAX = 4
+STACK_BYTES = 1 << 20
+# From this time on, the screen shows how long a work takes already.
+SHOWN_AFTER = 1.0
+
+
+def _wrapped(text: str, width: int) -> List[str]:
+    return textwrap.wrap(text, width, break_on_hyphens=False)
+
+
+class Stopped(Exception):
+    """The owner stopped a work."""
+
+
+class Screen:
+    def __init__(self, terminal: Terminal):
+        self._terminal = terminal
+        self._is_coloured = not terminal.is_plain and not os.environ.get("NO_COLOR")
+        self._rows = 0
+        self._notice = ""
+
+    @property
+    def _width(self) -> int:
+        return max(WIDTH_MIN, min(WIDTH_MAX, self._terminal.size.columns - 1))
+
+    def clear(self, title: str) -> None:
+        """Clears the screen, and shows a title, and what was to be shown after it."""
+        self._terminal.clear()
+        self._rows = 0
+        self.tell(title, "title")
+        if title and self._notice:
+            self.tell(self._notice, "good")
+            self._notice = ""
+
+    def tell_next(self, text: str) -> None:
+        """Shows a paragraph on the next screen, after its title."""
+        self._notice = text
+
+    def gap(self) -> None:
+        self._line("", "")
+
+    def tell(self, text: str, style: str = "") -> None:
+        """Shows a paragraph, and an empty line after it."""
+        self.rows(_wrapped(text, self._width), style)
+        self.gap()
+
+    def item(self, text: str, mark: str = "- ") -> None:
+        """Shows a paragraph that stands behind a mark."""
+        first, *others = _wrapped(text, self._width - len(mark)) or [""]
+        self.rows([mark + first, *(" " * len(mark) + row for row in others)])
+
+    def rows(self, rows: Iterable[str], style: str = "") -> None:
+        for row in rows:
+            self._line(row, style)
+
+    def _line(self, text: str, style: str) -> None:
+        if self._rows >= self._terminal.size.lines - 2:
+            self._more()
+        colour = STYLES.get(style, "") if self._is_coloured else ""
+        self._terminal.write((f"\x1b[{colour}m{text}\x1b[0m" if colour else text) + "\n")
+        self._rows += 1
+
+    def words(self, words: Sequence[str]) -> None:
+        """Shows words with their numbers, in columns that are read downwards."""
+        cells = [f"{number:>3}. {word}" for number, word in enumerate(words, 1)]
+        room = max(map(len, cells)) + 2
+        columns = max(1, min(COLUMNS_MAX, self._width // room))
+        height = -(-len(cells) // columns)
+        if self._rows + height > self._terminal.size.lines - 4:
+            # All words are to be seen at once.
+            self._more()
+            self._terminal.clear()
+        self.rows("".join(cell.ljust(room) for cell in cells[row::height]).rstrip() for row in range(height))
+        self.gap()
+
+    def digits(self, parts: Sequence[str]) -> None:
+        """Shows digits in parts, as many in a row as fit, up to four."""
+        columns = max(1, min(COLUMNS_MAX, self._width // (max(map(len, parts)) + 1)))
+        self.rows(" ".join(parts[at : at + columns]) for at in range(0, len(parts), columns))
+        self.gap()
+
+    def ask(self, prompt: str, complete: Optional[Completer] = None) -> str:
+        """Asks, and returns what is typed."""
+        return self._read(prompt, complete, False).decode("utf-8", "replace")
+
+    def ask_hidden(self, prompt: str) -> bytearray:
+        """Asks, and returns what is typed. The screen shows nothing of it."""
+        return self._read(prompt, None, True)
+
+    def _read(self, prompt: str, complete: Optional[Completer], is_hidden: bool) -> bytearray:
+        *above, last = _wrapped(prompt, self._width - 1) or [""]
+        self.rows(above)
+        typed = Line(self._terminal, last + " ", complete, is_hidden).read()
+        self._rows = 0
+        return typed
+
+    def choose(self, prompt: str, answers: Dict[str, T], default: Optional[str] = None) -> T:
+        """Asks until one of the answers is given, or none if there is a default."""
+        while True:
+            typed = self.ask(prompt).strip().lower() or default or ""
+            if typed in answers:
+                return answers[typed]
+            self.tell(say("screen.answers", answers=", ".join(key or "Enter" for key in answers)), "bad")
+
+    def agree(self, prompt: str) -> bool:
+        """Asks for yes or no, until one of them is given."""
+        return self.choose(f"{prompt} (y/n)", {"y": True, "yes": True, "n": False, "no": False})
+
+    def pause(self, prompt: str) -> None:
+        """Waits for Enter. What was typed before doesn't count."""
+        self._terminal.drop_typed()
+        self._read(prompt, None, True)
+
+    def _more(self) -> None:
+        """Waits until the owner has read what is shown, and takes the question for that away."""
+        self.pause(say("screen.more"))
+        if not self._terminal.is_plain:
+            self._terminal.write("\x1b[1A\x1b[J")
+
+    def drop_typed(self) -> None:
+        self._terminal.drop_typed()
+
+    def work(self, call: Callable[[], T], progress: Callable[[], str] = lambda: "", is_stoppable: bool = False) -> T:
+        """Returns what a call of the library gives, or raises its error. Meanwhile the screen shows the time that has passed.
+
+        The call runs beside the owner's keys and signals. If the owner stops it, its result is dropped when it comes.
+        """
+        work: Work[T] = Work(call)
+        begun, told = time.monotonic(), 0
+        self._terminal.drop_typed()
+        while not work.ended.wait(0.05):
+            passed = time.monotonic() - begun
+            if is_stoppable and self._terminal.is_typed(0) and self._terminal.key() in b"\r\n":
+                raise Stopped
+            if passed >= SHOWN_AFTER and int(passed) > told:
+                told = int(passed)
+                stop = say("work.stop") if is_stoppable else ""
+                self._row(" ".join(filter(None, [say("work.passed", time=said_time(passed)), stop, progress()])))
+        if told:
+            self._row("")
+        return work.result()
+
+    def _row(self, text: str) -> None:
+        """Shows a text in the last row, in place of what it showed before."""
+        width = self._width
+        self._terminal.write("\r" + text[:width].ljust(width) + "\r")
+
+
+class Work(Generic[T]):
+    """A call that runs in a thread of its own. Its stack is twice as large as the library needs at most."""
+
+    def __init__(self, call: Callable[[], T]):
+        self.ended = threading.Event()
+        self._results: List[T] = []
+        self._errors: List[BaseException] = []
+        threading.stack_size(STACK_BYTES)
+        threading.Thread(target=self._run, args=[call], daemon=True).start()
+
+    def _run(self, call: Callable[[], T]) -> None:
+        try:
+            self._results.append(call())
+        except BaseException as error:
+            self._errors.append(error)
+        finally:
+            self.ended.set()
+
+    def result(self) -> T:
+        if self._errors:
+            raise self._errors.pop()
+        return self._results.pop()

@@ -1,0 +1,147 @@
+"""The terminal: its modes, its alternate screen, its keys, and the signals that end or stop the program.
+
+All that the program shows is on the alternate screen, so that the terminal's scrollback gets none of it. The echo is off; the
+line editor shows what may be shown.
+"""
+from __future__ import annotations
+
+import os
+import select
+import signal
+import termios
+from types import FrameType
+from typing import List, Optional
+
+ENDING = (signal.SIGINT, signal.SIGTERM, signal.SIGHUP, signal.SIGQUIT)
+SIZE_UNKNOWN = os.terminal_size((80, 24))
+
+ENTER_SCREEN, LEAVE_SCREEN = "\x1b[?1049h", "\x1b[?1049l"
+CLEAR = "\x1b[0m\x1b[H\x1b[2J"
+# The console of Linux has no alternate screen. This clears what it keeps of lines that left the screen.
+CLEAR_KEPT = "\x1b[3J"
+
+
+class Ended(BaseException):
+    """The owner, a signal or the end of the terminal ends the program. It is no Exception, so that nothing handles it as a fault."""
+
+    def __init__(self, number: int):
+        super().__init__(number)
+        self.number = number
+
+
+class Terminal:
+    """A terminal that shows what is written to it until it is closed.
+
+    `is_plain` says that the terminal knows no control sequences, so that nothing can be cleared there.
+    """
+
+    def __init__(self, source: int, target: int, kind: str):
+        self._source, self._target = source, target
+        self.is_plain = kind in ("", "dumb", "unknown")
+        self._is_console = kind.startswith("linux")
+        self._saved = termios.tcgetattr(source)
+        self._is_open = False
+        # A signal writes a byte here, so that one which comes just before a wait for a key ends that wait.
+        self._woken, self._waking = os.pipe2(os.O_NONBLOCK | os.O_CLOEXEC)
+        # What was written since the screen was cleared, to be written again after a stop.
+        self._written: List[str] = []
+
+    def open(self) -> None:
+        """Shows the alternate screen, and takes over the signals."""
+        signal.set_wakeup_fd(self._waking, warn_on_full_buffer=False)
+        for number in ENDING:
+            signal.signal(number, self._end)
+        signal.signal(signal.SIGTSTP, self._stop)
+        self._is_open = True
+        self._enter()
+
+    def close(self) -> None:
+        """Clears the screen, leaves it, and restores the terminal's modes. What was typed and not read is dropped."""
+        for number in ENDING + (signal.SIGTSTP,):
+            signal.signal(number, signal.SIG_IGN)
+        if self._is_open:
+            self._is_open = False
+            self._leave()
+        self._written.clear()
+
+    def _enter(self) -> None:
+        modes = termios.tcgetattr(self._source)
+        modes[3] &= ~(termios.ECHO | termios.ECHONL | termios.ICANON | termios.IEXTEN)
+        modes[3] |= termios.ISIG
+        modes[6] = [*modes[6]]
+        modes[6][termios.VMIN], modes[6][termios.VTIME] = 1, 0
+        termios.tcsetattr(self._source, termios.TCSADRAIN, modes)
+        if not self.is_plain:
+            self._put(ENTER_SCREEN + CLEAR)
+
+    def _leave(self) -> None:
+        try:
+            if self.is_plain:
+                self._put("\n")
+            else:
+                self._put(CLEAR + (CLEAR_KEPT if self._is_console else "") + LEAVE_SCREEN)
+        finally:
+            try:
+                termios.tcsetattr(self._source, termios.TCSAFLUSH, self._saved)
+            except termios.error:
+                # The terminal is no longer there.
+                pass
+
+    def _end(self, number: int, frame: Optional[FrameType]) -> None:
+        raise Ended(number)
+
+    def _stop(self, number: int, frame: Optional[FrameType]) -> None:
+        """Hides the screen, stops as the signal asks, and shows the screen again when the program goes on."""
+        self._leave()
+        signal.signal(signal.SIGTSTP, signal.SIG_DFL)
+        os.kill(os.getpid(), signal.SIGTSTP)
+        signal.signal(signal.SIGTSTP, self._stop)
+        self._enter()
+        for text in self._written:
+            self._put(text)
+
+    def _put(self, text: str) -> None:
+        data = text.encode("ascii", "replace")
+        try:
+            while data:
+                data = data[os.write(self._target, data) :]
+        except OSError:
+            if self._is_open:
+                raise Ended(signal.SIGHUP) from None
+
+    def write(self, text: str) -> None:
+        self._written.append(text)
+        self._put(text)
+
+    def clear(self) -> None:
+        """Clears the screen. A plain terminal gets empty lines."""
+        self._written.clear()
+        self.write("\n" * self.size.lines if self.is_plain else CLEAR)
+
+    @property
+    def size(self) -> os.terminal_size:
+        try:
+            size = os.get_terminal_size(self._target)
+        except OSError:
+            return SIZE_UNKNOWN
+        return size if size.columns and size.lines else SIZE_UNKNOWN
+
+    def key(self) -> int:
+        """Returns the next byte that is typed."""
+        while self._source not in select.select([self._source, self._woken], [], [])[0]:
+            os.read(self._woken, 64)
+        try:
+            typed = os.read(self._source, 1)
+        except OSError:
+            typed = b""
+        if not typed:
+            raise Ended(signal.SIGHUP)
+        return typed[0]
+
+    def is_typed(self, seconds: float) -> bool:
+        """Whether something is typed within this time."""
+        return bool(select.select([self._source], [], [], seconds)[0])
+
+    def drop_typed(self) -> None:
+        """Drops what was typed and not read, such as the rest of a paste that the owner doesn't see."""
+        termios.tcflush(self._source, termios.TCIFLUSH)

@@ -1,0 +1,164 @@
+"""The sentences: those of the page, from its own table, and those that only a terminal needs."""
+from __future__ import annotations
+
+import json
+import pathlib
+import re
+from typing import Dict, Union
+
+Value = Union[str, int]
+
+
+HERE = pathlib.Path(__file__).resolve().parent
+# A wheel and a package have a copy of the page's table beside this module. In a checkout, the table stands in the page's folder.
+TABLES = [HERE / "texts.js", HERE.parents[3] / "page" / "texts.js"]
+
+
+def _page() -> Dict[str, str]:
+    """Returns the page's table. It is JSON between its first and its last line."""
+    source = next(path for path in TABLES if path.exists()).read_text("utf-8")
+    begin, end = source.index("{\n", source.index("export const TEXTS")), source.index("\n};") + 2
+    table: Dict[str, str] = json.loads(source[begin:end])
+    # What the page says of itself is true of this program too.
+    return {key: re.sub(r"\b([Tt]he|[Tt]his) page\b", r"\1 program", text) for key, text in table.items()}
+
+
+# What a terminal says in other words than the page, or what only a terminal says.
+OWN: Dict[str, str] = {
+    "title": "shamir-papers: paper backups of a wallet",
+    "home.choose": "Number or word (Ctrl-C ends):",
+    "screen.more": "(Enter: more)",
+    "screen.answers": "Type one of these: {answers}.",
+    "screen.next": "Enter: go on",
+    "screen.end": "Enter: end",
+    "work.passed": "{time} so far.",
+    "work.stop": "Enter stops it.",
+    "ended": "shamir-papers: nothing was kept",
+    "ended.unfinished": "shamir-papers: nothing was kept. Destroy the papers that you have written so far: they are no backup.",
+    "closed": "shamir-papers: done. Close this terminal now: it may remember what it showed.",
+    "failed": "shamir-papers: the program failed here, and nothing was kept",
+    "needs.terminal": "shamir-papers asks at a terminal, and standard {stream} isn't one. In scripts, use the program shamir: {command} (see 'man shamir')",
+    "safety.title": "Before you begin",
+    "safety.good": "This machine seems to have no network and no swap.",
+    "safety.network": "A network is up ({names}). Switch it off until you are done: pull out the cable, and switch the wireless network off.",
+    "safety.swap": "Swap is on, so memory may be written to a disk. As root, 'swapoff -a' switches it off.",
+    "safety.ssh": "You seem to work over ssh. The machine at your end and its terminal see all that you type and read.",
+    "safety.recorded": "This terminal is recorded by '{name}'. End that first.",
+    "safety.plain": "This terminal (TERM={kind}) can't be cleared, so what is shown stays in it. Close it at the end.",
+    "safety.kept": "This terminal (TERM={kind}) has no second screen, so lines that leave it may stay in its memory. Close it at the end.",
+    "safety.screen": "You work in GNU screen, which may keep what is shown. First press Ctrl-A, and type ':altscreen on'.",
+    "safety.lock": "The system doesn't let this program lock its memory, so what you type may reach a disk if memory runs short.",
+    "safety.attach": "The system doesn't let this program forbid other programs of yours to read its memory.",
+    "safety.core": "The system doesn't let this program forbid a copy of its memory on disk if it fails.",
+    "safety.seen": "Make sure that nobody sees the screen, and that no camera does.",
+    "safety.go": "Enter: go on. Ctrl-C: end, now and at any time.",
+    "new.plan.choose": "1, 2 or 3, or a plan:",
+    "new.plan.other": "Another plan: for one group, type TofN, such as 2of3. For groups, type how many of them are needed, a slash, and the groups, such as 2/3of5,1of1.",
+    "new.secret": "1, 2 or 3 (Enter alone: 1), or m for more choices:",
+    "new.secret.digits": "The digits of the secret (they don't show):",
+    "new.secret.again": "The same digits again:",
+    "new.secret.differ": "The digits differ. Type them twice, the same both times.",
+    "new.secret.count": "You typed {digits} digits, for {bytes} bytes.",
+    "make.passphrase": "Make a backup: the passphrase",
+    "new.chosen": "Extendable flag: {flag}. Iteration exponent: {exponent}.",
+    "new.flag": "Set the extendable flag?",
+    "new.exponent.each": "Each step from there doubles that.",
+    "new.flag.set": "set",
+    "new.flag.unset": "not set",
+    "new.exponent": "Iteration exponent, 0 to 15 (Enter: 1):",
+    "new.passphrase": "Passphrase (it doesn't show; Enter alone: none):",
+    "new.passphrase.again": "The same again:",
+    "new.passphrase.none": "No passphrase: is that right?",
+    "new.write": "Enter: I have written it. The words are cleared then.",
+    "paper.how": "Write 'SLIP-0039', the name of the paper and the words with their numbers, in block letters.",
+    "back.ask": "Paper {name} (Enter alone: show it again):",
+    "noted.ask": "The fingerprint that you noted (Enter alone: none):",
+    "noted.wrong": "This isn't a fingerprint. A fingerprint has exactly eight characters, each of which is a digit or a letter from a to f. Compare it with your note. If you have noted none, press Enter alone.",
+    "noted.done": "Enter: I have noted it",
+    "noted.done.own": "Enter: go on",
+    "passphrase.ask": "Passphrase (it doesn't show; Enter alone: none):",
+    "entry.how": "Type the words in their order, in one line or several. Four letters of a word are enough, and Tab completes a word. Type ? for a word that you can't read, or its first letters and ?.",
+    "entry.how.whole": "Type the words in their order, in one line or several. Four letters of a word are enough, and Tab completes a word.",
+    "entry.paper": "Paper {number} (Enter alone: no more):",
+    "entry.paper.first": "Paper 1:",
+    "entry.on": "Word {number} and on ({sign} alone: begin this paper again):",
+    "entry.count": "That is {count} so far, and no paper has so many. Type the words that follow, or {sign} alone to begin this paper again.",
+    "entry.count.other": "Your other papers have {wanted}. You typed {count}: a word was left out or typed twice, or two papers were typed as one. Type this paper again.",
+    "entry.unknown": "Word {number}, {word}, isn't in the word list{nearest}.",
+    "entry.several": "Word {number}, {word}, isn't complete. Some of the words that begin so: {nearest}.",
+    "entry.mark": "Word {number}, {word}, stands for no word of the list. The question mark comes last. If you can't read the beginning, type ? alone.",
+    "entry.mark.none": "Word {number}, {word}, isn't a word. Here each word is to be read from the paper. If you can't read it, look at the paper again on the screen, and write it anew.",
+    "entry.word": "Word {number} ({sign} alone: begin this paper again):",
+    "entry.one": "Type one word.",
+    "entry.numbered": "Number and word, such as '7 acid' ({sign} alone: begin this paper again):",
+    "entry.numbers": "Type the number of a word, from 1 to {count}, and the word.",
+    "entry.longer": "If the paper has more than {count} words, type those that follow.",
+    "entry.typed": "These words were typed:",
+    "entry.place": "Word {number}",
+    "entry.fits": "These words were found for those that you can't read:",
+    "entry.take": "Do these words fit what you see?",
+    "entry.take.which": "Which of them? (1, 2, or 0 for none)",
+    "entry.drop": "To take a paper out again, type {sign} and its name, such as {sign}{name}.",
+    "entry.drop.none": "No paper {name} is here.",
+    "collect.dropped": "Paper {name} is taken out.",
+    "word.one": "1 word",
+    "word.many": "{n} words",
+    "status.line": "{group}. {told}",
+    "verdict.wrong": "These quorums don't give it: {names}.",
+    "verdict.wrong.more": "These quorums don't give it, and {more} more: {names}.",
+    "verdict.some": "Some quorums don't give a secret with the fingerprint that you noted: {wrong} of {quorums}. The others give your secret.",
+    "verdict.some.unnoted": "Some quorums give no secret: {wrong} of {quorums}. The others all give the same secret.",
+    "verdict.gave": "{fingerprint}: {quorums}, such as {names}",
+    "next.good": "Enter: end. p: go back to the papers.",
+    "next.unnoted": "Enter: end. t: try again with the same papers. p: go back to the papers.",
+    "next.again": "Enter: try again with the same papers. p: go back to the papers. e: end.",
+    "next.papers": "Enter: go back to the papers. t: try again with the same papers. e: end.",
+    "more.papers": "Enter: type more papers. e: end.",
+    "check.some": "Throw no paper away yet. Go back to the papers, take out one that may be wrong, compare it with its words, and type it again. If it stays wrong, 'shamir-papers replace' can write the right one, from the papers that are right.",
+    "make.failed.again": "Enter: start the drill again. e: end.",
+    "recover.show": "Show the secret?",
+    "recover.clear": "Enter: clear the digits",
+    "replace.choose": "A number:",
+    "replace.how": "1 or 2:",
+    "replace.destroyed.hint": "The program writes the same words again. If only some words can't be read, first try 'shamir-papers repair', which needs no other papers.",
+    "replace.new.recover": "Run 'shamir-papers recover', and write down the digits of your secret and its fingerprint.",
+    "replace.new.make": "Run 'shamir-papers new', and choose 'A secret that I already have'. The lost paper doesn't work together with the new papers.",
+    "replace.ask": "This backup needs {needed} papers. How many papers has it (1 to 16)?",
+    "replace.ask.group": "Group {group} needs {needed} papers. How many papers has it (1 to 16)?",
+    "replace.ask.needed": "Group {group}: how many papers are needed (1 to 16)?",
+    "replace.menu.write": "Write paper {name}",
+    "replace.menu.papers": "Type more papers",
+    "replace.menu.drill": "Go on to the drill",
+    "damaged.intro": "Type the words that you can read. You may leave up to three words open. A question mark stands for what you can't read.",
+    "damaged.found": "What was found:",
+    "damaged.ask": "The damaged paper:",
+    "damaged.menu": "w: write the paper anew. Enter: type it again. e: end.",
+    "damaged.menu.two": "1 or 2: write this paper anew. Enter: type it again. e: end.",
+    "damaged.refused.13": "At least two words are wrong, or two changed places, so the program can't find the place. Look at each word on the paper again. For a word that you aren't sure of, type ? or its first letters and ?.",
+    "damaged.refused.16": "{first} words are open, and at most three can be found. If you can read the first letters of one, type them: four letters make a word. Your other papers may be enough without this one. 'shamir-papers check' shows that, and 'shamir-papers replace' may write it again.",
+    "refused.13": "The words don't belong together, and more than one of them is wrong, or two changed places. Compare each word with your paper. If some words can't be read well, type ? for them.",
+}
+TABLE = {**_page(), **OWN}
+
+
+def has_text(key: str) -> bool:
+    return key in TABLE
+
+
+def say(key: str, **values: Value) -> str:
+    """Returns the sentence of a key, with the values in their places."""
+    return re.sub(r"\{(\w+)\}", lambda found: str(values[found[1]]), TABLE[key])
+
+
+def counted(n: int, noun: str) -> str:
+    """Returns a number with its noun."""
+    return say(f"{noun}.{'one' if n == 1 else 'many'}", n=f"{n:,}")
+
+
+def said_time(seconds: float) -> str:
+    """Returns a time in words."""
+    if seconds < 1:
+        return say("time.short")
+    if seconds < 90:
+        return counted(round(seconds), "second")
+    return counted(round(seconds / 60), "minute") if seconds < 5400 else counted(round(seconds / 3600), "hour")

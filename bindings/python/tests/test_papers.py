@@ -1,0 +1,378 @@
+"""Tests parts of `shamir.papers` without a terminal: the entry of words over generated typing, the line editor, plans, quorums, what
+outcomes say together, and the sentences. tools/check_papers tests the program at a terminal."""
+import pathlib
+import random
+import re
+import sys
+import unittest
+
+sys.path.insert(0, str(pathlib.Path(__file__).resolve().parent.parent))
+sys.path.insert(0, str(pathlib.Path(__file__).resolve().parent))
+
+from test_shamir import FIVE, ONE, TWO  # noqa: E402
+
+if sys.version_info < (3, 10):
+    raise unittest.SkipTest("shamir.papers needs Python 3.10")
+
+import shamir  # noqa: E402
+import shamir.papers  # noqa: E402
+from shamir.papers.drill import verdict_of  # noqa: E402
+from shamir.papers.entry import Entry, ask_paper  # noqa: E402
+from shamir.papers.line import Line  # noqa: E402
+from shamir.papers.plan import plan_of, said_plan, said_takes  # noqa: E402
+from shamir.papers.quorums import Tried, count, quorum_with, suspects  # noqa: E402
+from shamir.papers.spelling import marks_of, nearest, numbered_of, seems_bip39  # noqa: E402
+from shamir.papers.terminal import Ended  # noqa: E402
+from shamir.papers.texts import OWN, TABLE, _page, say  # noqa: E402
+
+# The first vector whose paper has 33 words.
+LONG = "theory painting academic academic armed sweater year military elder discuss acne wildlife boring employer fused large satoshi bundle carbon diagnose anatomy hamster leaves tracks paces beyond phantom capital marvel lips brave detect luck"
+WORDS = shamir.words("")
+SOURCES = pathlib.Path(shamir.papers.__file__).resolve().parent
+# These words speak of a page, and not of a terminal.
+OF_A_PAGE = re.compile(r"\b(pages?|fields?|button|buttons|box|press (?!Ctrl|Enter)|click|above|below|browser|first screen|the table)")
+
+
+class Scripted:
+    """A screen whose questions have answers."""
+
+    def __init__(self, *answers):
+        self.answers, self.told, self.asked = list(answers), [], []
+
+    def ask(self, prompt, complete=None):
+        self.asked.append(prompt)
+        return self.answers.pop(0)
+
+    def agree(self, prompt):
+        self.asked.append(prompt)
+        return self.answers.pop(0)
+
+    def choose(self, prompt, answers, default=None):
+        self.asked.append(prompt)
+        return answers[self.answers.pop(0)]
+
+    def tell(self, text, style=""):
+        self.told.append(text)
+
+    def item(self, text, mark="- "):
+        self.told.append(text)
+
+    def words(self, words):
+        self.told.append(" ".join(words))
+
+    def gap(self):
+        pass
+
+    def drop_typed(self):
+        pass
+
+
+def typed_by(chance, line):
+    """Returns one way to type the words of a line, in one line or several."""
+    words, styles = line.split(), ["{n}. {w}", "{n}) {w}", "{n} {w}", "{w}", "{w},", " {w} ", "{n}.{w}"]
+    style, found = chance.choice(styles), []
+    for number, word in enumerate(words, 1):
+        length = chance.choice([4, len(word), chance.randint(4, len(word))])
+        word = word[:length]
+        word = chance.choice([word, word.upper(), word.capitalize()])
+        found.append(style.format(n=number, w=word))
+    cuts = sorted(chance.sample(range(1, len(words)), chance.randint(0, 4)))
+    return [chance.choice([" ", "  ", "\t"]).join(found[begin:end]) for begin, end in zip([0, *cuts], [*cuts, len(words)])]
+
+
+class EntryTests(unittest.TestCase):
+    def read(self, *answers, wanted=None):
+        screen = Scripted(*answers)
+        found = Entry(screen, wanted).read("Paper 1:")
+        self.assertEqual(screen.answers, [])
+        return " ".join(found), screen
+
+    def test_generated_typing(self):
+        chance = random.Random(52)
+        for round in range(400):
+            line = chance.choice([ONE, *TWO, *FIVE, LONG])
+            with self.subTest(round=round):
+                self.assertEqual(self.read(*typed_by(chance, line))[0], line)
+
+    def test_cut_after_twenty_words(self):
+        first, rest = " ".join(LONG.split()[:20]), " ".join(LONG.split()[20:])
+        found, screen = self.read(first, rest)
+        self.assertEqual(found, LONG)
+        self.assertIn(say("entry.longer", count=20), screen.told)
+        self.assertEqual(self.read(first, rest, wanted=33)[0], LONG)
+
+    def test_unknown_word(self):
+        found, screen = self.read(TWO[0].replace("always", "alwys"), "zzz", "again always", "always")
+        self.assertEqual(found, TWO[0])
+        self.assertTrue(screen.told[0].startswith("Word 4, alwys, isn't in the word list (always"), screen.told)
+        self.assertIn(say("entry.one"), screen.told)
+        self.assertEqual(screen.asked[1], say("entry.word", number=4, sign="-"))
+
+    def test_ambiguous_beginning(self):
+        found, screen = self.read(TWO[0].replace("always", "al"), "ALWA")
+        self.assertEqual(found, TWO[0])
+        self.assertIn("isn't complete", screen.told[0])
+
+    def test_each_word_replaced_by_another(self):
+        chance = random.Random(7)
+        for at in range(20):
+            words = TWO[1].split()
+            words[at] = chance.choice([word for word in WORDS if word != words[at]])
+            # The second word holds the extendable flag, by which the checksum is made. So no place is promised there.
+            if at == 1:
+                continue
+            with self.subTest(at=at):
+                found, screen = self.read(" ".join(words), f"{at + 1} {TWO[1].split()[at]}")
+                self.assertEqual(found, TWO[1])
+                self.assertTrue(any("it is word" in text for text in screen.told), screen.told)
+
+    def test_nothing_is_corrected_by_itself(self):
+        wrong = TWO[0].replace("always", "alien")
+        found, _ = self.read(wrong, "-", "")
+        self.assertEqual(found, "")
+
+    def test_two_wrong_words(self):
+        words = TWO[0].split()
+        words[4], words[5] = words[5], words[4]
+        found, screen = self.read(" ".join(words), "30 acid", f"5 {words[5]} 6. {words[4]}")
+        self.assertEqual(found, TWO[0])
+        self.assertIn(say("entry.numbers", count=20), screen.told)
+
+    def test_all_words_again(self):
+        words = TWO[0].split()
+        words[4], words[5] = words[5], words[4]
+        self.assertEqual(self.read(" ".join(words), TWO[0])[0], TWO[0])
+
+    def test_too_many_words(self):
+        found, screen = self.read(f"{ONE} acid", "-", ONE)
+        self.assertEqual(found, ONE)
+        self.assertIn(say("entry.count", count="21 words", sign="-"), screen.told)
+        found, screen = self.read(f"{ONE} acid", ONE, wanted=20)
+        self.assertEqual(found, ONE)
+        self.assertIn(say("entry.count.other", wanted="20 words", count=21), screen.told)
+
+    def test_bip39(self):
+        words = "legal winner thank year wave sausage worth useful legal winner thank yellow"
+        found, screen = self.read(words, ONE)
+        self.assertEqual(found, ONE)
+        self.assertIn(say("entry.bip39", count=12), screen.told)
+        self.assertTrue(seems_bip39(WORDS, ["abandon"] * 24))
+        self.assertFalse(seems_bip39(WORDS, ONE.split()[:12]))
+
+    def test_faulty_programs_papers(self):
+        padding = "duckling enlarge academic academic email result length solution fridge kidney coal piece deal husband erode duke ajar music cargo fitness"
+        found, screen = self.read(padding, ONE)
+        self.assertEqual(found, ONE)
+        self.assertTrue(any(say("refused.14") in text for text in screen.told), screen.told)
+
+    def test_open_words(self):
+        words = ONE.split()
+        words[3], words[6] = "?", "le?"
+        marks = Entry(Scripted(" ".join(words)), None).read("Paper 1:")
+        taken = Scripted(True)
+        self.assertEqual(ask_paper(taken, marks).line, ONE)
+        self.assertIn("Word 4: academic", taken.told)
+        self.assertIsNone(ask_paper(Scripted(False), marks))
+
+    def test_open_words_that_fit_nothing(self):
+        words = ONE.split()
+        words[3], words[4] = "?", "kidney"
+        words[5] = "piece"
+        screen = Scripted(" ".join(words), "-", "")
+        self.assertEqual(Entry(screen, None).read("Paper 1:"), [])
+        self.assertTrue(any("13" in text or "17" in text for text in screen.told), screen.told)
+
+    def test_drop_sign(self):
+        self.assertEqual(Entry(Scripted("-0.1"), None).read("Paper 2:"), ["-0.1"])
+        self.assertEqual(self.read("-")[0], "")
+        self.assertEqual(self.read("\n".join(["- " + word for word in ONE.split()]).replace("\n", " "))[0], ONE)
+
+
+class SpellingTests(unittest.TestCase):
+    def test_marks(self):
+        self.assertEqual(marks_of("1. Shadow 2) PISTOL,acad ? em?? 3shadow"), ["shadow", "pistol", "acad", "?", "em?", "shadow"])
+        self.assertEqual(marks_of(" 12 .. "), [])
+
+    def test_numbered(self):
+        self.assertEqual(numbered_of("7 shadow, 9. acid"), [(7, "shadow"), (9, "acid")])
+        self.assertIsNone(numbered_of("shadow acid"))
+        self.assertIsNone(numbered_of("7 shadow acid"))
+        self.assertIsNone(numbered_of(""))
+
+    def test_nearest(self):
+        self.assertEqual(nearest(WORDS, "emrald")[0], "emerald")
+        self.assertIn("shadow", nearest(WORDS, "shadw"))
+        self.assertEqual(nearest(WORDS, "?"), [])
+
+
+class Keys:
+    """A terminal whose keys are known."""
+
+    def __init__(self, keys, is_plain=False):
+        self.keys, self.is_plain, self.shown = list(keys), is_plain, ""
+
+    def key(self):
+        return self.keys.pop(0)
+
+    def is_typed(self, seconds):
+        return bool(self.keys)
+
+    def write(self, text):
+        self.shown += text
+
+    @property
+    def size(self):
+        return type("Size", (), {"columns": 40, "lines": 24})
+
+
+class LineTests(unittest.TestCase):
+    def typed(self, keys, complete=None, **how):
+        terminal = Keys(keys)
+        return Line(terminal, "? ", complete, **how).read().decode(), terminal
+
+    def complete(self, letters):
+        return [word for word in WORDS if word.startswith(letters)]
+
+    def test_keys(self):
+        for keys, wanted in [
+            (b"acid\n", "acid"),
+            (b"acix\x7fd\r", "acid"),
+            (b"x\x08acid\n", "acid"),
+            (b"wrong\x15acid\n", "acid"),
+            (b"acid bad\x17adult\n", "acid adult"),
+            (b"ac\x1b[Did\n", "acid"),
+            (b"ac\x1bOCid\x1b[3~\n", "acid"),
+            (b"a\x04cid\n", "acid"),
+            ("aé\x7fcid\n".encode(), "acid"),
+            (b"\x7f\x15\x17acid\n", "acid"),
+        ]:
+            with self.subTest(keys=keys):
+                self.assertEqual(self.typed(keys)[0], wanted)
+
+    def test_completion(self):
+        for keys, wanted in [
+            (b"shad pist\n", "shadow pistol"),
+            (b"SHAD,pist \n", "SHADow,pistol "),
+            (b"shad\tpis\t\n", "shadow pistol "),
+            (b"aci\t\n", "acid "),
+            (b"em? emer\n", "em? emerald"),
+            (b"alwys acid\n", "alwys acid"),
+        ]:
+            with self.subTest(keys=keys):
+                self.assertEqual(self.typed(keys, self.complete)[0], wanted)
+
+    def test_several_are_shown(self):
+        typed, terminal = self.typed(b"aca\x7f\x7f\tquired\n", self.complete)
+        self.assertIn("academic", terminal.shown)
+        self.assertTrue(typed.startswith("a"))
+
+    def test_hidden(self):
+        typed, terminal = self.typed(b"secret\x7ft\x15TREZOR\n", is_hidden=True)
+        self.assertEqual((typed, terminal.shown), ("TREZOR", "? \n"))
+
+    def test_end(self):
+        with self.assertRaises(Ended):
+            self.typed(b"\x04")
+        with self.assertRaises(Ended):
+            self.typed(b"ac\x15\x04")
+
+
+class PlanTests(unittest.TestCase):
+    def test_texts(self):
+        for text in ["2of3", "1of1", "2/2of3,1of1,1of1", "1/2of2,3of4", "16/" + ",".join(["1of1"] * 16)]:
+            shamir.random_needed(text, 16)
+            self.assertEqual(plan_of(text).text, text)
+        self.assertEqual(plan_of("1/2of3").text, "2of3")
+        self.assertEqual(plan_of("2/2of3,1of1").names, ["0.0", "0.1", "0.2", "1.0"])
+
+    def test_sentences(self):
+        self.assertEqual(said_plan(plan_of("2of3")), "Any 2 of the 3 papers recover the secret.")
+        self.assertIn("group 0 needs any 3 of its 5 papers; group 1 needs its only paper.", said_plan(plan_of("2/3of5,1of1")))
+        self.assertEqual(said_takes(plan_of("2/3of5,1of1"), "1.0"), "This paper alone completes group 1. The secret needs 2 groups.")
+
+
+def outcome(names, fingerprint):
+    return Tried(tuple(names.split("+")), fingerprint, None if fingerprint else 0)
+
+
+class VerdictTests(unittest.TestCase):
+    def test_quorums(self):
+        status = shamir.status(FIVE)
+        self.assertEqual(count(status), len(list(shamir.drill(FIVE, fingerprints=True))))
+        self.assertEqual(quorum_with(status, "2.0"), ("0.0", "0.1", "2.0"))
+        self.assertEqual(quorum_with(status, "0.2"), ("0.0", "0.2", "1.0"))
+        self.assertIsNone(quorum_with(shamir.status(FIVE[:1]), "0.0"))
+
+    def test_all_right(self):
+        tried = [outcome("0.0+0.1", "01234567"), outcome("0.0+0.2", "01234567"), outcome("0.1+0.2", "01234567")]
+        verdict = verdict_of(tried, 3, "01234567", False, False)
+        self.assertEqual((verdict.result, verdict.sentences), ("good", [say("verdict.all.noted", quorums="3 quorums", fingerprint="01234567")]))
+        self.assertEqual(verdict_of(tried, 3, "", False, False).result, "good")
+        part = verdict_of(tried, 4, "01234567", False, True)
+        self.assertEqual(part.result, "stopped")
+        self.assertNotIn("Every", " ".join(part.sentences))
+
+    def test_one_wrong_quorum_is_never_all(self):
+        for wrong in [None, "89abcdef"]:
+            tried = [outcome("0.0+0.1", "01234567"), outcome("0.0+0.2", wrong), outcome("0.1+0.2", wrong)]
+            verdict = verdict_of(tried, 3, "01234567", False, False)
+            self.assertEqual(verdict.result, "some")
+            self.assertIn(say("verdict.suspects.one", names="0.2"), verdict.sentences)
+            self.assertNotIn("Every", " ".join(verdict.sentences))
+        self.assertEqual(verdict_of(tried, 3, "", False, False).result, "several")
+
+    def test_expected(self):
+        def verdict(*outcomes):
+            tried = [Tried((f"0.{at}",), None, None if expected is not None else 0, expected) for at, expected in enumerate(outcomes)]
+            return verdict_of(tried, len(tried), "01234567", False, False)
+
+        self.assertEqual(verdict(True, True).sentences, [say("verdict.all.noted", quorums="2 quorums", fingerprint="01234567")])
+        for outcomes, result, key in [((False, False), "other", "verdict.other"), ((False, None), "none", "verdict.none"), ((None, None), "some", "verdict.nothing")]:
+            found = verdict(*outcomes)
+            self.assertEqual((found.result, found.sentences), (result, [say(key, quorums="2 quorums")]))
+        for outcomes in [(True, False), (True, None), (False, True)]:
+            self.assertEqual(verdict(*outcomes).result, "some")
+            self.assertNotIn("Every", " ".join(verdict(*outcomes).sentences))
+
+    def test_suspects(self):
+        right, wrong = [outcome("0.0+0.1", "a")], [outcome("0.0+0.2", "b"), outcome("0.1+0.2", "b")]
+        self.assertEqual(suspects(right, wrong), ["0.2"])
+        self.assertEqual(suspects(right, []), [])
+
+
+class TextTests(unittest.TestCase):
+    def keys(self):
+        """Returns the keys that the sources name, where a value in braces stands for any part."""
+        for path in SOURCES.glob("*.py"):
+            text = path.read_text()
+            for _, key in re.findall(r"""say\(\s*f?(["'])([a-z].*?)\1""", text):
+                yield re.compile(re.sub(r"\\\{.*?\\\}", ".+", re.escape(key)))
+            for noun in re.findall(r'counted\(.*?"([a-z]+)"\)', text):
+                yield re.compile(rf"{noun}\.(one|many)")
+
+    def test_each_key_is_there(self):
+        for key in self.keys():
+            self.assertTrue(any(key.fullmatch(it) for it in TABLE), key.pattern)
+
+    def test_sentences_speak_of_no_page(self):
+        found = {it for key in self.keys() for it in TABLE if key.fullmatch(it)} | {it for it in TABLE if "refused" in it}
+        for key in found:
+            self.assertIsNone(OF_A_PAGE.search(TABLE[key]), f"{key}: {TABLE[key]}")
+
+    def test_each_own_sentence_is_used(self):
+        keys, named = list(self.keys()), "".join(path.read_text() for path in SOURCES.glob("*.py"))
+        for key in OWN:
+            is_page = key in _page()
+            self.assertTrue(is_page or any(it.fullmatch(key) for it in keys) or named.count(f'"{key}"') > 1, key)
+
+    def test_sentences_are_ascii(self):
+        for key in OWN:
+            self.assertTrue(TABLE[key].isascii(), key)
+
+    def test_own_sentences_differ_from_those_of_the_page(self):
+        same = [key for key, text in _page().items() if OWN.get(key) == text]
+        self.assertEqual(same, [])
+
+
+if __name__ == "__main__":
+    unittest.main()

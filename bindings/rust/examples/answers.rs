@@ -1,0 +1,148 @@
+//! Makes calls of the crate, and writes what the command `shamir` would print. `tools/rust` runs it.
+//!
+//! Each line of the input is a command and its values. A value is a point and hexadecimal digits, or `-` for none. Each line of the
+//! output has what the command writes to standard output and to standard error, both in this form.
+use shamir::{
+    CreateOptions, Drill, Error, Found, Plan, RecoverOptions, Secret, Share, Status, create, create_with, fingerprint, parse,
+    recover, reissue, repair, status, words,
+};
+use std::fmt::Write;
+use std::io::{self, BufRead};
+
+type Value = Option<Vec<u8>>;
+
+fn hex(bytes: &[u8]) -> String {
+    bytes.iter().fold(String::new(), |digits, byte| digits + &format!("{byte:02x}"))
+}
+
+fn value(word: &str) -> Value {
+    let digits = word.strip_prefix('.')?;
+    let byte = |pair| u8::from_str_radix(pair, 16).expect("digits");
+    Some((0..digits.len()).step_by(2).map(|place| byte(&digits[place..place + 2])).collect())
+}
+
+fn text(value: &[u8]) -> &str {
+    std::str::from_utf8(value).expect("a text")
+}
+
+fn number(value: &[u8]) -> u32 {
+    text(value).parse().expect("a number")
+}
+
+fn show(share: &Share) -> String {
+    format!(
+        "identifier {} extendable {} exponent {} group {} group-threshold {} group-count {} member {} member-threshold {} value {}\n",
+        share.id,
+        u8::from(share.extendable),
+        share.exponent,
+        share.group_index,
+        share.group_threshold,
+        share.group_count,
+        share.member_index,
+        share.member_threshold,
+        hex(share.value.as_bytes())
+    )
+}
+
+/// Creates a backup. The random bytes are handed in as a slice, and drawn by a closure too if there are as many as are needed.
+fn created(plan: &[u8], secret: &[u8], options: &CreateOptions<'_>, random: &[u8]) -> Result<String, Error> {
+    let plan: Plan = text(plan).parse()?;
+    let secret = Secret::new(secret)?;
+    let mnemonics = create(&plan, &secret, options, random)?;
+    let drawn = create_with::<Error>(&plan, &secret, options, |room| {
+        room.copy_from_slice(random);
+        Ok(())
+    })?;
+    assert!(drawn.as_str() == mnemonics.as_str(), "a closure and a slice give two backups");
+    Ok(mnemonics.as_str().into())
+}
+
+fn options<'a>(passphrase: &'a [u8], expected: &'a Value) -> RecoverOptions<'a> {
+    let options = RecoverOptions::new().passphrase(passphrase);
+    expected.as_ref().map_or(options, |expected| options.expected(expected))
+}
+
+fn recovered(lines: &[u8], options: &RecoverOptions<'_>, as_fingerprint: bool) -> Result<String, Error> {
+    let secret = recover(lines, options)?;
+    Ok(if as_fingerprint { format!("{}\n", fingerprint(&secret)) } else { format!("{}\n", hex(secret.as_bytes())) })
+}
+
+fn drilled(drill: Drill<'_>, limit: usize) -> Result<String, Error> {
+    let (mut listed, mut last) = (String::new(), None);
+    for (place, outcome) in drill.enumerate() {
+        let outcome = outcome?;
+        if place == limit {
+            return Ok(listed + &format!("more after {}\n", last.expect("a limit above 0")));
+        }
+        let found = match &outcome.found {
+            Found::Secret(secret) => hex(secret.as_bytes()),
+            other => match other {
+                Found::Fingerprint(fingerprint) => fingerprint.to_string(),
+                Found::AsExpected => "as expected".into(),
+                Found::OtherSecret => "other secret".into(),
+                Found::Mismatch(mismatch) => mismatch.to_string(),
+                unknown => panic!("{unknown:?}"),
+            },
+        };
+        let names: Vec<String> = outcome.names.iter().map(|name| name.to_string()).collect();
+        assert_eq!(names.join("+"), outcome.names.as_str());
+        writeln!(listed, "{} {found}", outcome.names).expect("a string takes all");
+        last = Some(outcome.names);
+    }
+    Ok(listed + "end\n")
+}
+
+fn statuses(status: &Status) -> String {
+    assert_eq!(status.is_enough(), status.complete >= status.required);
+    let mut told = format!("groups {} of {}\n", status.complete, status.required);
+    for group in status.groups() {
+        let names: Vec<String> = group.names().map(|name| name.to_string()).collect();
+        let (group, threshold) = (group.group, group.threshold);
+        writeln!(told, "group {group} members {} of {threshold} {}", names.len(), names.join("+")).expect("a string takes all");
+    }
+    told
+}
+
+/// Gives what a command writes to standard output, or its refusal.
+fn answer(command: &str, values: &[Value]) -> Result<String, Error> {
+    let given: Vec<&[u8]> = values.iter().map(|value| value.as_deref().unwrap_or_default()).collect();
+    match (command, given.as_slice()) {
+        ("show", [line]) => Ok(show(&parse(line)?)),
+        ("words", [letters]) => Ok(words(letters).iter().fold(String::new(), |lines, word| lines + word + "\n")),
+        ("create", [plan, secret, passphrase, exponent, extendable, random]) => {
+            let options =
+                CreateOptions::new().passphrase(passphrase).exponent(number(exponent)).extendable(!extendable.is_empty());
+            created(plan, secret, &options, random)
+        }
+        ("recover", [passphrase, _, as_fingerprint, lines]) => {
+            recovered(lines, &options(passphrase, &values[1]), !as_fingerprint.is_empty())
+        }
+        ("drill", [passphrase, after, _, limit, as_fingerprints, lines]) => {
+            let mut drill = Drill::new(lines, &options(passphrase, &values[2]));
+            if values[1].is_some() {
+                drill = drill.after(after);
+            }
+            if !as_fingerprints.is_empty() {
+                drill = drill.fingerprints();
+            }
+            drilled(drill, number(limit) as usize)
+        }
+        ("status", [lines]) => Ok(statuses(&status(lines)?)),
+        ("reissue", [plan, names, lines]) => Ok(reissue(&text(plan).parse()?, names, lines)?.as_str().into()),
+        ("repair", [line]) => Ok(repair(line)?.as_str().into()),
+        _ => panic!("{command} has other values"),
+    }
+}
+
+fn main() {
+    for line in io::stdin().lock().lines() {
+        let line = line.expect("a line");
+        let (command, values) = line.split_once(' ').expect("a command and its values");
+        let values: Vec<Value> = values.split(' ').map(value).collect();
+        let (output, told) = match answer(command, &values) {
+            Ok(output) => (output, String::new()),
+            Err(error) => (String::new(), error.to_string()),
+        };
+        println!(".{} .{}", hex(output.as_bytes()), hex(told.as_bytes()));
+    }
+}

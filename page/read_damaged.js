@@ -1,0 +1,137 @@
+// The task 'Read a damaged paper': the engine finds the words that can't be read, or says where a wrong word is. The owner compares
+// them with the paper, writes it anew, types it back, and checks it together with other papers.
+import { collectAndCheck } from "./check_papers.js";
+import { button, element, paragraph } from "./dom.js";
+import { PaperEntry } from "./paper_entry.js";
+import { saidTakesAlone } from "./plan.js";
+import { saidError, wordsToLookAt } from "./refusals.js";
+import { say } from "./say.js";
+import { concealLater, setTouched, show } from "./screen.js";
+import { shownWords, writeAndTypeBack } from "./show_paper.js";
+
+/** @typedef {import("./client.js").Desk} Desk */
+/** @typedef {import("./desk.js").Kind} Kind */
+/** @typedef {import("./paper_entry.js").Answer} Answer */
+/** @typedef {{index: number, kind: Kind}} Fit a paper that fits, and its number among those that the worker keeps to be shown */
+
+const USUAL_WORDS = 20;
+const OPEN_MAX = 3;
+
+/**
+ * Reads a damaged paper.
+ *
+ * @param {Desk} desk
+ */
+export async function readDamaged(desk) {
+  const fit = await askWhatIsRead(desk);
+  if (fit === null) return;
+  const { index, kind } = fit;
+  await writeAndTypeBack(desk, { index, name: kind.name, takes: saidTakesAlone(kind) }, kind.words);
+  const what = { title: say("damaged.check.title"), intro: say("damaged.check.intro"), repaired: kind.name };
+  await collectAndCheck(desk, what, () => [paragraph(say("damaged.too_few"), "note")]);
+}
+
+/**
+ * Lets the owner type what can be read, until a paper that fits is chosen to be written anew. Returns null if the owner goes back.
+ *
+ * @param {Desk} desk
+ * @returns {Promise<Fit | null>}
+ */
+function askWhatIsRead(desk) {
+  return new Promise((resolve) => new Damaged(desk, resolve).show());
+}
+
+class Damaged {
+  #desk;
+  #onChosen;
+  #found = element("section", { class: "fits" });
+  // How often the fields were changed. An answer to what stood there before isn't shown.
+  #changes = 0;
+  #entry;
+
+  /**
+   * @param {Desk} desk
+   * @param {(fit: Fit | null) => void} onChosen
+   */
+  constructor(desk, onChosen) {
+    this.#desk = desk;
+    this.#onChosen = onChosen;
+    this.#entry = new PaperEntry(desk.begun.words, USUAL_WORDS, (line) => this.#take(line), () => this.#changed());
+  }
+
+  show() {
+    const marks = element("ul", {}, ...["letters", "nothing"].map((key) => element("li", {}, say(`damaged.${key}`))));
+    const back = element("div", { class: "buttons" }, button(say("back"), () => this.#onChosen(null)));
+    show(say("damaged.title"), paragraph(say("damaged.intro")), marks, paragraph(say("damaged.first")), this.#entry.element, this.#found, back);
+    this.#entry.focus();
+  }
+
+  #changed() {
+    this.#changes += 1;
+    this.#found.replaceChildren();
+  }
+
+  /**
+   * @param {Uint8Array} line
+   * @returns {Promise<Answer>}
+   */
+  async #take(line) {
+    this.#changed();
+    const [marks, changes] = [this.#entry.words, this.#changes];
+    try {
+      const kinds = await this.#desk.ask("repair", { line }, [line.buffer]);
+      if (changes === this.#changes) await this.#tell(kinds, marks);
+      return { isTaken: false, isFault: false, text: say(kinds.length > 1 ? "damaged.two" : "damaged.one", { name: kinds[0].name }) };
+    } catch (error) {
+      return { isTaken: false, text: saidError(error, "damaged"), words: wordsToLookAt(error) };
+    }
+  }
+
+  /**
+   * Shows the words of each paper that fits, where they differ from what was typed.
+   *
+   * @param {Kind[]} kinds
+   * @param {string[]} marks
+   */
+  async #tell(kinds, marks) {
+    setTouched(true);
+    const isOneOfTwo = kinds.length > 1;
+    // A fourth mark that is taken stands behind the four letters that make a word.
+    const open = Math.min(OPEN_MAX, marks.filter((mark) => mark.endsWith("?")).length);
+    const fits = kinds.map((kind, index) => this.#fit({ index, kind }, marks, isOneOfTwo));
+    const heading = element("h2", { tabindex: "-1" }, say("damaged.found"));
+    this.#found.replaceChildren(
+      heading,
+      ...(isOneOfTwo ? [paragraph(say("damaged.two.why")), paragraph(say("damaged.two.which"), "note")] : []),
+      ...fits.map(({ box }) => box),
+      ...(open ? [paragraph(say("damaged.compare"), "note"), paragraph(say("damaged.limits", { case: say(`damaged.limits.${open}`) }))] : []),
+      paragraph(say("damaged.next")),
+      element("div", { class: "buttons" }, ...fits.map(({ write }) => write)),
+    );
+    await Promise.all(fits.map(({ fill }) => fill()));
+    heading.focus();
+  }
+
+  /**
+   * Makes what is shown of a paper that fits, what fills it with words, and the button that chooses it.
+   *
+   * @param {Fit} fit
+   * @param {string[]} marks
+   * @param {boolean} isOneOfTwo
+   */
+  #fit(fit, marks, isOneOfTwo) {
+    const { index, kind } = fit;
+    const list = element("ul", { class: "rows", translate: "no" });
+    const row = (/** @type {string} */ word, /** @type {number} */ at) =>
+      word === marks[at] ? [] : [element("li", {}, element("span", {}, say("entry.word", { number: at + 1 })), element("strong", {}, word))];
+    const none = () => [element("li", {}, say("damaged.whole"))];
+    const { fill, empty, again } = shownWords(this.#desk, index, list, (words) => {
+      const rows = words.flatMap(row);
+      return rows.length ? rows : none();
+    });
+    concealLater(empty);
+    const which = isOneOfTwo ? element("h3", {}, say("damaged.which", { number: index + 1, name: kind.name })) : null;
+    const write = button(say(isOneOfTwo ? "damaged.write.which" : "damaged.write", { number: index + 1, name: kind.name }), () => this.#onChosen(fit), isOneOfTwo ? "" : "primary");
+    return { fill, write, box: element("div", { class: "fit" }, which, list, again) };
+  }
+}
