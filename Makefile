@@ -1,5 +1,6 @@
 # `make` proves and builds the program shamir. It proves as many libraries side by side as the machine can, so it needs no -j.
-# `make test` runs the merge gate (`rt ci`), and then `make check`. The other targets are:
+# `make test` runs the merge gate (`rt ci`), then `make check`, and at last `make check-page` and `make check-papers`. The other
+# targets are:
 #
 #   make lib         proves and builds the library: libshamir.a and libshamir.so
 #   make prove-NAME  proves a library of crates/, after those that it uses
@@ -8,12 +9,15 @@
 #   make page        builds shamir.html, the page with the library in it
 #   make check       runs the fast checks. They cover the documents, examples of doc comments, manual pages, completions,
 #                    terminals, values from files, refused allocations, the library and the packages
-#   make check-library   checks the library alone: its header, examples in C, the Python binding, the cuts of a drill, and
-#                    generated cases; and the JavaScript package
+#   make check-library   checks the library alone: its header, examples in C, the Python binding, the cuts of a drill, generated
+#                    cases, and the vectors; and the JavaScript package and the Rust crate
 #   make check-page  checks shamir.html in Chromium and in Firefox: each task by keyboard, each refusal, what the browser keeps
+#   make check-papers  checks shamir-papers in terminals: each task, each wrong answer, what the terminal and the memory keep
 #   make check-js    checks the JavaScript package alone: its types, and its tests with both forms of the library
+#   make check-secrets   looks with valgrind for branches and addresses of the library that depend on secrets
 #   make faults      makes each allocation, open, read and write of the program fail in turn
-#   make compare     compares the program with a plain reading of the standard in Python, on generated cases
+#   make compare     compares the program, and the repair of the library, with a plain reading of the standard in Python, on
+#                    generated cases; and the page and shamir-papers with the program
 #   make bench       measures speed
 #   make install     installs the program, the library and the page into the folders below, under DESTDIR. It proves nothing. If
 #                    one of them isn't up to date, it says so and installs nothing. Without DESTDIR, it lets the loader know of
@@ -21,8 +25,8 @@
 #   make install-bin, make install-lib, make install-page   install the program, the library or the page as it is here, up to
 #                    date or not
 #   make uninstall   uninstalls all three
-#   make wheel       builds a wheel of the Python package, with libshamir.so in it
-#   make deb         builds the Debian packages shamir (with the page in it), libshamir1 and libshamir-dev
+#   make wheel       builds a wheel of the Python package, with libshamir.so and shamir-papers in it
+#   make deb         builds the Debian packages shamir (with the page in it), libshamir1, libshamir-dev and shamir-papers
 #   make check-packages  installs, runs and uninstalls what `make install`, `make wheel` and `make deb` make, and unpacks an
 #                    archive of the sources, such as `make dist` makes
 #   make dist        packs the committed sources, builds the page, and writes the sha256 of both and what they were made with.
@@ -56,15 +60,17 @@ CPU = x86-64
 LOGIC = dac8208d650f15bf
 TELL_OF_KIT = @found=$$($(RT) version 2> /dev/null) || found="no version"; case "$$found" in *" logic $(LOGIC)") ;; \
 	*) echo "make: 'rt version' says '$$found', and README.md names a kit with logic $(LOGIC)" >&2 ;; esac
-# The crate of the program is the only one with a main, except s39_bench and s39_allocations.
-PROGRAM = $(filter-out s39_bench s39_allocations,$(patsubst crates/%/src/main.rt,%,$(wildcard crates/*/src/main.rt)))
+# These crates are programs for measurements and checks.
+TOOLS = s39_bench s39_allocations s39_timing
+# The crate of the program is the only other one with a main.
+PROGRAM = $(filter-out $(TOOLS),$(patsubst crates/%/src/main.rt,%,$(wildcard crates/*/src/main.rt)))
 # crates.txt lists all crates, and after each the crates and libraries that it uses.
 CRATES := $(shell sed -n 's/^\([a-z0-9_]*\).*:.*/\1/p' crates.txt)
 STATIC := $(shell sed -n 's/^\([a-z0-9_]*\) staticlib.*:.*/\1/p' crates.txt)
 uses = $(filter $(CRATES),$(shell sed -n 's/^$(1)\( [a-z0-9_=]*\)*://p' crates.txt))
 # `make` proves these libraries, and then the program: all that the program uses, and crates that hold only theorems. The others
 # are tests, measurements, and libraries for other languages. What the program uses comes first, since the most waits for it.
-LIBRARIES = $(call uses,$(PROGRAM)) $(filter-out $(PROGRAM) $(STATIC) s39_bench s39_allocations s39_fixtures s39_tests_%,$(CRATES))
+LIBRARIES = $(call uses,$(PROGRAM)) $(filter-out $(PROGRAM) $(STATIC) $(TOOLS) s39_fixtures s39_tests_%,$(CRATES))
 # Libraries are proved side by side: as many as there are processors, and as many as get 3 GB of memory each.
 JOBS = $(shell awk -v most="$$(nproc)" '/^MemAvailable/ { n = int($$2 / 3000000); print n < 1 ? 1 : n < most ? n : most }' /proc/meminfo)
 SIDE_BY_SIDE = $(if $(filter -j%,$(MAKEFLAGS)),,-j$(JOBS)) --no-print-directory
@@ -74,7 +80,9 @@ DOCUMENTS = README.md CHANGELOG.md CONTRIBUTING.md SECURITY.md NOTICE
 CALLS = sed -n 's/^shamir_answer \([a-z_]*\).*/\1/p' include/shamir.h
 SOURCES = $(shell find crates -path '*/out' -prune -o -type f -print) crates.txt
 
-.PHONY: all lib wasm page test check check-library check-js check-page check-packages bench faults compare install install-bin install-lib install-page uninstall wheel deb dist clean
+TIMING = crates/s39_timing/out/timing
+
+.PHONY: all lib wasm page test check check-library check-js check-page check-papers check-packages check-secrets bench faults compare install install-bin install-lib install-page uninstall wheel deb dist clean
 
 all: shamir
 
@@ -122,20 +130,32 @@ check: shamir check-library check-packages
 check-library: shamir libshamir.so $(SONAME)
 	@tools/library
 	@tools/cuts
+	@$(PYTHON) tools/vectors
+	@tools/rust
 
 # Without wasm-opt there is no page, and the checks say what they leave out.
 check-packages: shamir libshamir.so $(if $(shell command -v wasm-opt 2> /dev/null),shamir.html)
 	@tools/packages
 	@tools/debs
 
+check-secrets: libshamir.a $(TIMING)
+	@$(PYTHON) tools/timing
+
+# Proves and builds the program that tools/timing looks at, beside the library.
+$(TIMING): $(SOURCES)
+	cd crates/s39_timing && $(RT) run --cpu=$(CPU) < stdin > /dev/null
+	cp crates/s39_timing/out/s39_timing $@
+
 faults: shamir
 	cd crates/s39_allocations && $(RT) run < stdin > /dev/null
 	@tools/faults
 
-compare: shamir shamir32.wasm shamir.html
+compare: shamir libshamir.so shamir32.wasm shamir.html
 	@tools/compare
+	@tools/repairs
 	@tools/module
 	@$(PYTHON) tools/check_page --cases 200 agreement
+	@$(PYTHON) tools/check_papers --cases 300 agreement
 
 bench: shamir shamir32.wasm
 	cd crates/s39_bench && $(RT) run > /dev/null
@@ -157,7 +177,7 @@ install-bin:
 	$(INSTALL) -m 644 completions/shamir.fish "$(DESTDIR)$(FISHDIR)/shamir.fish"
 	$(INSTALL) -m 644 $(DOCUMENTS) "$(DESTDIR)$(DOCDIR)"
 	$(INSTALL) -m 644 docs/*.md docs/*.png "$(DESTDIR)$(DOCDIR)/docs"
-	$(INSTALL) -m 644 examples/*.txt "$(DESTDIR)$(DOCDIR)/examples"
+	$(INSTALL) -m 644 examples/*.txt examples/*.sh "$(DESTDIR)$(DOCDIR)/examples"
 
 install-lib:
 	@for file in libshamir.a libshamir.so; do \
@@ -192,7 +212,7 @@ uninstall:
 	rm -f "$(DESTDIR)$(PAGEDIR)/shamir.html"
 	rmdir "$(DESTDIR)$(PAGEDIR)" 2> /dev/null; true
 	for page in shamir $$($(CALLS)); do rm -f "$(DESTDIR)$(MANDIR)/man3/$$page.3"; done
-	cd "$(DESTDIR)$(DOCDIR)" && rm -f $(DOCUMENTS) docs/*.md docs/*.png examples/*.txt examples/c/*.c && \
+	cd "$(DESTDIR)$(DOCDIR)" && rm -f $(DOCUMENTS) docs/*.md docs/*.png examples/*.txt examples/*.sh examples/c/*.c && \
 	rmdir examples/c examples docs "$$(pwd)" 2> /dev/null; true
 
 wheel: libshamir.so
@@ -231,6 +251,9 @@ check-js: shamir.wasm
 
 check-page: shamir
 	@$(PYTHON) tools/check_page --build
+
+check-papers: shamir libshamir.so
+	@$(PYTHON) tools/check_papers
 
 clean:
 	rm -rf shamir libshamir.a libshamir.so $(SONAME) shamir.wasm shamir32.wasm shamir.html page/out bindings/python/shamir/libshamir.so bindings/python/NOTICE shamir-$(VERSION).tar.gz shamir-$(VERSION).sha256 shamir-$(VERSION).txt shamir-*.whl *.deb crates/*/out

@@ -4,9 +4,10 @@
  *
  * It creates backups of the longest secret with sixteen groups, and reads each mnemonic. It recovers, and drills in parts of
  * one quorum. Then it reports a status, computes mnemonics and a fingerprint, lists all words, and gets the text of each code.
+ * It repairs a line, which is its argument, and finds one wrong word in the first mnemonic that fits.
  *
- * It prints the backups, drills, statuses, mnemonics and the fingerprint as the commands do, and then the words. tools/library
- * compares them with what the command prints, and with the word list. The number of bytes of the stack that were touched goes to standard error.
+ * It prints the backups, drills, statuses, mnemonics and the fingerprint as the commands do, and then the words and the mnemonics
+ * that fit. tools/library compares them with what the command prints, with the word list, and with tools/plain.py. The number of bytes of the stack that were touched goes to standard error.
  */
 #define _DEFAULT_SOURCE
 #include <pthread.h>
@@ -36,6 +37,7 @@ static char names[SHAMIR_NAMES_BYTES_MAX + 1];
 static char status[SHAMIR_STATUS_BYTES_MAX];
 static char fingerprint[SHAMIR_FINGERPRINT_BYTES_MAX];
 static char words[SHAMIR_WORDS_BYTES_MAX];
+static char repaired[SHAMIR_REPAIRED_BYTES_MAX];
 static char text[SHAMIR_TEXT_BYTES_MAX];
 
 /* Returns the number of bytes written, or ends the program if the call was refused. */
@@ -132,8 +134,8 @@ static void drill_parts(size_t bytes)
 
     for (;;) {
         answer = shamir_drill(
-            mnemonics, bytes, passphrase, strlen(passphrase), SHAMIR_EXPONENT_MAX, cursor, cursor_bytes, UINT32_MAX, SHAMIR_FORM_DIGITS, listing,
-            sizeof listing);
+            mnemonics, bytes, passphrase, strlen(passphrase), SHAMIR_EXPONENT_MAX, cursor, cursor_bytes, UINT32_MAX, SHAMIR_FORM_DIGITS, NULL, 0,
+            listing, sizeof listing);
         written = done("shamir_drill", answer);
         fwrite(listing, 1, written, stdout);
         last = (size_t)answer.second;
@@ -153,6 +155,22 @@ static void drill_parts(size_t bytes)
     }
 }
 
+/* Prints the mnemonics that fit a line. Then it writes another first word into the first of them, which has the maximum length. */
+static void repair(const char *line)
+{
+    static const char other[] = {'d', 'o', 'c', 'u', 'm', 'e', 'n', 't'};
+    shamir_answer answer;
+
+    fwrite(repaired, 1, done("shamir_repair", shamir_repair(line, strlen(line), repaired, sizeof repaired)), stdout);
+    memcpy(mnemonic, repaired, sizeof mnemonic);
+    memcpy(mnemonic, other, sizeof other);
+    answer = shamir_repair(mnemonic, sizeof mnemonic, repaired, sizeof repaired);
+    if (answer.code != SHAMIR_E_WRONG_WORD || answer.first != 1 || answer.second != 0) {
+        fprintf(stderr, "shamir_repair: %u with a wrong first word\n", (unsigned)answer.code);
+        exit(1);
+    }
+}
+
 /* Gets the text of each code, with the largest details. */
 static void text_of_each(void)
 {
@@ -169,7 +187,7 @@ static void text_of_each(void)
     }
 }
 
-static void *calls(void *unused)
+static void *calls(void *line)
 {
     size_t bytes;
     size_t i;
@@ -177,7 +195,7 @@ static void *calls(void *unused)
     for (i = 0; i < sizeof plans / sizeof plans[0]; i++) {
         bytes = create(plans[i]);
         parse_each(bytes);
-        if (done("shamir_recover", shamir_recover(mnemonics, bytes, passphrase, strlen(passphrase), SHAMIR_EXPONENT_MAX, value, sizeof value)) != sizeof secret
+        if (done("shamir_recover", shamir_recover(mnemonics, bytes, passphrase, strlen(passphrase), SHAMIR_EXPONENT_MAX, NULL, 0, value, sizeof value)) != sizeof secret
             || memcmp(value, secret, sizeof secret) != 0) {
             fprintf(stderr, "shamir_recover: another secret\n");
             exit(1);
@@ -188,12 +206,13 @@ static void *calls(void *unused)
     fwrite(fingerprint, 1, done("shamir_fingerprint", shamir_fingerprint(secret, sizeof secret, fingerprint, sizeof fingerprint)), stdout);
     fputc('\n', stdout);
     fwrite(words, 1, done("shamir_words", shamir_words(NULL, 0, words, sizeof words)), stdout);
+    repair(line);
     text_of_each();
     done("shamir_version", shamir_version(text, sizeof text));
-    return unused;
+    return NULL;
 }
 
-int main(void)
+int main(int argc, char **argv)
 {
     size_t i;
     pthread_attr_t attributes;
@@ -201,6 +220,10 @@ int main(void)
     uint8_t *memory = mmap(NULL, GUARD_BYTES + SHAMIR_STACK_BYTES, PROT_NONE, MAP_PRIVATE | MAP_ANONYMOUS, -1, 0);
     uint8_t *stack = memory + GUARD_BYTES;
 
+    if (argc != 2) {
+        fprintf(stderr, "no line\n");
+        return 2;
+    }
     if (memory == MAP_FAILED || mprotect(stack, SHAMIR_STACK_BYTES, PROT_READ | PROT_WRITE) != 0) {
         fprintf(stderr, "no memory\n");
         return 2;
@@ -213,7 +236,7 @@ int main(void)
         random_bytes[i] = (uint8_t)(7 * i + 3);
     }
     if (pthread_attr_init(&attributes) != 0 || pthread_attr_setstack(&attributes, stack, SHAMIR_STACK_BYTES) != 0
-        || pthread_create(&thread, &attributes, calls, NULL) != 0 || pthread_join(thread, NULL) != 0) {
+        || pthread_create(&thread, &attributes, calls, argv[1]) != 0 || pthread_join(thread, NULL) != 0) {
         fprintf(stderr, "no thread\n");
         return 2;
     }

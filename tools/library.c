@@ -62,6 +62,10 @@
 #define FORGED_2 \
     "academic aluminum acrobat lungs alcohol behavior mobile ting perfect ultimate weapon join paper involve clinic acrobat jerky pencil username device"
 
+/* Member 0 of group 1, with another first byte. */
+#define FORGED_3 \
+    "academic aluminum beard leader campus elite grant group club deploy increase divorce puny cylinder romp frequent crush reward rich email"
+
 /* Two members of a group, and one member of each of two groups. Another program made them, with digests that don't match. */
 #define UNEVEN_0 \
     "academic academic academic acid disease prepare husky home result arcade lunar cover shame email oven tension nylon carpet prospect hand"
@@ -114,6 +118,7 @@ typedef struct recover_example {
     const char *lines[LINES_MAX];
     const char *passphrase;
     uint32_t max_exponent;
+    const char *expected;
     wanted answer;
     const char *secret;
 } recover_example;
@@ -126,6 +131,7 @@ typedef struct drill_example {
     const char *after;
     uint32_t limit;
     uint32_t form;
+    const char *expected;
     size_t room;
     wanted answer;
     uint32_t mismatches;
@@ -209,63 +215,82 @@ static const create_example create_examples[] = {
 };
 
 static const recover_example recover_examples[] = {
-    {{ONE}, KEY, 0, DONE, SECRET},
-    {{TWO_2, TWO_0}, KEY, 2, DONE, TWO_SECRET},
-    {{TWO_2, TWO_0}, KEY, 1, HIGH, ""},
-    {{TWO_2, TWO_0}, "a\x07", 0, HIGH, ""},
-    {{FIVE}, KEY, SHAMIR_EXPONENT_MAX, DONE, SECRET},
-    {{FIVE_3, "", "# a note", FIVE_4}, KEY, SHAMIR_EXPONENT_MAX, DONE, SECRET},
-    {{ONE}, NULL, 0, DONE, "3972a9318cf16a33ee9b0564c5a0bd0b"},
-    {{ONE_WRONG}, KEY, 0, {13, 1, 0, 0, "bad checksum"}, ""},
-    {{FIVE_3, ONE_WRONG}, KEY, 0, {13, 2, 0, 0, "bad checksum"}, ""},
-    {{TWO_0, ONE}, KEY, SHAMIR_EXPONENT_MAX, {21, 2, 0, 0, "other identifier"}, ""},
-    {{TWO_0}, KEY, 0, {30, 0, 0, 1, "incomplete: 0 of 1 groups"}, ""},
-    {{UNEVEN_0, UNEVEN_1}, NULL, SHAMIR_EXPONENT_MAX, {51, 0, 0, 0, "digest mismatch in group 0"}, ""},
-    {{UNEVEN_GROUP_0, UNEVEN_GROUP_1}, NULL, SHAMIR_EXPONENT_MAX, {51, 0, SHAMIR_OF_GROUPS, 0, "digest mismatch of groups"}, ""},
-    {{NULL}, KEY, 0, {29, 0, 0, 0, "no shares"}, ""},
-    {{NULL}, "a\x07", 0, {41, 0, 2, 0, "passphrase byte 2 not printable"}, ""}
+    {{ONE}, KEY, 0, NULL, DONE, SECRET},
+    {{TWO_2, TWO_0}, KEY, 2, NULL, DONE, TWO_SECRET},
+    {{TWO_2, TWO_0}, KEY, 1, NULL, HIGH, ""},
+    {{TWO_2, TWO_0}, "a\x07", 0, NULL, HIGH, ""},
+    {{FIVE}, KEY, SHAMIR_EXPONENT_MAX, NULL, DONE, SECRET},
+    {{FIVE_3, "", "# a note", FIVE_4}, KEY, SHAMIR_EXPONENT_MAX, NULL, DONE, SECRET},
+    {{ONE}, NULL, 0, NULL, DONE, "3972a9318cf16a33ee9b0564c5a0bd0b"},
+    {{ONE_WRONG}, KEY, 0, NULL, {13, 1, 0, 0, "bad checksum"}, ""},
+    {{FIVE_3, ONE_WRONG}, KEY, 0, NULL, {13, 2, 0, 0, "bad checksum"}, ""},
+    {{TWO_0, ONE}, KEY, SHAMIR_EXPONENT_MAX, NULL, {21, 2, 0, 0, "other identifier"}, ""},
+    {{TWO_0}, KEY, 0, NULL, {30, 0, 0, 1, "incomplete: 0 of 1 groups"}, ""},
+    {{UNEVEN_0, UNEVEN_1}, NULL, SHAMIR_EXPONENT_MAX, NULL, {51, 0, 0, 0, "digest mismatch in group 0"}, ""},
+    {{UNEVEN_GROUP_0, UNEVEN_GROUP_1}, NULL, SHAMIR_EXPONENT_MAX, NULL, {51, 0, SHAMIR_OF_GROUPS, 0, "digest mismatch of groups"}, ""},
+    {{NULL}, KEY, 0, NULL, {29, 0, 0, 0, "no shares"}, ""},
+    {{NULL}, "a\x07", 0, NULL, {41, 0, 2, 0, "passphrase byte 2 not printable"}, ""},
+    {{ONE}, KEY, 0, "df41d8fe", DONE, SECRET},
+    {{FIVE}, KEY, 0, "DF41D8fe", DONE, SECRET},
+    {{ONE}, KEY, 0, "df41d8ff", {52, 0, 0, 0, "other secret"}, ""},
+    {{ONE}, NULL, 0, "df41d8fe", {52, 0, 0, 0, "other secret"}, ""},
+    {{ONE}, KEY, 0, "df41d8f", {44, 0, 0, 0, "bad fingerprint"}, ""},
+    {{ONE}, KEY, 0, "df41d8fe0", {44, 0, 0, 0, "bad fingerprint"}, ""},
+    {{NULL}, "a\x07", 0, "df41d8fg", {44, 0, 0, 0, "bad fingerprint"}, ""},
+    {{TWO_2, TWO_0}, KEY, 1, "df41d8fg", HIGH, ""}
 };
 
 #define LISTED(names) names " " SECRET "\n"
 /* A line with the fingerprint of this secret. */
 #define TOLD(names) names " df41d8fe\n"
+/* A line that says whether a secret has the expected fingerprint. */
+#define COMPARED(names, told) names " " told "\n"
 #define FIRST_PART LISTED("0.0+0.1+1.0") LISTED("0.0+0.1+2.0") LISTED("0.0+0.2+1.0") LISTED("0.0+0.2+2.0") "more after 0.0+0.2+2.0\n"
 #define LAST_PART LISTED("0.1+0.2+1.0") LISTED("0.1+0.2+2.0") LISTED("1.0+2.0") "end\n"
 
 /* In a listing of the five, a line of a quorum of three has 45 bytes. The last line has 23 bytes, unless it is "end". */
 static const drill_example drill_examples[] = {
-    {{ONE}, KEY, 0, NULL, 9, SHAMIR_FORM_DIGITS, 41, DONE_WITH(1, 37), 0, LISTED("0.0") "end\n"},
-    {{TWO_0, TWO_2}, KEY, 2, "", 9, SHAMIR_FORM_DIGITS, 45, DONE_WITH(1, 41), 0, "0.0+0.2 " TWO_SECRET "\nend\n"},
-    {{TWO_0, TWO_2}, KEY, 1, "", 9, SHAMIR_FORM_DIGITS, 45, HIGH, 0, ""},
-    {{TWO_0, TWO_2}, "a\x07", 0, "0.1+", 0, SHAMIR_FORM_DIGITS, 0, HIGH, 0, ""},
-    {{FIVE}, KEY, SHAMIR_EXPONENT_MAX, NULL, 4, SHAMIR_FORM_DIGITS, 203, DONE_WITH(4, 180), 0, FIRST_PART},
-    {{FIVE}, KEY, SHAMIR_EXPONENT_MAX, NULL, 9, SHAMIR_FORM_DIGITS, 247, DONE_WITH(4, 180), 0, FIRST_PART},
-    {{FIVE}, KEY, SHAMIR_EXPONENT_MAX, "0.0+0.2+2.0", 9, SHAMIR_FORM_DIGITS, 135, DONE_WITH(3, 131), 0, LAST_PART},
-    {{FIVE}, KEY, SHAMIR_EXPONENT_MAX, "0.1+0.2+2.0", 9, SHAMIR_FORM_DIGITS, 45, DONE_WITH(1, 41), 0, LISTED("1.0+2.0") "end\n"},
-    {{FIVE}, KEY, SHAMIR_EXPONENT_MAX, "1.0+2.0", 1, SHAMIR_FORM_DIGITS, 4, DONE_WITH(0, 0), 0, "end\n"},
-    {{UNEVEN_0, UNEVEN_1}, NULL, 0, NULL, 1, SHAMIR_FORM_DIGITS, 39, DONE_WITH(1, 35), 1, "0.0+0.1 digest mismatch in group 0\nend\n"},
-    {{UNEVEN_GROUP_0, UNEVEN_GROUP_1}, "", 0, "", 1, SHAMIR_FORM_DIGITS, ROOM_BYTES, DONE_WITH(1, 34), 1, "0.0+1.0 digest mismatch of groups\nend\n"},
-    {{FIVE}, KEY, SHAMIR_EXPONENT_MAX, "0.0+0.2+2.0", 9, SHAMIR_FORM_FINGERPRINTS, 65, DONE_WITH(3, 59), 0,
+    {{ONE}, KEY, 0, NULL, 9, SHAMIR_FORM_DIGITS, NULL, 41, DONE_WITH(1, 37), 0, LISTED("0.0") "end\n"},
+    {{TWO_0, TWO_2}, KEY, 2, "", 9, SHAMIR_FORM_DIGITS, NULL, 45, DONE_WITH(1, 41), 0, "0.0+0.2 " TWO_SECRET "\nend\n"},
+    {{TWO_0, TWO_2}, KEY, 1, "", 9, SHAMIR_FORM_DIGITS, NULL, 45, HIGH, 0, ""},
+    {{TWO_0, TWO_2}, "a\x07", 0, "0.1+", 0, SHAMIR_FORM_DIGITS, NULL, 0, HIGH, 0, ""},
+    {{FIVE}, KEY, SHAMIR_EXPONENT_MAX, NULL, 4, SHAMIR_FORM_DIGITS, NULL, 203, DONE_WITH(4, 180), 0, FIRST_PART},
+    {{FIVE}, KEY, SHAMIR_EXPONENT_MAX, NULL, 9, SHAMIR_FORM_DIGITS, NULL, 247, DONE_WITH(4, 180), 0, FIRST_PART},
+    {{FIVE}, KEY, SHAMIR_EXPONENT_MAX, "0.0+0.2+2.0", 9, SHAMIR_FORM_DIGITS, NULL, 135, DONE_WITH(3, 131), 0, LAST_PART},
+    {{FIVE}, KEY, SHAMIR_EXPONENT_MAX, "0.1+0.2+2.0", 9, SHAMIR_FORM_DIGITS, NULL, 45, DONE_WITH(1, 41), 0, LISTED("1.0+2.0") "end\n"},
+    {{FIVE}, KEY, SHAMIR_EXPONENT_MAX, "1.0+2.0", 1, SHAMIR_FORM_DIGITS, NULL, 4, DONE_WITH(0, 0), 0, "end\n"},
+    {{UNEVEN_0, UNEVEN_1}, NULL, 0, NULL, 1, SHAMIR_FORM_DIGITS, NULL, 39, DONE_WITH(1, 35), 1, "0.0+0.1 digest mismatch in group 0\nend\n"},
+    {{UNEVEN_GROUP_0, UNEVEN_GROUP_1}, "", 0, "", 1, SHAMIR_FORM_DIGITS, NULL, ROOM_BYTES, DONE_WITH(1, 34), 1, "0.0+1.0 digest mismatch of groups\nend\n"},
+    {{FIVE}, KEY, SHAMIR_EXPONENT_MAX, "0.0+0.2+2.0", 9, SHAMIR_FORM_FINGERPRINTS, NULL, 65, DONE_WITH(3, 59), 0,
      TOLD("0.1+0.2+1.0") TOLD("0.1+0.2+2.0") TOLD("1.0+2.0") "end\n"},
-    {{FIVE}, KEY, SHAMIR_EXPONENT_MAX, "0.0+0.2+2.0", 9, SHAMIR_FORM_FINGERPRINTS, 64, DONE_WITH(1, 21), 0,
+    {{FIVE}, KEY, SHAMIR_EXPONENT_MAX, "0.0+0.2+2.0", 9, SHAMIR_FORM_FINGERPRINTS, NULL, 64, DONE_WITH(1, 21), 0,
      TOLD("0.1+0.2+1.0") "more after 0.1+0.2+1.0\n"},
-    {{UNEVEN_0, UNEVEN_1}, NULL, 0, NULL, 1, SHAMIR_FORM_FINGERPRINTS, 39, DONE_WITH(1, 35), 1, "0.0+0.1 digest mismatch in group 0\nend\n"},
-    {{FIVE}, KEY, SHAMIR_EXPONENT_MAX, NULL, 9, SHAMIR_FORM_FINGERPRINTS, 43, {1, 0, 44, 0, "buffer too short: 44 bytes needed"}, 0, ""},
-    {{NULL}, "a\x07", 0, "0.1+", 1, 2, ROOM_BYTES, {2, 0, 0, 0, "number out of range"}, 0, ""},
-    {{NULL}, "a\x07", 0, "0.1+", 0, UINT32_MAX, ROOM_BYTES, {2, 0, 0, 0, "number out of range"}, 0, ""},
-    {{NULL}, "a\x07", 0, "0.1+", 1, SHAMIR_FORM_FINGERPRINTS, ROOM_BYTES, {61, 0, 0, 0, "bad cursor"}, 0, ""},
-    {{FIVE}, KEY, SHAMIR_EXPONENT_MAX, NULL, 9, SHAMIR_FORM_DIGITS, 67, {1, 0, 68, 0, "buffer too short: 68 bytes needed"}, 0, ""},
-    {{FIVE}, KEY, SHAMIR_EXPONENT_MAX, "0.0+0.2+2.0", 9, SHAMIR_FORM_DIGITS, 0, {1, 0, 68, 0, "buffer too short: 68 bytes needed"}, 0, ""},
-    {{FIVE}, KEY, SHAMIR_EXPONENT_MAX, "1.0+2.0", 9, SHAMIR_FORM_DIGITS, 3, {1, 0, 4, 0, "buffer too short: 4 bytes needed"}, 0, ""},
-    {{UNEVEN_0, UNEVEN_1}, NULL, 0, NULL, 9, SHAMIR_FORM_DIGITS, 38, {1, 0, 39, 0, "buffer too short: 39 bytes needed"}, 0, ""},
-    {{ONE}, KEY, 0, NULL, 9, SHAMIR_FORM_DIGITS, 40, {1, 0, 41, 0, "buffer too short: 41 bytes needed"}, 0, ""},
-    {{ONE_WRONG}, KEY, 0, NULL, 9, SHAMIR_FORM_DIGITS, ROOM_BYTES, {13, 1, 0, 0, "bad checksum"}, 0, ""},
-    {{NULL}, "a\x07", 0, "0.1+", 0, SHAMIR_FORM_DIGITS, ROOM_BYTES, {2, 0, 0, 0, "number out of range"}, 0, ""},
-    {{NULL}, "a\x07", 0, "0.1+", 1, SHAMIR_FORM_DIGITS, ROOM_BYTES, {61, 0, 0, 0, "bad cursor"}, 0, ""},
-    {{NULL}, "a\x07", 0, "0.1", 1, SHAMIR_FORM_DIGITS, ROOM_BYTES, {41, 0, 2, 0, "passphrase byte 2 not printable"}, 0, ""},
-    {{NULL}, NULL, 0, "0.1", 1, SHAMIR_FORM_DIGITS, ROOM_BYTES, {29, 0, 0, 0, "no shares"}, 0, ""},
-    {{TWO_2}, NULL, 0, "0.1", 1, SHAMIR_FORM_DIGITS, ROOM_BYTES, {30, 0, 0, 1, "incomplete: 0 of 1 groups"}, 0, ""},
-    {{FIVE}, NULL, SHAMIR_EXPONENT_MAX, "0.1", 1, SHAMIR_FORM_DIGITS, ROOM_BYTES, {62, 0, 0, 0, "cursor is no quorum"}, 0, ""}
+    {{FIVE}, KEY, SHAMIR_EXPONENT_MAX, "0.0+0.2+2.0", 9, SHAMIR_FORM_EXPECTED, "DF41d8fe", 72, DONE_WITH(3, 68), 0,
+     COMPARED("0.1+0.2+1.0", "as expected") COMPARED("0.1+0.2+2.0", "as expected") COMPARED("1.0+2.0", "as expected") "end\n"},
+    {{FIVE}, KEY, SHAMIR_EXPONENT_MAX, "0.1+0.2+1.0", 1, SHAMIR_FORM_EXPECTED, "00000000", 48, DONE_WITH(1, 25), 1,
+     COMPARED("0.1+0.2+2.0", "other secret") "more after 0.1+0.2+2.0\n"},
+    {{UNEVEN_0, UNEVEN_1}, NULL, 0, NULL, 1, SHAMIR_FORM_EXPECTED, "00000000", 39, DONE_WITH(1, 35), 1, "0.0+0.1 digest mismatch in group 0\nend\n"},
+    {{NULL}, "a\x07", 0, "0.1+", 1, SHAMIR_FORM_EXPECTED, "0", ROOM_BYTES, {61, 0, 0, 0, "bad cursor"}, 0, ""},
+    {{NULL}, "a\x07", 0, "0.1", 1, SHAMIR_FORM_EXPECTED, "0", ROOM_BYTES, {44, 0, 0, 0, "bad fingerprint"}, 0, ""},
+    {{NULL}, "a\x07", 0, NULL, 1, SHAMIR_FORM_EXPECTED, NULL, ROOM_BYTES, {44, 0, 0, 0, "bad fingerprint"}, 0, ""},
+    {{NULL}, "a\x07", 0, "0.1", 1, SHAMIR_FORM_FINGERPRINTS, "0", ROOM_BYTES, {41, 0, 2, 0, "passphrase byte 2 not printable"}, 0, ""},
+    {{UNEVEN_0, UNEVEN_1}, NULL, 0, NULL, 1, SHAMIR_FORM_FINGERPRINTS, NULL, 39, DONE_WITH(1, 35), 1, "0.0+0.1 digest mismatch in group 0\nend\n"},
+    {{FIVE}, KEY, SHAMIR_EXPONENT_MAX, NULL, 9, SHAMIR_FORM_FINGERPRINTS, NULL, 43, {1, 0, 44, 0, "buffer too short: 44 bytes needed"}, 0, ""},
+    {{NULL}, "a\x07", 0, "0.1+", 1, 3, NULL, ROOM_BYTES, {2, 0, 0, 0, "number out of range"}, 0, ""},
+    {{NULL}, "a\x07", 0, "0.1+", 0, UINT32_MAX, NULL, ROOM_BYTES, {2, 0, 0, 0, "number out of range"}, 0, ""},
+    {{NULL}, "a\x07", 0, "0.1+", 1, SHAMIR_FORM_FINGERPRINTS, NULL, ROOM_BYTES, {61, 0, 0, 0, "bad cursor"}, 0, ""},
+    {{FIVE}, KEY, SHAMIR_EXPONENT_MAX, NULL, 9, SHAMIR_FORM_DIGITS, NULL, 67, {1, 0, 68, 0, "buffer too short: 68 bytes needed"}, 0, ""},
+    {{FIVE}, KEY, SHAMIR_EXPONENT_MAX, "0.0+0.2+2.0", 9, SHAMIR_FORM_DIGITS, NULL, 0, {1, 0, 68, 0, "buffer too short: 68 bytes needed"}, 0, ""},
+    {{FIVE}, KEY, SHAMIR_EXPONENT_MAX, "1.0+2.0", 9, SHAMIR_FORM_DIGITS, NULL, 3, {1, 0, 4, 0, "buffer too short: 4 bytes needed"}, 0, ""},
+    {{UNEVEN_0, UNEVEN_1}, NULL, 0, NULL, 9, SHAMIR_FORM_DIGITS, NULL, 38, {1, 0, 39, 0, "buffer too short: 39 bytes needed"}, 0, ""},
+    {{ONE}, KEY, 0, NULL, 9, SHAMIR_FORM_DIGITS, NULL, 40, {1, 0, 41, 0, "buffer too short: 41 bytes needed"}, 0, ""},
+    {{ONE_WRONG}, KEY, 0, NULL, 9, SHAMIR_FORM_DIGITS, NULL, ROOM_BYTES, {13, 1, 0, 0, "bad checksum"}, 0, ""},
+    {{NULL}, "a\x07", 0, "0.1+", 0, SHAMIR_FORM_DIGITS, NULL, ROOM_BYTES, {2, 0, 0, 0, "number out of range"}, 0, ""},
+    {{NULL}, "a\x07", 0, "0.1+", 1, SHAMIR_FORM_DIGITS, NULL, ROOM_BYTES, {61, 0, 0, 0, "bad cursor"}, 0, ""},
+    {{NULL}, "a\x07", 0, "0.1", 1, SHAMIR_FORM_DIGITS, NULL, ROOM_BYTES, {41, 0, 2, 0, "passphrase byte 2 not printable"}, 0, ""},
+    {{NULL}, NULL, 0, "0.1", 1, SHAMIR_FORM_DIGITS, NULL, ROOM_BYTES, {29, 0, 0, 0, "no shares"}, 0, ""},
+    {{TWO_2}, NULL, 0, "0.1", 1, SHAMIR_FORM_DIGITS, NULL, ROOM_BYTES, {30, 0, 0, 1, "incomplete: 0 of 1 groups"}, 0, ""},
+    {{FIVE}, NULL, SHAMIR_EXPONENT_MAX, "0.1", 1, SHAMIR_FORM_DIGITS, NULL, ROOM_BYTES, {62, 0, 0, 0, "cursor is no quorum"}, 0, ""}
 };
 
 /* In the answers, first is the number of complete groups, and second is the group threshold. */
@@ -301,7 +326,9 @@ static const reissue_example reissue_examples[] = {
     {FIVE_PLAN, "3.0", {ONE_WRONG}, {64, 0, 3, 0, "name 3.0 not in plan"}, {NULL}},
     {FIVE_PLAN, "0.0", {FIVE_0, ONE_WRONG}, {13, 2, 0, 0, "bad checksum"}, {NULL}},
     {FIVE_PLAN, "0.0", {NULL}, {29, 0, 0, 0, "no shares"}, {NULL}},
-    {FIVE_PLAN, "0.1", {FORGED_0, FORGED_2}, {51, 0, 0, 0, "digest mismatch in group 0"}, {NULL}}
+    {FIVE_PLAN, "0.1", {FORGED_0, FORGED_2}, {51, 0, 0, 0, "digest mismatch in group 0"}, {NULL}},
+    {FIVE_PLAN, "2.0", {FORGED_0, FORGED_2, FIVE_3}, {51, 0, 0, 0, "digest mismatch in group 0"}, {NULL}},
+    {FIVE_PLAN, "2.0", {FIVE_0, FIVE_1, FORGED_3}, {51, 0, SHAMIR_OF_GROUPS, 0, "digest mismatch of groups"}, {NULL}}
 };
 
 /* Python's hmac computed these fingerprints. */
@@ -562,17 +589,18 @@ static void check_recover(const recover_example *example)
     char kept[ROOM_BYTES];
     slice lines = joined(example->lines, kept);
     slice key = slice_of(example->passphrase);
+    slice expected = slice_of(example->expected);
     slice secret = bytes_of(example->secret, secret_kept);
     slice nothing = {NULL, 0};
     size_t bytes = secret.length == 0 ? ROOM_BYTES : secret.length;
-    shamir_answer found = shamir_recover(lines.bytes, lines.length, key.bytes, key.length, example->max_exponent, fresh(bytes), bytes);
+    shamir_answer found = shamir_recover(lines.bytes, lines.length, key.bytes, key.length, example->max_exponent, expected.bytes, expected.length, fresh(bytes), bytes);
 
     compare(found, answer_of(&example->answer, secret.length, 0), secret);
     check_text(found, example->answer.told);
     if (secret.length > 0) {
-        found = shamir_recover(lines.bytes, lines.length, key.bytes, key.length, example->max_exponent, fresh(bytes), bytes - 1);
+        found = shamir_recover(lines.bytes, lines.length, key.bytes, key.length, example->max_exponent, expected.bytes, expected.length, fresh(bytes), bytes - 1);
         compare(found, too_short(bytes), nothing);
-        found = shamir_recover(lines.bytes, lines.length, key.bytes, key.length, example->max_exponent, fresh(0), 0);
+        found = shamir_recover(lines.bytes, lines.length, key.bytes, key.length, example->max_exponent, expected.bytes, expected.length, fresh(0), 0);
         compare(found, too_short(bytes), nothing);
     }
 }
@@ -583,10 +611,11 @@ static void check_drill(const drill_example *example)
     slice lines = joined(example->lines, kept);
     slice key = slice_of(example->passphrase);
     slice after = slice_of(example->after);
+    slice expected = slice_of(example->expected);
     slice text = slice_of(example->text);
     shamir_answer found = shamir_drill(
         lines.bytes, lines.length, key.bytes, key.length, example->max_exponent, after.bytes, after.length, example->limit, example->form,
-        fresh(example->room), example->room);
+        expected.bytes, expected.length, fresh(example->room), example->room);
 
     compare(found, answer_of(&example->answer, text.length, example->mismatches), text);
     check_text(found, example->answer.told);

@@ -21,6 +21,9 @@ const COMMANDS = {
       `member-threshold ${share.memberThreshold} value ${hex(share.value)}\n`
     );
   },
+  repair(words, options, line) {
+    return ended(shamir.repair(line));
+  },
   words([letters]) {
     return ended(shamir.words(letters));
   },
@@ -29,13 +32,13 @@ const COMMANDS = {
     const secret = Buffer.from(options["master-secret"], "hex");
     return ended(shamir.create(plan, secret, { passphrase, extendable, exponent: Number(exponent), random }));
   },
-  recover(words, { passphrase, fingerprint }, lines) {
-    const secret = shamir.recover(lines, { passphrase });
+  recover(words, { passphrase, fingerprint, expect }, lines) {
+    const secret = shamir.recover(lines, { passphrase, expect });
     return ended([fingerprint ? shamir.fingerprint(secret) : hex(secret)]);
   },
-  drill(words, { passphrase, after, limit = Infinity, fingerprint = false }, lines) {
+  drill(words, { passphrase, after, limit = Infinity, fingerprint = false, expect }, lines) {
     const listed = [];
-    for (const outcome of shamir.drill(lines, { passphrase, after, fingerprints: fingerprint })) {
+    for (const outcome of shamir.drill(lines, { passphrase, after, fingerprints: fingerprint, expect })) {
       if (listed.length >= Number(limit)) return ended([...listed, `more after ${listed.at(-1).split(" ")[0]}`]);
       listed.push(`${outcome.names} ${outcomeText(outcome)}`);
     }
@@ -52,8 +55,9 @@ const COMMANDS = {
   },
 };
 
-function outcomeText({ secret, fingerprint, mismatch }) {
+function outcomeText({ secret, fingerprint, expected, mismatch }) {
   if (mismatch !== null) return mismatch === OF_GROUPS ? "digest mismatch of groups" : `digest mismatch in group ${mismatch}`;
+  if (expected !== null) return expected ? "as expected" : "other secret";
   return fingerprint ?? hex(secret);
 }
 
@@ -62,7 +66,7 @@ function answer({ kind, words, options, data }) {
     return [COMMANDS[kind](words, options, new Uint8Array(Buffer.from(data, "base64"))), ""];
   } catch (error) {
     if (!(error instanceof Refusal)) throw error;
-    return ["", `shamir: ${kind === "show" ? "line 1: " : ""}${error.message}\n`];
+    return ["", `shamir: ${kind === "show" || kind === "repair" ? "line 1: " : ""}${error.message}\n`];
   }
 }
 

@@ -2,10 +2,11 @@
 
     python3 tools/check_page [--build] [--browser NAME] [--page FILE] [--cases N] [--faults] [PART..]
 
-PART is one of sources, tasks, refusals, long, looks, agreement, privacy and ways; without one, all of them run. `agreement` compares N
-backups, 20 if it isn't given. The pictures of each screen go to page/out. `--faults` plants faults in copies of the sources instead, and checks that each is found. `--build` first
-builds the page with `make`. The status is 1 if something fails. If a browser, or what the page is built with, isn't installed, the
-check says so and does nothing. A part that fails beside others is tried once more, by itself.
+PART is one of sources, tasks, refusals, entry, long, looks, agreement, privacy and ways; without one, all of them run. `agreement`
+compares N backups, 20 if it isn't given. The pictures of each screen go to page/out. `--faults` plants faults in copies of the
+sources instead, and checks that each is found. `--build` first builds the page with `make`. The status is 1 if something fails.
+If a browser, or what the page is built with, isn't installed, the check says so and does nothing. A part that fails beside others
+is tried once more, by itself.
 """
 import argparse
 import concurrent.futures
@@ -22,20 +23,22 @@ sys.path.insert(0, str(pathlib.Path(__file__).resolve().parent))
 
 import agreement  # noqa: E402
 import browsers  # noqa: E402
+import entry  # noqa: E402
 import faults  # noqa: E402
 import long_drill  # noqa: E402
 import looks  # noqa: E402
 import privacy  # noqa: E402
 import refusals  # noqa: E402
 import sources  # noqa: E402
+import steps  # noqa: E402
 import tasks  # noqa: E402
 import ways_out  # noqa: E402
 from hands import Page  # noqa: E402
 from texts import ROOT, say  # noqa: E402
 
-PARTS = ["sources", "tasks", "refusals", "long", "looks", "agreement", "privacy", "ways"]
+PARTS = ["sources", "tasks", "refusals", "entry", "long", "looks", "agreement", "privacy", "ways"]
 # The parts that take longest, and how many parts run side by side.
-LONG, AT_ONCE = ["privacy", "refusals", "tasks", "looks"], min(4, os.cpu_count() or 1)
+LONG, AT_ONCE = ["privacy", "refusals", "tasks", "entry", "looks"], min(4, os.cpu_count() or 1)
 PICTURES = ROOT / "page/out"
 # The title, the address, the entries of the history, what is stored, and what was asked for.
 KEPT = """
@@ -87,6 +90,7 @@ def parts_of(name, url, modules, cases):
     return {
         "tasks": lambda: in_browser(name, url, tasks.TASKS.values()),
         "refusals": lambda: in_browser(name, url, refusals.CHECKS),
+        "entry": lambda: in_browser(name, url, entry.CHECKS + steps.CHECKS),
         "long": lambda: in_browser(name, url, long_drill.CHECKS),
         "looks": lambda: check_looks(name, url),
         "agreement": lambda: in_browser(name, url, [lambda page, _: agreement.check(page, modules, cases), lambda page, _: agreement.check_memory(page)]),

@@ -21,8 +21,10 @@ self.onmessage = async ({ data: { module, cases } }) => {
   self.postMessage(cases.map(({ plan, secret, passphrase, exponent, extendable, random }) => {
     const lines = engine.create(plan, bytes(secret), { passphrase, exponent, extendable, random: bytes(random) });
     const drilled = [...engine.drill(lines, { passphrase, fingerprints: true })].map(({ names, fingerprint }) => `${names} ${fingerprint}`);
-    const recovered = [...engine.recover(lines, { passphrase })];
-    return { lines, drilled, recovered };
+    const expect = drilled[0].split(" ")[1];
+    const compared = [...engine.drill(lines, { passphrase, expect })].map(({ names, expected }) => `${names} ${expected ? "as expected" : "other secret"}`);
+    const recovered = [...engine.recover(lines, { passphrase, expect })];
+    return { lines, drilled, compared, recovered };
   }));
 };
 """
@@ -51,7 +53,7 @@ def case(source):
 
 
 def by_program(program, it):
-    """Returns the random bytes of a backup, its lines, and the lines of its drill, by ./shamir."""
+    """Returns the lines of a backup, and those of its drills by fingerprints and by the one that is expected, by ./shamir."""
     with tempfile.TemporaryDirectory() as folder:
         for name, value in [("secret", it["secret"].hex()), ("passphrase", it["passphrase"])]:
             with open(f"{folder}/{name}", "w") as file:
@@ -63,7 +65,9 @@ def by_program(program, it):
         it["random"] = random.SystemRandom().randbytes(int(needed[-2]))
         made = subprocess.run(words, input=it["random"], capture_output=True, check=True).stdout
         drilled = subprocess.run([program, "drill", "--fingerprint", *options], input=made, capture_output=True, check=True).stdout
-    return made.decode().splitlines(), drilled.decode().splitlines()[:-1]
+        fingerprint = drilled.split()[1].decode()
+        compared = subprocess.run([program, "drill", "--expect", fingerprint, *options], input=made, capture_output=True, check=True).stdout
+    return made.decode().splitlines(), *(listing.decode().splitlines()[:-1] for listing in (drilled, compared))
 
 
 def check(page, modules, count):
@@ -81,8 +85,8 @@ def check_batch(page, modules, cases):
         found = json.loads(page.evaluate(RUN % json.dumps(given)))
         if isinstance(found, str):
             raise Failed(f"{module.name}: {found}")
-        for it, (lines, drilled), here in zip(cases, wanted, found):
-            if here["lines"] != lines or here["drilled"] != drilled or bytes(here["recovered"]) != it["secret"]:
+        for it, (lines, drilled, compared), here in zip(cases, wanted, found):
+            if here["lines"] != lines or here["drilled"] != drilled or here["compared"] != compared or bytes(here["recovered"]) != it["secret"]:
                 raise Failed(f"{module.name} and ./shamir differ for the plan {it['plan']} and a secret of {len(it['secret'])} bytes")
 
 
@@ -137,14 +141,19 @@ LOOK = """
   });
   const bytes = (text) => new TextEncoder().encode(text);
   await ask("begin", { module, kept: null });
+  await ask("tryPassphrase", { passphrase: bytes("TREZOR") });
   await ask("passphrase", { passphrase: bytes("TREZOR") });
   for (const line of given.lines) await ask("add", { line: bytes(line) });
   await ask("add", { line: bytes(given.lines[0]) });
   await ask("add", { line: bytes(given.lines[0] + " acid") }).catch(() => 0);
-  await ask("drill", { limit: 0 });
+  await ask("drill", { limit: 0, expect: "" });
+  await ask("drill", { limit: 0, expect: "df41d8fe" });
   await ask("recover");
   await ask("digits");
   await ask("make", { plan: "2of3", bytes: 16, digits: bytes("00112233445566778899aabbccddeeff"), exponent: 0, extendable: true });
+  await ask("repair", { line: bytes(given.lines[0].replace(/ \\S+$/, " ?")) });
+  await ask("repair", { line: bytes(given.lines[0].replace(/ \\S+$/, " ? ?")) }).catch(() => 0);
+  await ask("repair", { line: bytes(given.lines[0].replace(/\\S+ \\S+ \\S+/, "? ? ?")) });
   await ask("typedBack", { index: 1, line: bytes(given.lines[0]) });
   await ask("clear");
   const found = await ask("look");
@@ -162,6 +171,6 @@ def check_memory(page):
         raise Failed("the memory of the module wasn't seen")
     if any(found["left"]):
         raise Failed(f"the module's memory isn't cleared: {found['left']} bytes are left")
-    if found["count"] < 8 or found["arrays"]:
+    if found["count"] < 12 or found["arrays"]:
         raise Failed(f"{found['arrays']} of {found['count']} arrays that the worker was given aren't cleared")
     page.wait_title(say("home.title"))

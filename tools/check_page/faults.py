@@ -7,9 +7,12 @@ import sys
 import tempfile
 
 import agreement
+import entry
+import looks
 import privacy
 import refusals
 import sources
+import steps
 import tasks
 import ways_out
 from browsers import Failed, browser
@@ -55,16 +58,42 @@ FAULTS = [
     ("the module's memory isn't cleared", "bindings/js/calls.js", ".fill(0", ".slice(0", of_page(agreement.check_memory)),
     ("a wrong word is replaced", "page/word_field.js", "    else {\n      this.#mark(true);\n", "    else {\n      this.set(nearest(this.#list, this.word)[0]);\n", of_page(lambda page: refusals.check_words(page, unseen))),
     ("another paper is taken for the right one", "page/desk.js", "const same = isSame(line, held.shown[index]);", "const same = true;", of_page(lambda page: tasks.check_make(page, unseen))),
+    ("words that weren't read are left out", "page/collect.js", "if (!this.#entry.isEmpty) {", "if (false) {", of_page(lambda page: entry.check_unread(page, unseen))),
+    ("a paper that was taken out is still called sound", "page/collect.js", 'this.#entry.say(say("collect.dropped", { name }));', "", of_page(lambda page: refusals.check_words(page, unseen))),
+    ("Enter and Tab end the next word", "page/word_field.js", "if (isEnding && arrived === this", "if (false && arrived === this", of_page(lambda page: entry.check_keys(page, unseen))),
+    ("another try empties the fingerprint", "page/passphrase.js", 'field.value = noted ?? "";', 'field.value = "";', of_page(lambda page: tasks.check_papers(page, unseen))),
+    ("a refusal chooses another secret", "page/make_backup.js", "new SecretFields(chosen.source)", 'new SecretFields("new16")', of_page(lambda page: refusals.check_values(page, unseen))),
+    ("no more papers can be typed", "page/collect.js", '{ key: "papers", label: say("collect.more"), kind: "primary" },', "", of_page(lambda page: refusals.check_papers(page, unseen))),
+    ("digits of a wrong secret", "page/recover.js", 'which === "other" ? [] :', "false ? [] :", of_page(lambda page: tasks.check_recover(page, unseen))),
+    ("a bad checksum names no word", "page/desk.js", "wipe(...engine.repairBytes(line));", "engine.version();", of_page(lambda page: refusals.check_papers(page, unseen))),
+    ("a wrong word's place is counted from 0", "page/refusals.js", ".map((number) => number - 1)", ".map((number) => number)", of_page(lambda page: refusals.check_papers(page, unseen))),
+    ("one of two papers that fit isn't shown", "page/read_damaged.js", "const fits = kinds.map(", "const fits = kinds.slice(0, 1).map(", of_page(lambda page: entry.check_damaged(page, unseen))),
+    ("found words at other places", "page/read_damaged.js", "word === marks[at] ? []", "word !== marks[at] ? []", of_page(lambda page: tasks.check_damaged(page, unseen))),
+    ("an answer stays beside other words", "page/read_damaged.js", "this.#found.replaceChildren();", "", of_page(lambda page: tasks.check_damaged(page, unseen))),
+    ("a hidden tab shows words that were found", "page/read_damaged.js", "concealLater(empty);", "", of_page(lambda page: hidden_words(page))),
+    ("a damaged paper that isn't cleared", "page/desk.js", "    return held.shown.map(kindOf);\n  } finally {\n    wipe(line);", "    return held.shown.map(kindOf);\n  } finally {", of_page(agreement.check_memory)),
+    ("an engine that repairs nothing", "page/self_test.js", 'SOUND.replace("agency", "?")', 'SOUND.replace("agency", "zero")', of_page(unseen)),
     ("a paper of another backup is taken", "page/desk.js", "statusOf([...held.papers, line])", "statusOf([line])", of_page(lambda page: refusals.check_papers(page, unseen))),
-    ("the drill says that all are right", "page/quorums.js", "return tried.fingerprint === fingerprint;", "return true;", of_page(lambda page: refusals.check_mixed(page, unseen))),
+    ("the drill says that all are right", "page/quorums.js", "return tried.expected ?? ", "return true ?? ", of_page(lambda page: refusals.check_mixed(page, unseen))),
+    ("the noted fingerprint isn't compared", "bindings/js/shamir.js", "[form, textOrNone(own, expect", "[FORM_FINGERPRINTS, textOrNone(own, expect", of_page(lambda page: tasks.check_papers(page, unseen))),
     ("an engine that gives another secret", "page/self_test.js", 'const SOUND_SECRET = "bb', 'const SOUND_SECRET = "bc', of_page(unseen)),
+    ("half written papers are cleared at once", "page/main.js", "if (isUnfinished()) {", "if (false) {", of_page(lambda page: hidden(page))),
+    ("Enter in a passphrase does nothing", "page/screen.js", 'if (event.key !== "Enter") return;', "return;", of_page(lambda page: steps.check_passphrase(page, unseen))),
+    ("what wallets don't take is refused late", "page/desk.js", "error.code !== NO_SHARES", "error.code < NO_SHARES", of_page(lambda page: refusals.check_values(page, unseen))),
+    ("too few papers are told late", "page/replace.js", "if (!mayDetermine(status)) {", "if (false) {", of_page(lambda page: refusals.check_mixed(page, unseen))),
+    ("a heading is read as words", "page/spelling.js", 'replace(HEADING, " ")', "trim()", of_page(lambda page: refusals.check_words(page, unseen))),
     ("a hidden tab shows a paper", "page/main.js", "if (document.hidden) conceal();", "", of_page(lambda page: hidden(page))),
 ]
 
 
-def hidden(page):
-    import looks
+def hidden_words(page):
+    tasks.begin(page, "damaged")
+    tasks.type_damaged(page, tasks.SOUND_PAPER.replace("agency", "?"))
+    page.wait(lambda: tasks.found_words(page), "the words that fit")
+    looks.check_hidden_words(page)
 
+
+def hidden(page):
     tasks.begin(page, "make")
     page.push(say("continue"))
     page.tick(say("passphrase.none"))

@@ -94,8 +94,10 @@ class Page:
         self.press("Enter")
 
     def tick(self, name):
+        """Ticks a box, unless it is ticked."""
         self.go_to("checkbox", name)
-        self.press("Space")
+        if not self.evaluate("document.activeElement.checked"):
+            self.press("Space")
 
     def choose(self, name):
         """Takes a choice: Tab reaches the group, and the arrow keys the choice."""

@@ -54,7 +54,7 @@ def check_stop(page, see):
     see("a long recovery")
     page.push(say("stop"))
     page.wait_text(say("recover.stopped"))
-    page.push(say("check.again"))
+    page.push(say("again"))
     answer_passphrase(page, "TREZOR", None)
     page.wait_text(say("time.long", exponent=14, time="@").split("@")[0])
     page.push(say("clear"))
@@ -77,7 +77,8 @@ def check_stop_drill(page, see):
         raise Failed(f"a drill that was stopped says {verdict!r}")
     see("a drill that was stopped")
     page.push(say("continue"))
-    page.wait_text(say("check.bad"))
+    page.wait_title(say("check.done.stopped"))
+    page.wait_text(say("check.stopped"))
     end(page)
 
 

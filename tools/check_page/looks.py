@@ -1,7 +1,7 @@
 """How the page looks: nothing wider than a narrow screen, contrast of each text, and what a hidden or a left page shows."""
 from browsers import Failed, browser
 from hands import Page
-from tasks import SOUND_PAPER, begin, type_paper
+from tasks import SOUND_PAPER, begin, found_words, type_damaged, type_paper
 from texts import say
 
 # The contrast that WCAG 2.2 asks for at level AA: of a text, and of a large one.
@@ -68,9 +68,18 @@ def check(name, url, see, opened=Page):
             page.wait_text(say("entry.unknown", number=1))
             check_screen(page, f"{mode} papers", see)
             page.push(say("collect.end"))
+            page.wait_text(say("collect.unread"))
+            check_screen(page, f"{mode} words that were not read", see)
+            page.push(say("collect.unread.drop"))
+            page.wait_title(say("check.drill"))
             check_screen(page, f"{mode} passphrase", see)
             page.push(say("clear"))
             page.wait_title(say("home.title"))
+            begin(page, "damaged")
+            type_damaged(page, "? ? ? " + " ".join(SOUND_PAPER.split()[3:]))
+            page.wait(lambda: found_words(page).count("\n") == 1, "the papers that fit")
+            check_screen(page, f"{mode} two papers that fit", see)
+            check_hidden_words(page)
             begin(page, "make")
             page.choose(say("plan.own"))
             check_screen(page, f"{mode} own plan", see)
@@ -83,7 +92,7 @@ def check(name, url, see, opened=Page):
             page.wait_title(say("paper.title", name="0.0"))
             check_screen(page, f"{mode} paper", see)
             check_printed(page, unprinted)
-            check_hidden(page)
+            check_hidden(page, lambda: check_screen(page, f"{mode} clear half written papers", see))
             check_left(page)
 
 
@@ -117,18 +126,53 @@ def check_left(page):
     page.wait_title(say("home.title"))
 
 
-def check_hidden(page):
+# Makes the page believe that its tab is hidden, or that it isn't.
+HIDE = "Object.defineProperty(document, 'hidden', { configurable: true, get: () => %s }); document.dispatchEvent(new Event('visibilitychange')); null"
+
+
+def check_hidden_words(page):
+    """A hidden tab shows no words that were found, and 'Clear everything' leaves none."""
+    page.evaluate(HIDE % "true")
+    if found_words(page).strip():
+        raise Failed("a hidden tab shows words that were found")
+    page.evaluate(HIDE % "false")
+    page.push(say("paper.show"))
+    page.wait(lambda: found_words(page).strip(), "the found words again")
+    page.push(say("clear"))
+    page.wait_title(say("home.title"))
+    if page.evaluate("document.querySelectorAll('.fit, main input').length"):
+        raise Failed("a cleared page shows words that were found")
+
+
+def check_hidden(page, see=lambda: None):
     """A hidden tab shows nothing secret, and leaving asks first."""
-    hide = "Object.defineProperty(document, 'hidden', { configurable: true, get: () => %s }); document.dispatchEvent(new Event('visibilitychange')); null"
-    page.evaluate(hide % "true")
+    page.evaluate(HIDE % "true")
     if page.evaluate("document.querySelectorAll('.paper li').length") or page.evaluate("document.getElementById('main').checkVisibility()"):
         raise Failed("a hidden tab shows a paper")
-    page.evaluate(hide % "false")
+    page.evaluate(HIDE % "false")
     if not page.evaluate("(() => { const it = new Event('beforeunload', { cancelable: true }); return !window.dispatchEvent(it) || it.defaultPrevented; })()"):
         raise Failed("leaving the page doesn't ask")
     page.push(say("paper.show"))
-    page.wait(lambda: page.evaluate("document.querySelectorAll('.paper li').length") == 20, "the words again")
+    page.wait(lambda: words_shown(page) == 20, "the words again")
+    check_unfinished(page, see)
+
+
+def check_unfinished(page, see):
+    """While papers are half written, 'Clear everything' asks first, and shows no words meanwhile."""
+    shown = page.title()
     page.push(say("clear"))
+    page.wait_text(say("clear.unfinished"))
+    if words_shown(page):
+        raise Failed("the words stay while the page asks whether to clear them")
+    see()
+    page.push(say("clear.stay"))
+    page.wait(lambda: say("clear.unfinished") not in page.text(), "the end of the question")
+    if page.title() != shown:
+        raise Failed("the answer that goes on with the papers leaves them")
+    page.push(say("paper.show"))
+    page.wait(lambda: words_shown(page) == 20, "the words again")
+    page.push(say("clear"))
+    page.push(say("clear.yes"))
     page.wait_title(say("home.title"))
-    if page.evaluate("document.querySelectorAll('.paper li').length"):
+    if words_shown(page):
         raise Failed("a cleared page shows a paper")

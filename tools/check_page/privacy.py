@@ -100,7 +100,7 @@ def search(folder, markers):
 
 def typed_everywhere(page):
     """Types a marker into each kind of field of the page, and returns the markers."""
-    markers = {kind: marker() for kind in ["word of a paper", "hidden passphrase", "shown passphrase", "digits", "passphrase of a drill", "noted fingerprint"]}
+    markers = {kind: marker() for kind in ["word of a paper", "word of a damaged paper", "hidden passphrase", "shown passphrase", "digits", "passphrase of a drill", "noted fingerprint"]}
     begin(page, "check")
     page.fill(say("entry.word", number=1), markers["word of a paper"])
     page.fill(say("entry.word", number=3), markers["word of a paper"])
@@ -112,6 +112,11 @@ def typed_everywhere(page):
     page.fill(say("passphrase.label"), markers["passphrase of a drill"])
     # The field takes eight letters, and the search looks for halves of a marker too.
     page.fill(say("noted.label"), markers["noted fingerprint"])
+    time.sleep(LOOKING)
+    page.push(say("clear"))
+    page.wait_title(say("home.title"))
+    begin(page, "damaged")
+    page.fill(say("entry.word", number=1), f"{markers['word of a damaged paper']}?")
     time.sleep(LOOKING)
     page.push(say("clear"))
     page.wait_title(say("home.title"))

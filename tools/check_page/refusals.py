@@ -2,12 +2,13 @@
 import json
 
 from browsers import Failed
-from tasks import PASSPHRASE, SECRET, THREE_GROUPS, answer_passphrase, begin, end, example, plain, type_paper
+from tasks import FINGERPRINT, PASSPHRASE, SECRET, THREE_GROUPS, answer_passphrase, begin, end, example, plain, type_paper
 from texts import counted, say
 
 SOUND = example("one-of-one.txt")[0]
-# Published vectors of SLIP-0039.
+# Published vectors of SLIP-0039. In the first, word 20 is wrong.
 BAD_CHECKSUM = SOUND.replace("keyboard", "kidney")
+EXCHANGED = SOUND.replace("length solution", "solution length")
 BAD_PADDING = "duckling enlarge academic academic email result length solution fridge kidney coal piece deal husband erode duke ajar music cargo fitness"
 BIP39 = "legal winner thank year wave sausage worth useful legal winner thank yellow"
 
@@ -27,7 +28,9 @@ def of_one_paper():
     first = THREE_GROUPS[0]
     value = plain.parse(first.encode())["value"]
     return [
-        ("bad checksum", BAD_CHECKSUM, said(13)),
+        ("one wrong word", BAD_CHECKSUM, said(18, first=20)),
+        ("another wrong word", SOUND.replace("length", "lend"), said(18, first=7)),
+        ("two words that changed places", EXCHANGED, said(13)),
         ("bad padding", BAD_PADDING, said(14)),
         ("too many groups needed", changed(first, group_threshold=16), said(15)),
         ("another backup", SOUND, said(21)),
@@ -49,15 +52,29 @@ def check_papers(page, see):
     for what, line, text in of_one_paper():
         type_paper(page, line, is_by_four=True)
         page.wait_text(text)
-        if what == "another backup":
-            see("a paper of another backup")
+        if what in ("another backup", "another wrong word"):
+            see(what)
+        if what == "another wrong word" and not page.has_focus(page.node("textbox", say("entry.word", number=7))):
+            raise Failed("the focus doesn't go to the wrong word")
+        if what == "another wrong word":
+            page.type("leng")
+            page.wait_text(said(21))
         page.push(say("entry.empty"))
     if len(page.text().split(": sound")) != 2:
         raise Failed("a refused paper was taken")
     page.push(say("collect.end"))
     page.wait_text(say("check.sound", papers=counted(1, "paper"), names="0.0"))
+    page.wait_text(say("status.not_enough", needed=counted(2, "whole"), here=0))
     see("too few papers")
-    end(page)
+    page.push(say("collect.more"))
+    page.wait_title(say("check.title"))
+    page.wait_text(say("collect.row", name="0.0", words=20))
+    page.push(say("collect.drop", name="0.0"))
+    page.wait_text(say("collect.dropped", name="0.0"))
+    if say("collect.taken", name="0.0") in page.text():
+        raise Failed("a paper that was taken out is still said to be sound")
+    page.push(say("clear"))
+    page.wait_title(say("home.title"))
 
 
 def check_words(page, see):
@@ -75,6 +92,7 @@ def check_words(page, see):
     page.push("academic")
     page.wait_text(say("collect.taken", name="0.0"))
     page.push(say("collect.drop", name="0.0"))
+    page.wait_text(say("collect.dropped", name="0.0"))
     page.go_to("spinbutton", say("entry.count"))
     page.evaluate("document.activeElement.select()")
     page.type("21")
@@ -90,8 +108,16 @@ def check_words(page, see):
     paste(page, BIP39)
     page.wait_text(say("entry.bip39", count=12))
     page.push(say("entry.empty"))
+    paste(page, BAD_CHECKSUM)
+    page.wait_text(said(18, first=20))
+    page.type("keyb")
+    page.wait_text(say("collect.taken", name="0.0"))
+    page.push(say("collect.drop", name="0.0"))
+    page.wait_text(say("collect.dropped", name="0.0"))
+    # As a blank form prints it.
+    heading = f"{say('blank.heading')} {say('blank.name', name='0.0')}\n"
     numbered = "".join(f"{number}. {word.upper()},\n" for number, word in enumerate(SOUND.split(), 1))
-    paste(page, numbered)
+    paste(page, heading + numbered)
     page.wait_text(say("collect.taken", name="0.0"))
     page.push(say("clear"))
     page.wait_title(say("home.title"))
@@ -128,14 +154,20 @@ def check_values(page, see):
     for digits, passphrase, again, text in [
         (SECRET[:-2], PASSPHRASE, PASSPHRASE, said(42, first=15)),
         (SECRET[:-1] + "g", PASSPHRASE, PASSPHRASE, say("secret.not_hex")),
-        (SECRET, "pässword", "pässword", said(41, first=2)),
+        (SECRET, "pässword", "pässword", say("passphrase.unfit")),
         (SECRET, PASSPHRASE, "TREZOr", say("passphrase.differ")),
     ]:
-        page.choose(say("secret.own"))
+        if not page.is_true("(it) => it.getAttribute('aria-checked') === 'true'", page.node("radio", say("secret.own"))):
+            raise Failed("after a refusal, another secret is chosen")
         for field, value in [("secret.digits", digits), ("passphrase.label", passphrase), ("passphrase.again", again)]:
             page.fill(say(field), value)
+            if field == "passphrase.label" and value != PASSPHRASE:
+                page.wait_text(said(41, first=2))
+                see("a passphrase that wallets don't take")
         page.push(say("make.create"))
         page.wait_text(text)
+    if said(41, first=2) in page.text():
+        raise Failed("what was refused before stays beside what is missing now")
     page.push(say("clear"))
     page.wait_title(say("home.title"))
 
@@ -157,16 +189,26 @@ def check_mixed(page, see):
     page.push(say("continue"))
     end(page)
     begin(page, "replace")
+    page.choose(say("replace.destroyed"))
     page.push(say("continue"))
     type_paper(page, THREE_GROUPS[0], is_by_four=True)
     page.wait_text(say("collect.taken", name="0.0"))
     page.push(say("collect.end"))
-    page.fill(say("replace.members", group=0), "3", "spinbutton")
-    for group in (1, 2):
-        page.fill(say("replace.needed", group=group), "1", "spinbutton")
-        page.fill(say("replace.members", group=group), "1", "spinbutton")
+    page.wait_text(say("replace.none_yet"))
+    see("too few papers to write a missing one")
+    page.push(say("collect.more"))
+    for line in THREE_GROUPS[1:3]:
+        paste(page, line)
+        page.wait_text(say("collect.taken", name=f"0.{plain.parse(line.encode())['member']}"))
+    page.push(say("collect.end"))
+    fill_plan(page, "3", {1: "1", 2: "2"})
     page.push(say("continue"))
     page.wait_text(say("replace.untold"))
+    one, two, whole = counted(1, "paper"), counted(2, "paper"), counted(2, "whole")
+    page.wait_text(said(66, group=1, more=one, whole=whole, groups=1))
+    page.wait_text(said("66.fewer", group=2, more=two, fewer=one, whole=whole, groups=1))
+    if "other groups" in page.text():
+        raise Failed("the page tells an owner of 'other groups' in the engine's words")
     see("papers that the rest don't determine")
     page.push(say("replace.end"))
     page.wait_text(say("replace.too_few"))
@@ -198,6 +240,24 @@ def forged_backups():
     return [(of_member, said(51, first=0)), (of_groups, say("refused.51.groups"))]
 
 
+def check_noted(page, see):
+    """A text that is no fingerprint, one beside the box that says that there is none, and no answer. At last there is none."""
+    page.fill(say("passphrase.label"), PASSPHRASE)
+    page.wait(lambda: said(41, first=2) not in page.text(), "the end of a refusal")
+    page.tick(say("noted.none"))
+    for typed, text in [(None, say("noted.both")), ("df41d8fg", say("noted.wrong")), ("", say("noted.missing"))]:
+        if typed is not None:
+            page.go_to("textbox", say("noted.label"))
+            page.evaluate("document.activeElement.select()")
+            page.press("Backspace")
+            page.type(typed)
+        page.push(say("continue"))
+        page.wait_text(text)
+    see("a fingerprint is asked for")
+    page.tick(say("noted.none"))
+    page.push(say("continue"))
+
+
 def check_recovery(page, see):
     """A passphrase that wallets don't take, and papers that don't belong together, in a recovery and in a drill."""
     for task in ("recover", "check"):
@@ -208,16 +268,23 @@ def check_recovery(page, see):
                 share = plain.parse(line.encode())
                 page.wait_text(say("collect.taken", name=f"{share['group']}.{share['member']}"))
             page.push(say("collect.end"))
-            answer_passphrase(page, "p\u00e4ssword", None)
-            if task == "check":
-                page.push(say("drill.start"))
+            answer_passphrase(page, "p\u00e4ssword", FINGERPRINT)
             page.wait_text(said(41, first=2))
-            answer_passphrase(page, PASSPHRASE, None)
+            page.wait_text(say("passphrase.unfit"))
+            check_noted(page, see)
             if task == "check":
                 page.push(say("drill.start"))
                 page.wait_text(say("drill.mismatch", group=0) if "group 0" in text else say("drill.mismatch_groups"))
                 page.push(say("continue"))
-                page.wait_text(say("check.bad"))
+                page.wait_title(say("check.done.some"))
+                page.wait_text(say("verdict.nothing", quorums=counted(1, "quorum")))
+                page.push(say("collect.back"))
+                page.wait_title(say("check.title"))
+                page.push(say("collect.end"))
+                page.wait_title(say("check.drill"))
+                page.push(say("clear"))
+                page.wait_title(say("home.title"))
+                continue
             else:
                 page.wait_title(say("recover.failed"))
                 page.wait_text(text)
@@ -238,6 +305,7 @@ def check_long_line(page, _):
 def check_plan_of_papers(page, see):
     """A plan that doesn't fit the papers is asked for again, with the reason. Members that only the owner knows may be wrong too."""
     begin(page, "replace")
+    page.choose(say("replace.destroyed"))
     page.push(say("continue"))
     for line in THREE_GROUPS[:3]:
         paste(page, line)
@@ -259,12 +327,12 @@ def check_plan_of_papers(page, see):
     page.wait_title(say("home.title"))
 
 
-def fill_plan(page, members):
-    """Types how many members each group has."""
+def fill_plan(page, members, others={1: "1", 2: "1"}):
+    """Types how many members group 0 has, and how many each other group has and needs."""
     page.fill(say("replace.members", group=0), members, "spinbutton")
-    for group in (1, 2):
-        page.fill(say("replace.needed", group=group), "1", "spinbutton")
-        page.fill(say("replace.members", group=group), "1", "spinbutton")
+    for group, number in others.items():
+        page.fill(say("replace.needed", group=group), number, "spinbutton")
+        page.fill(say("replace.members", group=group), number, "spinbutton")
 
 
 # Asks the engine through the page's own worker, and returns what the page says of each answer.
@@ -296,6 +364,11 @@ def check_unreachable(page, _):
     for (call, given, text), answer in zip(asked, told):
         if not answer.startswith(text) or (text == "") != (answer == ""):
             raise Failed(f"{call} {given}: the page says {answer!r}, and not {text!r}")
+    two = "in_refusals.saidRefusal({ code: 18, line: null, details: [2, 7], text: '' }, '%s')"
+    for task in ("", "damaged."):
+        told = page.evaluate(two % task[:-1])
+        if not told.startswith(say(f"{task}refused.18.two", first=2, second=7)):
+            raise Failed(f"two places of a wrong word aren't told: {told!r}")
 
 
 CHECKS = [check_prepare, check_papers, check_words, check_values, check_mixed, check_recovery, check_long_line, check_plan_of_papers, check_unreachable]

@@ -28,7 +28,7 @@ KEY = re.compile(r'\bsay\(\s*"([^"]+)"')
 
 def modules(page):
     """Returns the sources that go into the page."""
-    return [*sorted(page.glob("*.js")), *sorted((page.parent / "bindings/js").glob("*.js")), page / "shamir.html", page / "style.css"]
+    return [*sorted(page.glob("*.js")), *sorted((page.parent / "bindings/js").glob("*.js")), page / "frame.html", page / "style.css"]
 
 
 def check_forbidden(page):
@@ -36,16 +36,16 @@ def check_forbidden(page):
         text = COMMENT.sub("", path.read_text())
         for name in FORBIDDEN:
             found = re.search(name, text)
-            if found and not (path.name == "shamir.html" and found[0] in ("refresh",)):
+            if found and not (path.name == "frame.html" and found[0] in ("refresh",)):
                 line = text[: found.start()].count("\n") + 1
                 raise Failed(f"{path.name} has {found[0]!r} (line {line} without comments), which could let something out or keep it")
         fields = FIELDS.findall(text)
         if fields != (["input"] if path.name == "dom.js" else []):
             raise Failed(f"{path.name} makes {fields} by itself")
-    if len(re.findall("http-equiv", (page / "shamir.html").read_text())) != 1:
-        raise Failed("shamir.html must have one http-equiv, its policy")
-    if re.search(r"\sname=\"(?!viewport|referrer|color-scheme)", (page / "shamir.html").read_text()):
-        raise Failed("shamir.html names something else than its meta elements")
+    if len(re.findall("http-equiv", (page / "frame.html").read_text())) != 1:
+        raise Failed("frame.html must have one http-equiv, its policy")
+    if re.search(r"\sname=\"(?!viewport|referrer|color-scheme)", (page / "frame.html").read_text()):
+        raise Failed("frame.html names something else than its meta elements")
     kept = (page / "dom.js").read_text()
     missing = [it for it in ATTRIBUTES if it not in kept]
     if missing:

@@ -108,13 +108,17 @@ def make(page, plan_label, words, passphrase, see, digits=None):
     for number, line in enumerate(papers):
         name = plain.parse(line.encode())
         page.wait_title(say("back.title", name=f"{name['group']}.{name['member']}"))
+        if number:
+            page.wait_text(say("back.same", name=typed))
+        typed = f"{name['group']}.{name['member']}"
         if number == 1:
             page.type(papers[0] + " ")
-            page.wait_text("aren't the words of paper")
+            page.wait_text(say("back.other", typed="0.0", name=f"{name['group']}.{name['member']}"))
             see("typed another paper back")
-            page.push(say("entry.empty"))
         type_paper(page, line, is_by_four=number % 2 == 1)
     page.wait_title(say("make.drill"))
+    page.wait_text(say("back.same", name=typed))
+    see("the last paper is typed back")
     page.push(say("drill.start"))
     page.wait_title(say("drill.done"))
     see("drill of a new backup")
@@ -171,16 +175,29 @@ def check_papers(page, see):
     page.wait_text(say("verdict.all.noted", quorums=counted(7, "quorum"), fingerprint=FINGERPRINT))
     see("drill")
     page.push(say("continue"))
-    page.wait_text(say("check.good"))
-    page.push(say("check.again"))
+    page.wait_title(say("check.done.good"))
+    if say("again") in page.text():
+        raise Failed("a good result is offered to be tried again")
+    see("end of a good check")
+    page.push(say("collect.back"))
+    page.wait_title(say("check.title"))
+    page.push(say("collect.end"))
     answer_passphrase(page, "TREZOr", FINGERPRINT)
     page.push(say("drill.start"))
-    other = fingerprint_of(THREE_GROUPS, "TREZOr")
-    page.wait_text(say("verdict.none.one", quorums=counted(7, "quorum"), fingerprint=other))
+    page.wait_text(say("verdict.other", quorums=counted(7, "quorum")))
+    page.wait_text(say("drill.other"))
     see("drill with a wrong passphrase")
     page.push(say("continue"))
-    page.wait_text(say("check.bad"))
-    end(page)
+    page.wait_title(say("check.done.other"))
+    page.wait_text(say("verdict.other", quorums=counted(7, "quorum")))
+    page.wait_text(say("check.other"))
+    see("end of a check with a wrong passphrase")
+    page.push(say("again"))
+    page.wait_title(say("check.drill"))
+    if not page.is_true(f"(it) => it.value === '{FINGERPRINT}'", page.node("textbox", say("noted.label"))):
+        raise Failed("another try empties the noted fingerprint")
+    page.push(say("clear"))
+    page.wait_title(say("home.title"))
 
 
 def check_recover(page, see):
@@ -190,13 +207,21 @@ def check_recover(page, see):
     page.wait_text(say("status.enough"))
     page.push(say("collect.end"))
     see("passphrase")
+    answer_passphrase(page, "TREZOr", FINGERPRINT)
+    page.wait_title(say("recover.done.other"))
+    see("another secret is recovered")
+    if say("digits.show") in page.text():
+        raise Failed("the digits of another secret than the noted one are offered")
+    page.push(say("again"))
     answer_passphrase(page, PASSPHRASE, FINGERPRINT)
-    page.wait_text(say("recover.same", fingerprint=FINGERPRINT))
+    page.wait_title(say("recover.done.same"))
     if SECRET[:8] in page.text():
         raise Failed("the digits show before the button is pressed")
     page.push(say("digits.show"))
     page.wait(lambda: SECRET in page.text().replace(" ", ""), "the digits")
     see("recovered")
+    if say("again") in page.text():
+        raise Failed("a recovery of the noted secret is offered to be tried again")
     page.press("Enter")
     page.wait(lambda: SECRET[:8] not in page.text(), "the end of the digits")
     end(page)
@@ -205,6 +230,9 @@ def check_recover(page, see):
 def check_replace(page, see):
     begin(page, "replace")
     see("what became of the paper")
+    page.push(say("continue"))
+    page.wait_text(say("replace.why.missing"))
+    page.choose(say("replace.destroyed"))
     page.push(say("continue"))
     for line in THREE_GROUPS[:1] + THREE_GROUPS[3:]:
         type_paper(page, line)
@@ -221,6 +249,7 @@ def check_replace(page, see):
     page.push(say("paper.written"))
     type_paper(page, THREE_GROUPS[1])
     page.wait_title(say("replace.which"))
+    page.wait_text(say("back.same", name="0.1"))
     page.push(say("replace.end"))
     answer_passphrase(page, PASSPHRASE, None)
     page.push(say("drill.start"))
@@ -230,8 +259,65 @@ def check_replace(page, see):
     begin(page, "replace")
     page.choose(say("replace.other"))
     page.push(say("continue"))
-    page.wait_text(say("replace.new"))
+    page.wait_text(say("replace.new.make"))
     see("a new backup instead")
+    end(page)
+
+
+def type_damaged(page, line):
+    """Types what can be read of a paper. A space ends each word."""
+    page.push(say("entry.empty"))
+    page.type(line + " ")
+
+
+def found_words(page):
+    """Returns the words that the page found, each after its number, a line for each paper that fits."""
+    script = "[...document.querySelectorAll('.fit .rows')].map((it) => [...it.children].map((row) => row.innerText.replace(/\\s+/g, ' ')).join(', ')).join('\\n')"
+    return page.evaluate(script)
+
+
+def check_damaged(page, see):
+    """Two words that can't be read come back. The paper is written anew, typed back, and checked beside another one."""
+    words = THREE_GROUPS[1].split()
+    begin(page, "damaged")
+    see("damaged paper")
+    type_damaged(page, " ".join(words[:4] + ["?"] + words[5:11] + [words[11][:2] + "?"] + words[12:]))
+    page.wait_text(say("damaged.one", name="0.1"))
+    wanted = f"{say('entry.word', number=5)} {words[4]}, {say('entry.word', number=12)} {words[11]}"
+    page.wait(lambda: found_words(page) == wanted, f"the words {wanted!r}")
+    see("words that were found")
+    page.fill(say("entry.word", number=5), "x")
+    page.wait(lambda: page.evaluate("document.querySelector('.fits').childElementCount") == 0, "the end of an answer to other words")
+    page.press("Backspace")
+    page.type("? ")
+    page.push(say("entry.read"))
+    page.push(say("damaged.write", name="0.1"))
+    page.wait_title(say("paper.title", name="0.1"))
+    if read_paper(page) != THREE_GROUPS[1]:
+        raise Failed("the repaired paper isn't the damaged one")
+    page.push(say("paper.written"))
+    page.wait_title(say("back.title", name="0.1"))
+    type_paper(page, THREE_GROUPS[1], is_by_four=True)
+    page.wait_title(say("damaged.check.title"))
+    page.wait_text(say("back.same", name="0.1"))
+    page.wait_text(say("collect.row.repaired", name="0.1", words=20))
+    see("check of a repaired paper")
+    page.push(say("collect.end"))
+    page.wait_title(say("check.done.few"))
+    page.wait_text(say("damaged.too_few"))
+    if "sound" in page.text():
+        raise Failed(f"a repaired paper is called sound: {page.text()!r}")
+    see("too few papers for a repaired one")
+    page.push(say("collect.more"))
+    for line in (THREE_GROUPS[0], THREE_GROUPS[3]):
+        type_paper(page, line)
+        share = plain.parse(line.encode())
+        page.wait_text(say("collect.taken", name=f"{share['group']}.{share['member']}"))
+    page.push(say("collect.end"))
+    answer_passphrase(page, PASSPHRASE, FINGERPRINT)
+    page.push(say("drill.start"))
+    page.wait_text(say("verdict.all.noted", quorums=counted(1, "quorum"), fingerprint=FINGERPRINT))
+    page.push(say("continue"))
     end(page)
 
 
@@ -263,4 +349,4 @@ def check_blank(page, see):
         raise Failed("the forms stay after the task")
 
 
-TASKS = {"make": check_make, "check": check_papers, "recover": check_recover, "replace": check_replace, "blank": check_blank}
+TASKS = {"make": check_make, "check": check_papers, "recover": check_recover, "replace": check_replace, "damaged": check_damaged, "blank": check_blank}

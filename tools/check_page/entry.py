@@ -1,0 +1,129 @@
+"""The entry of a paper: keys that end a word, words that were not read, and what can be read of a damaged paper."""
+from browsers import Failed
+from refusals import BAD_CHECKSUM, BAD_PADDING, EXCHANGED, SOUND, changed, paste, said
+from tasks import begin, end, example, found_words, type_damaged
+from texts import counted, say
+
+
+def check_unread(page, see):
+    """Words that stand in the fields and were not read aren't dropped: the page asks. Of a backup with one group, it counts papers."""
+    two = example("two-needed.txt")
+    begin(page, "check")
+    page.push(say("entry.read"))
+    page.wait_text(say("entry.nothing"))
+    page.go_to("textbox", say("entry.word", number=1))
+    page.type("du")
+    page.wait(lambda: say("entry.nothing") not in page.text(), "the end of an answer to empty fields")
+    page.press("Backspace", "Backspace")
+    paste(page, two[0])
+    page.wait_text(say("status.not_enough", needed=counted(2, "paper"), here=1))
+    if "roup" in page.text():
+        raise Failed(f"the page speaks of groups, and the backup has one: {page.text()!r}")
+    for what, typed in [("a refused paper", BAD_CHECKSUM), ("half a paper", " ".join(two[1].split()[:9]))]:
+        page.go_to("textbox", say("entry.word", number=1))
+        page.type(typed + " ")
+        if what == "a refused paper":
+            page.wait_text(said(18, first=20))
+        page.push(say("collect.end"))
+        page.wait_text(say("collect.unread"))
+        page.push(say("collect.unread.stay"))
+        stays = page.evaluate("document.querySelector('.word input').value")
+        if page.title() != say("check.title") or stays != typed.split()[0] or say("collect.unread") in page.text():
+            raise Failed(f"{what} doesn't stay in the fields: {page.title()!r}, {stays!r}")
+        page.push(say("collect.end"))
+        see("words that were not read")
+        if what == "a refused paper":
+            page.push(say("entry.empty"))
+    page.push(say("collect.unread.drop"))
+    page.wait_title(say("check.done.few"))
+    end(page)
+
+
+def check_keys(page, _):
+    """A key that ends a word ends no other one: four letters or whole words, each with Enter or Tab after it."""
+    begin(page, "check")
+    for key in ("Enter", "Tab"):
+        for count in (4, 8):
+            for at, word in enumerate(SOUND.split()):
+                page.type(word[:count])
+                page.press(key)
+                if at == 6 and not page.has_focus(page.node("textbox", say("entry.word", number=8))):
+                    raise Failed(f"after {count} letters and {key}, the focus isn't in the next word")
+            page.wait(lambda: page.evaluate("[...document.querySelectorAll('.word input')].every((it) => it.value === '')"), f"the end of a paper with {key}")
+            page.wait_text(say("collect.taken", name="0.0"))
+            page.push(say("collect.drop", name="0.0"))
+            page.wait_text(say("collect.dropped", name="0.0"))
+    page.push(say("clear"))
+    page.wait_title(say("home.title"))
+
+
+def with_words(changes):
+    """Returns the sound paper with other marks at some places, counted from 1."""
+    words = SOUND.split()
+    for place, mark in changes.items():
+        words[place - 1] = mark
+    return " ".join(words)
+
+
+def listed(changes, line=SOUND):
+    """Returns what the page lists of words that were found at these places."""
+    return ", ".join(f"{say('entry.word', number=place)} {line.split()[place - 1]}" for place in changes)
+
+
+OTHER = with_words({1: "therapy", 2: "heat", 3: "device"})
+# What can be read of a paper, and what the page says: the words that it found in each paper that fits, or why it found none. The
+# first ones are typed, and the others pasted.
+TYPED = 3
+DAMAGED = [
+    (with_words({7: "le?", 8: "so?"}), [listed([7, 8])], ""),
+    (" ".join(f"{word[:4]}?" for word in SOUND.split()), [listed(range(1, 21))], ""),
+    (with_words({1: "?", 2: "?", 3: "?"}), [listed([1, 2, 3]), listed([1, 2, 3], OTHER)], ""),
+    (f"{SOUND} ?", [], said(12, first=21)),
+    (with_words({5: "?", 12: "?"}), [listed([5, 12])], ""),
+    (with_words({18: "?", 19: "?", 20: "?"}), [listed([18, 19, 20])], ""),
+    (SOUND, [say("damaged.whole")], ""),
+    (with_words({17: "?", 18: "?", 19: "?", 20: "?"}), [], say("damaged.refused.16", first=4)),
+    (with_words({7: "lend"}), [], say("damaged.refused.18", first=7)),
+    (with_words({20: "kidney"}), [], say("damaged.refused.18", first=20)),
+    (EXCHANGED, [], say("damaged.refused.13")),
+    (with_words({7: "ze?"}), [], say("damaged.refused.18", first=7)),
+    (with_words({5: "?", 7: "solution", 8: "length"}), [], say("damaged.refused.17")),
+    (BAD_PADDING, [], said(14)),
+    (changed(SOUND, group_threshold=16), [], said(15)),
+]
+
+
+def check_damaged(page, see):
+    """What is found of a damaged paper, and each refusal. Words in fields that the page marks itself."""
+    begin(page, "damaged")
+    for number, (line, found, text) in enumerate(DAMAGED):
+        if number < TYPED:
+            type_damaged(page, line)
+        else:
+            page.push(say("entry.empty"))
+            paste(page, line)
+        wanted = "\n".join(found)
+        page.wait(lambda: found_words(page) == wanted and text in page.text(), f"the answer {wanted!r} {text!r} to {line!r}")
+        if len(found) == 2:
+            page.wait_text(say("damaged.two.which"))
+    page.push(say("entry.empty"))
+    paste(page, "slip39\nPaper 0.0\n" + with_words({7: "lend"}))
+    page.wait_text(say("damaged.refused.18", first=7))
+    page.type("leng ")
+    page.wait(lambda: found_words(page) == say("damaged.whole"), "a word that was typed anew")
+    type_damaged(page, with_words({7: "zz?"}))
+    page.wait_text(say("damaged.mark", number=7))
+    page.wait_text(say("damaged.refused.11", first=7))
+    see("a mark that stands for no word")
+    page.push(say("damaged.offer", mark="?"))
+    page.wait(lambda: found_words(page) == listed([7]), "the word that was left open")
+    type_damaged(page, with_words({7: "le"}))
+    page.wait_text(say("entry.several", number=7))
+    see("a word that isn't complete")
+    page.push(say("damaged.offer.rest", mark="le?"))
+    page.wait(lambda: found_words(page) == listed([7]), "the word that was left open in part")
+    page.push(say("clear"))
+    page.wait_title(say("home.title"))
+
+
+CHECKS = [check_unread, check_keys, check_damaged]

@@ -1,0 +1,75 @@
+"""The ways back, and what Enter does in a field that isn't a word's."""
+from browsers import Failed
+from refusals import paste
+from tasks import FINGERPRINT, PASSPHRASE, SOUND_PAPER, begin
+from texts import counted, say
+
+
+def go_back(page, title, answer="back"):
+    page.push(say(answer))
+    page.wait_title(title)
+
+
+def check_first_steps(page, _):
+    """The first screen of each task leads back to the choice of a task."""
+    for task in ("make", "check", "recover", "replace", "damaged"):
+        begin(page, task)
+        go_back(page, say("home.title"))
+    begin(page, "replace")
+    page.choose(say("replace.other"))
+    page.push(say("continue"))
+    page.wait_title(say("replace.new.title"))
+    go_back(page, say("replace.title"))
+    page.choose(say("replace.destroyed"))
+    page.push(say("continue"))
+    page.wait_text(say("replace.intro"))
+    page.push(say("back"))
+    page.wait_text(say("replace.why"))
+    go_back(page, say("home.title"))
+
+
+def check_make(page, _):
+    """From the secret, the owner can go back to the plan, which stays."""
+    begin(page, "make")
+    page.choose(say("plan.three"))
+    page.push(say("continue"))
+    page.wait_title(say("make.secret"))
+    go_back(page, say("make.plan"))
+    page.wait_text(say("plan.sentence.any", needed=3, members=5))
+    if not page.is_true("(it) => it.getAttribute('aria-checked') === 'true'", page.node("radio", say("plan.three"))):
+        raise Failed("on the way back, another plan is chosen")
+    go_back(page, say("home.title"))
+
+
+def check_passphrase(page, _):
+    """From the questions before a drill, the owner can go back to the papers, which stay. Enter goes from field to field, and on."""
+    begin(page, "check")
+    paste(page, SOUND_PAPER)
+    page.wait_text(say("collect.taken", name="0.0"))
+    if say("back") in page.text().splitlines():
+        raise Failed("one press leaves the papers that were read")
+    page.push(say("collect.end"))
+    page.wait_title(say("check.drill"))
+    go_back(page, say("check.title"), "collect.back")
+    page.wait_text(say("collect.row", name="0.0", words=20))
+    page.push(say("collect.end"))
+    for passphrase in ("TREZOr", PASSPHRASE):
+        page.fill(say("passphrase.label"), passphrase)
+        page.press("Enter")
+        if passphrase != PASSPHRASE:
+            if not page.has_focus(page.node("textbox", say("noted.label"))):
+                raise Failed("Enter in the passphrase doesn't go on to the empty fingerprint")
+            page.press("Enter")
+            page.wait_text(say("noted.missing"))
+            page.type(FINGERPRINT)
+            page.press("Enter")
+            page.wait_text(say("drill.count", total=1))
+            page.push(say("back"))
+            page.wait_text(say("passphrase.why"))
+    page.push(say("drill.start"))
+    page.wait_text(say("verdict.all.noted", quorums=counted(1, "quorum"), fingerprint=FINGERPRINT))
+    page.push(say("clear"))
+    page.wait_title(say("home.title"))
+
+
+CHECKS = [check_first_steps, check_make, check_passphrase]

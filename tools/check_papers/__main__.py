@@ -1,0 +1,87 @@
+"""Checks shamir-papers in terminals of its own.
+
+    python3 tools/check_papers [--cases N] [--faults] [PART..]
+
+PART is one of entry, tasks, refusals, ends, traces, scrollback, looks and agreement; without one, all of them run. `agreement`
+compares N generated backups with ./shamir, 20 if N isn't given. `--faults` plants faults in copies of the program instead, and checks
+that each is found. A part whose tool is missing says so. The status is 1 if something fails. A part that fails beside others is tried
+once more, by itself.
+"""
+import argparse
+import concurrent.futures
+import os
+import pathlib
+import subprocess
+import sys
+import time
+import traceback
+
+sys.dont_write_bytecode = True
+sys.path.insert(0, str(pathlib.Path(__file__).resolve().parent))
+ROOT = pathlib.Path(__file__).resolve().parent.parent.parent
+LIBRARY = ROOT / "bindings" / "python" / "shamir" / "libshamir.so"
+PARTS = ["looks", "ends", "refusals", "tasks", "traces", "scrollback", "entry", "agreement"]
+AT_ONCE = min(4, os.cpu_count() or 1)
+
+
+def check_entry(_):
+    """Runs the unit tests of the entry of words, which need no terminal."""
+    words = [sys.executable, "-B", "-m", "unittest", str(ROOT / "bindings" / "python" / "tests" / "test_papers.py")]
+    done = subprocess.run(words, cwd=ROOT, capture_output=True, text=True)
+    if done.returncode:
+        raise AssertionError(done.stderr)
+    return []
+
+
+def parts(cases):
+    import agreement
+    import ends
+    import looks
+    import refusals
+    import scrollback
+    import tasks
+    import traces
+
+    of_modules = {it.__name__: it.check for it in (tasks, refusals, ends, traces, scrollback, looks)}
+    return {**of_modules, "entry": check_entry, "agreement": lambda see: agreement.check(see, cases)}
+
+
+def tried(name, check):
+    """Runs a part, and returns whether it passed."""
+    from hands import Failed
+
+    begun = time.monotonic()
+    try:
+        left_out = check(None) or []
+    except Exception as fault:
+        print(f"{name}: {fault if isinstance(fault, Failed) else traceback.format_exc()}", flush=True)
+        return False
+    for text in left_out:
+        print(f"{name}: left out: {text}", flush=True)
+    print(f"{name}: passed in {time.monotonic() - begun:.0f} seconds", flush=True)
+    return True
+
+
+def main():
+    parser = argparse.ArgumentParser(prog="tools/check_papers")
+    parser.add_argument("--faults", action="store_true")
+    parser.add_argument("--cases", type=int, default=20)
+    parser.add_argument("parts", nargs="*", metavar="PART", choices=[[], *PARTS])
+    given = parser.parse_args()
+    if not LIBRARY.exists():
+        sys.exit(f"tools/check_papers: {LIBRARY} isn't here: 'make lib' puts it there")
+    if given.faults:
+        import faults
+
+        return 0 if tried("faults", faults.check) else 1
+    wanted = {name: check for name, check in parts(given.cases).items() if name in (given.parts or PARTS)}
+    with concurrent.futures.ThreadPoolExecutor(AT_ONCE) as pool:
+        passed = dict(zip(wanted, pool.map(lambda it: tried(*it), sorted(wanted.items(), key=lambda it: PARTS.index(it[0])))))
+    again = [name for name, good in zip(sorted(wanted, key=PARTS.index), passed.values()) if not good]
+    failed = [name for name in again if not tried(name, wanted[name])]
+    print(f"{len(wanted) - len(failed)} passed, {len(failed)} failed")
+    return 1 if failed else 0
+
+
+if __name__ == "__main__":
+    sys.exit(main())

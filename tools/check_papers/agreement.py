@@ -1,0 +1,233 @@
+"""Generated backups through the dialogue, beside ./shamir on the same papers."""
+import concurrent.futures
+import os
+import random
+import re
+import subprocess
+import tempfile
+
+from hands import ROOT, Failed, counted, say
+from refusals import changed
+from tasks import Owner, make, name_of, paper_prompt
+
+import plain
+
+CASES = 20
+AT_ONCE = min(4, os.cpu_count() or 1)
+PLANS = ["2of3", "3of5", "1of1", "2/2of3,1of1,1of1", "2/3of5,1of1", "3/2of2,3of4,1of1,2of3"]
+PROGRAM = str(ROOT / "shamir")
+
+
+class Case:
+    """A generated backup: its plan, its passphrase and its papers, by ./shamir."""
+
+    def __init__(self, source):
+        self.source, self.plan = source, source.choice(PLANS)
+        self.passphrase = "".join(chr(source.randrange(32, 127)) for _ in range(source.randrange(12)))
+        secret = source.randbytes(source.choice([16, 32])).hex()
+        words = ["create", self.plan, "--master-secret", secret, "--exponent", str(source.randrange(2))]
+        words += ["--extendable"] if source.random() < 0.5 else []
+        needed = self.told(words, b"")[1].split()
+        self.papers = self.told(words, source.randbytes(int(needed[-2])))[0].splitlines()
+        self.noted = self.told(["recover", "--fingerprint"], self.input(self.papers))[0].strip()
+
+    def input(self, papers):
+        return "".join(line + "\n" for line in papers).encode()
+
+    def told(self, words, data):
+        """Returns the output of ./shamir, its message and its status."""
+        with tempfile.NamedTemporaryFile() as file:
+            file.write(self.passphrase.encode())
+            file.flush()
+            options = ["--passphrase-file", file.name] if words[0] in ("create", "recover", "drill") else []
+            done = subprocess.run([PROGRAM, *words, *options], input=data, capture_output=True)
+        return done.stdout.decode(), done.stderr.decode(), done.returncode
+
+    def some(self):
+        """Returns some of the papers, in any order. One of them may be forged."""
+        chosen = self.source.sample(self.papers, self.source.randint(max(1, len(self.papers) - 2), len(self.papers)))
+        if self.source.random() < 0.3:
+            at = self.source.randrange(len(chosen))
+            value = plain.parse(chosen[at].encode())["value"]
+            chosen[at] = changed(chosen[at], value=self.source.randbytes(len(value)))
+        return chosen
+
+
+def typed(chance, line):
+    """Returns a way to type a paper in one line."""
+    words = [word[: chance.randint(4, len(word))] for word in line.split()]
+    return " ".join(chance.choice([word, word.upper(), f"{number}. {word}"]) for number, word in enumerate(words, 1))
+
+
+def collect(owner, case, papers):
+    owner.prepare()
+    for number, line in enumerate(papers, 1):
+        owner.answer(paper_prompt(number), typed(case.source, line))
+        owner.wait(paper_prompt(number + 1))
+        owner.expect(say("collect.taken", name=name_of(line)))
+    owner.answer(paper_prompt(len(papers) + 1), "")
+
+
+def expect_too_few(owner, case, papers):
+    """Checks what is said of too few papers, by what `status` says."""
+    said = case.told(["status"], case.input(papers))[0].splitlines()
+    owner.wait(say("more.papers"))
+    for line in said[1:]:
+        _, group, _, members, _, threshold, names = line.split(" ")
+        owner.expect(say("status.here", names=names.replace("+", ", ")))
+        if int(members) < int(threshold):
+            owner.expect(say("status.missing", more=counted(int(threshold) - int(members), "paper")))
+    owner.answer(say("more.papers"), "e")
+    owner.end(0)
+
+
+def expected_verdict(case, lines):
+    """Returns the sentence that a drill's lines lead to."""
+    found = [line.split(" ") for line in lines]
+    right = [names for names, *gave in found if gave == [case.noted]]
+    others = [names for names, *gave in found if len(gave) == 1 and gave != [case.noted]]
+    quorums = counted(len(found), "quorum")
+    if len(right) == len(found):
+        return say("verdict.all.noted", quorums=quorums, fingerprint=case.noted)
+    if right:
+        return say("verdict.some", wrong=len(found) - len(right), quorums=quorums)
+    return say("verdict.other" if len(others) == len(found) else "verdict.none" if others else "verdict.nothing", quorums=quorums)
+
+
+def compare_check(case):
+    papers = case.some()
+    output, message, status = case.told(["drill", "--fingerprint"], case.input(papers))
+    with Owner("check") as owner:
+        collect(owner, case, papers)
+        if status == 1 and not output:
+            return expect_too_few(owner, case, papers)
+        owner.answer(say("passphrase.ask"), case.passphrase)
+        owner.answer(say("noted.ask"), case.noted)
+        owner.wait(say("next.good"), say("next.again"), say("next.papers"))
+        owner.expect(expected_verdict(case, output.splitlines()[:-1]))
+        owner.type("\x03")
+        owner.end(130)
+
+
+def compare_recover(case):
+    papers = case.some()
+    output, message, status = case.told(["recover"], case.input(papers))
+    with Owner("recover") as owner:
+        collect(owner, case, papers)
+        if " 30 " in message:
+            return expect_too_few(owner, case, papers)
+        owner.answer(say("passphrase.ask"), case.passphrase)
+        owner.answer(say("noted.ask"), "")
+        if status:
+            owner.wait(say("next.papers"))
+            owner.expect(f"({message.split(': ', 1)[1].strip().replace(' ', ': ', 1)})")
+            owner.type("\x03")
+            owner.end(130)
+            return None
+        owner.answer(f"{say('recover.show')} (y/n)", "y")
+        owner.wait(say("recover.clear"))
+        if "".join(re.findall(r"\b[0-9a-f]{8}\b", owner.screen())) != output.strip():
+            raise Failed(f"{case.plan}: the dialogue shows other digits than ./shamir")
+        owner.type("\x03")
+        owner.end(130)
+
+
+def questions_of(case, rest):
+    """Returns what the owner is asked about the plan, with the answers."""
+    groups, here = re.findall(r"(\d+)of(\d+)", case.plan), {name_of(line).split(".")[0] for line in rest}
+    found = []
+    for at, (needed, members) in enumerate(groups):
+        if str(at) not in here:
+            found.append((say("replace.ask.needed", group=at), needed))
+        if needed != "1":
+            ask = say("replace.ask", needed=needed) if len(groups) == 1 else say("replace.ask.group", group=at, needed=needed)
+            found.append((ask, members))
+    return found
+
+
+def compare_replace(case):
+    """Writes the first missing paper again, as `reissue` does, or hears why not."""
+    lost = case.source.choice(case.papers)
+    rest = [line for line in case.papers if line != lost]
+    if not rest:
+        return compare_check(case)
+    output, message, status = case.told(["reissue", case.plan, name_of(lost)], case.input(rest))
+    with Owner("replace") as owner:
+        owner.wait(say("safety.go"))
+        owner.answer(say("safety.go"), "")
+        owner.answer(say("replace.how"), "1")
+        owner.prepare = lambda: None
+        collect(owner, case, rest)
+        questions = questions_of(case, rest)
+        asked = owner.wait(say("more.papers"), *[prompt for prompt, _ in questions[:1]], say("replace.choose"))
+        if asked == say("more.papers"):
+            if status == 0:
+                raise Failed(f"{case.plan}: ./shamir writes a paper that the dialogue calls undetermined")
+            owner.type("\x03")
+            return owner.end(130)
+        for prompt, answer in questions:
+            owner.answer(prompt, answer)
+        owner.wait(say("replace.choose"))
+        if status == 0:
+            owner.expect(say("replace.found", names=name_of(lost)))
+            owner.answer(say("replace.choose"), "1")
+            owner.wait(say("new.write"))
+            if owner.words() != output.strip():
+                raise Failed(f"{case.plan}: the dialogue writes another paper than ./shamir")
+        else:
+            owner.expect(say("replace.untold"))
+            owner.expect(f"{name_of(lost)}: ")
+        owner.type("\x03")
+        owner.end(130)
+
+
+def compare_repair(case):
+    """Reads a paper of which up to three words can't be read, as `repair` does."""
+    words = case.source.choice(case.papers).split()
+    for at in case.source.sample(range(len(words)), case.source.randint(1, 3)):
+        words[at] = words[at][: case.source.randrange(4)] + "?"
+    fits = case.told(["repair"], (" ".join(words) + "\n").encode())[0].splitlines()
+    with Owner("repair") as owner:
+        owner.prepare()
+        owner.answer(say("damaged.ask"), " ".join(words))
+        owner.wait(say("damaged.menu"), say("damaged.menu.two"))
+        owner.expect(say("damaged.two") if len(fits) == 2 else say("damaged.one", name=name_of(fits[0])))
+        for fit in fits:
+            found = [(number, word) for number, (word, mark) in enumerate(zip(fit.split(), words), 1) if word != mark]
+            owner.expect(" ".join(f"- {say('entry.place', number=number)}: {word}" for number, word in found))
+        owner.type("\x03")
+        owner.end(130)
+
+
+def compare_new(case):
+    """Makes a backup of the owner's own secret. ./shamir recovers that secret from the papers that are shown."""
+    secret = case.told(["recover"], case.input(case.papers))[0].strip()
+    names = [name_of(line) for line in case.papers]
+    with Owner("new", case.plan) as owner:
+        owner.prepare()
+        papers, noted = make(owner, case.passphrase, names, secret)
+    if noted != case.noted or case.told(["recover"], case.input(papers))[0].strip() != secret:
+        raise Failed(f"{case.plan}: ./shamir recovers another secret from papers of the dialogue")
+
+
+COMPARE = [compare_check, compare_check, compare_check, compare_recover, compare_replace, compare_repair, compare_new]
+
+
+def compare(number):
+    source = random.Random(number)
+    case = Case(source)
+    one = source.choice(COMPARE)
+    try:
+        one(case)
+    except Failed as fault:
+        raise Failed(f"case {number}, {one.__name__}, plan {case.plan}: {fault}") from None
+
+
+def check(see, count=CASES):
+    """Compares so many cases. They are others each time."""
+    if not os.path.exists(PROGRAM):
+        return ["./shamir isn't here, so generated backups aren't compared with it"]
+    numbers = [random.SystemRandom().randrange(1 << 32) for _ in range(count)]
+    with concurrent.futures.ThreadPoolExecutor(AT_ONCE) as pool:
+        list(pool.map(compare, numbers))
+    return []

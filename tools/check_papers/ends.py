@@ -1,0 +1,181 @@
+"""How the program ends: by the owner at each question, by a signal, with the terminal, and where there is none."""
+import concurrent.futures
+import os
+import pty
+import re
+import signal
+import subprocess
+import sys
+
+from hands import BINDING, PATIENCE, Failed, Interrupted, Session, environment, habits, say
+from tasks import THREE_GROUPS, Owner, check_check, check_new, check_recover, check_repair, check_replace, paper_prompt
+
+import plain
+
+AT_ONCE = 4
+
+
+def end_at(task, number, keys):
+    """Goes through a task up to a question, and ends it there. Returns the question, or None if there are fewer questions."""
+    count = 0
+    ended = []
+
+    def at_question(session, prompt):
+        nonlocal count
+        count += 1
+        if count == number:
+            session.type(keys)
+            session.end(130)
+            ended.append(prompt)
+            raise Interrupted
+
+    habits.at_question = at_question
+    try:
+        task()
+    except Interrupted:
+        pass
+    finally:
+        del habits.at_question
+    return ended[0] if ended else None
+
+
+def questions_of(task):
+    """Returns the numbers of the questions of a task. Of questions that differ only in a number, only the first counts."""
+    seen = []
+    habits.at_question = lambda session, prompt: seen.append(re.sub(r"\d+", "", prompt))
+    try:
+        task()
+    finally:
+        del habits.at_question
+    return [at + 1 for at, prompt in enumerate(seen) if prompt not in seen[:at]]
+
+
+def check_keys(see):
+    """Ctrl-C and Ctrl-D at each question of each task: nothing is kept, and the terminal is as before."""
+    papers, noted = check_new(see)
+    tasks = [lambda: check_new(see), *(lambda it=it: it(papers, noted) for it in (check_check, check_recover, check_replace, check_repair))]
+    with concurrent.futures.ThreadPoolExecutor(AT_ONCE) as pool:
+        numbers = list(pool.map(questions_of, tasks))
+        jobs = [(task, number, "\x03" if at % 3 else "\x04") for task, found in zip(tasks, numbers) for at, number in enumerate(found)]
+        ended = list(pool.map(lambda job: end_at(*job), jobs))
+    if None in ended or len(set(ended)) < 20:
+        raise Failed(f"only these questions were reached: {set(ended)}")
+    return len(jobs)
+
+
+def check_in_the_middle():
+    """Ctrl-C in the middle of a line, after a word that was typed."""
+    with Owner("check") as owner:
+        owner.prepare()
+        owner.wait(paper_prompt(1))
+        owner.type("shadow pistol")
+        while "pistol" not in owner.screen():
+            owner.pull(0.1)
+        owner.type("\x04")
+        owner.pull(0.2)
+        owner.type("\x03")
+        owner.end(130)
+
+
+def check_signals():
+    """TERM and HUP end the program as they ask, and QUIT as Ctrl-C does."""
+    for number, status in [(signal.SIGTERM, -signal.SIGTERM), (signal.SIGHUP, -signal.SIGHUP), (signal.SIGINT, 130), (signal.SIGQUIT, 130)]:
+        with Owner("check") as owner:
+            owner.prepare()
+            owner.answer(paper_prompt(1), THREE_GROUPS[0])
+            owner.wait(paper_prompt(2))
+            owner.run.send_signal(number)
+            owner.end(status)
+
+
+def check_work():
+    """Ctrl-C while the library works for long, and Enter, which stops a drill."""
+    with Owner("new", "2of3") as owner:
+        owner.prepare()
+        owner.answer(say("new.secret"), "m")
+        owner.answer(f"{say('new.flag')} (y/n)", "y")
+        owner.answer(say("new.exponent"), "15")
+        owner.answer(say("new.secret"), "1")
+        owner.answer(say("new.passphrase"), "TREZOR")
+        owner.answer(say("new.passphrase.again"), "TREZOR")
+        while "so far" not in owner.screen():
+            owner.pull(1)
+        owner.expect(say("time.about", time="").rstrip(" ."))
+        owner.type("\n")
+        owner.wait(say("new.secret"))
+        owner.expect(say("make.stopped"))
+        owner.answer(say("new.secret"), "1")
+        owner.answer(say("new.passphrase"), "TREZOR")
+        owner.answer(say("new.passphrase.again"), "TREZOR")
+        while "so far" not in owner.screen():
+            owner.pull(1)
+        owner.type("\x03")
+        owner.end(130)
+
+
+def check_stopped_drill():
+    """Enter stops a drill, which then says of no quorum that it is right. Each of these papers is a quorum with a secret of its own."""
+    fields = {"id": 7, "extendable": 0, "exponent": 9, "group_threshold": 1, "group_count": 4, "member": 0, "member_threshold": 1}
+    with Owner("check") as owner:
+        owner.prepare()
+        owner.collect([plain.mnemonic({**fields, "group": group, "value": bytes([group]) * 16}) for group in range(4)])
+        owner.passphrase("", "01234567")
+        while "so far" not in owner.screen():
+            owner.pull(1)
+        owner.type("\n")
+        owner.wait(say("next.again"))
+        owner.expect(say("check.done.stopped"))
+        owner.expect(say("drill.part", tried=0, total=4))
+        owner.expect(say("time.long", exponent=9, time="").split("about")[0])
+        owner.answer(say("next.again"), "e")
+        owner.end(0)
+
+
+def check_closed():
+    """A terminal that is closed ends the program."""
+    with Owner("check") as owner:
+        owner.prepare()
+        owner.wait(paper_prompt(1))
+        os.close(owner.theirs)
+        os.close(owner.ours)
+        if owner.run.wait(PATIENCE) != -signal.SIGHUP:
+            raise Failed(f"a closed terminal ends the program with status {owner.run.returncode}")
+
+
+def check_no_terminal():
+    """Where standard input or output is no terminal, the program says which command is for scripts."""
+    ours, theirs = pty.openpty()
+    words = [sys.executable, "-m", "shamir.papers", "check"]
+    for how, stream in [({"stdin": subprocess.DEVNULL, "stdout": theirs}, "input"), ({"stdin": theirs, "stdout": subprocess.DEVNULL}, "output")]:
+        done = subprocess.run(words, **how, stderr=subprocess.PIPE, text=True, env=environment())
+        wanted = say("needs.terminal", stream=stream, command="shamir drill --fingerprint") + "\n"
+        if (done.returncode, done.stderr) != (2, wanted):
+            raise Failed(f"without a terminal the status is {done.returncode}, and the message {done.stderr!r}")
+    os.close(ours)
+    os.close(theirs)
+    for options, wanted in [(["--version"], "shamir-papers 1.0.0\n"), (["--help"], "usage: shamir-papers"), (["new", "--help"], "usage: shamir-papers new")]:
+        done = subprocess.run([*words[:3], *options], capture_output=True, text=True, env=environment(), stdin=subprocess.DEVNULL)
+        if done.returncode or not done.stdout.startswith(wanted):
+            raise Failed(f"{options} gives the status {done.returncode} and {done.stdout!r}")
+    for options in (["nothing"], ["check", "more"], ["new", "2of3", "more"], ["--exponent"]):
+        done = subprocess.run([*words[:3], *options], capture_output=True, text=True, env=environment(), stdin=subprocess.DEVNULL)
+        if done.returncode != 2:
+            raise Failed(f"{options} gives the status {done.returncode}")
+
+
+def check_menu():
+    """Without a task, the program asks for one, by its number or its word."""
+    for answer in ("2", "check"):
+        with Owner() as owner:
+            owner.prepare()
+            owner.answer(say("home.choose"), "9")
+            owner.answer(say("home.choose"), answer)
+            owner.wait(paper_prompt(1))
+            owner.type("\x04")
+            owner.end(130)
+
+
+def check(see):
+    check_keys(see)
+    for one in (check_in_the_middle, check_signals, check_work, check_stopped_drill, check_closed, check_no_terminal, check_menu):
+        one()

@@ -1,0 +1,176 @@
+"""A person at a terminal: starts shamir-papers there, reads the screen, and types."""
+import fcntl
+import os
+import pathlib
+import pty
+import re
+import select
+import struct
+import subprocess
+import sys
+import termios
+import threading
+import time
+
+from emulator import Emulator
+
+ROOT = pathlib.Path(__file__).resolve().parent.parent.parent
+BINDING = ROOT / "bindings" / "python"
+sys.path[:0] = [str(BINDING), str(ROOT / "tools")]
+from shamir.papers.texts import TABLE, counted, say  # noqa: E402, F401
+
+PROGRAM = [sys.executable, "-m", "shamir.papers"]
+# An answer may take this many seconds.
+PATIENCE = 30
+MORE = say("screen.more") + " "
+
+
+class Failed(Exception):
+    pass
+
+
+class Interrupted(Exception):
+    """What a check does at one of the questions has ended the program."""
+
+
+# What each session of this thread does: `at_question` is called with the session and each question that it waits for, and `how`
+# has further arguments of sessions.
+habits = threading.local()
+
+
+def environment(**more):
+    """Returns the environment of a session: this binding, or a copy, and nothing that says more of the machine than is so."""
+    gone = {"SSH_CONNECTION", "SSH_TTY", "STY", "NO_COLOR", "PYTHONMALLOC", "GLIBC_TUNABLES", "SHAMIR_LIBRARY"}
+    kept = {name: value for name, value in os.environ.items() if name not in gone}
+    return {**kept, "PYTHONPATH": str(getattr(habits, "how", {}).get("package", BINDING)), "PYTHONDONTWRITEBYTECODE": "1", "TERM": "xterm", **more}
+
+
+class Session:
+    """A run of shamir-papers in a terminal of its own."""
+
+    def __init__(self, *words, **how):
+        self._start(*words, **{**getattr(habits, "how", {}), **how})
+
+    def _start(self, *words, columns=80, rows=24, before=(), command=None, package=None, **more):
+        self.ours, self.theirs = pty.openpty()
+        fcntl.ioctl(self.theirs, termios.TIOCSWINSZ, struct.pack("HHHH", rows, columns, 0, 0))
+        self.modes = termios.tcgetattr(self.theirs)
+        self.emulator = Emulator(columns, rows)
+        self.width = max(20, min(76, columns - 1))
+        given = environment(**more)
+        self.is_plain = given["TERM"] == "dumb"
+        self.run = subprocess.Popen(command or [*before, *PROGRAM, *words], stdin=self.theirs, stdout=self.theirs, stderr=self.theirs, env=given, preexec_fn=self._own)
+        self.raw = b""
+        self.asked = []
+
+    def _own(self):
+        """Makes the terminal the one that controls the new process."""
+        os.setsid()
+        fcntl.ioctl(self.theirs, termios.TIOCSCTTY, 0)
+
+    def __enter__(self):
+        return self
+
+    def __exit__(self, *_):
+        if self.run.poll() is None:
+            self.run.kill()
+            self.run.wait()
+        for descriptor in (self.ours, self.theirs):
+            try:
+                os.close(descriptor)
+            except OSError:
+                pass
+
+    def pull(self, seconds):
+        """Reads what the program shows within this time. Returns whether there was something."""
+        if not select.select([self.ours], [], [], seconds)[0]:
+            return False
+        try:
+            data = os.read(self.ours, 1 << 16)
+        except OSError:
+            return False
+        self.raw += data
+        self.emulator.feed(data)
+        return bool(data)
+
+    def _before(self):
+        """Returns what stands before the cursor as one line, or nothing if the cursor is at the begin of a row."""
+        *above, last = self.emulator.shown.before_cursor()
+        return " ".join([*(" ".join(above).split()), last]) if last.strip() else ""
+
+    def wait(self, *prompts):
+        """Waits until the program asks one of these, and returns it. Where the screen is full, it goes on."""
+        deadline = time.monotonic() + PATIENCE
+        while True:
+            shown = self._before()
+            if shown.endswith(MORE):
+                self._send("\n")
+                continue
+            for prompt in prompts:
+                if shown.endswith(" ".join(prompt.split()) + " "):
+                    self.asked.append(prompt)
+                    getattr(habits, "at_question", lambda *_: None)(self, prompt)
+                    return prompt
+            if not self.pull(max(0, min(0.2, deadline - time.monotonic()))) and (time.monotonic() > deadline or self.run.poll() is not None):
+                if not self.pull(0.05):
+                    raise Failed(f"the program doesn't ask {' or '.join(map(repr, prompts))}; it shows: {self.screen()}")
+
+    def _send(self, text):
+        """Types a text, and waits until the program shows something."""
+        count, deadline = len(self.raw), time.monotonic() + PATIENCE
+        self.type(text)
+        while len(self.raw) == count and time.monotonic() < deadline and self.run.poll() is None:
+            self.pull(0.2)
+
+    def type(self, text):
+        os.write(self.ours, text.encode())
+
+    def answer(self, prompt, text):
+        """Waits for a question, and answers it."""
+        self.wait(prompt)
+        self._send(text + "\n")
+
+    def screen(self):
+        return self.emulator.shown.text().strip()
+
+    def expect(self, text):
+        """Waits until a sentence was shown since the last `forget`."""
+        wanted, deadline = " ".join(text.split()), time.monotonic() + PATIENCE
+        while wanted not in self.emulator.all_seen():
+            if self.pull(0.2) or (time.monotonic() < deadline and self.run.poll() is None):
+                continue
+            raise Failed(f"the program doesn't show {wanted!r}; it shows: {self.screen()}")
+
+    def forget(self):
+        self.emulator.seen = []
+
+    def words(self):
+        """Returns the numbered words that the screen shows, in their order."""
+        found = dict(re.findall(r"(\d+)\. ([a-z]+)", self.emulator.shown.text()))
+        return " ".join(found[str(number)] for number in range(1, len(found) + 1))
+
+    def end(self, status):
+        """Waits for the end, and checks the status, the terminal's modes, and what the terminal keeps."""
+        deadline = time.monotonic() + PATIENCE
+        while self.run.poll() is None:
+            self.pull(0.05)
+            if time.monotonic() > deadline:
+                raise Failed(f"the program doesn't end; it shows: {self.screen()}")
+        while self.pull(0.05):
+            pass
+        habits.ended = self
+        if self.run.returncode != status:
+            raise Failed(f"the status is {self.run.returncode}, and not {status}; the terminal shows: {self.emulator.kept().strip()}")
+        if termios.tcgetattr(self.theirs) != self.modes:
+            raise Failed("the terminal's modes aren't as before")
+        if self.emulator.shown is not self.emulator.main:
+            raise Failed("the alternate screen wasn't left")
+        if self.emulator.other.text().strip():
+            raise Failed("the alternate screen wasn't cleared")
+        kept = "".join(self.emulator.kept().split())
+        ends = ["closed"] if status == 0 else ["ended", "ended.unfinished"]
+        if not self.is_plain and kept not in [say(it).replace(" ", "") for it in ends]:
+            raise Failed(f"when the program is gone, the terminal still shows {kept!r}")
+
+    def send(self, number):
+        self.run.send_signal(number)

@@ -1,0 +1,136 @@
+"""The program in a real terminal, tmux, under bash: what its scrollback keeps, Ctrl-Z, and `stty`."""
+import pathlib
+import re
+import shlex
+import shutil
+import subprocess
+import tempfile
+import time
+
+from hands import PATIENCE, PROGRAM, Failed, environment, say
+from tasks import SECRET, THREE_GROUPS, paper_prompt, short
+
+
+class Terminal:
+    """A bash in tmux. The server of tmux is one of its own."""
+
+    def __init__(self, folder, columns=80, rows=24):
+        self.tmux = ["tmux", "-S", f"{folder}/socket", "-f", "/dev/null"]
+        given = {**environment(), "PS1": "$ ", "HISTFILE": f"{folder}/history"}
+        given.pop("TERM")
+        start = [*self.tmux, "new-session", "-d", "-s", "it", "-x", str(columns), "-y", str(rows), "env 'PS1=$ ' bash --norc --noprofile"]
+        subprocess.run(start, env=given, check=True)
+        self.wait("$")
+
+    def __enter__(self):
+        return self
+
+    def __exit__(self, *_):
+        subprocess.run([*self.tmux, "kill-server"], capture_output=True)
+
+    def shown(self, *options):
+        return subprocess.run([*self.tmux, "capture-pane", "-p", "-t", "it", *options], check=True, capture_output=True, text=True).stdout
+
+    def kept(self):
+        """Returns all that the terminal keeps, with what has left the screen."""
+        return self.shown("-S", "-")
+
+    def keys(self, *keys):
+        subprocess.run([*self.tmux, "send-keys", "-t", "it", *keys], check=True)
+
+    def wait(self, text):
+        """Waits until the screen ends with a text."""
+        wanted, deadline = " ".join(text.split()), time.monotonic() + PATIENCE
+        while not " ".join(self.shown().split()).endswith(wanted):
+            if time.monotonic() > deadline:
+                raise Failed(f"tmux doesn't show {wanted!r} at its end, but {self.shown()!r}")
+            time.sleep(0.02)
+
+    def answer(self, prompt, text):
+        self.wait(prompt)
+        self.keys("-l", text)
+        self.keys("Enter")
+
+    def command(self, text):
+        self.answer("$", text)
+
+    def modes(self):
+        """Returns what `stty -a` says."""
+        self.command("clear; stty -a; echo told")
+        self.wait("told $")
+        return self.shown().split("told")[0]
+
+
+def words_in(text):
+    """Returns the words of the papers that a text has."""
+    return set(re.findall(r"[a-z]+", text)) & set(" ".join(THREE_GROUPS).split()) - {"paper", "echo"}
+
+
+def check_kept(terminal):
+    """Goes through 'check' and 'recover', and looks for words and digits in what tmux keeps."""
+    before = terminal.modes()
+    terminal.command("clear; " + shlex.join([*PROGRAM, "recover"]))
+    terminal.answer(say("safety.go"), "")
+    for number, line in enumerate(THREE_GROUPS, 1):
+        terminal.answer(paper_prompt(number), short(line))
+    terminal.answer(paper_prompt(len(THREE_GROUPS) + 1), "")
+    terminal.answer(say("passphrase.ask"), "TREZOR")
+    terminal.answer(say("noted.ask"), "")
+    terminal.answer(f"{say('recover.show')} (y/n)", "y")
+    terminal.wait(say("recover.clear"))
+    if SECRET[:8] not in terminal.shown():
+        raise Failed("tmux doesn't show the digits, so this check sees nothing")
+    terminal.answer(say("recover.clear"), "")
+    terminal.answer(say("next.unnoted"), "")
+    terminal.wait(f"{say('closed')} $")
+    kept = terminal.kept()
+    if words_in(kept) or "TREZOR" in kept or re.search(r"\b[0-9a-f]{8}\b", kept):
+        raise Failed(f"the scrollback keeps words or digits: {kept!r}")
+    terminal.command("echo status $?")
+    terminal.wait("status 0 $")
+    if terminal.modes() != before:
+        raise Failed("stty -a isn't as before")
+
+
+def check_stop(terminal):
+    """Ctrl-Z hides the screen, and stops; 'fg' shows it again as it was. What is typed then is taken."""
+    before = terminal.modes()
+    terminal.command("clear; " + shlex.join([*PROGRAM, "check"]))
+    terminal.answer(say("safety.go"), "")
+    terminal.answer(paper_prompt(1), THREE_GROUPS[0])
+    terminal.wait(paper_prompt(2))
+    terminal.keys("-l", "academic alum")
+    terminal.wait("academic alum")
+    shown = terminal.shown()
+    terminal.keys("C-z")
+    terminal.wait("$")
+    if words_in(terminal.kept()):
+        raise Failed(f"while the program is stopped, the terminal shows {terminal.kept()!r}")
+    if terminal.modes() != before:
+        raise Failed("while the program is stopped, stty -a isn't as before")
+    terminal.command("clear; fg")
+    terminal.wait("academic alum")
+    if terminal.shown() != shown:
+        raise Failed(f"after 'fg', the screen is another: {terminal.shown()!r}, and not {shown!r}")
+    terminal.keys("-l", " " + short(" ".join(THREE_GROUPS[1].split()[2:])))
+    terminal.keys("Enter")
+    terminal.wait(paper_prompt(3))
+    terminal.keys("C-c")
+    terminal.wait(f"{say('ended')} $")
+    if words_in(terminal.kept()):
+        raise Failed(f"the scrollback keeps words: {terminal.kept()!r}")
+    terminal.command("echo status $?")
+    terminal.wait("status 130 $")
+
+
+def check(see):
+    if not shutil.which("tmux"):
+        return ["tmux isn't here, so the scrollback of a real terminal isn't looked at"]
+    with tempfile.TemporaryDirectory() as folder:
+        with Terminal(folder) as terminal:
+            check_kept(terminal)
+            check_stop(terminal)
+        history = pathlib.Path(folder, "history")
+        if history.exists() and words_in(history.read_text()):
+            raise Failed(f"the shell's history has words of papers: {history.read_text()!r}")
+    return []

@@ -1,0 +1,212 @@
+"""Each task from its start to its end, as an owner goes through it. The values that must be shown are from outside: from examples/,
+from tools/plain.py, or from ./shamir."""
+import re
+
+from hands import BINDING, ROOT, Failed, Session, counted, say
+
+import plain
+
+PASSPHRASE = "TREZOR"
+
+
+def example(name):
+    return [line for line in (ROOT / "examples" / name).read_text().splitlines() if line and not line.startswith("#")]
+
+
+THREE_GROUPS = example("three-groups.txt")
+SOUND_PAPER = example("one-of-one.txt")[0]
+SECRET, FINGERPRINT = "bb54aac4b89dc868ba37d9cc21b2cece", "df41d8fe"
+SIGN = "-"
+
+
+def fingerprint_of(lines, passphrase):
+    """Returns the fingerprint of the secret of mnemonics, by the plain reading."""
+    return plain.run_recover(passphrase.encode(), "".join(line + "\n" for line in lines).encode(), True)[0].strip()
+
+
+def secret_of(lines, passphrase):
+    return plain.run_recover(passphrase.encode(), "".join(line + "\n" for line in lines).encode())[0].strip()
+
+
+def short(line):
+    """Returns the first four letters of each word."""
+    return " ".join(word[:4] for word in line.split())
+
+
+def name_of(line):
+    """Returns the name of a paper, by the plain reading."""
+    fields = plain.run_show(line.encode() + b"\n")[0].split()
+    return f"{fields[fields.index('group') + 1]}.{fields[fields.index('member') + 1]}"
+
+
+class Owner(Session):
+    """An owner who goes through a task. `answers` counts the answers other than words and passphrases, `keys` those of words."""
+
+    def __init__(self, *words, **how):
+        super().__init__(*words, **how)
+        self.answers = self.keys = self.count = 0
+        self.prompts = []
+
+    def reply(self, prompt, text):
+        self.answers += 1
+        self.prompts.append(prompt)
+        self.answer(prompt, text)
+
+    def prepare(self):
+        self.reply(say("safety.go"), "")
+
+    def type_paper(self, prompt, line):
+        self.prompts.append(prompt)
+        self.answer(prompt, short(line))
+        self.keys += len(short(line)) + 1
+        self.count += len(line.split())
+
+    def hidden(self, prompt, text):
+        self.prompts.append(prompt)
+        self.answer(prompt, text)
+
+    def passphrase(self, passphrase, noted):
+        self.hidden(say("passphrase.ask"), passphrase)
+        self.reply(say("noted.ask"), noted)
+
+    def collect(self, lines):
+        """Types papers, and ends their typing."""
+        for number, line in enumerate(lines, 1):
+            self.type_paper(paper_prompt(number), line)
+        self.reply(paper_prompt(len(lines) + 1), "")
+
+    def written(self):
+        """Reads the papers that are shown to be written down, until they are to be typed back."""
+        papers = []
+        while self.wait(say("new.write"), say("screen.next")) == say("new.write"):
+            papers.append(self.words())
+            self.reply(say("new.write"), "")
+        return papers
+
+    def within(self, most):
+        """Checks that no more was to be typed than an owner was promised: five keys a word, and so many answers."""
+        if self.answers > most or self.keys > 5 * self.count:
+            raise Failed(f"{self.answers} answers and {self.keys} keys for {self.count} words: {self.prompts}")
+
+
+def paper_prompt(number):
+    return say("entry.paper.first") if number == 1 else say("entry.paper", number=number)
+
+
+def make(owner, passphrase, names, secret=None):
+    """Goes through the task 'new' from the secret on. Returns the papers and the fingerprint."""
+    if secret is None:
+        owner.reply(say("new.secret"), "")
+    else:
+        owner.reply(say("new.secret"), "3")
+        owner.hidden(say("new.secret.digits"), secret)
+        owner.hidden(say("new.secret.again"), secret)
+    owner.hidden(say("new.passphrase"), passphrase)
+    if passphrase:
+        owner.hidden(say("new.passphrase.again"), passphrase)
+    else:
+        owner.reply(f"{say('new.passphrase.none')} (y/n)", "y")
+    papers = owner.written()
+    if [name_of(line) for line in papers] != names:
+        raise Failed(f"the papers {names} were expected, and {[name_of(line) for line in papers]} are shown")
+    owner.reply(say("screen.next"), "")
+    for name, line in zip(names, papers):
+        owner.type_paper(say("back.ask", name=name), line)
+    noted = say("noted.done.own" if secret else "noted.done")
+    owner.wait(noted)
+    found = re.search(rf"{say('noted.title')}: ([0-9a-f]{{8}})", owner.screen() + owner.emulator.all_seen())[1]
+    if found != fingerprint_of(papers, passphrase):
+        raise Failed(f"the fingerprint {found} isn't that of the papers")
+    owner.reply(noted, "")
+    owner.expect(say("make.done"))
+    owner.reply(say("screen.end"), "")
+    owner.end(0)
+    return papers, found
+
+
+def check_new(see):
+    with Owner("new", "2/3of5,1of1") as owner:
+        owner.prepare()
+        papers, noted = make(owner, PASSPHRASE, ["0.0", "0.1", "0.2", "0.3", "0.4", "1.0"])
+        owner.within(12)
+    return papers, noted
+
+
+def check_check(papers, noted):
+    with Owner("check") as owner:
+        owner.prepare()
+        owner.collect(papers)
+        owner.passphrase(PASSPHRASE, noted)
+        owner.wait(say("next.good"))
+        owner.expect(say("verdict.all.noted", quorums="10 quorums", fingerprint=noted))
+        owner.reply(say("next.good"), "")
+        owner.end(0)
+        owner.within(12)
+
+
+def check_recover(papers, noted):
+    with Owner("recover") as owner:
+        owner.prepare()
+        owner.collect([papers[1], papers[5], papers[3], papers[4]])
+        owner.passphrase(PASSPHRASE, noted)
+        owner.reply(f"{say('recover.show')} (y/n)", "y")
+        owner.expect(say("recover.same"))
+        owner.wait(say("recover.clear"))
+        digits = "".join(re.findall(r"\b[0-9a-f]{8}\b", owner.screen()))
+        if digits != secret_of(papers, PASSPHRASE):
+            raise Failed("the digits that are shown aren't those of the secret")
+        owner.reply(say("recover.clear"), "")
+        owner.reply(say("next.good"), "")
+        owner.end(0)
+        owner.within(12)
+
+
+def check_replace(papers, noted):
+    lost, rest = papers[1], [papers[at] for at in (0, 2, 4, 5)]
+    with Owner("replace") as owner:
+        owner.prepare()
+        owner.reply(say("replace.how"), "1")
+        owner.collect(rest)
+        owner.reply(say("replace.ask.group", group=0, needed=3), "5")
+        owner.wait(say("replace.choose"))
+        owner.expect(say("replace.found", names="0.1, 0.3"))
+        owner.reply(say("replace.choose"), "1")
+        owner.wait(say("new.write"))
+        if owner.words() != lost:
+            raise Failed("the paper that is written again has other words")
+        owner.reply(say("new.write"), "")
+        owner.type_paper(say("back.ask", name="0.1"), lost)
+        owner.reply(say("replace.choose"), "2")
+        owner.passphrase(PASSPHRASE, noted)
+        owner.wait(say("next.good"))
+        owner.expect(say("verdict.all.noted", quorums="4 quorums", fingerprint=noted))
+        owner.reply(say("next.good"), "")
+        owner.end(0)
+        owner.within(12)
+
+
+def check_repair(papers, noted):
+    words = papers[0].split()
+    marks = [*words[:3], "?", *words[4:9], words[9][:2] + "?", *words[10:]]
+    with Owner("repair") as owner:
+        owner.prepare()
+        owner.answer(say("damaged.ask"), " ".join(marks))
+        owner.wait(say("damaged.menu"))
+        owner.expect(say("damaged.one", name="0.0"))
+        for number in (4, 10):
+            owner.expect(f"{say('entry.place', number=number)}: {words[number - 1]}")
+        owner.reply(say("damaged.menu"), "w")
+        owner.reply(say("new.write"), "")
+        owner.type_paper(say("back.ask", name="0.0"), papers[0])
+        owner.type_paper(paper_prompt(2), papers[1])
+        owner.reply(paper_prompt(3), "")
+        owner.reply(say("more.papers"), "e")
+        owner.expect(say("damaged.too_few"))
+        owner.end(0)
+
+
+def check(see):
+    """Goes through all tasks with one new backup."""
+    papers, noted = check_new(see)
+    for task in (check_check, check_recover, check_replace, check_repair):
+        task(papers, noted)

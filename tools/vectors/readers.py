@@ -1,0 +1,129 @@
+"""Asks other readers and writers what they answer: the library through its Python binding, the program, and Electrum."""
+import json
+import pathlib
+import re
+import subprocess
+
+from case import FIELDS, refused
+
+# Debian installs Electrum for this Python.
+PYTHON = "/usr/bin/python3"
+SHOWN = re.compile(
+    r"identifier (\d+) extendable (\d+) exponent (\d+) group (\d+) group-threshold (\d+) group-count (\d+) member (\d+) member-threshold (\d+) value ([0-9a-f]+)\n"
+)
+READER = """
+import json, sys
+from electrum import ELECTRUM_VERSION, slip39
+
+def parsed(given):
+    share = slip39.decode_mnemonic(given["mnemonic"])
+    names = ["identifier", "group_index", "group_threshold", "group_count", "member_index", "member_threshold"]
+    fields = {name: getattr(share, name) for name in names}
+    return {"share": fields | {"extendable": False, "exponent": share.iteration_exponent, "value": share.share_value.hex()}}
+
+def recovered(given):
+    sealed = slip39.recover_ems(given["mnemonics"])
+    if sealed.iteration_exponent > 3:
+        return {"exponent": sealed.iteration_exponent}
+    return {"secret": sealed.decrypt(given["passphrase"]).hex()}
+
+def answer(asks, given):
+    try:
+        return {"parse": parsed, "recover": recovered}[asks](given)
+    except slip39.Slip39Error as error:
+        return {"refused": str(error)}
+    except Exception as error:
+        return {"failed": type(error).__name__}
+
+json.dump([ELECTRUM_VERSION, [answer(*case) for case in json.load(sys.stdin)]], sys.stdout)
+"""
+
+
+def library(shamir, case):
+    """Returns what the library answers, by a call of its Python binding."""
+    given = case.given
+    try:
+        if case.asks == "parse":
+            share = shamir.parse(given["mnemonic"])
+            return {"share": {name: getattr(share, {"identifier": "id"}.get(name, name)) for name in FIELDS} | {"value": share.value.hex()}}
+        if case.asks == "recover":
+            return {"secret": shamir.recover(given["mnemonics"], passphrase=given["passphrase"]).hex()}
+        if case.asks == "quorums":
+            return {"quorums": [of_outcome(shamir, outcome) for outcome in shamir.drill(given["mnemonics"], passphrase=given["passphrase"])]}
+        options = {name: given[name] for name in ("passphrase", "exponent", "extendable")}
+        return {"mnemonics": shamir.create(given["plan"], bytes.fromhex(given["secret"]), random=bytes.fromhex(given["random"]), **options)}
+    except shamir.Refusal as refusal:
+        return refused(refusal)
+
+
+def of_outcome(shamir, outcome):
+    if outcome.mismatch is None:
+        return {"names": outcome.names, "secret": outcome.secret.hex()}
+    return {"names": outcome.names, "mismatch": "groups" if outcome.mismatch == shamir.OF_GROUPS else f"group {outcome.mismatch}"}
+
+
+def words_and_input(case):
+    """Returns the words of the command that asks the program for a case, and its input."""
+    given = case.given
+    if case.asks == "parse":
+        return ["show"], given["mnemonic"].encode()
+    words = [f"--passphrase={given['passphrase']}"] if given["passphrase"] else []
+    if case.asks == "create":
+        words += ["--exponent", str(given["exponent"]), *["--extendable"][: given["extendable"]]]
+        return ["create", given["plan"], f"--master-secret={given['secret']}", *words], bytes.fromhex(given["random"])
+    return [{"recover": "recover", "quorums": "drill"}[case.asks], *words], "".join(line + "\n" for line in given["mnemonics"]).encode()
+
+
+def of_program(program, case):
+    """Returns what the program answers, or None for an empty mnemonic, which is no line of an input."""
+    words, data = words_and_input(case)
+    if words == ["show"] and not data:
+        return None
+    done = subprocess.run([program, *words], input=data, capture_output=True)
+    output, errors = done.stdout.decode(), done.stderr.decode()
+    told = re.fullmatch(r"shamir: (?:line (\d+): )?(\d+) (.*)\n", errors)
+    if told:
+        line = {} if told[1] is None or case.asks == "parse" else {"line": int(told[1])}
+        return {"refused": {"code": int(told[2])} | line | {"text": told[3]}}
+    if errors:
+        return {"failed": errors}
+    return PRINTED[case.asks](output)
+
+
+def of_show(output):
+    found = SHOWN.fullmatch(output)
+    if found is None:
+        return {"failed": output}
+    *numbers, value = found.groups()
+    fields = dict(zip(FIELDS, map(int, numbers)))
+    return {"share": fields | {"extendable": bool(fields["extendable"]), "value": value}}
+
+
+def of_drill(output):
+    *lines, last = output.splitlines()
+    if last != "end":
+        return {"failed": last}
+    found = []
+    for line in lines:
+        names, _, told = line.partition(" ")
+        mismatch = re.fullmatch(r"digest mismatch (?:in|of) (.*)", told)
+        found.append({"names": names} | ({"mismatch": mismatch[1]} if mismatch else {"secret": told}))
+    return {"quorums": found}
+
+
+PRINTED = {
+    "parse": of_show,
+    "recover": lambda output: {"secret": output.strip()},
+    "quorums": of_drill,
+    "create": lambda output: {"mnemonics": output.splitlines()},
+}
+
+
+def of_electrum(cases):
+    """Returns the version of Electrum and its answers, or None if it isn't here."""
+    if not pathlib.Path(PYTHON).exists() or subprocess.run([PYTHON, "-c", "import electrum.slip39"], capture_output=True).returncode:
+        return None
+    done = subprocess.run([PYTHON, "-c", READER], input=json.dumps([(case.asks, case.given) for case in cases]), capture_output=True, text=True)
+    if done.returncode:
+        raise RuntimeError(done.stderr)
+    return json.loads(done.stdout)

@@ -1,0 +1,62 @@
+"""Mistakes of a writer: a creation from a plan, a secret and random bytes."""
+
+CHECK = 'check = polymod(customization(share["extendable"]) + data + [0, 0, 0]) ^ 1'
+LENGTH = "if n % 2 or not 16 <= n <= MAX_SECRET_BYTES:"
+
+WRITING = [
+    (
+        "written-padding-behind", "writes the padding behind the value",
+        (
+            'number = header << bits | int.from_bytes(share["value"], "big")',
+            'number = header << bits | int.from_bytes(share["value"], "big") << bits - 8 * len(share["value"])',
+        ),
+    ),
+    (
+        "written-checksum-old", "writes the checksum of the flag 0 for every flag",
+        (CHECK, CHECK.replace('customization(share["extendable"])', 'list(b"shamir")')),
+    ),
+    ("written-checksum-constant", "leaves out the last step of the checksum", (CHECK, CHECK.replace(" ^ 1", ""))),
+    (
+        "written-identifier", "takes the upper 15 bits of the random bytes for the identifier",
+        ('int.from_bytes(take(2), "big") % 2**15', 'int.from_bytes(take(2), "big") >> 1'),
+    ),
+    (
+        "written-group-count", "writes the greatest index of a group in place of the group count",
+        ('"group_count": len(groups), "member": m', '"group_count": max(1, len(groups) - 1), "member": m'),
+    ),
+    (
+        "written-rounds", "encrypts with the rounds in the order of decryption",
+        ("return feistel(secret, passphrase, params, range(4))", "return feistel(secret, passphrase, params, range(3, -1, -1))"),
+    ),
+    (
+        "written-unencrypted", "splits the secret unencrypted",
+        ("split(threshold, len(groups), encrypt(secret, passphrase, params), take)", "split(threshold, len(groups), secret, take)"),
+    ),
+    ("written-digest-behind", "has the digest behind its key", ("(254, digest(key, secret) + key)", "(254, key + digest(key, secret))")),
+    ("written-no-digest", "splits without a digest", ("(254, digest(key, secret) + key)", "(254, bytes(4) + key)")),
+    (
+        "written-secret-at-0", "has the secret at 0",
+        (
+            "(255, secret)]\n    return shares + [interpolate(points, i) for i in range(threshold - 2, count)]",
+            "(0, secret)]\n    return shares + [interpolate(points, i + 1) for i in range(threshold - 2, count)]",
+        ),
+    ),
+    (
+        "written-by-group-threshold", "splits each group by the group threshold",
+        ("enumerate(split(t, count, group_shares[g], take))", "enumerate(split(min(threshold, count), count, group_shares[g], take))"),
+    ),
+    ("written-one-of-many", "makes several members of which one is enough", ("if t == 1 and n > 1:", "if False:")),
+    ("written-member-threshold", "takes a member threshold above the number of members", ("if n > 16 or t > n:", "if n > 16:")),
+    ("written-members", "makes more than 16 members", ("if n > 16 or t > n:", "if t > n:")),
+    (
+        "written-group-threshold", "takes a group threshold above the number of groups",
+        ("if len(groups) > 16 or threshold > len(groups):", "if len(groups) > 16:"),
+    ),
+    ("written-groups", "makes more than 16 groups", ("if len(groups) > 16 or threshold > len(groups):", "if threshold > len(groups):")),
+    ("written-odd-length", "takes a secret of an odd number of bytes", (LENGTH, "if not 16 <= n <= MAX_SECRET_BYTES:")),
+    ("written-short-secret", "takes a secret of fewer than 128 bits", (LENGTH, "if n % 2 or not 8 <= n <= MAX_SECRET_BYTES:")),
+    ("written-any-length", "takes a secret of any length", (LENGTH, "if n > MAX_SECRET_BYTES:")),
+    ("written-empty-secret", "takes an empty secret", (LENGTH, "if n and (n % 2 or not 16 <= n <= MAX_SECRET_BYTES):")),
+    ("written-more-random", "takes more random bytes than needed", ("if len(random) != needed:", "if len(random) < needed:")),
+    ("written-fewer-random", "takes fewer random bytes than needed", ("if len(random) != needed:", "if len(random) > needed:")),
+]
