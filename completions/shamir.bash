@@ -1,5 +1,5 @@
 # Completion of shamir for bash. Source this file, or install it as PREFIX/share/bash-completion/completions/shamir.
-# Only the owner knows a plan, names, a secret, a passphrase or a quorum, so bash offers only its variables for them.
+# Only the owner knows a plan, names, a secret, a passphrase, a fingerprint or a quorum, so bash offers only its variables for them.
 # Redirections and the options whose value is a file are completed with files.
 
 _shamir() {
@@ -30,14 +30,14 @@ _shamir() {
         compopt -o default
         return
         ;;
-    --master-secret | --passphrase | --after | --limit) return ;;
+    --master-secret | --passphrase | --after | --limit | --expect) return ;;
     esac
     case $command in
-    '') options='create show drill recover status reissue --help --version' ;;
+    '') options='create show drill recover status reissue repair --help --version' ;;
     create) options='--master-secret --master-secret-file --passphrase --passphrase-file --exponent --extendable --help' ;;
-    drill) options='--passphrase --passphrase-file --after --limit --fingerprint --help' ;;
-    recover) options='--passphrase --passphrase-file --fingerprint --help' ;;
-    show | status | reissue) options='--help' ;;
+    drill) options='--passphrase --passphrase-file --after --limit --fingerprint --expect --help' ;;
+    recover) options='--passphrase --passphrase-file --fingerprint --expect --help' ;;
+    show | status | reissue | repair) options='--help' ;;
     *) return ;;
     esac
     for at in $options; do

@@ -89,9 +89,10 @@ extern "C" {
 /* The maximum length of the output of shamir_repair: that of two mnemonics, each with its line feed. */
 #define SHAMIR_REPAIRED_BYTES_MAX 1980
 
-/* The forms in which a listing of shamir_drill tells secrets: their digits, or their fingerprints. */
+/* The forms in which a listing of shamir_drill tells secrets: their digits, their fingerprints, or whether one is expected. */
 #define SHAMIR_FORM_DIGITS 0
 #define SHAMIR_FORM_FINGERPRINTS 1
+#define SHAMIR_FORM_EXPECTED 2
 
 /* The maximum length of the output of shamir_text. */
 #define SHAMIR_TEXT_BYTES_MAX 64
@@ -156,7 +157,9 @@ typedef enum shamir_code {
     SHAMIR_E_PASSPHRASE = 41,             /* a byte of the passphrase isn't printable ASCII; first: which byte it is, from 1 */
     SHAMIR_E_SECRET_LENGTH = 42,          /* a secret can't have this number of bytes; first: the number of bytes */
     SHAMIR_E_RANDOM_LENGTH = 43,          /* the number of random bytes is wrong; first: the number of bytes needed */
+    SHAMIR_E_BAD_FINGERPRINT = 44,        /* the expected fingerprint isn't eight hexadecimal digits */
     SHAMIR_E_DIGEST_MISMATCH = 51,        /* a digest doesn't match; first: the group, or SHAMIR_OF_GROUPS for the group shares */
+    SHAMIR_E_OTHER_SECRET = 52,           /* the secret has another fingerprint than the expected one */
     SHAMIR_E_BAD_CURSOR = 61,             /* the cursor isn't a list of names */
     SHAMIR_E_NOT_A_QUORUM = 62,           /* the cursor doesn't name a quorum of these mnemonics */
     SHAMIR_E_BAD_NAMES = 63,              /* the text isn't a list of names */
@@ -176,7 +179,7 @@ typedef enum shamir_code {
  */
 typedef struct shamir_answer {
     uint32_t code;       /* a shamir_code: SHAMIR_DONE, or the cause of the refusal */
-    uint32_t mismatches; /* how many listed quorums have a digest mismatch */
+    uint32_t mismatches; /* how many listed quorums have a digest mismatch, or another secret than the expected one */
     uint64_t line;       /* the refused line, or 0 */
     uint64_t first;      /* the first detail or result, or 0 */
     uint64_t second;     /* the second detail or result, or 0 */
@@ -278,7 +281,11 @@ shamir_answer shamir_create(
  *
  * The call recovers the secret from the first quorum, in the order of shamir_drill, and doesn't try further mnemonics. The
  * secret goes to the start of secret. written is its length, an even number from SHAMIR_SECRET_BYTES_MIN to
- * SHAMIR_SECRET_BYTES_MAX. A wrong passphrase isn't detected: it gives another secret.
+ * SHAMIR_SECRET_BYTES_MAX.
+ *
+ * expected is the fingerprint that the secret should have: eight hexadecimal digits, in lower or upper case, as
+ * shamir_fingerprint gives them. If the secret has another fingerprint, the call refuses with 52. If expected is empty, nothing
+ * is compared: a wrong passphrase then isn't detected, and gives another secret.
  *
  * The exponent of the mnemonics determines how long the call takes: 10,000 * 2^exponent iterations of PBKDF2, and twice as
  * many for a secret of more than 64 bytes. With the exponent 15 these take minutes. If no line is refused, the mnemonics have
@@ -286,16 +293,17 @@ shamir_answer shamir_create(
  * refuse. SHAMIR_EXPONENT_MAX or a greater number allows every exponent. If secret is too short, the call refuses with 1 only
  * after the iterations.
  *
- * The call refuses with the first of these that applies: 3, 41, the code of the first refused line (11 to 28, 71), 29, 30,
- * 51, 1.
+ * The call refuses with the first of these that applies: 3, 44 (expected is neither empty nor such digits), 41, the code of the
+ * first refused line (11 to 28, 71), 29, 30, 51, 52, 1.
  *
  *     uint8_t secret[SHAMIR_SECRET_BYTES_MAX];
- *     shamir_answer answer = shamir_recover(lines, lines_bytes, "TREZOR", 6, SHAMIR_EXPONENT_MAX, secret, sizeof secret);
+ *     shamir_answer answer = shamir_recover(
+ *         lines, lines_bytes, "TREZOR", 6, SHAMIR_EXPONENT_MAX, "df41d8fe", SHAMIR_FINGERPRINT_BYTES_MAX, secret, sizeof secret);
  */
 SHAMIR_CALL
 shamir_answer shamir_recover(
-    const char *lines, size_t lines_bytes, const char *passphrase, size_t passphrase_bytes, uint32_t max_exponent, uint8_t *secret,
-    size_t secret_bytes);
+    const char *lines, size_t lines_bytes, const char *passphrase, size_t passphrase_bytes, uint32_t max_exponent, const char *expected,
+    size_t expected_bytes, uint8_t *secret, size_t secret_bytes);
 
 /*
  * Runs a drill: the call tries the quorums of mnemonics, and lists what each of them recovers.
@@ -306,12 +314,15 @@ shamir_answer shamir_recover(
  *
  * The parameter "form" says how a line tells the secret that its quorum recovers. For SHAMIR_FORM_DIGITS, the line has the secret
  * itself. For SHAMIR_FORM_FINGERPRINTS, it has the fingerprint of the secret, as shamir_fingerprint gives it, and the call writes
- * no secret.
+ * no secret. For SHAMIR_FORM_EXPECTED, the line says whether the secret has the fingerprint "expected", which is then eight
+ * hexadecimal digits as for shamir_recover. The other forms don't use expected.
  *
  * The listing goes to the start of text, in the format of the command drill. It has a line for each quorum, and a last line:
  *
  *     NAMES SECRET                        the quorum recovers this secret, in lower-case hexadecimal digits; or SECRET is its
  *                                         fingerprint
+ *     NAMES as expected                   the quorum recovers a secret with the expected fingerprint
+ *     NAMES other secret                  the quorum recovers a secret with another fingerprint
  *     NAMES digest mismatch in group G    G is the lowest group whose digest doesn't match
  *     NAMES digest mismatch of groups     the digest of the group shares doesn't match
  *     end                                 this last line says that no quorum is left
@@ -322,7 +333,8 @@ shamir_answer shamir_recover(
  * 0.10. Quorums come in ascending order: they are compared by their first names, then by their second names, and so on.
  *
  * After success, the field first of the answer is the number of listed quorums, and second is the offset of the last line in
- * text. The field "mismatches" is the number of listed quorums with a digest mismatch. A digest mismatch is no refusal here.
+ * text. The field "mismatches" is the number of listed quorums with a digest mismatch, or with another secret than the expected
+ * one. Neither is a refusal here.
  *
  * The call stops at the limit. It also stops before the first quorum whose line, with the last line after it, doesn't fit
  * into text. A loop that passes the cursor in each last line to the next call lists every quorum exactly once. Copy the cursor
@@ -338,17 +350,18 @@ shamir_answer shamir_recover(
  * drill of a large backup takes many times as long if each call lists only one quorum. If text is too short for one quorum, the
  * call refuses with 1 only after the iterations.
  *
- * The call refuses with the first of these that applies: 3 (as for shamir_recover), 2 (a limit of 0, or a form above 1), 61, 41,
- * the code of the first refused line (11 to 28, 71), 29, 30, 62, 1.
+ * The call refuses with the first of these that applies: 3 (as for shamir_recover), 2 (a limit of 0, or a form above 2), 61, 44
+ * (if the form is SHAMIR_FORM_EXPECTED), 41, the code of the first refused line (11 to 28, 71), 29, 30, 62, 1.
  *
  *     shamir_answer answer = shamir_drill(
- *         lines, lines_bytes, "TREZOR", 6, SHAMIR_EXPONENT_MAX, after, after_bytes, 1000, SHAMIR_FORM_FINGERPRINTS, text, sizeof text);
+ *         lines, lines_bytes, "TREZOR", 6, SHAMIR_EXPONENT_MAX, after, after_bytes, 1000, SHAMIR_FORM_FINGERPRINTS, NULL, 0, text,
+ *         sizeof text);
  *     const char *last_line = text + answer.second;
  */
 SHAMIR_CALL
 shamir_answer shamir_drill(
     const char *lines, size_t lines_bytes, const char *passphrase, size_t passphrase_bytes, uint32_t max_exponent, const char *after,
-    size_t after_bytes, uint32_t limit, uint32_t form, char *text, size_t text_bytes);
+    size_t after_bytes, uint32_t limit, uint32_t form, const char *expected, size_t expected_bytes, char *text, size_t text_bytes);
 
 /*
  * Reports how many members of each group are among mnemonics, and whether the mnemonics are enough for a recovery.
@@ -420,8 +433,8 @@ shamir_answer shamir_reissue(
  * lower-case words with single spaces, and a line feed after it. first is how many they are: 1 or 2. SHAMIR_REPAIRED_BYTES_MAX
  * bytes are always enough.
  *
- * Each open place uses up one of the three words of the checksum. With three open places, a wrong word elsewhere isn't found, and
- * the call may give another mnemonic. So compare the answer with all that can be read.
+ * Each open place uses up one of the three words of the checksum. With three open places, a wrong word elsewhere isn't always
+ * found, and the call may give another mnemonic. So compare the answer with all that can be read.
  *
  * For 11, first is which mark stands for no word, counted from 1. The code is 16 if more than three places are open, and 17 if
  * one to three are open and no mnemonic fits. The codes 13 to 15 and 18 are for lines with no open place. If the checksum is

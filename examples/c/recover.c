@@ -88,7 +88,8 @@ static int print_secret(size_t bytes)
 /* Prints the secret that the lines give, or the refusal, and returns the exit status. */
 static int recover(size_t bytes, const char *passphrase)
 {
-    shamir_answer answer = shamir_recover(lines, bytes, passphrase, strlen(passphrase), SHAMIR_EXPONENT_MAX, secret, sizeof secret);
+    shamir_answer answer = shamir_recover(
+        lines, bytes, passphrase, strlen(passphrase), SHAMIR_EXPONENT_MAX, NULL, 0, secret, sizeof secret);
 
     if (answer.code != SHAMIR_DONE) {
         print_refusal(&answer);
