@@ -192,7 +192,9 @@ fn flushes_the_lines_before_a_refusal(rt: HostRuntime) -> Result<(), Fail> {
     assert_eq!(rt; device.bytes.as_slice(), SHOWN.as_bytes());
     assert_eq!(rt;
         told.as_slice(),
-        b"shamir: line 2: 11 unknown word 1\n".as_slice()
+        b"shamir: type a mnemonic on each line, then press Ctrl-D on an empty line
+shamir: line 2: 11 unknown word 1\n"
+            .as_slice()
     );
     Ok(())
 }
