@@ -31,7 +31,8 @@ pub struct Watched<R> {
 impl<R: Read> Watched<R> {
     /// The reader, which nobody has read yet.
     pub fn new(input: R) -> Watched<R>
-        ensures { result.input ≡ input }
+        ensures input { result.input ≡ input }
+        ensures unread { result.progress ≡ Progress.Unread }
     {
         Watched {
             input,
@@ -89,6 +90,9 @@ pub fn with_rest_dropped<R: Read + Drop, W: Drop, E: Write>(
     // After any status except 0, nothing is left of an input that was begun.
     ensures dropped { OnEnd result (λ status read_to written_to. status ≢ 0
         → read_to.progress ≢ Progress.Begun) }
+    // After a refusal with status 1, nothing is left of any input.
+    ensures refused { OnEnd result (λ status read_to written_to. status ≡ 1
+        → read_to.progress ≡ Progress.Ended) }
 {
     match ended {
         Ended::With {
@@ -112,6 +116,7 @@ fn at_end<R: Read, E: Write>(status: u8, input: Watched<R>, errors: &mut E) -> W
         → (result ≡ input) × (errors.new ≡ errors.old) }
     ensures ended { input.progress ≡ Progress.Ended → (result ≡ input) × (errors.new ≡ errors.old) }
     ensures dropped { status ≢ 0 → result.progress ≢ Progress.Begun }
+    ensures refused { status ≡ 1 → result.progress ≡ Progress.Ended }
 {
     let waits = match input.progress {
         Progress::Unread => status == REFUSED,

@@ -46,6 +46,12 @@ shamir: the rest of the input is dropped: end it with Ctrl-D\n";
     let reads = input.len() + 1;
     expect_reads(&rt, alloc, &RECOVER, (input, 4096, ALL), (told, 1, 2));
     expect_reads(&rt, alloc, &RECOVER, (input, 1, ALL), (told, 1, reads));
+    // More than a few pieces follow, one byte in each.
+    let papers = ONE_OF_ONE.repeat(alloc, 500)?;
+    let many = lines(alloc, &["ducklin", papers.as_str()])?;
+    let long = many.as_str();
+    let reads = long.len() + 1;
+    expect_reads(&rt, alloc, &RECOVER, (long, 1, ALL), (told, 1, reads));
     // A read fails behind the fault.
     expect_reads(&rt, alloc, &RECOVER, (input, 8, 2), (told, 1, 3));
     Ok(())
