@@ -33,7 +33,8 @@ pub struct Watched<R> {
 impl<R: Read> Watched<R> {
     /// The reader, which nobody has read yet.
     pub fn new(input: R) -> Watched<R>
-        ensures { result.input ≡ input }
+        ensures input { result.input ≡ input }
+        ensures unread { result.progress ≡ Progress.Unread }
     {
         Watched {
             input,
@@ -93,6 +94,9 @@ pub fn with_rest_dropped<R: Read + Drop, W: Drop, E: Write>(
         → read_to.progress ≢ Progress.Begun) }
     // Nothing else is said than that the rest is dropped.
     ensures said { (errors.new ≡ errors.old) ⊎ Says E.contents errors.old errors.new rest_line }
+    // After a refusal with status 1, nothing is left of any input.
+    ensures refused { OnEnd result (λ status read_to written_to. status ≡ 1
+        → read_to.progress ≡ Progress.Ended) }
 {
     match ended {
         Ended::With {
@@ -117,6 +121,7 @@ fn at_end<R: Read, E: Write>(status: u8, input: Watched<R>, errors: &mut Message
     ensures ended { input.progress ≡ Progress.Ended → (result ≡ input) × (errors.new ≡ errors.old) }
     ensures dropped { status ≢ 0 → result.progress ≢ Progress.Begun }
     ensures said { (errors.new ≡ errors.old) ⊎ Says E.contents errors.old errors.new rest_line }
+    ensures refused { status ≡ 1 → result.progress ≡ Progress.Ended }
 {
     let waits = match input.progress {
         Progress::Unread => status == REFUSED,

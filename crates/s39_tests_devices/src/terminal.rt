@@ -67,6 +67,18 @@ shamir: the rest of the input is dropped: end it with Ctrl-D\n";
         (input, 1, ALL),
         (TYPING, told, 1, reads),
     );
+    // More than a few pieces follow, one byte in each.
+    let papers = ONE_OF_ONE.repeat(alloc, 500)?;
+    let many = lines(alloc, &["ducklin", papers.as_str()])?;
+    let long = many.as_str();
+    let reads = long.len() + 1;
+    expect_reads(
+        &rt,
+        alloc,
+        &RECOVER,
+        (long, 1, ALL),
+        (TYPING, told, 1, reads),
+    );
     // A read fails behind the fault.
     expect_reads(&rt, alloc, &RECOVER, (input, 8, 2), (TYPING, told, 1, 3));
     Ok(())
