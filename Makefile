@@ -1,6 +1,6 @@
 # `make` proves and builds the program shamir. It proves as many libraries side by side as the machine can, so it needs no -j.
-# `make test` runs the merge gate (`rt ci`), then `make check`, and at last `make check-page` and `make check-papers`. The other
-# targets are:
+# `make test` runs the merge gate (`rt ci`), then `make check`, and at last `make check-secrets`, `make check-page` and
+# `make check-papers`. The other targets are:
 #
 #   make lib         proves and builds the library: libshamir.a and libshamir.so
 #   make prove-NAME  proves a library of crates/, after those that it uses

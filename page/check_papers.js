@@ -83,12 +83,14 @@ export async function drillWithPassphrase(desk, status, kind, title) {
  */
 function tellVerdict({ result, fingerprint, sentences }, noted) {
   const isGood = result === "good";
+  // Without a noted fingerprint, no result is known to be good.
+  const isNoted = noted !== "";
   const told = [
-    ...sentences.map((text) => paragraph(text, isGood ? "good" : "bad")),
+    ...sentences.map((text) => paragraph(text, !isGood ? "bad" : isNoted ? "good" : "")),
     isGood ? null : paragraph(say(`check.${result}`)),
-    ...(noted === "" && isGood && fingerprint ? [paragraph(say("noted.first")), element("p", { class: "fingerprint" }, fingerprint)] : []),
+    ...(isGood && !isNoted && fingerprint ? [paragraph(say("noted.first")), element("p", { class: "fingerprint" }, fingerprint)] : []),
     paragraph(say("close")),
   ];
   const next = { good: "end", stopped: "again", other: "again", none: "again", some: "papers", several: "papers" }[result];
-  return askWhatNext(say(`check.done.${result}`), told, next, isGood);
+  return askWhatNext(say(isGood && !isNoted ? "check.done.same" : `check.done.${result}`), told, next, isGood && isNoted);
 }

@@ -156,20 +156,33 @@ function tryPassphrase({ passphrase }) {
 }
 
 /**
- * Returns the bytes that hexadecimal digits stand for, or null if these aren't digits of bytes.
+ * Returns what a hexadecimal digit stands for, or -1.
+ *
+ * @param {number} digit
+ */
+function digitValue(digit) {
+  return "0123456789abcdef".indexOf(String.fromCharCode(digit).toLowerCase());
+}
+
+/**
+ * Returns why digits stand for no bytes, or an empty text.
+ *
+ * @param {Uint8Array} digits
+ * @returns {"not_hex" | "odd" | ""}
+ */
+function faultOf(digits) {
+  if (digits.some((digit) => digitValue(digit) < 0)) return "not_hex";
+  return digits.length % 2 ? "odd" : "";
+}
+
+/**
+ * Returns the bytes that hexadecimal digits stand for.
  *
  * @param {Uint8Array} digits
  */
 function unhex(digits) {
   const bytes = new Uint8Array(digits.length / 2);
-  for (let at = 0; at < digits.length; at += 1) {
-    const value = "0123456789abcdef".indexOf(String.fromCharCode(digits[at]).toLowerCase());
-    if (value < 0 || digits.length % 2) {
-      wipe(bytes);
-      return null;
-    }
-    bytes[at >> 1] = bytes[at >> 1] * 16 + value;
-  }
+  digits.forEach((digit, at) => (bytes[at >> 1] = bytes[at >> 1] * 16 + digitValue(digit)));
   return bytes;
 }
 
@@ -188,23 +201,30 @@ function hex(bytes) {
 }
 
 /**
- * Makes a backup of a new secret of `bytes` bytes, or of the secret with these digits.
+ * Makes a backup of a new secret of `bytes` bytes, or of the secret with these digits. Returns what is wrong with the digits, or an
+ * empty text: they have another fingerprint than the one that was noted ("other"), or stand for no bytes. `noted` may be empty.
  *
- * @param {{plan: string, bytes: number, digits: Uint8Array | null, exponent: number, extendable: boolean}} given
+ * @param {{plan: string, bytes: number, digits: Uint8Array | null, noted?: string, exponent: number, extendable: boolean}} given
+ * @returns {{fault: "not_hex" | "odd" | "other" | "", fingerprint: string}}
  */
-function make({ plan, bytes, digits, exponent, extendable }) {
+function make({ plan, bytes, digits, noted = "", exponent, extendable }) {
+  const fault = digits ? faultOf(digits) : "";
   const secret = digits ? unhex(digits) : crypto.getRandomValues(new Uint8Array(bytes));
   if (digits) wipe(digits);
-  if (secret === null) return { isHex: false, names: [] };
   try {
+    if (fault !== "") return { fault, fingerprint: "" };
+    // The engine refuses a secret that no backup can have before it is compared.
+    engine.randomNeeded(plan, secret.length);
+    const fingerprint = engine.fingerprint(secret);
+    if (noted !== "" && noted !== fingerprint) return { fault: "other", fingerprint };
     const shown = engine.createBytes(plan, secret, { passphrase: held.passphrase, exponent, extendable });
     wipe(...held.shown);
     held.shown = shown;
-    held.fingerprint = engine.fingerprint(secret);
+    held.fingerprint = fingerprint;
+    return { fault, fingerprint };
   } finally {
     wipe(secret);
   }
-  return { isHex: true, names: held.shown.map((line) => kindOf(line).name) };
 }
 
 /**

@@ -2,19 +2,19 @@
 import { Stopped } from "./client.js";
 import { choice, element, hidden, labelled, paragraph, tick, bytesOf } from "./dom.js";
 import { askToDrill, runDrill } from "./drill.js";
-import { passphraseFields } from "./passphrase.js";
+import { notedFields, passphraseFields } from "./passphrase.js";
 import { planNames, planText, saidPlan, saidTakes } from "./plan.js";
 import { PlanChoice } from "./plan_choice.js";
 import { saidError, saidRefusal } from "./refusals.js";
 import { say, saidTime } from "./say.js";
-import { ask, setTouched, setUnfinished, showWork } from "./screen.js";
+import { ask, setTouched, setUnfinished, showWork, tellNext } from "./screen.js";
 import { showPaper, typeBack } from "./show_paper.js";
 
 /** @typedef {import("./client.js").Desk} Desk */
 /** @typedef {import("./plan.js").Plan} Plan */
 /** @typedef {import("./desk.js").Kind} Kind */
 /** @typedef {"new16" | "new32" | "own"} Source */
-/** @typedef {{bytes: number, digits: Uint8Array | null}} Secret */
+/** @typedef {{bytes: number, digits: Uint8Array | null, noted: string}} Secret */
 
 const BYTES = { new16: 16, new32: 32, own: 0 };
 // A new backup has what the reference implementation gives it.
@@ -94,30 +94,43 @@ async function askPlan(desk, chosen) {
   }
 }
 
-/** The fields for the secret. */
+/**
+ * The fields for the secret. The digits of the owner's own are typed twice, and compared with the fingerprint that was noted: a backup
+ * of another secret looks like a right one.
+ */
 class SecretFields {
   #digits = hidden(say("secret.digits"), { show: say("show"), hide: say("hide"), hint: say("secret.digits.hint") });
+  #again = hidden(say("secret.again"), { show: say("show"), hide: say("hide") });
+  #noted;
 
-  /** @param {Source} source what is chosen at first */
-  constructor(source) {
+  /**
+   * @param {Source} source what is chosen at first
+   * @param {string | null} noted the fingerprint that was given before, or null
+   */
+  constructor(source, noted) {
     this.source = source;
+    this.#noted = notedFields(noted);
     const options = /** @type {const} */ (["new16", "new32", "own"]).map((key) => ({ key, label: say(`secret.${key}`), hint: say(`secret.${key}.hint`) }));
-    this.#digits.box.hidden = source !== "own";
+    const own = element("div", { hidden: source !== "own" }, this.#digits.box, this.#again.box, paragraph(say("secret.noted"), "hint"), this.#noted.box);
     const pick = (/** @type {Source} */ key) => {
       this.source = key;
-      this.#digits.box.hidden = key !== "own";
+      own.hidden = key !== "own";
     };
-    this.element = element("div", {}, choice(say("secret.legend"), options, source, pick), this.#digits.box);
+    this.element = element("div", {}, choice(say("secret.legend"), options, source, pick), own);
   }
 
+  /** Returns what is missing, or null. */
   missing() {
-    return this.source === "own" && this.#digits.field.value.trim() === "" ? say("secret.missing") : null;
+    if (this.source !== "own") return null;
+    const [typed, again] = [this.#digits, this.#again].map(({ field }) => field.value.replace(/\s/g, "").toLowerCase());
+    if (typed === "") return say("secret.missing");
+    return typed === again ? this.#noted.missing() : say("secret.differ");
   }
 
   /** @returns {Secret} */
   read() {
     const digits = this.source === "own" ? bytesOf(this.#digits.field.value.replace(/\s/g, "")) : null;
-    return { bytes: BYTES[this.source], digits };
+    return { bytes: BYTES[this.source], digits, noted: digits ? this.#noted.read() : "" };
   }
 }
 
@@ -167,16 +180,17 @@ class MoreFields {
 async function create(desk, plan) {
   let fault = "";
   // What was chosen stays after a refusal, and what is secret is typed again.
-  let chosen = { source: /** @type {Source} */ ("new16"), exponent: EXPONENT, extendable: true };
+  let chosen = { source: /** @type {Source} */ ("new16"), noted: /** @type {string | null} */ (null), exponent: EXPONENT, extendable: true };
   for (;;) {
-    const [secret, more, passphrase] = [new SecretFields(chosen.source), new MoreFields(desk, chosen), passphraseFields(desk, true)];
+    const [secret, more, passphrase] = [new SecretFields(chosen.source, chosen.noted), new MoreFields(desk, chosen), passphraseFields(desk, true)];
     /** @type {{secret: Secret, passphrase: Uint8Array} | null} */
     let typed = null;
     const isReady = () => {
       const lacks = secret.missing() ?? passphrase.missing() ?? more.missing();
       if (lacks !== null) return lacks;
       typed = { secret: secret.read(), passphrase: passphrase.read() };
-      chosen = { source: secret.source, exponent: more.exponent, extendable: more.extendable };
+      const noted = secret.source === "own" ? typed.secret.noted : chosen.noted;
+      chosen = { source: secret.source, noted, exponent: more.exponent, extendable: more.extendable };
       return null;
     };
     const children = [
@@ -212,8 +226,10 @@ async function created(desk, plan, { secret, passphrase }, { exponent, extendabl
   showWork(say("make.work"), isLong ? say("time.about", { time }) : say("time.moment"), isLong ? () => desk.stop() : null);
   try {
     await desk.ask("passphrase", { passphrase }, [passphrase.buffer]);
-    const { isHex } = await desk.askLong("make", { plan: planText(plan), exponent, extendable, ...secret });
-    return isHex ? "" : say("secret.not_hex");
+    const digits = secret.digits?.length ?? 0;
+    const { fault, fingerprint } = await desk.askLong("make", { plan: planText(plan), exponent, extendable, ...secret });
+    if (fault === "" && secret.noted !== "") tellNext(say("secret.same"));
+    return fault === "" ? "" : say(`secret.${fault}`, { digits, fingerprint, noted: secret.noted });
   } catch (error) {
     return error instanceof Stopped ? say("make.stopped") : saidError(error);
   } finally {

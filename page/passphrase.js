@@ -58,7 +58,7 @@ async function refusalOf(desk, typed) {
  *
  * @param {string | null} noted what was said before, or null
  */
-function notedFields(noted) {
+export function notedFields(noted) {
   const none = tick(say("noted.none"), () => {});
   const { box, field } = labelled(say("noted.label"), "text", { hint: say("noted.hint"), attributes: { maxlength: "16", input: () => (none.field.checked = false) } });
   field.value = noted ?? "";

@@ -21,22 +21,21 @@ function saidUndetermined([first, second], isOnly) {
   const [members, threshold, groups, required] = [24, 16, 8, 0].map((bits) => Math.floor(second / 2 ** bits) % 256);
   const [group, missing] = [Math.floor(first / 256), threshold - members];
   const key = isOnly ? "only.refused.66" : missing > 1 ? "refused.66.fewer" : "refused.66";
-  const values = { group, more: counted(missing, "paper"), fewer: counted(missing - 1, "paper"), whole: counted(required, "whole"), groups: Math.min(groups, required) };
-  return `${say(key, values)} (${UNDETERMINED})`;
+  return say(key, { group, more: counted(missing, "paper"), fewer: counted(missing - 1, "paper"), whole: counted(required, "whole"), groups: Math.min(groups, required) });
 }
 
 /**
- * Says a refusal in words, with the engine's own number and text.
+ * Says a refusal in words, with the number that it has in the manual.
  *
  * @param {Refused} refused
  * @param {string} [task] the task, if it has its own words for some refusals
  */
 export function saidRefusal({ code, details, text }, task = "") {
-  if (code === UNDETERMINED) return saidUndetermined(details, task === "only");
   const [first, second] = details;
   const name = `refused.${code}${formOf(code, details)}`;
   const key = [`${task}.${name}`, name, "refused.other"].find(hasText) ?? "";
-  return `${say(key, { first, second })} (${code}: ${text})`;
+  const told = code === UNDETERMINED ? saidUndetermined(details, task === "only") : say(key, { first, second, text });
+  return say("refused.number", { told, code });
 }
 
 /**

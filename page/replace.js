@@ -5,7 +5,7 @@ import { askForMore, collectPapers } from "./collect.js";
 import { choice, element, labelled, paragraph } from "./dom.js";
 import { planNames, planText, saidTakes } from "./plan.js";
 import { saidError } from "./refusals.js";
-import { say } from "./say.js";
+import { counted, say } from "./say.js";
 import { ask } from "./screen.js";
 import { writeAndTypeBack } from "./show_paper.js";
 
@@ -14,6 +14,7 @@ import { writeAndTypeBack } from "./show_paper.js";
 /** @typedef {import("./desk.js").Kind} Kind */
 /** @typedef {import("./plan.js").Plan} Plan */
 /** @typedef {{name: string, index: number, text: string}} Missing `index` is -1 if the rest don't determine the paper */
+/** @typedef {{plan: Plan, wanted: number[]}} Wanted a plan, and the groups whose papers are to be written */
 
 const MEMBERS_MAX = 16;
 const UNDETERMINED = 66;
@@ -53,8 +54,8 @@ function tellNew() {
  * @returns {Promise<"end" | "back">}
  */
 async function replaceDestroyed(desk) {
-  /** @type {Plan | null} */
-  let plan = null;
+  /** @type {Wanted | null} */
+  let before = null;
   for (;;) {
     const collected = await collectPapers(desk, { title: say("replace.title"), intro: say("replace.intro") });
     if (collected === null) return "back";
@@ -64,11 +65,11 @@ async function replaceDestroyed(desk) {
       if ((await tellFew(status, kinds, key)) === "end") return "end";
       continue;
     }
-    /** @type {{plan: Plan, missing: Missing[]} | "papers"} */
-    const found = await planAndMissing(desk, status, kinds[0], plan);
+    /** @type {{answered: Wanted, missing: Missing[]} | "papers"} */
+    const found = await planAndMissing(desk, status, kinds[0], before);
     if (found === "papers") continue;
-    plan = found.plan;
-    const answer = (await writeMissing(desk, found.plan, found.missing, kinds[0].words)) ?? (await drillRest(desk, kinds[0]));
+    before = found.answered;
+    const answer = (await writeMissing(desk, before.plan, found.missing, kinds[0].words)) ?? (await drillRest(desk, kinds[0]));
     if (answer === "end") return answer;
   }
 }
@@ -136,47 +137,54 @@ async function askWhy() {
  * @param {Desk} desk
  * @param {Status} status
  * @param {Kind} kind
- * @param {Plan | null} before the plan that was given before
- * @returns {Promise<{plan: Plan, missing: Missing[]} | "papers">}
+ * @param {Wanted | null} before what was given before
+ * @returns {Promise<{answered: Wanted, missing: Missing[]} | "papers">}
  */
 async function planAndMissing(desk, status, kind, before) {
-  let [plan, fault] = [before, ""];
+  let [answered, fault] = [before, ""];
   for (;;) {
-    plan = await askPlan(status, kind, plan, fault);
-    if (plan === null) return "papers";
-    const found = await findMissing(desk, plan, status);
-    if (found.fault === "") return { plan, missing: found.missing };
+    answered = await askPlan(status, kind, answered, fault);
+    if (answered === null) return "papers";
+    const found = await findMissing(desk, answered, status);
+    if (found.fault === "") return { answered, missing: found.missing };
     fault = found.fault;
   }
 }
 
 /**
- * Asks what only the owner knows: how many members each group has. Returns null if the owner wants to go back to the papers.
+ * Asks what only the owner knows: how many members each group has whose papers are to be written. Returns null if the owner wants to go
+ * back to the papers.
  *
  * @param {Status} status
  * @param {Kind} kind
- * @param {Plan | null} before the plan that was given before
+ * @param {Wanted | null} before what was given before
  * @param {string} fault what was wrong with it
- * @returns {Promise<Plan | null>}
+ * @returns {Promise<Wanted | null>}
  */
 async function askPlan(status, kind, before, fault) {
-  const rows = Array.from({ length: kind.groupCount }, (_, group) => groupFields(status, kind, group, before?.groups[group] ?? null));
-  const read = () => ({ needed: kind.groupThreshold, groups: rows.map((row) => row.read()) });
-  let plan = read();
+  const given = (/** @type {number} */ group) => (before?.wanted.includes(group) ? before.plan.groups[group] : null);
+  const rows = Array.from({ length: kind.groupCount }, (_, group) => groupFields(status, kind, group, given(group)));
+  const read = () => ({
+    plan: { needed: kind.groupThreshold, groups: rows.map((row) => row.read()) },
+    wanted: rows.flatMap((row, group) => (row.isWanted() ? [group] : [])),
+  });
+  let answered = read();
   const isReady = () => {
-    plan = read();
-    return plan.groups.every(isGroup) ? null : say("replace.members.wrong");
+    answered = read();
+    return answered.wanted.length && answered.plan.groups.every(isGroup) ? saidFew(status, answered.plan) : say("replace.members.wrong");
   };
-  const children = [fault ? paragraph(fault, "fault") : null, paragraph(say("replace.plan")), paragraph(say("replace.forgotten")), ...rows.map(({ box }) => box)];
+  const told = [kind.groupCount > 1 ? paragraph(say("replace.groups")) : null, paragraph(say("replace.plan")), paragraph(say("replace.forgotten"))];
+  const children = [fault ? paragraph(fault, "fault") : null, ...told, ...rows.map(({ box }) => box)];
   const answer = await ask(say("replace.plan.title"), children, [
     { key: "go", label: say("continue"), kind: "primary", isReady },
     { key: "papers", label: say("collect.back") },
   ]);
-  return answer === "go" ? plan : null;
+  return answer === "go" ? answered : null;
 }
 
 /**
- * Makes the fields of a group: how many members it has, and how many it needs if no paper says so.
+ * Makes the fields of a group: how many members it has, and how many it needs if no paper says so. If they are empty, none of its
+ * papers is wanted, and any numbers do that fit its papers.
  *
  * @param {Status} status
  * @param {Kind} kind
@@ -187,14 +195,32 @@ function groupFields(status, { groupCount }, group, before) {
   const found = status.groups.find((it) => it.group === group);
   const number = (/** @type {number | undefined} */ value) => ({ min: "1", max: String(MEMBERS_MAX), class: "count", ...(value ? { value: String(value) } : {}) });
   const hint = found ? say(found.threshold === 1 ? "replace.members.hint.one" : "replace.members.hint", { threshold: found.threshold }) : "";
-  const needed = found ? null : labelled(say("replace.needed", { group }), "number", { hint: say("replace.needed.hint"), attributes: number(before?.needed) });
+  const needed = found ? null : labelled(say("replace.needed", { group }), "number", { hint: say("replace.needed.hint", { group }), attributes: number(before?.needed) });
   const members = labelled(say(groupCount === 1 ? "replace.members.only" : "replace.members", { group }), "number", {
     hint,
     attributes: number(before?.members ?? (found?.threshold === 1 ? 1 : undefined)),
   });
   const legend = groupCount === 1 ? say("status.only") : say("status.group", { group });
   const box = element("fieldset", {}, element("legend", {}, legend), needed?.box ?? null, members.box);
-  return { box, read: () => ({ needed: found ? found.threshold : Number(needed?.field.value), members: Number(members.field.value) }) };
+  const isWanted = () => groupCount === 1 || members.field.value !== "" || (needed !== null && needed.field.value !== "");
+  const typed = () => ({ needed: found ? found.threshold : Number(needed?.field.value), members: Number(members.field.value) });
+  const unasked = { needed: found?.threshold ?? 1, members: (found?.threshold ?? 1) === 1 ? 1 : MEMBERS_MAX };
+  return { box, isWanted, read: () => (isWanted() ? typed() : unasked) };
+}
+
+/**
+ * Says which paper is here that a plan doesn't have, or returns null.
+ *
+ * @param {Status} status
+ * @param {Plan} plan
+ */
+function saidFew(status, { groups }) {
+  for (const { group, names } of status.groups) {
+    const last = Math.max(...names.map((name) => Number(name.split(".")[1])));
+    const key = groups.length === 1 ? "replace.members.few.only" : "replace.members.few";
+    if (last >= groups[group].members) return say(key, { name: `${group}.${last}`, group, papers: counted(last + 1, "paper") });
+  }
+  return null;
 }
 
 /** @param {{needed: number, members: number}} group */
@@ -203,17 +229,17 @@ function isGroup({ needed, members }) {
 }
 
 /**
- * Asks the engine for each missing paper. The worker keeps those that the others determine. If none is missing, it asks for one that
- * is there, since the engine then says whether the plan fits the papers.
+ * Asks the engine for each missing paper of the wanted groups. The worker keeps those that the others determine. If none is missing, it
+ * asks for one that is there, since the engine then says whether the plan fits the papers.
  *
  * @param {Desk} desk
- * @param {Plan} plan
+ * @param {Wanted} answered
  * @param {Status} status
  * @returns {Promise<{missing: Missing[], fault: string}>}
  */
-async function findMissing(desk, plan, status) {
+async function findMissing(desk, { plan, wanted }, status) {
   const here = status.groups.flatMap(({ names }) => names);
-  const names = planNames(plan).filter((it) => !here.includes(it));
+  const names = planNames(plan).filter((it) => !here.includes(it) && wanted.includes(Number(it.split(".")[0])));
   const missing = [];
   for (const name of names.length ? names : here.slice(0, 1)) {
     try {

@@ -151,6 +151,9 @@ LOOK = """
   await ask("recover");
   await ask("digits");
   await ask("make", { plan: "2of3", bytes: 16, digits: bytes("00112233445566778899aabbccddeeff"), exponent: 0, extendable: true });
+  for (const digits of ["00112233445566778899aabbccddeeff", "00112233445566778899aabbccddeef", "wrong"]) {
+    await ask("make", { plan: "2of3", bytes: 16, digits: bytes(digits), noted: "01234567", exponent: 0, extendable: true });
+  }
   await ask("repair", { line: bytes(given.lines[0].replace(/ \\S+$/, " ?")) });
   await ask("repair", { line: bytes(given.lines[0].replace(/ \\S+$/, " ? ?")) }).catch(() => 0);
   await ask("repair", { line: bytes(given.lines[0].replace(/\\S+ \\S+ \\S+/, "? ? ?")) });

@@ -139,6 +139,9 @@ class Page:
 
     def wait_text(self, text):
         self.wait(lambda: text in self.text(), f"the text {text!r}")
+        bare = re.search(r"\(\d\d[:)]", self.text())
+        if bare:
+            raise Failed(f"a number that owners don't know is shown: {bare[0]}")
 
     def picture(self):
         """Returns a picture of the whole page, as PNG."""

@@ -100,7 +100,7 @@ def search(folder, markers):
 
 def typed_everywhere(page):
     """Types a marker into each kind of field of the page, and returns the markers."""
-    markers = {kind: marker() for kind in ["word of a paper", "word of a damaged paper", "hidden passphrase", "shown passphrase", "digits", "passphrase of a drill", "noted fingerprint"]}
+    markers = {kind: marker() for kind in ["word of a paper", "word of a damaged paper", "hidden passphrase", "shown passphrase", "digits", "digits again", "passphrase of a drill", "noted fingerprint"]}
     begin(page, "check")
     page.fill(say("entry.word", number=1), markers["word of a paper"])
     page.fill(say("entry.word", number=3), markers["word of a paper"])
@@ -124,6 +124,7 @@ def typed_everywhere(page):
     page.push(say("continue"))
     page.choose(say("secret.own"))
     page.fill(say("secret.digits"), markers["digits"])
+    page.fill(say("secret.again"), markers["digits again"])
     page.fill(say("passphrase.label"), markers["hidden passphrase"])
     page.push(f"{say('show')}: {say('passphrase.again')}")
     page.evaluate("[...document.querySelectorAll('input')].find((it) => it.labels?.[0]?.textContent === " + repr(say("passphrase.again")) + ").focus()")

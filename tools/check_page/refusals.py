@@ -2,7 +2,7 @@
 import json
 
 from browsers import Failed
-from tasks import FINGERPRINT, PASSPHRASE, SECRET, THREE_GROUPS, answer_passphrase, begin, end, example, plain, type_paper
+from tasks import FINGERPRINT, PASSPHRASE, SECRET, THREE_GROUPS, answer_passphrase, begin, end, example, plain, type_digits, type_paper
 from texts import counted, say
 
 SOUND = example("one-of-one.txt")[0]
@@ -151,15 +151,10 @@ def check_values(page, see):
     page.choose(say("secret.own"))
     page.push(say("make.create"))
     page.wait_text(say("secret.missing"))
-    for digits, passphrase, again, text in [
-        (SECRET[:-2], PASSPHRASE, PASSPHRASE, said(42, first=15)),
-        (SECRET[:-1] + "g", PASSPHRASE, PASSPHRASE, say("secret.not_hex")),
-        (SECRET, "pässword", "pässword", say("passphrase.unfit")),
-        (SECRET, PASSPHRASE, "TREZOr", say("passphrase.differ")),
-    ]:
-        if not page.is_true("(it) => it.getAttribute('aria-checked') === 'true'", page.node("radio", say("secret.own"))):
-            raise Failed("after a refusal, another secret is chosen")
-        for field, value in [("secret.digits", digits), ("passphrase.label", passphrase), ("passphrase.again", again)]:
+    check_digits(page, see)
+    for passphrase, again, text in [("pässword", "pässword", say("passphrase.unfit")), (PASSPHRASE, "TREZOr", say("passphrase.differ"))]:
+        type_digits(page, SECRET, SECRET, FINGERPRINT)
+        for field, value in [("passphrase.label", passphrase), ("passphrase.again", again)]:
             page.fill(say(field), value)
             if field == "passphrase.label" and value != PASSPHRASE:
                 page.wait_text(said(41, first=2))
@@ -170,6 +165,33 @@ def check_values(page, see):
         raise Failed("what was refused before stays beside what is missing now")
     page.push(say("clear"))
     page.wait_title(say("home.title"))
+
+
+def check_digits(page, see):
+    """Digits that stand for no secret, that differ, and that have another fingerprint than the noted one. No paper is shown."""
+    changed_digits = SECRET[:-1] + "0"
+    other = plain.told(bytes.fromhex(changed_digits), True)
+    for digits, again, noted, text in [
+        (SECRET[:-2], SECRET[:-2], FINGERPRINT, said(42, first=15)),
+        (SECRET[:-1] + "g", SECRET[:-1] + "g", FINGERPRINT, say("secret.not_hex")),
+        (SECRET[:-1], SECRET[:-1], FINGERPRINT, say("secret.odd", digits=31)),
+        (changed_digits, changed_digits, FINGERPRINT, say("secret.other", fingerprint=other, noted=FINGERPRINT)),
+        (SECRET, changed_digits, FINGERPRINT, say("secret.differ")),
+        (SECRET, SECRET, "", say("noted.missing")),
+    ]:
+        if not page.is_true("(it) => it.getAttribute('aria-checked') === 'true'", page.node("radio", say("secret.own"))):
+            raise Failed("after a refusal, another secret is chosen")
+        type_digits(page, digits, again, noted)
+        for field in ("passphrase.label", "passphrase.again"):
+            page.fill(say(field), PASSPHRASE)
+        if noted == "":
+            page.go_to("textbox", say("noted.label"))
+            page.evaluate("document.activeElement.select()")
+            page.press("Backspace")
+        page.push(say("make.create"))
+        page.wait_text(text)
+        if digits == changed_digits:
+            see("digits with another fingerprint")
 
 
 def check_mixed(page, see):
@@ -302,31 +324,6 @@ def check_long_line(page, _):
     page.wait_title(say("home.title"))
 
 
-def check_plan_of_papers(page, see):
-    """A plan that doesn't fit the papers is asked for again, with the reason. Members that only the owner knows may be wrong too."""
-    begin(page, "replace")
-    page.choose(say("replace.destroyed"))
-    page.push(say("continue"))
-    for line in THREE_GROUPS[:3]:
-        paste(page, line)
-        share = plain.parse(line.encode())
-        page.wait_text(say("collect.taken", name=f"{share['group']}.{share['member']}"))
-    page.push(say("collect.end"))
-    for members, text in [("2", said(65)), ("99", say("replace.members.wrong")), ("3", say("replace.which"))]:
-        if members != "3":
-            fill_plan(page, members)
-        else:
-            page.go_to("spinbutton", say("replace.members", group=0))
-            page.evaluate("document.activeElement.select()")
-            page.type(members)
-        page.push(say("continue"))
-        page.wait(lambda: text in page.text() or text == page.title(), f"the text {text!r}")
-        if members == "2":
-            see("a plan that doesn't fit the papers")
-    page.push(say("clear"))
-    page.wait_title(say("home.title"))
-
-
 def fill_plan(page, members, others={1: "1", 2: "1"}):
     """Types how many members group 0 has, and how many each other group has and needs."""
     page.fill(say("replace.members", group=0), members, "spinbutton")
@@ -359,6 +356,7 @@ def check_unreachable(page, _):
         ("add", {"line": THREE_GROUPS[0]}, ""),
         ("recover", {}, said(30, first=0, second=2)),
         ("reissue", {"plan": "2/2of3,1of1,1of1", "name": "0.9"}, said(64, first=0, second=9)),
+        ("reissue", {"plan": "2/3of3,1of1,1of1", "name": "0.1"}, said(65)),
     ]
     told = json.loads(page.evaluate(ASK % json.dumps([[call, given] for call, given, _ in asked])))
     for (call, given, text), answer in zip(asked, told):
@@ -371,4 +369,4 @@ def check_unreachable(page, _):
             raise Failed(f"two places of a wrong word aren't told: {told!r}")
 
 
-CHECKS = [check_prepare, check_papers, check_words, check_values, check_mixed, check_recovery, check_long_line, check_plan_of_papers, check_unreachable]
+CHECKS = [check_prepare, check_papers, check_words, check_values, check_mixed, check_recovery, check_long_line, check_unreachable]

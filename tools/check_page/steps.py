@@ -1,7 +1,7 @@
-"""The ways back, and what Enter does in a field that isn't a word's."""
+"""The ways back, what Enter does in a field that isn't a word's, and the questions for the plan of papers."""
 from browsers import Failed
-from refusals import paste
-from tasks import FINGERPRINT, PASSPHRASE, SOUND_PAPER, begin
+from refusals import fill_plan, paste
+from tasks import FINGERPRINT, PASSPHRASE, SOUND_PAPER, THREE_GROUPS, begin, plain
 from texts import counted, say
 
 
@@ -72,4 +72,52 @@ def check_passphrase(page, _):
     page.wait_title(say("home.title"))
 
 
-CHECKS = [check_first_steps, check_make, check_passphrase]
+def check_plan_of_papers(page, see):
+    """A plan that doesn't fit the papers is asked for again, with the reason. Members that only the owner knows may be wrong too."""
+    begin(page, "replace")
+    page.choose(say("replace.destroyed"))
+    page.push(say("continue"))
+    for line in THREE_GROUPS[:3]:
+        paste(page, line)
+        share = plain.parse(line.encode())
+        page.wait_text(say("collect.taken", name=f"{share['group']}.{share['member']}"))
+    page.push(say("collect.end"))
+    few = say("replace.members.few", name="0.2", group=0, papers=counted(3, "paper"))
+    for members, text in [("2", few), ("99", say("replace.members.wrong")), ("3", say("replace.which"))]:
+        if members != "3":
+            fill_plan(page, members)
+        else:
+            page.go_to("spinbutton", say("replace.members", group=0))
+            page.evaluate("document.activeElement.select()")
+            page.type(members)
+        page.push(say("continue"))
+        page.wait(lambda: text in page.text() or text == page.title(), f"the text {text!r}")
+        if members == "2":
+            see("a plan that doesn't fit the papers")
+    page.push(say("clear"))
+    page.wait_title(say("home.title"))
+
+
+def check_wanted(page, see):
+    """Only the groups that are filled in are told of."""
+    begin(page, "replace")
+    page.choose(say("replace.destroyed"))
+    page.push(say("continue"))
+    for line in THREE_GROUPS[:2]:
+        paste(page, line)
+        page.wait_text(say("collect.taken", name=f"0.{plain.parse(line.encode())['member']}"))
+    page.push(say("collect.end"))
+    page.wait_text(say("replace.groups"))
+    page.push(say("continue"))
+    page.wait_text(say("replace.members.wrong"))
+    fill_plan(page, "3", {})
+    page.push(say("continue"))
+    page.wait_text(say("replace.found", names="0.2"))
+    if "That takes" in page.text():
+        raise Failed("the page tells of papers of groups that aren't wanted")
+    see("missing papers of one group")
+    page.push(say("clear"))
+    page.wait_title(say("home.title"))
+
+
+CHECKS = [check_first_steps, check_make, check_passphrase, check_plan_of_papers, check_wanted]

@@ -82,8 +82,7 @@ def make(page, plan_label, words, passphrase, see, digits=None):
     page.push(say("continue"))
     page.wait_title(say("make.secret"))
     if digits is not None:
-        page.choose(say("secret.own"))
-        page.fill(say("secret.digits"), digits)
+        type_digits(page, digits, digits, FINGERPRINT)
     elif words == 33:
         page.choose(say("secret.new32"))
     if passphrase is None:
@@ -101,6 +100,8 @@ def make(page, plan_label, words, passphrase, see, digits=None):
         papers.append(read_paper(page))
         if len(papers) == 1:
             see("paper")
+            if digits is not None and say("secret.same") not in page.text():
+                raise Failed("the page doesn't say that the digits have the noted fingerprint")
         shown = page.title()
         page.push(say("paper.written"))
         page.wait(lambda: page.title() != shown, "the end of a paper")
@@ -131,6 +132,17 @@ def make(page, plan_label, words, passphrase, see, digits=None):
     see("backup is made")
     end(page)
     return papers, fingerprint
+
+
+def type_digits(page, digits, again, noted):
+    """Chooses an own secret, types its digits twice, and the noted fingerprint, unless it is empty. None stands for none."""
+    page.choose(say("secret.own"))
+    page.fill(say("secret.digits"), digits)
+    page.fill(say("secret.again"), again)
+    if noted is None:
+        page.tick(say("noted.none"))
+    elif noted:
+        page.fill(say("noted.label"), noted)
 
 
 def check_make(page, see):
@@ -255,6 +267,11 @@ def check_replace(page, see):
     page.push(say("drill.start"))
     page.wait_text(say("verdict.all.same", quorums=counted(3, "quorum"), fingerprint=FINGERPRINT))
     page.push(say("continue"))
+    page.wait_title(say("check.done.same"))
+    page.wait_text(say("noted.first"))
+    if say("check.done.good") in page.text() or say("again") not in page.text():
+        raise Failed("without a noted fingerprint, a result is said to be good")
+    see("end of a check without a noted fingerprint")
     end(page)
     begin(page, "replace")
     page.choose(say("replace.other"))

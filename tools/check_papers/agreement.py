@@ -54,9 +54,13 @@ class Case:
 
 
 def typed(chance, line):
-    """Returns a way to type a paper in one line."""
+    """Returns a way to type a paper in one line: in its order, or with its numbers, in rows of columns that are read downwards."""
     words = [word[: chance.randint(4, len(word))] for word in line.split()]
-    return " ".join(chance.choice([word, word.upper(), f"{number}. {word}"]) for number, word in enumerate(words, 1))
+    numbered = [f"{number}. {word}" for number, word in enumerate(words, 1)]
+    height = chance.choice([0, 0, 5, 10])
+    if height:
+        return " ".join(cell for row in range(height) for cell in numbered[row::height])
+    return " ".join(chance.choice([word, word.upper(), with_number]) for word, with_number in zip(words, numbered))
 
 
 def collect(owner, case, papers):
@@ -120,7 +124,7 @@ def compare_recover(case):
         owner.answer(say("noted.ask"), "")
         if status:
             owner.wait(say("next.papers"))
-            owner.expect(f"({message.split(': ', 1)[1].strip().replace(' ', ': ', 1)})")
+            owner.expect(say("refused.number", told="", code=re.search(r"\d+", message)[0]).strip())
             owner.type("\x03")
             owner.end(130)
             return None
@@ -132,17 +136,18 @@ def compare_recover(case):
         owner.end(130)
 
 
-def questions_of(case, rest):
-    """Returns what the owner is asked about the plan, with the answers."""
+def questions_of(case, rest, lost):
+    """Returns what the owner is asked about the plan, with the answers: the group of the lost paper, and how many papers it has, or, if
+    none of them is here, how many it needs."""
     groups, here = re.findall(r"(\d+)of(\d+)", case.plan), {name_of(line).split(".")[0] for line in rest}
-    found = []
-    for at, (needed, members) in enumerate(groups):
-        if str(at) not in here:
-            found.append((say("replace.ask.needed", group=at), needed))
-        if needed != "1":
-            ask = say("replace.ask", needed=needed) if len(groups) == 1 else say("replace.ask.group", group=at, needed=needed)
-            found.append((ask, members))
-    return found
+    group = name_of(lost).split(".")[0]
+    needed, members = groups[int(group)]
+    found = [(say("replace.groups.ask"), group)] if len(groups) > 1 else []
+    if group not in here:
+        return [*found, (say("replace.ask.needed", group=group), needed)]
+    if needed == "1":
+        return found
+    return [*found, (say("replace.ask", needed=needed) if len(groups) == 1 else say("replace.ask.group", group=group, needed=needed), members)]
 
 
 def compare_replace(case):
@@ -158,7 +163,7 @@ def compare_replace(case):
         owner.answer(say("replace.how"), "1")
         owner.prepare = lambda: None
         collect(owner, case, rest)
-        questions = questions_of(case, rest)
+        questions = questions_of(case, rest, lost)
         asked = owner.wait(say("more.papers"), *[prompt for prompt, _ in questions[:1]], say("replace.choose"))
         if asked == say("more.papers"):
             if status == 0:
@@ -205,7 +210,7 @@ def compare_new(case):
     names = [name_of(line) for line in case.papers]
     with Owner("new", case.plan) as owner:
         owner.prepare()
-        papers, noted = make(owner, case.passphrase, names, secret)
+        papers, noted = make(owner, case.passphrase, names, secret, case.source.choice(["", case.noted]))
     if noted != case.noted or case.told(["recover"], case.input(papers))[0].strip() != secret:
         raise Failed(f"{case.plan}: ./shamir recovers another secret from papers of the dialogue")
 

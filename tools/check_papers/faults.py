@@ -5,11 +5,13 @@ import tempfile
 
 import ends
 import hands
+import looks
 import refusals
 import scrollback
+import steps
 import tasks
 import traces
-from hands import BINDING, Failed, habits
+from hands import BINDING, ROOT, Failed, habits
 
 # What is planted: its name, the module, what stands there, what takes its place, and the check that must fail.
 FAULTS = [
@@ -18,8 +20,8 @@ FAULTS = [
     ("Ctrl-Z leaves the screen as it is", "terminal", "        self._leave()\n        signal.signal(signal.SIGTSTP, signal.SIG_DFL)", "        signal.signal(signal.SIGTSTP, signal.SIG_DFL)", scrollback.check),
     ("the echo stays off", "terminal", "termios.tcsetattr(self._source, termios.TCSAFLUSH, self._saved)", "pass", tasks.check),
     ("a passphrase is shown", "line", "        if not self._is_hidden:\n            self._terminal.write(_shown(more))", "        self._terminal.write(_shown(more))", lambda see: check_hidden()),
-    ("a wrong word is taken for the nearest", "entry", "return [word or self._word(number, mark)", "return [word or nearest(self._list, mark)[0]", lambda see: refusals.check_words()),
-    ("a wrong paper is taken when it is typed back", "shown", "    if typed is not None and is_same(paper, typed):", "    if typed is not None:", lambda see: refusals.check_new()),
+    ("a wrong word is taken for the nearest", "entry", "return [self._word(number, mark) if word is None", "return [nearest(self._list, mark)[0] if word is None", lambda see: refusals.check_words()),
+    ("a wrong paper is taken when it is typed back", "shown", "    if typed is not None and is_same(paper, typed):", "    if typed is not None:", lambda see: steps.check_new()),
     ("a paper of another backup is taken", "desk", "shamir.status([*self.lines, paper.line])", "shamir.status([paper.line])", lambda see: refusals.check_others()),
     ("every quorum is said to be right", "quorums", "return tried.fingerprint == fingerprint if tried.expected is None else tried.expected", "return True", lambda see: refusals.check_mixed()),
     ("what was pasted answers a question that nobody saw", "entry", "        self._screen.drop_typed()\n        self._screen.tell(text, \"bad\")", "        self._screen.tell(text, \"bad\")", lambda see: refusals.check_pasted()),
@@ -27,6 +29,14 @@ FAULTS = [
     ("freed memory keeps what it holds", "safety", '"glibc.malloc.perturb=85:glibc.malloc.tcache_count=0"', '"glibc.malloc.tcache_count=0"', lambda see: traces.check_memory()),
     ("Ctrl-C ends with the status 0", "__main__", "os._exit(130)", "os._exit(0)", lambda see: ends.check_in_the_middle()),
     ("a standard input that is no terminal is taken", "__main__", '[("input", 0), ("output", 1)]', '[("output", 1)]', lambda see: ends.check_no_terminal()),
+    ("numbers before words aren't obeyed", "spelling", "number = number + 1 if given is None else given", "number = number + 1", lambda see: refusals.check_numbers()),
+    ("without a noted fingerprint, no fault is found", "check", '"same" if verdict.result == "good" and not noted else verdict.result', "verdict.result", lambda see: refusals.check_passphrases()),
+    ("digits aren't compared with the noted fingerprint", "secret", "if not noted or gives(Tried((), fingerprint, None), noted):", "if True:", lambda see: steps.check_new()),
+    ("a paper that is here is beyond the plan", "replace", "if members > last:", "if True:", lambda see: steps.check_replace()),
+    ("groups that aren't wanted are told of", "replace", "if name not in here and int(name.split(\".\")[0]) in wanted]", "if name not in here]", lambda see: steps.check_replace()),
+    ("Enter alone drops words that were found", "repair", '"t": "again"', '"": "again", "t": "again"', lambda see: steps.check_repair()),
+    ("an answer where the screen is full is lost", "screen", "self._begun += first_key(self._terminal)", "first_key(self._terminal)", lambda see: steps.check_full()),
+    ("the last line is wider than the screen", "__main__", "wrapped(text, max(1, terminal.size.columns - 1))", "[text]", looks.check),
     ("the digits of another secret are shown", "recover", "digits = secret.hex()", "digits = secret[::-1].hex()", tasks.check),
 ]
 
@@ -39,11 +49,29 @@ def check_hidden():
         raise Failed("a passphrase is shown")
 
 
+def copied(folder):
+    """Copies the program to a folder, with the page's table of sentences. Returns the folder of its package."""
+    copy = pathlib.Path(folder, "python")
+    shutil.copytree(BINDING, copy, ignore=shutil.ignore_patterns("__pycache__"))
+    shutil.copyfile(ROOT / "page" / "texts.js", copy / "shamir" / "papers" / "texts.js")
+    return copy
+
+
+def check_copy():
+    """Checks that a copy in which nothing is planted passes, or each fault would be found."""
+    with tempfile.TemporaryDirectory() as folder:
+        habits.how = {"package": copied(folder)}
+        try:
+            refusals.check_words()
+            tasks.check(None)
+        finally:
+            del habits.how
+
+
 def missed(what, module, old, new, check_it):
     """Plants a fault. Returns its name if its check doesn't find it, or an empty text."""
     with tempfile.TemporaryDirectory() as folder:
-        copy = pathlib.Path(folder, "python")
-        shutil.copytree(BINDING, copy, ignore=shutil.ignore_patterns("__pycache__"))
+        copy = copied(folder)
         path = copy / "shamir" / "papers" / f"{module}.py"
         text = path.read_text()
         if text.count(old) != 1:
@@ -63,6 +91,7 @@ def missed(what, module, old, new, check_it):
 def check(see):
     # What a fault keeps from coming is waited for in vain.
     hands.PATIENCE = 8
+    check_copy()
     missing = [it for it in (missed(*fault) for fault in FAULTS) if it]
     if missing:
         raise Failed(f"these planted faults aren't found: {', '.join(missing)}")

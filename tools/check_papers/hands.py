@@ -115,6 +115,13 @@ class Session:
                 if not self.pull(0.05):
                     raise Failed(f"the program doesn't ask {' or '.join(map(repr, prompts))}; it shows: {self.screen()}")
 
+    def wait_full(self):
+        """Waits until the screen is full, and the program waits."""
+        deadline = time.monotonic() + PATIENCE
+        while not self._before().endswith(MORE):
+            if not self.pull(0.2) and time.monotonic() > deadline:
+                raise Failed(f"the screen isn't full; it shows: {self.screen()}")
+
     def _send(self, text):
         """Types a text, and waits until the program shows something."""
         count, deadline = len(self.raw), time.monotonic() + PATIENCE
@@ -167,6 +174,9 @@ class Session:
             raise Failed("the alternate screen wasn't left")
         if self.emulator.other.text().strip():
             raise Failed("the alternate screen wasn't cleared")
+        bare = re.search(r"\(\d\d[:)]", self.emulator.all_seen())
+        if bare:
+            raise Failed(f"a number that owners don't know is shown: {bare[0]}")
         kept = "".join(self.emulator.kept().split())
         ends = ["closed"] if status == 0 else ["ended", "ended.unfinished"]
         if not self.is_plain and kept not in [say(it).replace(" ", "") for it in ends]:

@@ -31,7 +31,6 @@ def check_width(session):
     columns = session.emulator.main.columns
     rows = re.sub(r"\x1b\[[?0-9;]*[A-Za-z]", "", session.raw.decode()).replace("\r\n", "\n").split("\n")
     # Behind the last row of a question stands what was typed.
-    rows = [row for row in rows if row != say("closed")]
     asked = {row for prompt in session.asked for row in [prompt.split()[-1]]}
     wide = [row for row in rows if len(row.split("\r")[-1]) > columns and not any(f"{it} " in row for it in asked)]
     if wide:

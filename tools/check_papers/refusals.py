@@ -1,6 +1,6 @@
-"""What an owner can do wrong, and what the program says and asks then."""
+"""What can be wrong with papers and passphrases, and what the program says and asks then."""
 from hands import Failed, counted, say
-from tasks import FINGERPRINT, PASSPHRASE, SECRET, SIGN, SOUND_PAPER, THREE_GROUPS, Owner, example, name_of, paper_prompt
+from tasks import FINGERPRINT, PASSPHRASE, SIGN, SOUND_PAPER, THREE_GROUPS, Owner, example, fingerprint_of, name_of, paper_prompt
 
 import plain
 
@@ -152,6 +152,54 @@ def check_pasted():
         end_by_keys(owner)
 
 
+def rows_of(line, height=5):
+    """Returns a paper row by row, as it is shown in columns that are read downwards."""
+    cells = [f"{number:>3}. {word}" for number, word in enumerate(line.split(), 1)]
+    return ["  ".join(cells[row::height]) for row in range(height)]
+
+
+def check_numbers():
+    """Words that are pasted row by row with their numbers, numbers that contradict one another, and one that is left out."""
+    rows = rows_of(SOUND_PAPER)
+    with started("check") as owner:
+        for pasted in ("\n".join(rows), " ".join(rows)):
+            owner.wait(paper_prompt(1))
+            owner.type(pasted + "\n")
+            owner.wait(paper_prompt(2))
+            owner.expect(say("collect.taken", name="0.0"))
+            owner.answer(paper_prompt(2), f"{SIGN}0.0")
+        owner.answer(paper_prompt(1), " ".join(rows).replace(" 7.", " 8."))
+        owner.wait(paper_prompt(1))
+        owner.expect(say("entry.twice", number=8))
+        owner.answer(paper_prompt(1), " ".join(rows).replace("18. critical", ""))
+        owner.answer(say("entry.gap", count=counted(19, "word"), last=20, numbers="18", sign=SIGN), "crit")
+        owner.wait(paper_prompt(2))
+        end_by_keys(owner)
+
+
+def check_counts():
+    """One word too few, and one too many: the program says how many are typed, and how many a paper has."""
+    words = SOUND_PAPER.split()
+
+    def on(number, key, **values):
+        return say("entry.on", number=number, sign=SIGN, typed=say(f"entry.count.{key}", few=20, many=33, **values))
+
+    with started("check") as owner:
+        too_few = on(20, "few", count="19 words", missing="1 word is missing", others=14)
+        owner.answer(paper_prompt(1), " ".join(words[:19]))
+        owner.answer(too_few, "")
+        owner.wait(too_few)
+        owner.expect(say("entry.compare", sign=SIGN))
+        owner.answer(too_few, f"{words[19]} acid")
+        owner.answer(on(22, "between", count="21 words", excess="1 word is too many", missing="12 words are missing"), SIGN)
+        owner.answer(paper_prompt(1), SOUND_PAPER)
+        owner.answer(paper_prompt(2), " ".join(words[:19]))
+        owner.answer(say("entry.on", number=20, sign=SIGN, typed=say("entry.count.wanted", count=19, words="20 words", missing="1 word is missing")), "acid acid")
+        owner.wait(paper_prompt(2))
+        owner.expect(say("entry.count.over", count="21 words", words="20 words", excess="1 word is too many"))
+        end_by_keys(owner)
+
+
 def check_long():
     """A paper of 33 words in two lines, cut where another paper could end."""
     with started("check") as owner:
@@ -163,7 +211,8 @@ def check_long():
         owner.wait(paper_prompt(2))
         owner.expect(say("collect.taken", name="0.0"))
         owner.answer(paper_prompt(2), f"{SOUND_PAPER} acid")
-        owner.answer(say("entry.on", number=22, sign=SIGN), SIGN)
+        typed = say("entry.count.wanted", count=21, words=counted(33, "word"), missing="12 words are missing")
+        owner.answer(say("entry.on", number=22, sign=SIGN, typed=typed), SIGN)
         owner.wait(paper_prompt(2))
         end_by_keys(owner)
 
@@ -209,20 +258,30 @@ def check_passphrases():
         if "Every quorum" in owner.emulator.all_seen():
             raise Failed("with a wrong passphrase, every quorum is said to be right")
         owner.answer(say("next.again"), "")
-        owner.answer(say("passphrase.ask"), PASSPHRASE)
-        owner.answer(say("noted.ask"), "")
-        owner.wait(say("next.good"))
-        owner.expect(say("noted.first"))
-        owner.answer(say("next.good"), "t")
-        owner.answer(say("next.good"), "p")
-        owner.expect(say("screen.answers", answers="e, p"))
+        check_unnoted(owner)
         owner.answer(paper_prompt(6), "")
         owner.answer(say("passphrase.ask"), PASSPHRASE)
         owner.answer(say("noted.ask"), FINGERPRINT)
         owner.wait(say("next.good"))
         owner.expect(say("verdict.all.noted", quorums="7 quorums", fingerprint=FINGERPRINT))
+        owner.answer(say("next.good"), "t")
         owner.answer(say("next.good"), "")
+        owner.expect(say("screen.answers", answers="e, p"))
         owner.end(0)
+
+
+def check_unnoted(owner):
+    """Without a noted fingerprint, nothing is said to be good, since a wrong passphrase gives one secret too."""
+    owner.forget()
+    for passphrase, answer in [("TREZER", "t"), (PASSPHRASE, "p")]:
+        owner.passphrase(passphrase, "")
+        owner.wait(say("next.unnoted"))
+        owner.expect(say("check.done.same"))
+        owner.expect(say("verdict.all.same", quorums="7 quorums", fingerprint=fingerprint_of(THREE_GROUPS, passphrase)))
+        owner.expect(say("noted.first"))
+        if say("check.done.good") in owner.emulator.all_seen():
+            raise Failed("without a noted fingerprint, the papers are said to have no fault")
+        owner.answer(say("next.unnoted"), answer)
 
 
 def check_mixed():
@@ -277,161 +336,19 @@ def check_recover():
         owner.end(0)
 
 
-def check_new():
-    """Plans, digits and passphrases that are refused, papers that are typed back wrongly, and the owner's own secret."""
-    with started("new", "1of3") as owner:
-        owner.wait(say("new.plan.choose"))
-        owner.expect(say("refused.34", first=0))
-        owner.answer(say("new.plan.choose"), "3of2")
-        owner.answer(say("new.plan.choose"), "two of three")
-        owner.expect(say("refused.33", first=0))
-        owner.answer(say("new.plan.choose"), "1")
-        owner.expect(say("refused.31"))
-        owner.answer(say("new.secret"), "4")
-        owner.answer(say("new.secret"), "m")
-        owner.answer(f"{say('new.flag')} (y/n)", "n")
-        owner.answer(say("new.exponent"), "16")
-        owner.answer(say("new.exponent"), "0")
-        owner.expect(say("more.exponent.wrong"))
-        owner.answer(say("new.secret"), "3")
-        owner.answer(say("new.secret.digits"), "bb54g")
-        owner.answer(say("new.secret.digits"), "")
-        owner.answer(say("new.secret.digits"), SECRET[:30])
-        owner.expect(say("secret.not_hex"))
-        owner.expect(say("secret.missing"))
-        owner.answer(say("new.secret.digits"), SECRET)
-        owner.expect(say("refused.42", first=15))
-        owner.answer(say("new.secret.again"), f"{SECRET[:-1]}0")
-        owner.answer(say("new.secret.digits"), f"{SECRET[:16]} {SECRET[16:].upper()}")
-        owner.expect(say("new.secret.differ"))
-        owner.answer(say("new.secret.again"), SECRET)
-        owner.wait(say("new.passphrase"))
-        owner.expect(say("new.secret.count", digits=32, bytes=16))
-        owner.answer(say("new.passphrase"), "Straße")
-        owner.answer(say("new.passphrase"), "")
-        owner.expect(say("refused.41", first=5))
-        owner.answer(f"{say('new.passphrase.none')} (y/n)", "n")
-        owner.answer(say("new.passphrase"), "one")
-        owner.answer(say("new.passphrase.again"), "two")
-        owner.answer(say("new.passphrase"), PASSPHRASE)
-        owner.expect(say("passphrase.differ"))
-        owner.answer(say("new.passphrase.again"), PASSPHRASE)
-        papers = owner.written()
-        type_back(owner, papers)
-        owner.wait(say("noted.done.own"))
-        owner.expect(say("back.same", name="0.2"))
-        owner.expect(say("verdict.all.own", quorums="3 quorums", fingerprint=FINGERPRINT))
-        owner.expect(say("noted.own"))
-        owner.answer(say("noted.done.own"), "")
-        owner.answer(say("screen.end"), "")
-        owner.end(0)
-        fields = plain.parse(papers[0].encode())
-        if (fields["extendable"], fields["exponent"]) != (0, 0):
-            raise Failed("the flag and the exponent that were asked for aren't in the papers")
-
-
-def type_back(owner, papers):
-    """Types three papers back: first another one, one of another backup, and a look at the first again."""
-    owner.answer(say("screen.next"), "")
-    first = say("back.ask", name="0.0")
-    owner.answer(first, papers[1])
-    owner.wait(first)
-    owner.expect(say("back.other", name="0.0", typed="0.1"))
-    owner.answer(first, SOUND_PAPER)
-    owner.wait(first)
-    owner.expect(say("back.foreign", name="0.0", typed="0.0"))
-    owner.answer(first, " ".join(["?", *papers[0].split()[1:]]))
-    owner.answer(word_prompt(1), SIGN)
-    owner.expect(say("entry.mark.none", number=1, word="?"))
-    owner.answer(first, "")
-    owner.wait(say("new.write"))
-    if owner.words() != papers[0]:
-        raise Failed("the paper that is shown again isn't the first")
-    owner.answer(say("new.write"), "")
-    for at, line in enumerate(papers):
-        owner.answer(say("back.ask", name=f"0.{at}"), line)
-
-
-def check_replace():
-    """A paper that may be in other hands, plans that don't fit, and papers that aren't determined."""
-    with started("replace") as owner:
-        owner.answer(say("replace.how"), "2")
-        owner.wait(say("screen.end"))
-        owner.expect(say("replace.new.move"))
-        owner.answer(say("screen.end"), "")
-        owner.end(0)
-    with started("replace") as owner:
-        owner.answer(say("replace.how"), "1")
-        owner.collect(THREE_GROUPS[:1])
-        owner.wait(say("more.papers"))
-        owner.expect(say("replace.none_yet"))
-        owner.answer(say("more.papers"), "")
-        owner.type_paper(paper_prompt(2), THREE_GROUPS[1])
-        owner.reply(paper_prompt(3), "")
-        members = say("replace.ask.group", group=0, needed=2)
-        owner.answer(members, "17")
-        owner.answer(members, "3")
-        owner.expect(say("replace.members.wrong"))
-        for group in (1, 2):
-            owner.answer(say("replace.ask.needed", group=group), "1")
-        owner.wait(say("replace.choose"))
-        owner.expect(say("replace.found", names="0.2"))
-        owner.expect("1.0: That takes 1 paper more of group 1. Or it takes 2 complete groups besides")
-        owner.answer(say("replace.choose"), "2")
-        owner.type_paper(paper_prompt(3), THREE_GROUPS[3])
-        owner.reply(paper_prompt(4), "")
-        owner.answer(members, "3")
-        owner.answer(say("replace.ask.needed", group=2), "1")
-        owner.wait(say("replace.choose"))
-        owner.expect(say("replace.found", names="0.2, 2.0"))
-        end_by_keys(owner)
-
-
-def check_repair():
-    """Two papers that fit, none, a wrong word, and too many open words."""
-    menu = say("damaged.menu")
-    with started("repair") as owner:
-        ask = say("damaged.ask")
-        words = SOUND_PAPER.split()
-        owner.answer(ask, " ".join(["? ? ? ?", *words[4:]]))
-        owner.answer(NUMBERED, SIGN)
-        owner.expect(say("damaged.refused.16", first=4))
-        owner.answer(ask, " ".join([*words[:2], "acad?", "acax?", *words[4:]]))
-        owner.answer(word_prompt(4), "?")
-        owner.expect(say("entry.mark", number=4, word="acax?"))
-        owner.wait(menu)
-        owner.expect(say("damaged.limits", case=say("damaged.limits.2")))
-        owner.answer(menu, "")
-        owner.answer(ask, " ".join([words[0], "?", *words[2:]]))
-        two = say("damaged.menu.two")
-        owner.wait(two, menu)
-        owner.type("e\n")
-        owner.end(0)
-    with started("repair") as owner:
-        owner.answer(ask, SOUND_PAPER.replace("agency", "zero"))
-        owner.wait(word_prompt(5))
-        owner.expect(say("damaged.refused.18", first=5))
-        owner.answer(word_prompt(5), "agen")
-        owner.wait(menu)
-        owner.expect(say("damaged.whole"))
-        owner.answer(menu, "e")
-        owner.end(0)
-
-
 CHECKS = [
     check_words,
     check_checksum,
     check_others,
     check_other_standard,
     check_pasted,
+    check_numbers,
+    check_counts,
     check_long,
     check_open_words,
     check_passphrases,
     check_mixed,
     check_recover,
-    check_new,
-    check_replace,
-    check_repair,
 ]
 
 

@@ -93,19 +93,21 @@ def paper_prompt(number):
     return say("entry.paper.first") if number == 1 else say("entry.paper", number=number)
 
 
-def make(owner, passphrase, names, secret=None):
-    """Goes through the task 'new' from the secret on. Returns the papers and the fingerprint."""
+def make(owner, passphrase, names, secret=None, known=""):
+    """Goes through the task 'new' from the secret on. `known` is the fingerprint that was noted of the owner's own secret. Returns the
+    papers and the fingerprint."""
     if secret is None:
         owner.reply(say("new.secret"), "")
     else:
         owner.reply(say("new.secret"), "3")
         owner.hidden(say("new.secret.digits"), secret)
         owner.hidden(say("new.secret.again"), secret)
+        owner.reply(say("noted.ask"), known)
     owner.hidden(say("new.passphrase"), passphrase)
     if passphrase:
         owner.hidden(say("new.passphrase.again"), passphrase)
     else:
-        owner.reply(f"{say('new.passphrase.none')} (y/n)", "y")
+        owner.reply(f"{say('new.passphrase.none')} {say('screen.yes.back')}", "y")
     papers = owner.written()
     if [name_of(line) for line in papers] != names:
         raise Failed(f"the papers {names} were expected, and {[name_of(line) for line in papers]} are shown")
@@ -167,10 +169,11 @@ def check_replace(papers, noted):
         owner.prepare()
         owner.reply(say("replace.how"), "1")
         owner.collect(rest)
+        owner.reply(say("replace.groups.ask"), "0")
         owner.reply(say("replace.ask.group", group=0, needed=3), "5")
         owner.wait(say("replace.choose"))
         owner.expect(say("replace.found", names="0.1, 0.3"))
-        owner.reply(say("replace.choose"), "1")
+        owner.reply(say("replace.choose"), "0.1")
         owner.wait(say("new.write"))
         if owner.words() != lost:
             raise Failed("the paper that is written again has other words")

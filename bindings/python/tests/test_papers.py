@@ -17,13 +17,13 @@ if sys.version_info < (3, 10):
 import shamir  # noqa: E402
 import shamir.papers  # noqa: E402
 from shamir.papers.drill import verdict_of  # noqa: E402
-from shamir.papers.entry import Entry, ask_paper  # noqa: E402
-from shamir.papers.line import Line  # noqa: E402
+from shamir.papers.entry import Entry, ask_paper, said_count  # noqa: E402
+from shamir.papers.line import Line, first_key  # noqa: E402
 from shamir.papers.plan import plan_of, said_plan, said_takes  # noqa: E402
 from shamir.papers.quorums import Tried, count, quorum_with, suspects  # noqa: E402
-from shamir.papers.spelling import marks_of, nearest, numbered_of, seems_bip39  # noqa: E402
+from shamir.papers.spelling import Misplaced, marks_of, nearest, parts_of, placed, said_empty, seems_bip39  # noqa: E402
 from shamir.papers.terminal import Ended  # noqa: E402
-from shamir.papers.texts import OWN, TABLE, _page, say  # noqa: E402
+from shamir.papers.texts import OWN, TABLE, TASKS, _page, say  # noqa: E402
 
 # The first vector whose paper has 33 words.
 LONG = "theory painting academic academic armed sweater year military elder discuss acne wildlife boring employer fused large satoshi bundle carbon diagnose anatomy hamster leaves tracks paces beyond phantom capital marvel lips brave detect luck"
@@ -39,7 +39,7 @@ class Scripted:
     def __init__(self, *answers):
         self.answers, self.told, self.asked = list(answers), [], []
 
-    def ask(self, prompt, complete=None):
+    def ask(self, prompt, complete=None, has_back=False):
         self.asked.append(prompt)
         return self.answers.pop(0)
 
@@ -47,7 +47,7 @@ class Scripted:
         self.asked.append(prompt)
         return self.answers.pop(0)
 
-    def choose(self, prompt, answers, default=None):
+    def choose(self, prompt, answers, default=None, has_back=False):
         self.asked.append(prompt)
         return answers[self.answers.pop(0)]
 
@@ -65,6 +65,12 @@ class Scripted:
 
     def drop_typed(self):
         pass
+
+
+def by_rows(line, height):
+    """Returns a paper as it is shown in columns, row by row: the words with their numbers, which aren't in their order."""
+    cells = [f"{number}. {word}" for number, word in enumerate(line.split(), 1)]
+    return ["  ".join(cells[row::height]) for row in range(height)]
 
 
 def typed_by(chance, line):
@@ -100,6 +106,54 @@ class EntryTests(unittest.TestCase):
         self.assertEqual(found, LONG)
         self.assertIn(say("entry.longer", count=20), screen.told)
         self.assertEqual(self.read(first, rest, wanted=33)[0], LONG)
+
+    def test_row_by_row(self):
+        for line in [ONE, TWO[1], LONG]:
+            for height in (5, 7, 10):
+                rows = by_rows(line, height)
+                with self.subTest(words=len(line.split()), height=height):
+                    self.assertEqual(self.read(*rows)[0], line)
+                    self.assertEqual(self.read(" ".join(rows))[0], line)
+                    self.assertEqual(self.read("SLIP-0039 Paper 0.1 " + " ".join(rows))[0], line)
+
+    def test_numbers_that_contradict(self):
+        rows = by_rows(ONE, 5)
+        found, screen = self.read(*rows[:2], rows[2].replace("13.", "12."), *rows)
+        self.assertEqual(found, ONE)
+        self.assertEqual(screen.told, [say("entry.twice", number=12)])
+        found, screen = self.read(" ".join(rows).replace("20.", "120."), ONE)
+        self.assertEqual((found, screen.told), (ONE, [say("entry.beyond", number=120)]))
+
+    def test_numbers_with_a_gap(self):
+        rows = by_rows(ONE, 5)
+        for answers in (["19. decision"], ["", "decision"]):
+            found, screen = self.read(" ".join(rows).replace("19. decision", ""), *answers)
+            self.assertEqual(found, ONE)
+            self.assertEqual(screen.asked[-1], say("entry.gap", count="19 words", last=20, numbers="19", sign="-"))
+        found, screen = self.read(rows[0], "-", ONE)
+        self.assertEqual((found, screen.asked[1]), (ONE, say("entry.gap", count="4 words", last=16, numbers="2 to 5, 7 to 10, 12 to 15", sign="-")))
+
+    def test_unknown_word_in_a_row(self):
+        rows = by_rows(ONE, 5)
+        words = ONE.split()
+        found, screen = self.read(rows[0], rows[1].replace(words[6], "zzzz"), words[6], *rows[2:])
+        self.assertEqual(found, ONE)
+        self.assertEqual(screen.asked[2], say("entry.word", number=7, sign="-"))
+
+    def test_counts(self):
+        for count, wanted, said in [
+            (19, 20, "Typed: 19 of 20 words, so 1 word is missing."),
+            (21, 20, "Typed: 21 words. Each paper of this backup has 20 words, so 1 word is too many"),
+            (19, None, "Typed: 19 words. Most papers have 20 or 33 words, so 1 word is missing, or 14."),
+            (21, None, "Typed: 21 words. Most papers have 20 or 33 words, so 1 word is too many, or 12 words are missing."),
+            (35, None, "Typed: 35 words. Most papers have 20 or 33 words, so 2 words are too many."),
+        ]:
+            self.assertTrue(said_count(count, wanted).startswith(said), said_count(count, wanted))
+        words = ONE.split()
+        found, screen = self.read(" ".join(words[:19]), "", words[19], wanted=20)
+        self.assertEqual(found, ONE)
+        self.assertEqual(screen.asked[1], say("entry.on", typed=said_count(19, 20), number=20, sign="-"))
+        self.assertEqual(screen.told, [say("entry.typed"), " ".join(words[:19]), say("entry.compare", sign="-")])
 
     def test_unknown_word(self):
         found, screen = self.read(TWO[0].replace("always", "alwys"), "zzz", "again always", "always")
@@ -146,10 +200,11 @@ class EntryTests(unittest.TestCase):
     def test_too_many_words(self):
         found, screen = self.read(f"{ONE} acid", "-", ONE)
         self.assertEqual(found, ONE)
-        self.assertIn(say("entry.count", count="21 words", sign="-"), screen.told)
-        found, screen = self.read(f"{ONE} acid", ONE, wanted=20)
-        self.assertEqual(found, ONE)
-        self.assertIn(say("entry.count.other", wanted="20 words", count=21), screen.told)
+        self.assertEqual(screen.asked[1], say("entry.on", typed=said_count(21, None), number=22, sign="-"))
+        for more in ("acid", "acid acid"):
+            found, screen = self.read(f"{ONE} {more}", ONE, wanted=20)
+            self.assertEqual(found, ONE)
+            self.assertEqual(screen.told, [said_count(20 + len(more.split()), 20)])
 
     def test_bip39(self):
         words = "legal winner thank year wave sausage worth useful legal winner thank yellow"
@@ -193,11 +248,21 @@ class SpellingTests(unittest.TestCase):
         self.assertEqual(marks_of("1. Shadow 2) PISTOL,acad ? em?? 3shadow"), ["shadow", "pistol", "acad", "?", "em?", "shadow"])
         self.assertEqual(marks_of(" 12 .. "), [])
 
-    def test_numbered(self):
-        self.assertEqual(numbered_of("7 shadow, 9. acid"), [(7, "shadow"), (9, "acid")])
-        self.assertIsNone(numbered_of("shadow acid"))
-        self.assertIsNone(numbered_of("7 shadow acid"))
-        self.assertIsNone(numbered_of(""))
+    def test_parts(self):
+        self.assertEqual(parts_of("7 shadow, 9. acid"), [(7, "shadow"), (9, "acid")])
+        self.assertEqual(parts_of("7 shadow acid 12"), [(7, "shadow"), (None, "acid")])
+        self.assertEqual(parts_of("SLIP-0039, Paper 0.1: 1. shadow"), [(1, "shadow")])
+        self.assertEqual(parts_of(""), [])
+
+    def test_places(self):
+        self.assertEqual(placed([], parts_of("1. shadow 3. acid")), ["shadow", "", "acid"])
+        self.assertEqual(placed(["shadow", "", "acid"], parts_of("pistol 4. adult")), ["shadow", "pistol", "acid", "adult"])
+        self.assertEqual(placed(["shadow"], parts_of("pistol acid")), ["shadow", "pistol", "acid"])
+        for marks, text, number in [([], "1. shadow 1. acid", 1), (["shadow", "", "acid"], "pistol adult", 3), ([], "0. acid", 0), ([], "111. acid", 111)]:
+            with self.assertRaises(Misplaced) as fault:
+                placed(marks, parts_of(text))
+            self.assertEqual(fault.exception.number, number)
+        self.assertEqual(said_empty(["a", "", "", "", "b", "", "c", "", ""]), "2 to 4, 6, 8, 9")
 
     def test_nearest(self):
         self.assertEqual(nearest(WORDS, "emrald")[0], "emerald")
@@ -269,6 +334,19 @@ class LineTests(unittest.TestCase):
     def test_hidden(self):
         typed, terminal = self.typed(b"secret\x7ft\x15TREZOR\n", is_hidden=True)
         self.assertEqual((typed, terminal.shown), ("TREZOR", "? \n"))
+
+    def test_begun(self):
+        self.assertEqual(self.typed(b"id\n", begun=b"ac")[0], "acid")
+        typed, terminal = self.typed(b"\x7fx\n", begun=b"a", is_hidden=True)
+        self.assertEqual((typed, terminal.shown), ("x", "? \n"))
+        self.assertEqual(self.typed(b"\n", begun=b"2")[1].shown, "? 2\n")
+
+    def test_first_key(self):
+        for keys, wanted, rest in [(b"\n2", b"", b"2"), (b"2\n", b"2", b"\n"), (b"\x1b[A\tx", b"x", b""), (b"\x7f\r", b"", b"")]:
+            terminal = Keys(keys)
+            self.assertEqual((first_key(terminal), bytes(terminal.keys)), (wanted, rest))
+        with self.assertRaises(Ended):
+            first_key(Keys(b"\x04"))
 
     def test_end(self):
         with self.assertRaises(Ended):
@@ -364,6 +442,15 @@ class TextTests(unittest.TestCase):
         for key in OWN:
             is_page = key in _page()
             self.assertTrue(is_page or any(it.fullmatch(key) for it in keys) or named.count(f'"{key}"') > 1, key)
+
+    def test_tasks_are_named_as_the_menu_names_them(self):
+        self.assertEqual([key for key, text in TABLE.items() if "'shamir-papers " in text], [])
+        self.assertIn("'Read a damaged paper' (repair)", say("replace.destroyed.hint"))
+        for task, key in TASKS.items():
+            self.assertEqual(re.findall(rf"'{say(key)}'(?! \({task}\))", " ".join(TABLE.values())), [])
+
+    def test_questions_are_english(self):
+        self.assertEqual([key for key, text in TABLE.items() if re.search(r"How many \w+ has\b", text)], [])
 
     def test_sentences_are_ascii(self):
         for key in OWN:

@@ -12,7 +12,7 @@ mod examples;
 
 use crate::arrays::{NoFiles, Sheet, Source};
 use crate::examples::{Example, example_of, run_of};
-use s39_cli::{Destination, program};
+use s39_cli::{Destination, Messages, program};
 use std::alloc::Global;
 use std::io;
 use std::io::Read;
@@ -40,7 +40,7 @@ fn ending_of(alloc: Global, example: &Example) -> Ending {
         example.words,
         &mut input,
         &mut output,
-        &mut errors,
+        &mut Messages::new(&mut errors),
         s39_cli::Source::Elsewhere,
         Destination::Elsewhere,
     )

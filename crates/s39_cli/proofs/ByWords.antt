@@ -12,7 +12,7 @@ use Rattle.s39_cli.specs.declared.runner.Ended.{Ended}
 use Rattle.s39_cli.specs.declared.runner.Ended.TheVariants.{With, NoMemory}
 use Rattle.s39_cli.specs.declared.runner.Source.{Source}
 use Rattle.s39_cli.specs.declared.runner.Source.TheVariants.{Elsewhere}
-use Rattle.s39_command.specs.Command.{Gives, GivesBadValues, GivesCall, HasTwoForms, IsGiven, LacksSecret, NamesFiles, shamir_app, text_in}
+use Rattle.s39_command.specs.Command.{Gives, GivesBadValues, GivesCall, HasTwoForms, IsGiven, LacksSecret, NamesFiles, gives_passphrase, shamir_app, text_in}
 use Rattle.s39_cli.specs.Ending.{AreAllOf, Delivers, DoesJob, Ends, EndsAs, EndsAtOnce, IsOutcome, IsTyped, OnEnd, TakesCall}
 use Rattle.s39_cli.specs.Values.{IsFilledBy, Told}
 use Rattle.s39_command.specs.declared.command.BadValues.{BadValues}
@@ -165,7 +165,7 @@ module _ {R W : Type 0} (told : Told) (remaining : R → Option (List ℕ)) (con
       ⊎ ((IsTyped source j → ⊥) × DoesJob remaining contents j reader writer status read_to written_to)
 
   job_of_plain : (j : Job) (status : ℕ) (read_to : R) (written_to : W)
-      → TakesCall told remaining contents source (record { job = j; files = no_files }) reader writer status read_to written_to
+      → TakesCall told remaining contents source (record { job = j; files = no_files; has_passphrase = gives_passphrase words }) reader writer status read_to written_to
       → TakesJob j status read_to written_to
   job_of_plain j status read_to written_to (inl typed) = inl typed
   job_of_plain j status read_to written_to (inr (inl lacks)) = absurd (lacks.1.0.0 (refl, refl))
@@ -182,14 +182,17 @@ module _ {R W : Type 0} (told : Told) (remaining : R → Option (List ℕ)) (con
       → takes shamir_app words ≡ true → (j : Job) × GivesJob words j × TakesJob j status read_to written_to
   job_of plain status read_to written_to ends taken = go (ends.taken taken)
     where
-      of_call : (j : Job) (files : ValueFiles) → files ≡ no_files → GivesCall words (record { job = j; files = files })
-          → TakesCall told remaining contents source (record { job = j; files = files }) reader writer status read_to written_to
+      of_call : (j : Job) (files : ValueFiles) → files ≡ no_files
+          → GivesCall words (record { job = j; files = files; has_passphrase = gives_passphrase words })
+          → TakesCall told remaining contents source (record { job = j; files = files; has_passphrase = gives_passphrase words })
+          reader writer status read_to written_to
           → (k : Job) × GivesJob words k × TakesJob k status read_to written_to
       of_call j files none gives does = (
         j,
-        subst (λ f. GivesCall words (record { job = j; files = f })) none gives,
+        subst (λ f. GivesCall words (record { job = j; files = f; has_passphrase = gives_passphrase words })) none gives,
         job_of_plain j status read_to written_to
-            (subst (λ f. TakesCall told remaining contents source (record { job = j; files = f }) reader writer status read_to written_to) none does),
+            (subst (λ f. TakesCall told remaining contents source (record { job = j; files = f; has_passphrase = gives_passphrase words })
+            reader writer status read_to written_to) none does),
       )
 
       go : (((bad : BadValues) × GivesBadValues words bad) × EndsAtOnce 2 reader writer status read_to written_to)
@@ -197,7 +200,8 @@ module _ {R W : Type 0} (told : Told) (remaining : R → Option (List ℕ)) (con
           → (k : Job) × GivesJob words k × TakesJob k status read_to written_to
       go (inl bad) = absurd (never_bad words plain bad.0.0 bad.0.1)
       go (inr (call, gives, does)) =
-          of_call call.job call.files (names_none gives.0 gives.1 call.files (plain gives.0 gives.1 gives.2) gives.4) gives does
+          of_call call.job call.files (names_none gives.0 gives.1 call.files (plain gives.0 gives.1 gives.2) gives.4)
+          (gives.0, gives.1, gives.2, gives.3, gives.4, gives.5, refl) does
 
   module _ (status : ℕ) (read_to : R) (written_to : W) (ends : EndsAs told remaining contents source words reader writer status read_to written_to)
       (taken : takes shamir_app words ≡ true) (plain : ArePlain words) where

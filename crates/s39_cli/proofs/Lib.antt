@@ -13,6 +13,7 @@ pub mod Literals
 pub mod Outcomes
 pub mod Parts
 pub mod Repairs
+pub mod Said
 pub mod SameValues
 pub mod SomeOutcomes
 pub mod Unreadiness

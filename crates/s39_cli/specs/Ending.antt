@@ -68,10 +68,6 @@ module _ {R W : Type 0} where
   abbrev pub EndsAtOnce : ℕ → R → W → ℕ → R → W → Type 0
   EndsAtOnce wanted reader writer status read_to written_to = (status ≡ wanted) × (read_to ≡ reader) × (written_to ≡ writer)
 
-  -- nothing is said if the exit status is 0
-  abbrev pub IsSilentAtNone : {E : Type 0} → Ended R W → E → E → Type 0
-  IsSilentAtNone ended old new = OnEnd ended (λ status read_to written_to. status ≡ 0 → new ≡ old)
-
 module _ {R W : Type 0} (contents : W → Option (List ℕ)) where
   -- nothing is read; the text goes out, and the exit status is 0; or a beginning of it does, and the exit status is 3
   abbrev pub ShowsText : List ℕ → R → W → ℕ → R → W → Type 0

@@ -20,14 +20,18 @@ use Rattle.s39_reading.specs.Recover.{secret_line}
 use Rattle.s39_drilling.specs.Drill.{IsUndrilled, ListsSecret}
 use Rattle.s39_command.specs.declared.command.Job.{Job}
 use Rattle.s39_command.specs.declared.command.Job.TheVariants.{Repair}
-use Rattle.s39_command.specs.Command.{GivesCall, HaveSameValues, IsInRange}
+use Rattle.s39_command.specs.Command.{GivesCall, HaveSameValues, IsInRange, gives_passphrase}
 use Rattle.s39_command.specs.Words.{AreCreateWords, AreDrillWords, AreRecoverWords, limit_of}
 use Rattle.s39_cli.specs.Ending.{IsOutcome}
 use Rattle.s39_cli.specs.Outcome.{IsReady}
 
 -- the words give this job, and name no file of a value
 abbrev pub GivesJob : List Text → Job → Type 0
-GivesJob words job = GivesCall words (record { job = job; files = record { secret = None; passphrase = None } })
+GivesJob words job = GivesCall words (record {
+  job = job;
+  files = record { secret = None; passphrase = None };
+  has_passphrase = gives_passphrase words;
+})
 
 -- the job of these words, all of whose values stand in them, writes this text for the input, with this exit status
 abbrev pub WordsWrite : List Text → Input → List ℕ → ℕ → Type 0

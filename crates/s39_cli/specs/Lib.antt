@@ -3,6 +3,7 @@ pub mod Fewer
 pub mod Headline
 pub mod Expecting
 pub mod Outcome
+pub mod Said
 pub mod Terminal
 pub mod Unready
 pub mod Untouched

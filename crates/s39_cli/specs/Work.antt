@@ -1,5 +1,5 @@
 -- What is run for a job. No public contract cites this.
-use Rattle.std.specs.Prelude.{◌≡◌, ℕ, Bool, List, Option, Result, Ok}
+use Rattle.std.specs.Prelude.{◌≡◌, ℕ, All, Bool, List, Option, Result, Ok}
 use Rattle.std.specs.Borrow.{Bor}
 use Rattle.clap.specs.Words.{Text}
 use Rattle.s39_set.specs.Status.{is_enough}
@@ -8,6 +8,7 @@ use Rattle.s39_set.specs.declared.status.Status.{Status}
 use Rattle.s39_backup.specs.Plan.{IsPlanReading}
 use Rattle.s39_input.specs.declared.fault.Fault.{Fault}
 use Rattle.s39_drilling.specs.declared.drill.Done.{Done}
+use Rattle.s39_kdf.specs.Limits.{IsPrintable}
 use Rattle.s39_kdf.specs.declared.noted.NotedFingerprint.{NotedFingerprint}
 use Rattle.s39_kdf.specs.declared.secret_form.SecretForm.{SecretForm}
 use Rattle.s39_input.specs.Input.{Input}
@@ -61,6 +62,12 @@ IsWorkOf (job.Drill passphrase after limit form expected) w =
 IsWorkOf job.Status w = w ≡ work.Status
 IsWorkOf (job.Reissue plan names) w = (reissue : Reissue) × (w ≡ work.Reissue reissue) × IsReissueOf plan.now names.now reissue
 IsWorkOf job.Repair w = w ≡ work.Repair
+
+-- a byte of the work's passphrase isn't printable
+abbrev pub HasBadPassphrase : Work → Type 0
+HasBadPassphrase (work.Recover passphrase form expected) = ¬ All IsPrintable passphrase.now
+HasBadPassphrase (work.Drill drill) = ¬ All IsPrintable drill.passphrase.now
+HasBadPassphrase _ = ⊥
 
 -- the work writes this text for the input, and answers so, whether all is well
 abbrev pub IsWorkOutput : Work → Input → List ℕ → Result Bool Fault → Type 0

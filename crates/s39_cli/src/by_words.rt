@@ -18,6 +18,7 @@ use crate::laws::{
     created_words_recover, drill_words_list, expecting_drill_words_compare,
     expecting_recover_words_give, few_created_words_recover, recover_words_recover,
 };
+use crate::messages::Messages;
 use crate::runner::{Destination, Ended, Source, program};
 use crate::values::Shelf;
 use std::alloc::Global;
@@ -33,7 +34,7 @@ pub fn drill<S: Shelf, R: Read + Drop, W: Write + Drop, E: Write>(
     words: &[&str],
     input: R,
     output: W,
-    errors: &mut E,
+    errors: &mut Messages<E>,
     source: Source,
     destination: Destination,
 ) -> Ended<R, W>
@@ -66,7 +67,7 @@ pub fn expecting_drill<S: Shelf, R: Read + Drop, W: Write + Drop, E: Write>(
     words: &[&str],
     input: R,
     output: W,
-    errors: &mut E,
+    errors: &mut Messages<E>,
     source: Source,
     destination: Destination,
 ) -> Ended<R, W>
@@ -98,7 +99,7 @@ pub fn recover<S: Shelf, R: Read + Drop, W: Write + Drop, E: Write>(
     words: &[&str],
     input: R,
     output: W,
-    errors: &mut E,
+    errors: &mut Messages<E>,
     source: Source,
     destination: Destination,
 ) -> Ended<R, W>
@@ -130,7 +131,7 @@ pub fn expecting_recover<S: Shelf, R: Read + Drop, W: Write + Drop, E: Write>(
     words: &[&str],
     input: R,
     output: W,
-    errors: &mut E,
+    errors: &mut Messages<E>,
     source: Source,
     destination: Destination,
 ) -> Ended<R, W>
@@ -163,7 +164,7 @@ pub fn create_and_recover<S: Shelf, R: Read + Drop, W: Write + Drop, E: Write>(
     recovering: &[&str],
     random: R,
     output: W,
-    errors: &mut E,
+    errors: &mut Messages<E>,
     destination: Destination,
 ) -> Result<Ended<VecDeque<u8>, W>, Ended<R, VecDeque<u8>>>
     ensures recovered { IfOk result (λ recovery. (form : SecretForm) (plan secret passphrase : Text)

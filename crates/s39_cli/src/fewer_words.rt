@@ -11,6 +11,7 @@ ghost use Rattle.s39_cli.specs.Fewer.{FewWordsDrill, FewWordsRecover, GoesAfter,
 ghost use Rattle.s39_cli.specs.Outcome.{GivesPlan, WritesNames};
 
 use crate::laws::{few_drill_words_list, few_recover_words_recover, reissue_words_reissue};
+use crate::messages::Messages;
 use crate::runner::{Destination, Ended, Source, program};
 use crate::values::Shelf;
 use std::alloc::Global;
@@ -25,7 +26,7 @@ pub fn drill<S: Shelf, R: Read + Drop, W: Write + Drop, E: Write>(
     words: &[&str],
     input: R,
     output: W,
-    errors: &mut E,
+    errors: &mut Messages<E>,
     source: Source,
     destination: Destination,
 ) -> Ended<R, W>
@@ -57,7 +58,7 @@ pub fn recover<S: Shelf, R: Read + Drop, W: Write + Drop, E: Write>(
     words: &[&str],
     input: R,
     output: W,
-    errors: &mut E,
+    errors: &mut Messages<E>,
     source: Source,
     destination: Destination,
 ) -> Ended<R, W>
@@ -88,7 +89,7 @@ pub fn reissue<S: Shelf, R: Read + Drop, W: Write + Drop, E: Write>(
     words: &[&str],
     input: R,
     output: W,
-    errors: &mut E,
+    errors: &mut Messages<E>,
     source: Source,
     destination: Destination,
 ) -> Ended<R, W>

@@ -1,11 +1,13 @@
 //! A reader at a terminal: what is typed or pasted after a refusal is dropped, so that no shell gets it.
-ghost use Rattle.std.specs.Prelude.{◌≡◌, ◌≢◌, ◌<◌, IfErr, IfOk, Ok, length};
+ghost use Rattle.std.specs.Prelude.{◌≡◌, ◌≢◌, ◌⊎◌, ◌<◌, IfErr, IfOk, Ok, length};
 ghost use Rattle.std.specs.Io.{ReadsAtMost};
 ghost use Rattle.std.specs.Io.KnownBytes.{ReadConsumes};
 ghost use Rattle.std.specs.IoError.{error_kind};
 ghost use Rattle.s39_cli.specs.Ending.{OnEnd};
+ghost use Rattle.s39_cli.specs.Said.{Says, rest_line};
 ghost use Rattle.s39_cli.specs.Terminal.{ConsumesMore, EndsAlike};
 
+use crate::messages::Messages;
 use crate::runner::{Ended, REFUSED};
 use std::io;
 use std::io::{ErrorKind, Read, Write};
@@ -31,7 +33,8 @@ pub struct Watched<R> {
 impl<R: Read> Watched<R> {
     /// The reader, which nobody has read yet.
     pub fn new(input: R) -> Watched<R>
-        ensures { result.input ≡ input }
+        ensures input { result.input ≡ input }
+        ensures unread { result.progress ≡ Progress.Unread }
     {
         Watched {
             input,
@@ -75,7 +78,7 @@ impl<R: Read> Read for Watched<R> {
 /// line, it reads nothing.
 pub fn with_rest_dropped<R: Read + Drop, W: Drop, E: Write>(
     ended: Ended<Watched<R>, W>,
-    errors: &mut E,
+    errors: &mut Messages<E>,
 ) -> Ended<Watched<R>, W>
     ensures alike { EndsAlike (λ watched. R.remaining watched.input) ended result }
     ensures done { OnEnd ended (λ status read_to written_to. status ≡ 0
@@ -89,6 +92,11 @@ pub fn with_rest_dropped<R: Read + Drop, W: Drop, E: Write>(
     // After any status except 0, nothing is left of an input that was begun.
     ensures dropped { OnEnd result (λ status read_to written_to. status ≢ 0
         → read_to.progress ≢ Progress.Begun) }
+    // Nothing else is said than that the rest is dropped.
+    ensures said { (errors.new ≡ errors.old) ⊎ Says E.contents errors.old errors.new rest_line }
+    // After a refusal with status 1, nothing is left of any input.
+    ensures refused { OnEnd result (λ status read_to written_to. status ≡ 1
+        → read_to.progress ≡ Progress.Ended) }
 {
     match ended {
         Ended::With {
@@ -105,13 +113,15 @@ pub fn with_rest_dropped<R: Read + Drop, W: Drop, E: Write>(
 }
 
 /// The reader, read to its end if it was begun and hasn't come to it, or if a run was refused before it read.
-fn at_end<R: Read, E: Write>(status: u8, input: Watched<R>, errors: &mut E) -> Watched<R>
+fn at_end<R: Read, E: Write>(status: u8, input: Watched<R>, errors: &mut Messages<E>) -> Watched<R>
     ensures further { ConsumesMore (R.remaining input.input) (R.remaining result.input) }
     ensures done { status ≡ 0 → (result ≡ input) × (errors.new ≡ errors.old) }
     ensures unread { input.progress ≡ Progress.Unread → status ≢ 1
         → (result ≡ input) × (errors.new ≡ errors.old) }
     ensures ended { input.progress ≡ Progress.Ended → (result ≡ input) × (errors.new ≡ errors.old) }
     ensures dropped { status ≢ 0 → result.progress ≢ Progress.Begun }
+    ensures said { (errors.new ≡ errors.old) ⊎ Says E.contents errors.old errors.new rest_line }
+    ensures refused { status ≡ 1 → result.progress ≡ Progress.Ended }
 {
     let waits = match input.progress {
         Progress::Unread => status == REFUSED,
@@ -122,7 +132,7 @@ fn at_end<R: Read, E: Write>(status: u8, input: Watched<R>, errors: &mut E) -> W
         return input;
     }
     let mut input = input;
-    let _ = errors.write_all(b"shamir: the rest of the input is dropped: end it with Ctrl-D\n");
+    errors.say(b"shamir: the rest of the input is dropped: end it with Ctrl-D\n");
     drop_rest(&mut input);
     input
 }

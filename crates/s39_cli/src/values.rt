@@ -16,7 +16,7 @@ const MOST: usize = 1024;
 const ROOM: usize = 1027;
 
 /// The name that stands for the first line of the input.
-const INPUT: &str = "-";
+pub(crate) const INPUT: &str = "-";
 
 /// Where a value ends.
 #[derive(Clone, Copy)]

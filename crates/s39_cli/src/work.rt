@@ -1,5 +1,5 @@
 //! Commands that are ready to run.
-ghost use Rattle.std.specs.Prelude.{◌≡◌, ◌<◌, ◌≤◌, IfOk, IfErr, IsSomeAnd, IsTrue, Err};
+ghost use Rattle.std.specs.Prelude.{◌≡◌, ◌<◌, ◌≤◌, ◌↔◌, false, IfOk, IfErr, IsSomeAnd, IsTrue, Err};
 ghost use Rattle.s39_set.specs.Status.{is_enough};
 ghost use Rattle.s39_input.specs.Runs.{Runs};
 ghost use Rattle.s39_command.specs.Command.{IsInRange, text_in};
@@ -14,7 +14,7 @@ use s39_command::Job;
 use s39_creating::{run_create, run_reissue};
 use s39_drilling::{Done, run_drill};
 use s39_input::{Counting, Fault, SecretForm, run_repair, run_show};
-use s39_kdf::{BadFingerprint, NotedFingerprint, parse_fingerprint};
+use s39_kdf::{BadFingerprint, NotedFingerprint, check_passphrase, parse_fingerprint};
 use s39_reading::{run_recover, run_status};
 use s39_set::{BadCursor, BadNames, Quorum, Status, parse_names, parse_quorum};
 use std::alloc::Global;
@@ -174,7 +174,7 @@ impl Reissue {
 
 impl<'a> Work<'a> {
     ghost use Rattle.s39_cli.specs.Untouched.{IsAtItsEnd};
-    ghost use Rattle.s39_cli.specs.Work.{IsWorkOf, IsWorkOutput};
+    ghost use Rattle.s39_cli.specs.Work.{HasBadPassphrase, IsWorkOf, IsWorkOutput};
 
     /// The work of a job, whose texts are read here: those of `create` are the secret and then the plan, those of `drill`
     /// the cursor and then the fingerprint, and those of `reissue` the plan and then the names.
@@ -243,6 +243,17 @@ impl<'a> Work<'a> {
             Work::Show | Work::Repair => destination == Destination::Terminal,
             Work::Drill(_) => true,
             Work::Create(_) | Work::Recover { .. } | Work::Status | Work::Reissue(_) => false,
+        }
+    }
+
+    /// Whether it begins to read: its passphrase isn't refused before that.
+    pub(crate) fn begins(&self) -> bool
+        ensures { result ≡ false ↔ HasBadPassphrase self.now }
+    {
+        match self {
+            Work::Recover { passphrase, .. } => check_passphrase(passphrase).is_ok(),
+            Work::Drill(drill) => check_passphrase(drill.passphrase).is_ok(),
+            _ => true,
         }
     }
 

@@ -262,6 +262,12 @@ pub missing_of_rows : (f : Found) (id : Text) (got : Option (Bor Text)) → opti
 missing_of_rows f id None given none = sym (first_value-rows f id) ∙ sym given
 missing_of_rows f id (Some text) given none = absurd (true≢false none)
 
+-- a getter has one exactly where one is found
+pub is_found : (f : Found) (id : Text) (got : Option (Bor Text)) → option_map (λ t. t.now) got ≡ first_value f id
+    → is_some got ≡ is_some (first_of id (rows_of f))
+is_found f id None given = ap (λ (o : Option Text). is_some o) (given ∙ first_value-rows f id)
+is_found f id (Some text) given = ap (λ (o : Option Text). is_some o) (given ∙ first_value-rows f id)
+
 -- a text is found, and it is this one, where a getter has it
 pub said_of_rows : (f : Found) (id wanted : Text) (got : Option (Bor Text)) (text : Bor Text) → option_map (λ t. t.now) got ≡ first_value f id → got ≡ Some text
     → bytes_eq text.now wanted ≡ true → first_of id (rows_of f) ≡ Some wanted

@@ -107,4 +107,5 @@ one_call words call other is also =
       values = same_values also.0 also.1 call.job other.job ((bytes_eq-Decides (name_of call.job) (name_of other.job)).1 names) gives also.3;
       secret_file = is.4.secret_is ∙ files ∙ sym also.4.secret_is;
       passphrase_file = is.4.passphrase_is ∙ phrases ∙ sym also.4.passphrase_is;
+      passphrase = is.6 ∙ sym also.6;
     }

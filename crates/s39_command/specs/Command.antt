@@ -1,5 +1,5 @@
 -- The command line.
-use Rattle.std.specs.Prelude.{◌≡◌, ◌≢◌, ◌⊎◌, ◌<◌, ◌≤◌, ◌^◌, ℕ, Bool, true, false, List, Option, [], ◌∷◌, codes, if◌then◌else◌, pos, Some, None, option_map, slice_get, unwrap_or}
+use Rattle.std.specs.Prelude.{◌≡◌, ◌≢◌, ◌⊎◌, ◌++◌, ◌<◌, ◌≤◌, ◌^◌, ℕ, Bool, true, false, List, Option, [], ◌∷◌, codes, if◌then◌else◌, is_some, pos, Some, None, option_map, slice_get, unwrap_or}
 use Rattle.std.specs.Borrow.{Bor}
 use Rattle.clap.specs.Words.{App, Row, Rule, Shape, Text, built, fault_of, first_of, new_app, new_rule, one_of}
 use Rattle.clap.specs.Words.{subcommand_of, takes, with_rule, with_subcommand}
@@ -225,11 +225,32 @@ HasBadValues name rows TwoPassphrases = (LacksSecret name rows → ⊥) × (HasT
 HasBadValues name rows TwoForms =
     (LacksSecret name rows → ⊥) × (HasTwoSecrets rows → ⊥) × (HasTwoPassphrases rows → ⊥) × HasTwoForms name rows
 
--- the words give the command with its values and the files of such, by the definition of a simple command, and its values are sound
+-- the last line of a text that refuses values
+abbrev pub more_text : Text
+more_text = codes "\n\nFor more information, try '--help'.\n"
+
+-- the text that refuses values for this fault
+abbrev pub bad_text : BadValues → Text
+bad_text NoSecret = codes "error: one of --master-secret <HEX> and --master-secret-file <FILE> is required" ++ more_text
+bad_text TwoSecrets = codes "error: --master-secret <HEX> and --master-secret-file <FILE> can't be given together" ++ more_text
+bad_text TwoPassphrases = codes "error: --passphrase <TEXT> and --passphrase-file <FILE> can't be given together" ++ more_text
+bad_text TwoForms = codes "error: --expect <FINGERPRINT> and --fingerprint can't be given together" ++ more_text
+
+-- whether a passphrase is among what is found for a command's arguments
+abbrev pub finds_passphrase : Option (Text × List Row) → Bool
+finds_passphrase None = false
+finds_passphrase (Some found) = is_some (first_of (codes "passphrase") found.1)
+
+-- whether the words contain a passphrase, which may be the empty one
+abbrev pub gives_passphrase : List Text → Bool
+gives_passphrase words = finds_passphrase (subcommand_of shamir_app words)
+
+-- the words give the command with its values and the files of such, by the definition of a simple command, and its values are sound;
+-- the call says whether a passphrase is among the words
 abbrev pub GivesCall : List Text → Call → Type 0
 GivesCall words call = (name : Text) × (rows : List Row)
     × (subcommand_of shamir_app words ≡ Some (name, rows)) × Gives name rows call.job × NamesFiles rows call.files
-    × (((bad : BadValues) × HasBadValues name rows bad) → ⊥)
+    × (((bad : BadValues) × HasBadValues name rows bad) → ⊥) × (call.has_passphrase ≡ gives_passphrase words)
 
 -- the words give a command with this fault in its values
 abbrev pub GivesBadValues : List Text → BadValues → Type 0
@@ -255,11 +276,12 @@ HaveSameValues Status other = other ≡ Status
 HaveSameValues (Reissue plan names) other = (p n : Bor Text) × (other ≡ Reissue p n) × (plan.now ≡ p.now) × (names.now ≡ n.now)
 HaveSameValues Repair other = other ≡ Repair
 
--- the calls are of one command, with the same values, and name the same files
+-- the calls are of one command, with the same values, name the same files, and both have a passphrase or neither has
 pub record AreSameCalls (call other : Call) : Type 0 where
   pub values : HaveSameValues call.job other.job
   pub secret_file : text_in call.files.secret ≡ text_in other.files.secret
   pub passphrase_file : text_in call.files.passphrase ≡ text_in other.files.passphrase
+  pub passphrase : call.has_passphrase ≡ other.has_passphrase
 
 -- the word after the program's name is `help`
 abbrev pub SaysHelp : List Text → Type 0

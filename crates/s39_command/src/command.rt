@@ -1,8 +1,8 @@
 //! The command line: which command its words give, with which values.
-ghost use Rattle.std.specs.Prelude.{◌≡◌, ◌≢◌, ◌⊎◌, [], codes, None, Some, true, map, IfOk, IfErr, IfNone, IfSome, IsFalse, IsTrue, OnOk};
+ghost use Rattle.std.specs.Prelude.{◌≡◌, ◌≢◌, ◌⊎◌, [], codes, is_some, None, Some, true, map, IfOk, IfErr, IfNone, IfSome, IsFalse, IsTrue, OnOk};
 ghost use Rattle.clap.specs.Words.{fault_of, first_of, found_of, kind_of, one_text, rows_of, takes};
 ghost use Rattle.s39_clap.specs.Found.{EntersOne};
-ghost use Rattle.s39_command.specs.Command.{shamir_app, commands, text_or_empty};
+ghost use Rattle.s39_command.specs.Command.{bad_text, shamir_app, commands, text_or_empty};
 ghost use Rattle.s39_command.specs.Command.{Gives, GivesCall, IsInRange, AnswersKind, AnswersWords};
 ghost use Rattle.s39_command.specs.Command.{HasBadValues, IsGiven, IsHelp, NamesFiles, SaysHelp};
 ghost use Rattle.s39_command.specs.declared.command.BadValues.{BadValues};
@@ -84,6 +84,8 @@ pub struct Call<'a> {
     pub job: Job<'a>,
     /// The files that hold the other values.
     pub files: ValueFiles<'a>,
+    /// Whether the words contain a passphrase, which may be the empty one.
+    pub has_passphrase: bool,
 }
 
 /// What is wrong with the values of a command.
@@ -101,7 +103,9 @@ pub enum BadValues {
 
 impl BadValues {
     /// The text that refuses the words, for standard error. It has the form of `clap`'s texts.
-    pub fn text(self) -> &'static str {
+    pub fn text(self) -> &'static str
+        ensures { result.now ≡ bad_text self }
+    {
         match self {
             BadValues::NoSecret =>
                 "error: one of --master-secret <HEX> and --master-secret-file <FILE> is required
@@ -175,6 +179,7 @@ fn text_of<'a>(options: &ArgMatches<'a>, id: &str) -> &'a [u8]
 fn is_given(options: &ArgMatches, id: &str) -> bool
     ensures given { IsTrue result → IsGiven id.now (rows_of (found_of options.now)) }
     ensures missing { IsFalse result → first_of id.now (rows_of (found_of options.now)) ≡ None }
+    ensures exact { result ≡ is_some (first_of id.now (rows_of (found_of options.now))) }
 {
     options.get_str(id).is_some()
 }
@@ -383,6 +388,7 @@ pub fn read_words<'a>(alloc: Global, words: &'a [&'a str]) -> Result<Call<'a>, N
             Ok(Call {
                 job: job_of(name, options),
                 files: files_of(options),
+                has_passphrase: is_given(options, "passphrase"),
             })
         }
         None => unreachable!(),

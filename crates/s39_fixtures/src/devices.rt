@@ -48,36 +48,28 @@ impl Read for Source<'_> {
     }
 }
 
-/// A reader that has no bytes, and whose first call the system interrupts.
+/// A device whose first calls, as many as `failures`, fail for an error of this kind. After that, it takes what is written,
+/// and gives these bytes.
 #[derive(Drop)]
-pub struct InterruptedAtFirst {
-    pub calls: usize,
-}
-
-impl Read for InterruptedAtFirst {
-    fn read(&mut self, _buf: &mut [u8]) -> io::Result<usize> {
-        self.calls = self.calls.saturating_add(1);
-        if self.calls == 1 {
-            return Err(io::Error::from(ErrorKind::Interrupted));
-        }
-        Ok(0)
-    }
-}
-
-/// A device whose first call fails for an error of this kind. After that, it takes what is written, and gives these bytes.
-#[derive(Drop)]
-pub struct FailingOnce<'a> {
+pub struct FailingAtFirst<'a> {
     kind: ErrorKind,
+    failures: usize,
     unread: &'a [u8],
     pub written: Vec<u8>,
     pub calls: usize,
     pub flushes: usize,
 }
 
-impl<'a> FailingOnce<'a> {
-    pub fn new(alloc: Global, kind: ErrorKind, unread: &'a [u8]) -> FailingOnce<'a> {
-        FailingOnce {
+impl<'a> FailingAtFirst<'a> {
+    pub fn new(
+        alloc: Global,
+        kind: ErrorKind,
+        failures: usize,
+        unread: &'a [u8],
+    ) -> FailingAtFirst<'a> {
+        FailingAtFirst {
             kind,
+            failures,
             unread,
             written: Vec::new(alloc),
             calls: 0,
@@ -85,17 +77,17 @@ impl<'a> FailingOnce<'a> {
         }
     }
 
-    /// Counts a call, the first of which fails.
+    /// Counts a call, which may be one of those that fail.
     fn called(&mut self) -> io::Result<()> {
         self.calls = self.calls.saturating_add(1);
-        if self.calls == 1 {
+        if self.calls <= self.failures {
             return Err(io::Error::from(self.kind));
         }
         Ok(())
     }
 }
 
-impl Read for FailingOnce<'_> {
+impl Read for FailingAtFirst<'_> {
     fn read(&mut self, buf: &mut [u8]) -> io::Result<usize> {
         self.called()?;
         let count = self.unread.len().min(buf.len());
@@ -106,7 +98,7 @@ impl Read for FailingOnce<'_> {
     }
 }
 
-impl Write for FailingOnce<'_> {
+impl Write for FailingAtFirst<'_> {
     fn write(&mut self, buf: &[u8]) -> io::Result<usize> {
         self.called()?;
         self.written.extend_from_slice(buf)?;

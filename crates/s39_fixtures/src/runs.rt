@@ -2,7 +2,7 @@
 
 use crate::devices::Flushing;
 use crate::shelves::{Held, NoFiles};
-use s39_cli::{Destination, Source};
+use s39_cli::{Destination, Messages, Source};
 use std::alloc::Global;
 use std::io::{Read, Write};
 use std::test::Fail;
@@ -26,7 +26,7 @@ pub fn program<R: Read + Drop, W: Write + Drop, E: Write + Drop>(
     output: W,
     errors: E,
 ) -> u8 {
-    let mut errors = errors;
+    let mut errors = Messages::new(errors);
     s39_cli::program(
         &NoFiles,
         alloc,
@@ -48,7 +48,7 @@ pub fn program_at_terminal<R: Read + Drop, W: Write + Drop, E: Write + Drop>(
     output: W,
     errors: E,
 ) -> u8 {
-    let mut errors = errors;
+    let mut errors = Messages::new(errors);
     s39_cli::program(
         &NoFiles,
         alloc,
@@ -92,7 +92,7 @@ pub fn run_over(files: &[(&str, &[u8])], alloc: Global, words: &[&str], input: &
         words,
         input,
         &mut written,
-        &mut told,
+        &mut Messages::new(&mut told),
         Source::Elsewhere,
         Destination::Elsewhere,
     )

@@ -1,6 +1,6 @@
 //! Files to read values from.
 
-use crate::devices::FailingOnce;
+use crate::devices::FailingAtFirst;
 use s39_cli::Shelf;
 use std::alloc::Global;
 use std::io;
@@ -46,9 +46,9 @@ pub struct Halted<'a> {
 }
 
 impl<'a> Shelf for Halted<'a> {
-    type File = FailingOnce<'a>;
+    type File = FailingAtFirst<'a>;
 
-    fn open(&self, _name: &str) -> io::Result<FailingOnce<'a>> {
-        Ok(FailingOnce::new(self.alloc, self.kind, self.bytes))
+    fn open(&self, _name: &str) -> io::Result<FailingAtFirst<'a>> {
+        Ok(FailingAtFirst::new(self.alloc, self.kind, 1, self.bytes))
     }
 }

@@ -8,6 +8,11 @@ use std::alloc::Global;
 use std::process::Abort;
 use std::test::Fail;
 
+/// Whether a word is the option of a passphrase.
+pub(crate) fn says_passphrase(words: &[&str]) -> bool {
+    words.iter().any(|word| *word == "--passphrase" || word.starts_with("--passphrase="))
+}
+
 /// Each of the command lines gives this job, and names no file.
 fn expect_jobs(rt: &impl Abort, alloc: Global, cases: &[(&[&str], Job)]) {
     let files = ValueFiles {
@@ -17,7 +22,11 @@ fn expect_jobs(rt: &impl Abort, alloc: Global, cases: &[(&[&str], Job)]) {
     for (words, job) in cases {
         assert_eq!(rt;
             read_words(alloc, words).ok(),
-            Some(Call { job: *job, files })
+            Some(Call {
+                job: *job,
+                files,
+                has_passphrase: says_passphrase(words)
+            })
         );
     }
 }

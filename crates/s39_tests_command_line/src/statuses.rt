@@ -1,6 +1,6 @@
 //! Exit statuses: help, the version, refused command lines, flushing, a failing standard error, and no memory.
 
-use s39_cli::no_words;
+use s39_cli::{Messages, no_words};
 use s39_fixtures::devices::Full;
 use s39_fixtures::{
     ONE_OF_ONE, ONE_OF_ONE_BAD_CHECKSUM, SHOW, SHOWN, WRITE_FAILED_LINE, expect_flushed,
@@ -290,7 +290,10 @@ fn says_why_there_are_no_words(rt: HostRuntime) {
     ];
     for (kind, status, message) in cases {
         let mut told = Vec::new(alloc);
-        assert_eq!(rt; no_words(&io::Error::from(kind), &mut told), status);
+        assert_eq!(rt;
+            no_words(&io::Error::from(kind), &mut Messages::new(&mut told)),
+            status
+        );
         assert_eq!(rt; told.as_slice(), message);
     }
 }

@@ -1,7 +1,7 @@
 //! The files of values in the words of a command line.
 
-use crate::command_line::expect_refusals;
-use s39_cli::{Destination, Source, program};
+use crate::command_line::{expect_refusals, says_passphrase};
+use s39_cli::{Destination, Messages, Source, program};
 use s39_command::{BadValues, Call, Job, NoJob, ValueFiles, read_words};
 use s39_fixtures::shelves::Halted;
 use s39_fixtures::{ONE_OF_ONE, ONE_OF_ONE_SECRET, expect_over, run_on};
@@ -24,7 +24,11 @@ fn expect_files(
         };
         assert_eq!(rt;
             read_words(alloc, words).ok(),
-            Some(Call { job: *job, files })
+            Some(Call {
+                job: *job,
+                files,
+                has_passphrase: says_passphrase(words)
+            })
         );
     }
 }
@@ -437,7 +441,7 @@ fn tries_only_an_interrupted_read_of_a_file_again(rt: HostRuntime) {
             &["shamir", "recover", "--passphrase-file", "f"],
             ONE_OF_ONE.as_bytes(),
             &mut written,
-            &mut Vec::new(alloc),
+            &mut Messages::new(Vec::new(alloc)),
             Source::Elsewhere,
             Destination::Elsewhere,
         )

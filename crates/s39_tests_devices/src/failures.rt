@@ -3,7 +3,7 @@
 use crate::commands::{
     COMMANDS, Command, Example, READ_FAILED, Told, WRITE_FAILED, example_of, outcome_of, told,
 };
-use s39_fixtures::devices::{Filling, Full, Interrupted, InterruptedAtFirst, Source};
+use s39_fixtures::devices::{FailingAtFirst, Filling, Full, Interrupted, Source};
 use s39_fixtures::{
     ONE_OF_ONE, ONE_OF_ONE_BAD_CHECKSUM, ONE_OF_ONE_BAD_PADDING, ONE_OF_ONE_TWO_WORDS_LOST, SHOW,
     SHOWN, WRITE_FAILED_LINE, expect_told, lines,
@@ -11,6 +11,7 @@ use s39_fixtures::{
 use s39_input::{Counting, LineRefusal, run_show};
 use s39_words::WordError;
 use std::alloc::{AllocError, Global};
+use std::io::ErrorKind;
 use std::process::Abort;
 use std::test::Fail;
 
@@ -214,7 +215,7 @@ fn answers_a_write_of_nothing(rt: HostRuntime) -> Result<(), Fail> {
 fn tries_no_interrupted_call_again(rt: HostRuntime) -> Result<(), Fail> {
     let alloc = rt.alloc();
     for command in COMMANDS {
-        let input = InterruptedAtFirst { calls: 0 };
+        let input = FailingAtFirst::new(alloc, ErrorKind::Interrupted, 1, b"");
         let read = outcome_of(command, input, Vec::new(alloc));
         assert_eq!(rt; read.answer, Err(READ_FAILED), "{command:?}");
         assert_eq!(rt; (read.failures, read.input.calls), ((1, 0), 1));

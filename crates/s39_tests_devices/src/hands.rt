@@ -2,7 +2,7 @@
 //! asked for before the line is taken.
 
 use s39_cli::Destination;
-use s39_fixtures::devices::{FailingOnce, Filling, Flushing, Full, Interrupted, Source};
+use s39_fixtures::devices::{FailingAtFirst, Filling, Flushing, Full, Interrupted, Source};
 use s39_fixtures::{
     DRILL, FIVE, ONE_OF_ONE, ONE_OF_ONE_SECRET, ONE_OF_ONE_TWO_WORDS_LOST, RANDOM, RECOVER, REPAIR,
     SECRET, SHOW, SHOWN, WRITE_FAILED_LINE, create, drilled, expect_flushed, expect_told, lines,
@@ -171,7 +171,7 @@ fn tries_only_an_interrupted_write_again(rt: HostRuntime) -> Result<(), Fail> {
     ];
     for kind in kinds {
         for words in [DRILL.as_slice(), &RECOVER] {
-            let mut device = FailingOnce::new(alloc, kind, b"");
+            let mut device = FailingAtFirst::new(alloc, kind, 1, b"");
             let input = five.as_bytes();
             expect_told(words, input, &mut device, alloc, (WRITE_FAILED_LINE, 3))?;
             assert_eq!(rt; (device.calls, device.written.len()), (1, 0), "{words:?}");
@@ -192,7 +192,9 @@ fn flushes_the_lines_before_a_refusal(rt: HostRuntime) -> Result<(), Fail> {
     assert_eq!(rt; device.bytes.as_slice(), SHOWN.as_bytes());
     assert_eq!(rt;
         told.as_slice(),
-        b"shamir: line 2: 11 unknown word 1\n".as_slice()
+        b"shamir: type a mnemonic on each line, then press Ctrl-D on an empty line
+shamir: line 2: 11 unknown word 1\n"
+            .as_slice()
     );
     Ok(())
 }

@@ -8,4 +8,6 @@ mod failures;
 #[cfg(test)]
 mod hands;
 #[cfg(test)]
+mod said;
+#[cfg(test)]
 mod terminal;

@@ -1,7 +1,9 @@
 //! The program `shamir`: SLIP-0039 backups on the command line.
 #![tactic(auto)]
 
-use s39_cli::{Destination, Source, SystemFiles, Watched, no_words, program, with_rest_dropped};
+use s39_cli::{
+    Destination, Messages, Source, SystemFiles, Watched, no_words, program, with_rest_dropped,
+};
 use std::alloc::{AllocError, Global};
 use std::io::IsTerminal;
 use std::process::ExitCode;
@@ -25,7 +27,7 @@ fn status(rt: &HostRuntime) -> io::Result<u8> {
     } else {
         Destination::Elsewhere
     };
-    let errors = &mut rt.stderr();
+    let errors = &mut Messages::new(rt.stderr());
     if !input.is_terminal() {
         let source = Source::Elsewhere;
         let ended = program(
@@ -55,5 +57,8 @@ fn status(rt: &HostRuntime) -> io::Result<u8> {
 }
 
 fn main(rt: HostRuntime) -> ExitCode {
-    ExitCode::from(status(&rt).unwrap_or_else(|error| no_words(&error, &mut rt.stderr())))
+    ExitCode::from(status(&rt).unwrap_or_else(|error| no_words(
+        &error,
+        &mut Messages::new(rt.stderr()),
+    )))
 }

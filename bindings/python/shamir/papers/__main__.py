@@ -5,7 +5,7 @@ import argparse
 import os
 import signal
 import sys
-from typing import Callable, Dict, List, NoReturn, Optional, Tuple
+from typing import Callable, Dict, List, NoReturn, Optional
 
 from shamir.papers import safety
 from shamir.papers.check import check_papers
@@ -14,19 +14,19 @@ from shamir.papers.new import make_backup
 from shamir.papers.recover import recover_secret
 from shamir.papers.repair import read_damaged
 from shamir.papers.replace import replace_paper
-from shamir.papers.screen import Screen
+from shamir.papers.screen import Back, Screen, wrapped
 from shamir.papers.terminal import Ended, Terminal
-from shamir.papers.texts import say
+from shamir.papers.texts import TASKS, say
 
 import shamir
 
-# The tasks, the key of what each is called, and the command for scripts.
-TASKS: Dict[str, Tuple[str, str]] = {
-    "new": ("home.make", "shamir create"),
-    "check": ("home.check", "shamir drill --fingerprint"),
-    "recover": ("home.recover", "shamir recover"),
-    "replace": ("home.replace", "shamir reissue"),
-    "repair": ("home.damaged", "shamir repair"),
+# The command for scripts that does what a task does.
+COMMANDS = {
+    "new": "shamir create",
+    "check": "shamir drill --fingerprint",
+    "recover": "shamir recover",
+    "replace": "shamir reissue",
+    "repair": "shamir repair",
 }
 RUN: Dict[str, Callable[[Screen, Desk], None]] = {
     "check": check_papers,
@@ -41,7 +41,7 @@ def words_of_command() -> argparse.ArgumentParser:
     parser = argparse.ArgumentParser(prog="shamir-papers", description=DESCRIPTION, allow_abbrev=False)
     parser.add_argument("-V", "--version", action="version", version=f"shamir-papers {shamir.__version__}")
     tasks = parser.add_subparsers(dest="task", metavar="TASK", title="tasks (without one, it asks for one)")
-    for name, (key, _) in TASKS.items():
+    for name, key in TASKS.items():
         task = tasks.add_parser(name, help=say(f"{key}.hint"), description=say(f"{key}.hint"), allow_abbrev=False)
         if name == "new":
             task.add_argument("plan", metavar="PLAN", nargs="?", help="which papers are enough, such as 2of3, or 2/3of5,1of1 with groups")
@@ -52,7 +52,7 @@ def need_terminal(task: Optional[str]) -> None:
     """Ends with status 2 if standard input or output isn't a terminal."""
     for stream, descriptor in [("input", 0), ("output", 1)]:
         if not os.isatty(descriptor):
-            command = TASKS[task][1] if task else "shamir"
+            command = COMMANDS[task] if task else "shamir"
             print(say("needs.terminal", stream=stream, command=command), file=sys.stderr)
             sys.exit(2)
 
@@ -72,7 +72,7 @@ def prepare(screen: Screen, kind: str, forbidden: List[str]) -> None:
 
 def ask_task(screen: Screen) -> str:
     screen.clear(say("home.title"))
-    for number, (name, (key, _)) in enumerate(TASKS.items(), 1):
+    for number, (name, key) in enumerate(TASKS.items(), 1):
         screen.item(f"{say(key)} ({name}). {say(f'{key}.hint')}", f"{number}  ")
     screen.gap()
     screen.tell(say("names.sentence"))
@@ -81,11 +81,14 @@ def ask_task(screen: Screen) -> str:
 
 
 def run(screen: Screen, desk: Desk, task: Optional[str], plan: Optional[str]) -> None:
-    chosen = task or ask_task(screen)
-    if chosen == "new":
-        make_backup(screen, desk, plan)
-    else:
-        RUN[chosen](screen, desk)
+    """Runs a task. From its first question, the owner may go back to all tasks."""
+    while True:
+        chosen = task or ask_task(screen)
+        try:
+            return make_backup(screen, desk, plan) if chosen == "new" else RUN[chosen](screen, desk)
+        except Back:
+            desk.clear()
+            task = plan = None
 
 
 def end_by(number: int) -> NoReturn:
@@ -96,9 +99,11 @@ def end_by(number: int) -> NoReturn:
     os._exit(130)
 
 
-def told(text: str) -> None:
+def told(terminal: Terminal, text: str) -> None:
+    """Says how the program ended, where the terminal shows what was there before."""
+    rows = wrapped(text, max(1, terminal.size.columns - 1))
     try:
-        os.write(2, f"{text}\n".encode())
+        os.write(2, "".join(f"{row}\n" for row in rows).encode())
     except OSError:
         # The terminal is no longer there.
         pass
@@ -130,9 +135,9 @@ def main() -> None:
         terminal.close()
         desk.clear()
     if ended is not None:
-        told(say("ended.unfinished" if desk.is_unfinished else "ended"))
+        told(terminal, say("ended.unfinished" if desk.is_unfinished else "ended"))
         end_by(ended)
-    told(say("failed" if is_failed else "closed"))
+    told(terminal, say("failed" if is_failed else "closed"))
     # A thread that was stopped may still wait for the library.
     os._exit(1 if is_failed else 0)
 

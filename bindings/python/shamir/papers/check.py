@@ -8,7 +8,7 @@ from shamir.papers.questions import ask_noted, ask_passphrase
 from shamir.papers.screen import Screen
 from shamir.papers.texts import say
 
-NEXT = {"good": "good", "stopped": "again", "other": "again", "none": "again", "some": "papers", "several": "papers"}
+NEXT = {"good": "good", "same": "unnoted", "stopped": "again", "other": "again", "none": "again", "some": "papers", "several": "papers"}
 
 
 def check_papers(screen: Screen, desk: Desk) -> None:
@@ -46,15 +46,16 @@ def drill_with_passphrase(screen: Screen, desk: Desk, title: str) -> str:
 
 def _tell(screen: Screen, verdict: Verdict, noted: str) -> str:
     """Says what a drill found, and what to do. Returns what the owner wants then."""
-    is_good = verdict.result == "good"
-    screen.tell(say(f"check.done.{verdict.result}"), "strong")
+    # Without a noted fingerprint, no result is known to be good.
+    result = "same" if verdict.result == "good" and not noted else verdict.result
+    screen.tell(say(f"check.done.{result}"), "strong")
     for sentence in verdict.sentences:
-        screen.tell(sentence, "good" if is_good else "bad")
-    if not is_good:
-        screen.tell(say("check.none" if verdict.result == "other" else f"check.{verdict.result}"))
-    elif not noted and verdict.fingerprint:
+        screen.tell(sentence, {"good": "good", "same": ""}.get(result, "bad"))
+    if result == "same":
         screen.tell(say("noted.first"))
-    return ask_next(screen, NEXT[verdict.result])
+    elif result != "good":
+        screen.tell(say("check.none" if result == "other" else f"check.{result}"))
+    return ask_next(screen, NEXT[result])
 
 
 def ask_next(screen: Screen, likely: str) -> str:

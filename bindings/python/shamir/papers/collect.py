@@ -16,7 +16,6 @@ def collect(screen: Screen, desk: Desk, title: str, intro: str) -> None:
     """Lets the owner type papers, beside those that are here already, until Enter alone is typed."""
     screen.clear(title)
     screen.tell(intro)
-    screen.tell(say("entry.how"))
     entry = Entry(screen, len(desk.papers[0].words) if desk.papers else None)
     if desk.papers:
         screen.tell(f"{say('collect.found')}:")
@@ -24,6 +23,8 @@ def collect(screen: Screen, desk: Desk, title: str, intro: str) -> None:
             screen.item(say("collect.row.repaired" if here.is_repaired else "collect.row", name=here.name, words=len(here.words)))
         screen.tell(say("entry.drop", sign=DROP, name=desk.papers[0].name))
         show_status(screen, desk)
+    else:
+        screen.tell(say("entry.how"))
     while True:
         number = len(desk.papers) + 1
         marks = entry.read(say("entry.paper" if desk.papers else "entry.paper.first", number=number))

@@ -23,17 +23,40 @@ def wipe(buffer: bytearray) -> None:
     buffer[:] = bytes(len(buffer))
 
 
-class Line:
-    """A line that is being typed. `prompt` stands before it, and is shorter than a row of the terminal."""
+def first_key(terminal: Terminal) -> bytes:
+    """Waits for Enter, which gives nothing, or for a key that may begin an answer."""
+    while True:
+        key = terminal.key()
+        if key in ENTER:
+            return b""
+        if key == END_OF_INPUT:
+            raise Ended(signal.SIGINT)
+        if key == ESCAPE:
+            skip_sequence(terminal)
+        elif key >= SPACE and key not in BACKSPACE:
+            return bytes([key])
 
-    def __init__(self, terminal: Terminal, prompt: str, complete: Optional[Completer] = None, is_hidden: bool = False):
+
+def skip_sequence(terminal: Terminal) -> None:
+    """Skips what a key such as an arrow sends after an Escape."""
+    if not terminal.is_typed(0.05):
+        return
+    key = terminal.key()
+    while key in b"[O;0123456789" and terminal.is_typed(0.05):
+        key = terminal.key()
+
+
+class Line:
+    """A line that is being typed. `prompt` stands before it, and is shorter than a row of the terminal. `begun` was typed before."""
+
+    def __init__(self, terminal: Terminal, prompt: str, complete: Optional[Completer] = None, is_hidden: bool = False, begun: bytes = b""):
         self._terminal, self._prompt = terminal, prompt
         self._complete, self._is_hidden = complete, is_hidden
-        self._typed = bytearray()
+        self._typed = bytearray(begun)
 
     def read(self) -> bytearray:
         """Returns what is typed, without its end."""
-        self._terminal.write(self._prompt)
+        self._terminal.write(self._prompt + ("" if self._is_hidden else _shown(self._typed)))
         while True:
             key = self._terminal.key()
             if key in ENTER:
@@ -53,7 +76,7 @@ class Line:
         elif key == ERASE_WORD:
             self._shorten(self._typed.rstrip(b" ").rfind(b" ") + 1)
         elif key == ESCAPE:
-            self._skip_sequence()
+            skip_sequence(self._terminal)
         elif key == TAB:
             self._offer()
         elif key >= SPACE and len(self._typed) < LENGTH_MAX:
@@ -88,14 +111,6 @@ class Line:
             return
         up = (before - 1) // self._terminal.size.columns
         self._terminal.write("\r" + (f"\x1b[{up}A" if up else "") + "\x1b[J" + self._prompt + _shown(kept))
-
-    def _skip_sequence(self) -> None:
-        """Skips what a key such as an arrow sends after an Escape."""
-        if not self._terminal.is_typed(0.05):
-            return
-        key = self._terminal.key()
-        while key in b"[O;0123456789" and self._terminal.is_typed(0.05):
-            key = self._terminal.key()
 
     def _letters(self) -> str:
         """Returns the letters of the word that is being typed."""

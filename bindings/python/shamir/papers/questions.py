@@ -38,14 +38,14 @@ def ask_passphrase(screen: Screen) -> bytearray:
 
 
 def ask_new_passphrase(screen: Screen) -> bytearray:
-    """Asks for a passphrase twice, until both are the same, or until there is to be none."""
+    """Asks for a passphrase twice, until both are the same, or until there is to be none. Before that, the owner may go back."""
     screen.clear(say("make.passphrase"))
     screen.tell(say("passphrase.new"))
     screen.tell(say("passphrase.hint"))
     while True:
         first = _ask_right(screen, say("new.passphrase"))
         if not first:
-            if screen.agree(say("new.passphrase.none")):
+            if screen.agree(say("new.passphrase.none"), has_back=True):
                 return first
             continue
         again = screen.ask_hidden(say("new.passphrase.again"))

@@ -8,13 +8,13 @@ from shamir.papers.texts import counted, has_text, say
 
 
 def said_refusal(refusal: shamir.Refusal, task: str = "") -> str:
-    """Says a refusal in words, with the library's own number and text."""
+    """Says a refusal in words, with the number that it has in the manual."""
     code, (first, second) = int(refusal.code), refusal.details
-    if code == shamir.Code.UNDETERMINED:
-        return f"{_undetermined(first, second, task == 'only')} ({code})"
     name = f"refused.{code}{_form(refusal)}"
     key = next(key for key in (f"{task}.{name}", name, "refused.other") if has_text(key))
-    return f"{say(key, first=first, second=second)} ({code}: {refusal.text})"
+    is_undetermined = code == shamir.Code.UNDETERMINED
+    told = _undetermined(first, second, task == "only") if is_undetermined else say(key, first=first, second=second, text=refusal.text)
+    return say("refused.number", told=told, code=code)
 
 
 def _form(refusal: shamir.Refusal) -> str:

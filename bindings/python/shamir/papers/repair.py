@@ -59,5 +59,6 @@ def _tell(screen: Screen, fits: List[Paper], marks: List[str]) -> str:
     else:
         screen.tell(say("damaged.whole"))
     screen.tell(say("damaged.next"))
-    answers = {"": "again", "e": "end", **({"1": "0", "2": "1"} if is_two else {"w": "0"})}
+    # Enter alone is no answer, so that nothing that was found is lost by it.
+    answers = {**({"1": "0", "2": "1"} if is_two else {"w": "0"}), "t": "again", "e": "end"}
     return screen.choose(say("damaged.menu.two" if is_two else "damaged.menu"), answers)

@@ -1,7 +1,8 @@
 """The task 'replace': papers that were destroyed are computed from the others, written down, typed back and drilled."""
 from __future__ import annotations
 
-from typing import Dict, List, Optional, Tuple
+import re
+from typing import Dict, List, Optional, Set, Tuple
 
 import shamir
 from shamir.papers.check import drill_with_passphrase
@@ -9,11 +10,13 @@ from shamir.papers.collect import ask_for_more, collect
 from shamir.papers.desk import Desk, Paper
 from shamir.papers.plan import Group, Plan, said_takes
 from shamir.papers.refusals import said_refusal
-from shamir.papers.screen import Screen
+from shamir.papers.screen import Back, Screen
 from shamir.papers.shown import write_and_type_back
-from shamir.papers.texts import say
+from shamir.papers.texts import counted, say
 
 MEMBERS_MAX = 16
+# A group, or a paper of it.
+GROUP = re.compile(r"(\d+)(\.\d+)?")
 
 
 class Missing:
@@ -21,16 +24,17 @@ class Missing:
 
     def __init__(self) -> None:
         self.found: Dict[str, Paper] = {}
-        self.untold: List[Tuple[str, str]] = []
+        self.untold: Dict[str, List[str]] = {}
 
 
 def replace_paper(screen: Screen, desk: Desk) -> None:
+    """Replaces papers. The owner may go back to the tasks, or from the plan to the papers."""
     screen.clear(say("replace.title"))
     screen.tell(say("replace.why"))
     for number, key in enumerate(["destroyed", "other"], 1):
         screen.item(f"{say(f'replace.{key}')}. {say(f'replace.{key}.hint')}", f"{number}  ")
     screen.gap()
-    if screen.choose(say("replace.how"), {"1": False, "2": True}):
+    if screen.choose(say("replace.how"), {"1": False, "2": True}, has_back=True):
         _advise(screen)
         return
     while True:
@@ -40,7 +44,10 @@ def replace_paper(screen: Screen, desk: Desk) -> None:
             if not ask_for_more(screen, desk, say("replace.few"), told, False):
                 return
             continue
-        plan, missing = _plan_and_missing(screen, desk)
+        try:
+            plan, missing = _plan_and_missing(screen, desk)
+        except Back:
+            continue
         if not _write(screen, desk, plan, missing) and not _drill(screen, desk):
             return
 
@@ -62,57 +69,92 @@ def _advise(screen: Screen) -> None:
 
 
 def _plan_and_missing(screen: Screen, desk: Desk) -> Tuple[Plan, Missing]:
-    """Asks for the plan until the library takes it, and finds the missing papers."""
+    """Asks of which groups papers are to be written, and for as much of the plan as that takes, until the library takes it. Then finds
+    the missing papers of these groups."""
     screen.clear(say("replace.plan.title"))
-    screen.tell(say("replace.plan"))
-    screen.tell(say("replace.forgotten"))
+    count = desk.papers[0].group_count
+    wanted = _ask_wanted(screen, count) if count > 1 else {0}
+    if any(group.threshold > 1 and group.group in wanted for group in desk.status().groups):
+        screen.tell(say("replace.plan"))
+        screen.tell(say("replace.forgotten"))
     while True:
-        plan = _ask_plan(screen, desk)
+        plan = _ask_plan(screen, desk, wanted)
         try:
-            return plan, _missing(desk, plan)
+            return plan, _missing(desk, plan, wanted)
         except shamir.Refusal as refusal:
             screen.tell(said_refusal(refusal), "bad")
 
 
-def _ask_plan(screen: Screen, desk: Desk) -> Plan:
-    """Asks what only the owner knows: how many members each group has."""
+def _ask_wanted(screen: Screen, count: int) -> Set[int]:
+    """Asks for the groups whose papers are to be written. A paper's name stands for its group."""
+    screen.tell(say("replace.groups", groups=counted(count, "group")))
+    while True:
+        typed = screen.ask(say("replace.groups.ask"), has_back=True).replace(",", " ").split()
+        found = [GROUP.fullmatch(part) for part in typed]
+        wanted = {int(it[1]) for it in found if it and int(it[1]) < count}
+        if all(it and int(it[1]) < count for it in found):
+            return wanted or set(range(count))
+        screen.tell(say("replace.groups.wrong", last=count - 1), "bad")
+
+
+def _ask_plan(screen: Screen, desk: Desk, wanted: Set[int]) -> Plan:
+    """Asks what only the owner knows of the wanted groups."""
     paper, found = desk.papers[0], {group.group: group for group in desk.status().groups}
     groups: List[Group] = []
     for number in range(paper.group_count):
         group = found.get(number)
-        needed = group.threshold if group else _ask_needed(screen, number)
-        groups.append((needed, _ask_members(screen, number, needed, paper.group_count)))
+        groups.append(_ask_group(screen, number, group, paper.group_count == 1) if number in wanted else _unasked(group))
     return Plan(paper.group_threshold, tuple(groups))
 
 
-def _ask_members(screen: Screen, number: int, needed: int, count: int) -> int:
-    """Asks how many members a group has. The library takes no plan in which one of several members is needed."""
-    if needed == 1:
-        return 1
-    ask = say("replace.ask", needed=needed) if count == 1 else say("replace.ask.group", group=number, needed=needed)
-    return _ask_number(screen, ask)
+def _ask_group(screen: Screen, number: int, group: Optional[shamir.GroupStatus], is_only: bool) -> Group:
+    """Asks how many members a group has, and how many it needs if no paper of it is here. The library takes no plan in which one of
+    several members is needed."""
+    if group is None:
+        needed = _ask_needed(screen, number)
+        # If it needs more than one, the library determines none of its papers, however many there are.
+        return needed, needed
+    return group.threshold, 1 if group.threshold == 1 else _ask_members(screen, group, is_only)
+
+
+def _unasked(group: Optional[shamir.GroupStatus]) -> Group:
+    """Returns how many members a group needs and has, so that all papers fit of which some may be here."""
+    needed = group.threshold if group else 1
+    return needed, 1 if needed == 1 else MEMBERS_MAX
+
+
+def _ask_members(screen: Screen, group: shamir.GroupStatus, is_only: bool) -> int:
+    """Asks how many members a group has. It has at least those that are here."""
+    ask = say("replace.ask" if is_only else "replace.ask.group", group=group.group, needed=group.threshold)
+    last = max(int(name.split(".")[1]) for name in group.names)
+    while True:
+        members = _ask_number(screen, ask)
+        if members > last:
+            return members
+        key = "replace.members.few.only" if is_only else "replace.members.few"
+        screen.tell(say(key, name=f"{group.group}.{last}", group=group.group, papers=counted(last + 1, "paper")), "bad")
 
 
 def _ask_needed(screen: Screen, number: int) -> int:
     """Asks how many members a group needs of which no paper is here."""
-    screen.tell(say("replace.needed.hint"))
+    screen.tell(say("replace.needed.hint", group=number))
     return _ask_number(screen, say("replace.ask.needed", group=number))
 
 
 def _ask_number(screen: Screen, prompt: str) -> int:
     """Asks for a number from 1 to 16."""
     while True:
-        typed = screen.ask(prompt).strip()
+        typed = screen.ask(prompt, has_back=True).strip()
         if typed.isdecimal() and 1 <= int(typed) <= MEMBERS_MAX:
             return int(typed)
         screen.tell(say("replace.members.wrong"), "bad")
 
 
-def _missing(desk: Desk, plan: Plan) -> Missing:
-    """Asks the library for each missing paper. If none is missing, it asks for one that is here, since the library then says whether
-    the plan fits the papers."""
+def _missing(desk: Desk, plan: Plan, wanted: Set[int]) -> Missing:
+    """Asks the library for each missing paper of the wanted groups. If none is missing, it asks for one that is here, since the library
+    then says whether the plan fits the papers."""
     here = [paper.name for paper in desk.papers]
-    names = [name for name in plan.names if name not in here]
+    names = [name for name in plan.names if name not in here and int(name.split(".")[0]) in wanted]
     missing = Missing()
     for name in names or here[:1]:
         try:
@@ -121,7 +163,7 @@ def _missing(desk: Desk, plan: Plan) -> Missing:
             # Any other refusal is about the plan or the papers, so it is the same for each name.
             if refusal.code != shamir.Code.UNDETERMINED:
                 raise
-            missing.untold.append((name, said_refusal(refusal, "only" if len(plan.groups) == 1 else "")))
+            missing.untold.setdefault(said_refusal(refusal, "only" if len(plan.groups) == 1 else ""), []).append(name)
             continue
         if names:
             missing.found[name] = found
@@ -147,8 +189,8 @@ def _ask_which(screen: Screen, missing: Missing) -> str:
         screen.tell(say("replace.found", names=", ".join(missing.found)))
     else:
         screen.tell(say("replace.untold" if missing.untold else "replace.none"))
-    for name, text in missing.untold:
-        screen.item(f"{name}: {text}")
+    for text, names in missing.untold.items():
+        screen.item(f"{', '.join(names)}: {text}")
     if missing.untold:
         screen.gap()
     answers = [(name, say("replace.menu.write", name=name)) for name in missing.found]
@@ -157,7 +199,8 @@ def _ask_which(screen: Screen, missing: Missing) -> str:
     for number, (_, label) in enumerate(answers, 1):
         screen.item(label, f"{number:>2}  ")
     screen.gap()
-    return screen.choose(say("replace.choose"), {str(number): key for number, (key, _) in enumerate(answers, 1)}, _likely(answers))
+    chosen = {**{str(number): key for number, (key, _) in enumerate(answers, 1)}, **{name: name for name in missing.found}}
+    return screen.choose(say("replace.choose"), chosen, _likely(answers))
 
 
 def _likely(answers: List[Tuple[str, str]]) -> Optional[str]:

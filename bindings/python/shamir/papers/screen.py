@@ -10,7 +10,7 @@ import threading
 import time
 from typing import Callable, Dict, Generic, Iterable, List, Optional, Sequence, TypeVar
 
-from shamir.papers.line import Completer, Line
+from shamir.papers.line import Completer, Line, first_key, wipe
 from shamir.papers.terminal import Terminal
 from shamir.papers.texts import said_time, say
 
@@ -22,14 +22,21 @@ COLUMNS_MAX = 4
 STACK_BYTES = 1 << 20
 # From this time on, the screen shows how long a work takes already.
 SHOWN_AFTER = 1.0
+# Where a question says so, this answer goes back to the question before.
+BACK = "b"
 
 
-def _wrapped(text: str, width: int) -> List[str]:
+def wrapped(text: str, width: int) -> List[str]:
+    """Returns the rows of a paragraph."""
     return textwrap.wrap(text, width, break_on_hyphens=False)
 
 
 class Stopped(Exception):
     """The owner stopped a work."""
+
+
+class Back(Exception):
+    """The owner goes back to the question before."""
 
 
 class Screen:
@@ -38,6 +45,8 @@ class Screen:
         self._is_coloured = not terminal.is_plain and not os.environ.get("NO_COLOR")
         self._rows = 0
         self._notice = ""
+        # What was typed where the screen was full: the begin of the next answer.
+        self._begun = bytearray()
 
     @property
     def _width(self) -> int:
@@ -61,12 +70,12 @@ class Screen:
 
     def tell(self, text: str, style: str = "") -> None:
         """Shows a paragraph, and an empty line after it."""
-        self.rows(_wrapped(text, self._width), style)
+        self.rows(wrapped(text, self._width), style)
         self.gap()
 
     def item(self, text: str, mark: str = "- ") -> None:
         """Shows a paragraph that stands behind a mark."""
-        first, *others = _wrapped(text, self._width - len(mark)) or [""]
+        first, *others = wrapped(text, self._width - len(mark)) or [""]
         self.rows([mark + first, *(" " * len(mark) + row for row in others)])
 
     def rows(self, rows: Iterable[str], style: str = "") -> None:
@@ -99,45 +108,60 @@ class Screen:
         self.rows(" ".join(parts[at : at + columns]) for at in range(0, len(parts), columns))
         self.gap()
 
-    def ask(self, prompt: str, complete: Optional[Completer] = None) -> str:
-        """Asks, and returns what is typed."""
-        return self._read(prompt, complete, False).decode("utf-8", "replace")
+    def ask(self, prompt: str, complete: Optional[Completer] = None, has_back: bool = False) -> str:
+        """Asks, and returns what is typed. `has_back` says that the owner may go back instead."""
+        typed = self._read(prompt, complete, False).decode("utf-8", "replace")
+        if has_back and typed.strip().lower() == BACK:
+            raise Back
+        return typed
 
-    def ask_hidden(self, prompt: str) -> bytearray:
+    def ask_hidden(self, prompt: str, has_back: bool = False) -> bytearray:
         """Asks, and returns what is typed. The screen shows nothing of it."""
-        return self._read(prompt, None, True)
+        typed = self._read(prompt, None, True)
+        if has_back and typed.strip().lower() == BACK.encode():
+            raise Back
+        return typed
 
     def _read(self, prompt: str, complete: Optional[Completer], is_hidden: bool) -> bytearray:
-        *above, last = _wrapped(prompt, self._width - 1) or [""]
+        *above, last = wrapped(prompt, self._width - 1) or [""]
         self.rows(above)
-        typed = Line(self._terminal, last + " ", complete, is_hidden).read()
+        begun, self._begun = self._begun, bytearray()
+        typed = Line(self._terminal, last + " ", complete, is_hidden, begun).read()
         self._rows = 0
         return typed
 
-    def choose(self, prompt: str, answers: Dict[str, T], default: Optional[str] = None) -> T:
+    def choose(self, prompt: str, answers: Dict[str, T], default: Optional[str] = None, has_back: bool = False) -> T:
         """Asks until one of the answers is given, or none if there is a default."""
         while True:
-            typed = self.ask(prompt).strip().lower() or default or ""
+            typed = self.ask(prompt, has_back=has_back).strip().lower() or default or ""
             if typed in answers:
                 return answers[typed]
-            self.tell(say("screen.answers", answers=", ".join(key or "Enter" for key in answers)), "bad")
+            told = [key or "Enter" for key in answers] + [BACK] * has_back
+            self.tell(say("screen.answers", answers=", ".join(told)), "bad")
 
-    def agree(self, prompt: str) -> bool:
+    def agree(self, prompt: str, has_back: bool = False) -> bool:
         """Asks for yes or no, until one of them is given."""
-        return self.choose(f"{prompt} (y/n)", {"y": True, "yes": True, "n": False, "no": False})
+        how = say("screen.yes.back" if has_back else "screen.yes")
+        return self.choose(f"{prompt} {how}", {"y": True, "yes": True, "n": False, "no": False}, has_back=has_back)
 
     def pause(self, prompt: str) -> None:
         """Waits for Enter. What was typed before doesn't count."""
-        self._terminal.drop_typed()
+        self.drop_typed()
         self._read(prompt, None, True)
 
     def _more(self) -> None:
-        """Waits until the owner has read what is shown, and takes the question for that away."""
-        self.pause(say("screen.more"))
-        if not self._terminal.is_plain:
-            self._terminal.write("\x1b[1A\x1b[J")
+        """Waits until the owner has read what is shown, and takes the question for that away. A key other than Enter goes on too, and
+        is the first one of the answer to the question that follows."""
+        self._terminal.drop_typed()
+        self._terminal.write(say("screen.more") + " ")
+        self._begun += first_key(self._terminal)
+        self._terminal.write("\n" if self._terminal.is_plain else "\r\x1b[J")
+        self._rows = 0
 
     def drop_typed(self) -> None:
+        """Drops what was typed and not read, such as the rest of a paste that the owner doesn't see."""
+        wipe(self._begun)
+        self._begun = bytearray()
         self._terminal.drop_typed()
 
     def work(self, call: Callable[[], T], progress: Callable[[], str] = lambda: "", is_stoppable: bool = False) -> T:
@@ -147,7 +171,7 @@ class Screen:
         """
         work: Work[T] = Work(call)
         begun, told = time.monotonic(), 0
-        self._terminal.drop_typed()
+        self.drop_typed()
         while not work.ended.wait(0.05):
             passed = time.monotonic() - begun
             if is_stoppable and self._terminal.is_typed(0) and self._terminal.key() in b"\r\n":

@@ -3,7 +3,7 @@ from __future__ import annotations
 
 import difflib
 import re
-from typing import List, Optional, Sequence, Tuple
+from typing import Iterator, List, Optional, Sequence, Tuple
 
 # A BIP-39 backup most often has one of these numbers of words.
 BIP39_COUNTS = (12, 24)
@@ -12,29 +12,73 @@ NEAREST_MAX = 3
 LIKENESS = 0.6
 DROP = "-"
 TAKEN_OUT = re.compile(r"-\s*(\d+\.\d+)")
+# What stands above the words of a paper. 'paper' is a word of the list too.
+HEADING = re.compile(r"slip-?0*39|paper\s+\d+\.\d+")
+# No paper has more words.
+MOST = 110
+
+# The number that stands before a word, or None, and the word, or a mark with a question mark.
+Part = Tuple[Optional[int], str]
+
+
+class Misplaced(Exception):
+    """A number before a word can't be obeyed: two words have it, or no word of a paper."""
+
+    def __init__(self, number: int):
+        super().__init__(number)
+        self.number, self.is_twice = number, 1 <= number <= MOST
+
+
+def parts_of(text: str) -> List[Part]:
+    """Returns the words of a text in small letters, and the marks with a question mark, each with the number before it. A heading is
+    left out."""
+    return list(_parts(re.split(r"[^\w?]+", HEADING.sub(" ", text.lower()))))
+
+
+def _parts(pieces: Sequence[str]) -> Iterator[Part]:
+    number: Optional[int] = None
+    for piece in pieces:
+        word = piece.lstrip("0123456789_")
+        digits = piece[: len(piece) - len(word)].replace("_", "")
+        number = int(digits) if digits else number
+        if word:
+            yield number, re.sub(r"\?+$", "?", word)
+            number = None
 
 
 def marks_of(text: str) -> List[str]:
-    """Returns the words of a text, in small letters, and the marks with a question mark. Numbers before words are left out."""
-    parts = (re.sub(r"^[\d_]+", "", part) for part in re.split(r"[^\w?]+", text.lower()))
-    return [re.sub(r"\?+$", "?", part) for part in parts if part]
+    """Returns the words and marks of a text, without the numbers before them."""
+    return [mark for _, mark in parts_of(text)]
+
+
+def placed(marks: Sequence[str], parts: Sequence[Part]) -> List[str]:
+    """Returns marks with further ones at the places that their numbers name. An empty text stands at a place that is still empty. A
+    mark without a number comes after the one before it, and the first of all to the first empty place."""
+    found = {number: mark for number, mark in enumerate(marks, 1) if mark}
+    number = next(at for at in range(len(found) + 1) if at + 1 not in found)
+    for given, mark in parts:
+        number = number + 1 if given is None else given
+        if number in found or (given is not None and not 1 <= given <= MOST):
+            raise Misplaced(number)
+        found[number] = mark
+    return [found.get(at, "") for at in range(1, max(found, default=0) + 1)]
+
+
+def said_empty(marks: Sequence[str]) -> str:
+    """Returns the numbers of the places that are still empty, such as '2 to 5, 7'."""
+    runs: List[List[int]] = []
+    for number in (at for at, mark in enumerate(marks, 1) if not mark):
+        if runs and runs[-1][-1] == number - 1:
+            runs[-1].append(number)
+        else:
+            runs.append([number])
+    return ", ".join(str(run[0]) if len(run) == 1 else f"{run[0]}, {run[1]}" if len(run) == 2 else f"{run[0]} to {run[-1]}" for run in runs)
 
 
 def taken_out(text: str) -> Optional[str]:
     """Returns the name of the paper that a text such as '-0.1' takes out, or None."""
     found = TAKEN_OUT.fullmatch(text.strip())
     return found[1] if found else None
-
-
-def numbered_of(text: str) -> Optional[List[Tuple[int, str]]]:
-    """Returns pairs of a number and a word, such as those of '7 shadow, 9. acid'. If the text has another form, it returns None."""
-    parts = re.findall(r"\d+|[^\W\d_]+\??|\?", text.lower())
-    if not parts or len(parts) % 2:
-        return None
-    pairs = list(zip(parts[::2], parts[1::2]))
-    if not all(number.isdigit() and not word.isdigit() for number, word in pairs):
-        return None
-    return [(int(number), word) for number, word in pairs]
 
 
 def beginning(words: Sequence[str], letters: str) -> List[str]:

@@ -12,6 +12,8 @@ Value = Union[str, int]
 HERE = pathlib.Path(__file__).resolve().parent
 # A wheel and a package have a copy of the page's table beside this module. In a checkout, the table stands in the page's folder.
 TABLES = [HERE / "texts.js", HERE.parents[3] / "page" / "texts.js"]
+# The tasks: the word of the command for each, and the key of what it is called.
+TASKS = {"new": "home.make", "check": "home.check", "recover": "home.recover", "replace": "home.replace", "repair": "home.damaged"}
 
 
 def _page() -> Dict[str, str]:
@@ -19,8 +21,15 @@ def _page() -> Dict[str, str]:
     source = next(path for path in TABLES if path.exists()).read_text("utf-8")
     begin, end = source.index("{\n", source.index("export const TEXTS")), source.index("\n};") + 2
     table: Dict[str, str] = json.loads(source[begin:end])
-    # What the page says of itself is true of this program too.
-    return {key: re.sub(r"\b([Tt]he|[Tt]his) page\b", r"\1 program", text) for key, text in table.items()}
+    named = {f"'{table[key]}'": task for task, key in TASKS.items()}
+    return {key: _of_terminal(text, named) for key, text in table.items()}
+
+
+def _of_terminal(text: str, named: Dict[str, str]) -> str:
+    """Returns a sentence of the page as a terminal says it: what the page says of itself is true of this program too, and a task is
+    named as the menu names it, with the word of its command."""
+    text = re.sub(r"\b([Tt]he|[Tt]his) page\b", r"\1 program", text).replace(" on the first screen", "")
+    return re.sub("|".join(map(re.escape, named)), lambda found: f"{found[0]} ({named[found[0]]})", text)
 
 
 # What a terminal says in other words than the page, or what only a terminal says.
@@ -29,6 +38,8 @@ OWN: Dict[str, str] = {
     "home.choose": "Number or word (Ctrl-C ends):",
     "screen.more": "(Enter: more)",
     "screen.answers": "Type one of these: {answers}.",
+    "screen.yes": "(y/n)",
+    "screen.yes.back": "(y/n; b: back)",
     "screen.next": "Enter: go on",
     "screen.end": "Enter: end",
     "work.passed": "{time} so far.",
@@ -52,12 +63,11 @@ OWN: Dict[str, str] = {
     "safety.core": "The system doesn't let this program forbid a copy of its memory on disk if it fails.",
     "safety.seen": "Make sure that nobody sees the screen, and that no camera does.",
     "safety.go": "Enter: go on. Ctrl-C: end, now and at any time.",
-    "new.plan.choose": "1, 2 or 3, or a plan:",
+    "new.plan.choose": "1, 2 or 3, or a plan (b: back):",
     "new.plan.other": "Another plan: for one group, type TofN, such as 2of3. For groups, type how many of them are needed, a slash, and the groups, such as 2/3of5,1of1.",
-    "new.secret": "1, 2 or 3 (Enter alone: 1), or m for more choices:",
-    "new.secret.digits": "The digits of the secret (they don't show):",
+    "new.secret": "1, 2 or 3 (Enter alone: 1), or m for more choices (b: back):",
+    "new.secret.digits": "The digits of the secret (they don't show; b: back):",
     "new.secret.again": "The same digits again:",
-    "new.secret.differ": "The digits differ. Type them twice, the same both times.",
     "new.secret.count": "You typed {digits} digits, for {bytes} bytes.",
     "make.passphrase": "Make a backup: the passphrase",
     "new.chosen": "Extendable flag: {flag}. Iteration exponent: {exponent}.",
@@ -81,9 +91,16 @@ OWN: Dict[str, str] = {
     "entry.how.whole": "Type the words in their order, in one line or several. Four letters of a word are enough, and Tab completes a word.",
     "entry.paper": "Paper {number} (Enter alone: no more):",
     "entry.paper.first": "Paper 1:",
-    "entry.on": "Word {number} and on ({sign} alone: begin this paper again):",
-    "entry.count": "That is {count} so far, and no paper has so many. Type the words that follow, or {sign} alone to begin this paper again.",
-    "entry.count.other": "Your other papers have {wanted}. You typed {count}: a word was left out or typed twice, or two papers were typed as one. Type this paper again.",
+    "entry.on": "{typed} Word {number} and on ({sign} alone: begin this paper again):",
+    "entry.count.wanted": "Typed: {count} of {words}, so {missing}.",
+    "entry.count.few": "Typed: {count}. Most papers have {few} or {many} words, so {missing}, or {others}.",
+    "entry.count.between": "Typed: {count}. Most papers have {few} or {many} words, so {excess}, or {missing}.",
+    "entry.count.beyond": "Typed: {count}. Most papers have {few} or {many} words, so {excess}.",
+    "entry.count.over": "Typed: {count}. Each paper of this backup has {words}, so {excess}: perhaps a word was typed twice, or two papers were typed as one. Type this paper again.",
+    "entry.compare": "Compare them with your paper. If they aren't its words, type {sign} alone, and begin this paper again.",
+    "entry.gap": "Typed: {count}. Up to number {last}, these are missing: {numbers}. Type them with their numbers ({sign} alone: begin this paper again):",
+    "entry.twice": "Two words have the number {number}. Look at the numbers, and type this paper again.",
+    "entry.beyond": "No word of a paper has the number {number}. Look at the numbers, and type this paper again.",
     "entry.unknown": "Word {number}, {word}, isn't in the word list{nearest}.",
     "entry.several": "Word {number}, {word}, isn't complete. Some of the words that begin so: {nearest}.",
     "entry.mark": "Word {number}, {word}, stands for no word of the list. The question mark comes last. If you can't read the beginning, type ? alone.",
@@ -103,6 +120,10 @@ OWN: Dict[str, str] = {
     "collect.dropped": "Paper {name} is taken out.",
     "word.one": "1 word",
     "word.many": "{n} words",
+    "missing.one": "1 word is missing",
+    "missing.many": "{n} words are missing",
+    "excess.one": "1 word is too many",
+    "excess.many": "{n} words are too many",
     "status.line": "{group}. {told}",
     "verdict.wrong": "These quorums don't give it: {names}.",
     "verdict.wrong.more": "These quorums don't give it, and {more} more: {names}.",
@@ -114,28 +135,26 @@ OWN: Dict[str, str] = {
     "next.again": "Enter: try again with the same papers. p: go back to the papers. e: end.",
     "next.papers": "Enter: go back to the papers. t: try again with the same papers. e: end.",
     "more.papers": "Enter: type more papers. e: end.",
-    "check.some": "Throw no paper away yet. Go back to the papers, take out one that may be wrong, compare it with its words, and type it again. If it stays wrong, 'shamir-papers replace' can write the right one, from the papers that are right.",
     "make.failed.again": "Enter: start the drill again. e: end.",
     "recover.show": "Show the secret?",
     "recover.clear": "Enter: clear the digits",
-    "replace.choose": "A number:",
-    "replace.how": "1 or 2:",
-    "replace.destroyed.hint": "The program writes the same words again. If only some words can't be read, first try 'shamir-papers repair', which needs no other papers.",
-    "replace.new.recover": "Run 'shamir-papers recover', and write down the digits of your secret and its fingerprint.",
-    "replace.new.make": "Run 'shamir-papers new', and choose 'A secret that I already have'. The lost paper doesn't work together with the new papers.",
-    "replace.ask": "This backup needs {needed} papers. How many papers has it (1 to 16)?",
-    "replace.ask.group": "Group {group} needs {needed} papers. How many papers has it (1 to 16)?",
-    "replace.ask.needed": "Group {group}: how many papers are needed (1 to 16)?",
+    "replace.choose": "A number, or a paper's name:",
+    "replace.how": "1 or 2 (b: back):",
+    "replace.groups": "This backup has {groups}. Of which of them do you want to write papers again? The program asks only how many papers these have.",
+    "replace.groups.ask": "Groups, such as 0 or 0 2 (Enter alone: all; b: back):",
+    "replace.groups.wrong": "Type the numbers of groups, from 0 to {last}, or the names of papers.",
+    "replace.ask": "This backup needs {needed} papers. How many papers does it have (1 to 16; b: back)?",
+    "replace.ask.group": "Group {group} needs {needed} papers. How many papers does it have (1 to 16; b: back)?",
+    "replace.ask.needed": "Group {group}: how many papers are needed (1 to 16; b: back)?",
     "replace.menu.write": "Write paper {name}",
     "replace.menu.papers": "Type more papers",
     "replace.menu.drill": "Go on to the drill",
     "damaged.intro": "Type the words that you can read. You may leave up to three words open. A question mark stands for what you can't read.",
     "damaged.found": "What was found:",
     "damaged.ask": "The damaged paper:",
-    "damaged.menu": "w: write the paper anew. Enter: type it again. e: end.",
-    "damaged.menu.two": "1 or 2: write this paper anew. Enter: type it again. e: end.",
+    "damaged.menu": "w: write it anew. t: drop these words, and type it again. e: end.",
+    "damaged.menu.two": "1 or 2: write it anew. t: drop these words, and type it again. e: end.",
     "damaged.refused.13": "At least two words are wrong, or two changed places, so the program can't find the place. Look at each word on the paper again. For a word that you aren't sure of, type ? or its first letters and ?.",
-    "damaged.refused.16": "{first} words are open, and at most three can be found. If you can read the first letters of one, type them: four letters make a word. Your other papers may be enough without this one. 'shamir-papers check' shows that, and 'shamir-papers replace' may write it again.",
     "refused.13": "The words don't belong together, and more than one of them is wrong, or two changed places. Compare each word with your paper. If some words can't be read well, type ? for them.",
 }
 TABLE = {**_page(), **OWN}

@@ -1,0 +1,295 @@
+-- What is said on standard error, from what the parts say.
+use Rattle.std.proofs.Common.{◌≡◌, ◌⊎◌, ◌≤◌, ◌∙◌, ◌++◌, ⊎_elim, ℕ, All, Bool, Bor, true, false, List, [], Option, Result, Ok, Err, ap, arith, inl, inr, length, refl, subst, sym, true≢false}
+use Rattle.std.proofs.KnownBytes.{Appends-nil, Appends-trans}
+use Rattle.clap.specs.Words.{Text, fault_of, takes}
+use Rattle.s39_kdf.specs.Limits.{IsPrintable}
+use Rattle.s39_words.specs.declared.ShareFields.{ShareFields}
+use Rattle.s39_input.specs.declared.fault.Refusal.{Refusal}
+use Rattle.s39_input.specs.declared.fault.Refusal.TheVariants.{Device}
+use Rattle.s39_input.specs.declared.fault.Fault.{Fault}
+use Rattle.s39_input.specs.Accepted.{IsCheckedSet}
+use Rattle.s39_input.specs.Input.{Input, whole}
+use Rattle.s39_input.specs.Steps.{Then, gives, refuses, nothing_for}
+use Rattle.s39_input.proofs.Sets.Checked.{printable_of_checked}
+use Rattle.s39_command.specs.declared.command.BadValues.{BadValues}
+use Rattle.s39_command.specs.declared.command.Call.{Call}
+use Rattle.s39_command.specs.declared.command.Job.{Job}
+use Rattle.s39_command.specs.declared.command.Job.TheVariants as job
+use Rattle.s39_command.specs.declared.command.NoJob.{NoJob}
+use Rattle.s39_command.specs.declared.command.NoJob.TheVariants.{Help, Refused, Values, Memory}
+use Rattle.s39_command.specs.Command.{AnswersWords, GivesCall, shamir_app}
+use Rattle.s39_command.proofs.Jobs.{asks_none}
+use Rattle.s39_cli.specs.declared.messages.Messages.{Messages}
+use Rattle.s39_cli.specs.declared.runner.Destination.{Destination}
+use Rattle.s39_cli.specs.declared.runner.Ended.{Ended}
+use Rattle.s39_cli.specs.declared.runner.Ended.TheVariants.{With, NoMemory}
+use Rattle.s39_cli.specs.declared.runner.Source.{Source}
+use Rattle.s39_cli.specs.declared.runner.Source.TheVariants as read_at
+use Rattle.s39_cli.specs.declared.work.Unready.{Unready}
+use Rattle.s39_cli.specs.declared.work.Unready.TheVariants as unready
+use Rattle.s39_cli.specs.declared.work.Work.{Work}
+use Rattle.s39_cli.specs.declared.work.Work.TheVariants as work
+use Rattle.s39_reading.specs.Recover.{WritesSecret}
+use Rattle.s39_drilling.specs.Drill.{WritesDrillOf}
+use Rattle.s39_cli.specs.Ending.{Delivers, HasStatus, IsTyped}
+use Rattle.s39_cli.specs.Values.{IsFilledBy}
+use Rattle.s39_cli.specs.Outcome.{IsReady, judged, status_of, status_of_refusal, where_done, without_mismatches}
+use Rattle.s39_cli.specs.Said.{IsSaid, IsSaidAs, IsSaidBy, IsSaidOfCall, IsSaidOfJob, IsSaidUnbegun, IsSaidWithoutJob, IsWithin, OnStatus}
+use Rattle.s39_cli.specs.Said.{Says, SaysAnswer, SaysMessage, longest_message, memory_line}
+use Rattle.s39_cli.specs.Said.{bare_line, is_terminal, line_if, shown_line, tells_of_none, typed_line, types_mnemonics, types_passphrase, typing_line}
+use Rattle.s39_cli.specs.Work.{HasBadPassphrase, IsWorkOutput}
+
+-- ---- exit statuses
+
+-- no refusal ends with exit status 0
+refusal_some : (refusal : Refusal) → status_of_refusal refusal ≡ 0 → ⊥
+refusal_some (Device failure) none = omega (arith, none)
+refusal_some _ none = omega (arith, none)
+
+-- ---- what is done with exit status 0 has a printable passphrase
+
+written_printable : {T : Type 0} (passphrase : List ℕ) (input : Input) (Next : List ShareFields → List ℕ × Result T Fault → Type 0) (text : List ℕ) (t : T)
+    → Then (IsCheckedSet passphrase input) nothing_for Next (text, Ok t) → All IsPrintable passphrase
+written_printable passphrase input Next text t (gives set checked next) = printable_of_checked passphrase input set checked
+written_printable {T} passphrase input Next text t (refuses fault checked same) =
+    let bad = ap (λ (w : List ℕ × Result T Fault). w.1) same in absurd (cc)
+
+sound_if_done : {T : Type 0} (is_well : T → Bool) (passphrase : List ℕ) (input : Input) (Next : List ShareFields → List ℕ × Result T Fault → Type 0)
+    (text : List ℕ) (found : Result T Fault) (answer : Result Bool Fault) → Then (IsCheckedSet passphrase input) nothing_for Next (text, found)
+    → answer ≡ judged is_well found → status_of answer ≡ 0 → ¬ All IsPrintable passphrase → ⊥
+sound_if_done is_well passphrase input Next text (Ok t) answer output same none bad = bad (written_printable passphrase input Next text t output)
+sound_if_done is_well passphrase input Next text (Err fault) answer output same none bad =
+    refusal_some fault.refusal (sym (ap status_of same) ∙ none)
+
+work_sound : (w : Work) (input : Input) (text : List ℕ) (answer : Result Bool Fault) → IsWorkOutput w input text answer → status_of answer ≡ 0
+    → HasBadPassphrase w → ⊥
+work_sound work.Show input text answer output none bad = bad
+work_sound (work.Create creation) input text answer output none bad = bad
+work_sound (work.Recover passphrase form expected) input text answer output none bad =
+    sound_if_done where_done passphrase.now input (WritesSecret form expected passphrase.now) text output.0 answer output.1 output.2 none bad
+work_sound (work.Drill drill) input text answer output none bad =
+    sound_if_done without_mismatches drill.passphrase.now input (WritesDrillOf drill.form drill.passphrase.now drill.after drill.limit) text output.0 answer
+    output.1 output.2 none bad
+work_sound work.Status input text answer output none bad = bad
+work_sound (work.Reissue reissue) input text answer output none bad = bad
+work_sound work.Repair input text answer output none bad = bad
+
+-- ---- the lines
+
+bare_short : (tells : Bool) → length (line_if tells bare_line) ≤ longest_message
+bare_short true = let is : length bare_line ≡ 76 = refl in omega (arith, is)
+bare_short false = omega arith
+
+-- only at a terminal something is typed
+typed_passphrase : (from : Source) (file : Option (Bor Text)) → types_passphrase from file ≡ true → is_terminal from ≡ true
+typed_passphrase read_at.Terminal file types = refl
+typed_passphrase read_at.Elsewhere file types = types
+
+typed_mnemonics : (from : Source) (j : Job) → types_mnemonics from j ≡ true → is_terminal from ≡ true
+typed_mnemonics read_at.Terminal j types = refl
+typed_mnemonics read_at.Elsewhere j types = types
+
+-- of a job that reads mnemonics, the texts that have to be right are those of the words
+unfilled_ready : (from : Source) (secret passphrase : Option (List ℕ)) (j filled : Job) → IsFilledBy secret passphrase j filled
+    → types_mnemonics from j ≡ true → IsReady filled → IsReady j
+unfilled_ready from secret passphrase job.Show filled is types ready = tt
+unfilled_ready read_at.Terminal secret passphrase (job.Create plan s p e x) filled is types ready = absurd (true≢false (sym types))
+unfilled_ready read_at.Elsewhere secret passphrase (job.Create plan s p e x) filled is types ready = absurd (true≢false (sym types))
+unfilled_ready from secret passphrase (job.Recover own form expected) filled is types ready = subst IsReady is.1 ready
+unfilled_ready from secret passphrase (job.Drill own after limit form expected) filled is types ready = subst IsReady is.1 ready
+unfilled_ready from secret passphrase job.Status filled is types ready = tt
+unfilled_ready from secret passphrase (job.Reissue plan names) filled is types ready = subst IsReady is ready
+unfilled_ready from secret passphrase job.Repair filled is types ready = tt
+
+-- ---- texts one after another
+
+module _ {E : Type 0} (contents : E → Option (List ℕ)) where
+  pub says_nothing : (m : Messages E) → Says contents m m []
+  says_nothing m whole = (whole, Appends-nil (contents m.device))
+
+  pub says_both : (a b c : Messages E) (first second : Text) → Says contents a b first → Says contents b c second → Says contents a c (first ++ second)
+  says_both a b c first second one other whole =
+      let more = other whole in
+      let before = one more.0 in
+      (before.0, Appends-trans (contents a.device) (contents b.device) (contents c.device) first second before.1 more.1)
+
+  -- ---- a job
+
+  -- an answer with exit status 0 is no fault
+  says_well : (answer : Result Bool Fault) (tells : Bool) (old new : Messages E) → status_of answer ≡ 0 → SaysAnswer contents answer tells old new
+      → Says contents old new (line_if tells bare_line)
+  says_well (Ok is_well) tells old new none says = says
+  says_well (Err fault) tells old new none says = absurd (refusal_some fault.refusal none)
+
+  -- what is said of an answer is short
+  says_shortly : (answer : Result Bool Fault) (tells : Bool) (old new : Messages E) → SaysAnswer contents answer tells old new
+      → (text : Text) × (length text ≤ longest_message) × Says contents old new text
+  says_shortly (Ok is_well) tells old new says = (line_if tells bare_line, bare_short tells, says)
+  says_shortly (Err fault) tells old new says = says
+
+  -- a run that gave this answer
+  pub said_by_run : (j : Job) (types tells asks : Bool) (w : Work) (answer : Result Bool Fault) (old mid new : Messages E)
+      → IsReady j → (asks ≡ types) ⊎ ((asks ≡ false) × HasBadPassphrase w)
+      → (status_of answer ≡ 0 → (input : Input) × (text : List ℕ) × HasStatus (IsWorkOutput w) input text (status_of answer))
+      → Says contents old mid (line_if asks typing_line) → SaysAnswer contents answer tells mid new
+      → IsSaidBy contents j types tells old new (status_of answer)
+  said_by_run j types tells asks w answer old mid new ready asked output first second = record {
+    done = λ none. says_both old mid new (line_if types typing_line) (line_if tells bare_line)
+        (subst (λ (b : Bool). Says contents old mid (line_if b typing_line)) (asks_all asked none) first) (says_well answer tells mid new none second);
+    refused = λ one.
+        let short = says_shortly answer tells mid new second in
+        (asks, short.0, within asked, short.1, (λ comes. ready), says_both old mid new (line_if asks typing_line) short.0 first short.2);
+  }
+    where
+      within : (asks ≡ types) ⊎ ((asks ≡ false) × HasBadPassphrase w) → IsWithin asks types
+      within (inl same) comes = sym same ∙ comes
+      within (inr bad) comes = absurd (true≢false (sym comes ∙ bad.0))
+
+      asks_all : (asks ≡ types) ⊎ ((asks ≡ false) × HasBadPassphrase w) → status_of answer ≡ 0 → asks ≡ types
+      asks_all (inl same) none = same
+      asks_all (inr bad) none =
+          let is = output none in
+          absurd (work_sound w is.0 is.1 is.2.0 is.2.1 (sym is.2.2 ∙ none) bad.1)
+
+  -- a run whose devices are known
+  pub said_by_work : {R W : Type 0} (remaining : R → Option (List ℕ)) (held : W → Option (List ℕ)) (j : Job) (types tells asks : Bool) (w : Work)
+      (answer : Result Bool Fault) (reader read_to : R) (writer written_to : W) (ended : Ended R W) (old mid new : Messages E)
+      → IsReady j → (asks ≡ types) ⊎ ((asks ≡ false) × HasBadPassphrase w)
+      → Delivers remaining held (HasStatus (IsWorkOutput w)) reader writer (status_of answer) read_to written_to
+      → Says contents old mid (line_if asks typing_line) → SaysAnswer contents answer tells mid new
+      → ended ≡ With (status_of answer) read_to written_to → IsSaidOfJob contents j types tells old new ended
+  said_by_work remaining held j types tells asks w answer reader read_to writer written_to ended old mid new ready asked delivers first second same =
+      subst (IsSaidOfJob contents j types tells old new) (sym same) (said_by_run j types tells asks w answer old mid new ready asked output first second)
+    where
+      output : status_of answer ≡ 0 → (input : Input) × (text : List ℕ) × HasStatus (IsWorkOutput w) input text (status_of answer)
+      output none =
+          let done = delivers.done (λ three. omega (arith, none, three)) in
+          (whole done.0, done.2.0, done.2.1)
+
+  -- no memory is left after the first lines
+  pub said_for_memory : {R W : Type 0} (j : Job) (types tells asks : Bool) (w : Work) (ended : Ended R W) (old mid new : Messages E)
+      → (asks ≡ types) ⊎ ((asks ≡ false) × HasBadPassphrase w)
+      → Says contents old mid (line_if asks typing_line) → Says contents mid new memory_line → ended ≡ NoMemory
+      → IsSaidOfJob contents j types tells old new ended
+  said_for_memory j types tells asks w ended old mid new asked first second same =
+      subst (IsSaidOfJob contents j types tells old new) (sym same)
+      (asks, within asked, says_both old mid new (line_if asks typing_line) memory_line first second)
+    where
+      within : (asks ≡ types) ⊎ ((asks ≡ false) × HasBadPassphrase w) → IsWithin asks types
+      within (inl yes_is) comes = sym yes_is ∙ comes
+      within (inr bad) comes = absurd (true≢false (sym comes ∙ bad.0))
+
+  -- a job that isn't begun
+  refused_unbegun : {R W : Type 0} (j : Job) (types tells : Bool) (ended : Ended R W) (old new : Messages E)
+      → OnStatus ended (λ status. (status ≡ 1) × SaysMessage contents old new) → IsSaidOfJob contents j types tells old new ended
+  refused_unbegun j types tells NoMemory old new says = absurd says
+  refused_unbegun j types tells (With status read_to written_to) old new (is, (text, short, says)) = record {
+    done = λ none. absurd (omega (arith, none, is));
+    refused = λ one.
+        (false, text, (λ comes. absurd (true≢false (sym comes))), short, (λ comes. absurd (true≢false (sym comes))), says);
+  }
+
+  pub said_unbegun : {R W : Type 0} (j : Job) (types tells : Bool) (u : Unready) (ended : Ended R W) (old new : Messages E)
+      → IsSaidUnbegun contents u old new ended → IsSaidOfJob contents j types tells old new ended
+  said_unbegun j types tells unready.Memory ended old new (none, says) =
+      subst (IsSaidOfJob contents j types tells old new) (sym none) (false, (λ comes. absurd (true≢false (sym comes))), says)
+  said_unbegun j types tells unready.Secret NoMemory old new says = absurd says
+  said_unbegun j types tells unready.Secret (With status read_to written_to) old new (is, says) = record {
+    done = λ none. absurd (omega (arith, none, is));
+    refused = λ one. absurd (omega (arith, one, is));
+  }
+  said_unbegun j types tells (unready.Plan error) ended old new says = refused_unbegun j types tells ended old new says
+  said_unbegun j types tells (unready.Cursor bad) ended old new says = refused_unbegun j types tells ended old new says
+  said_unbegun j types tells (unready.Fingerprint bad) ended old new says = refused_unbegun j types tells ended old new says
+  said_unbegun j types tells (unready.Names bad) ended old new says = refused_unbegun j types tells ended old new says
+
+  -- ---- the program
+
+  by_call : (source : Source) (destination : Destination) (words : List Text) (old new : Messages E) (call : Call) → GivesCall words call
+      → fault_of shamir_app words ≡ [] → (status : ℕ) → IsSaidOfCall contents source destination call old new status
+      → IsSaidAs contents source destination words old new status
+  by_call source destination words old new call found faultless status says = record {
+    asked = λ asks. absurd (asks_none words faultless asks);
+    taken = λ _. inr (call, found, says);
+  }
+
+  module _ {R W : Type 0} (source : Source) (destination : Destination) (words : List Text) (old new : Messages E) where
+    -- for want of memory, before anything else is said
+    only_memory : (ended : Ended R W) → ended ≡ NoMemory → Says contents old new memory_line → IsSaid contents source destination words old new ended
+    only_memory ended none says =
+        let never : (may : Bool) → IsWithin false may = λ may comes. absurd (true≢false (sym comes)) in
+        subst (IsSaid contents source destination words old new) (sym none) (false, false, never (is_terminal source), never (is_terminal source), says)
+
+    -- words that give no job
+    pub said_without_job : (no_job : NoJob) (ended : Ended R W) → AnswersWords no_job words
+        → (takes shamir_app words ≡ true → (no_job ≡ Memory) ⊎ ((bad : BadValues) × (no_job ≡ Values bad)))
+        → IsSaidWithoutJob contents no_job old new ended → IsSaid contents source destination words old new ended
+    said_without_job Memory ended answers wanting (none, says) = only_memory ended none says
+    said_without_job (Help text) NoMemory answers wanting says = absurd says
+    said_without_job (Refused text) NoMemory answers wanting says = absurd says
+    said_without_job (Values bad) NoMemory answers wanting says = absurd says
+    said_without_job (Help text) (With status read_to written_to) answers wanting says = record {
+      asked = λ _ none. says none;
+      taken = λ taken. ⊎_elim (λ memory. cc) (λ values. cc) (wanting taken);
+    }
+    said_without_job (Refused text) (With status read_to written_to) answers wanting says = record {
+      asked = λ asks. absurd (answers.1 asks);
+      taken = λ taken. absurd (true≢false (sym taken ∙ answers.0));
+    }
+    said_without_job (Values bad) (With status read_to written_to) answers wanting says = record {
+      asked = λ asks. absurd (answers.1 asks);
+      taken = λ _. inl (bad, answers.2, says.1);
+    }
+
+    module _ (call : Call) (found : GivesCall words call) (faultless : fault_of shamir_app words ≡ []) where
+      pub said_typed : (ended : Ended R W) (reader : R) (writer : W) → ended ≡ With 2 reader writer → Says contents old new typed_line
+          → IsSaid contents source destination words old new ended
+      said_typed ended reader writer same says =
+          subst (IsSaid contents source destination words old new) (sym same) (by_call source destination words old new call found faultless 2 (record {
+            done = λ none. absurd (omega (arith, none));
+            typed = λ _. says;
+            refused = λ one. absurd (omega (arith, one));
+          }))
+
+      pub said_unread : (ended : Ended R W) → (IsTyped source call.job → ⊥) → OnStatus ended (λ status. 2 ≤ status)
+          → IsSaid contents source destination words old new ended
+      said_unread NoMemory untyped other = absurd other
+      said_unread (With status read_to written_to) untyped other = by_call source destination words old new call found faultless status (record {
+        done = λ none. absurd (omega (arith, none, other));
+        typed = λ typed. absurd (untyped typed);
+        refused = λ one. absurd (omega (arith, one, other));
+      })
+
+      pub said_of_job : (secret passphrase : Option (List ℕ)) (filled : Job) → IsFilledBy secret passphrase call.job filled
+          → (shown types tells : Bool) (mid : Messages E) (ended : Ended R W) → (IsTyped source call.job → ⊥)
+          → shown ≡ types_passphrase source call.files.passphrase → types ≡ types_mnemonics source call.job
+          → tells ≡ tells_of_none source destination call
+          → Says contents old mid (line_if shown shown_line) → IsSaidOfJob contents filled types tells mid new ended
+          → IsSaid contents source destination words old new ended
+      said_of_job secret passphrase filled fills shown types tells mid NoMemory untyped shown_is types_is tells_is first (begun, within, says) = (
+        shown,
+        begun,
+        (λ comes. typed_passphrase source call.files.passphrase (sym shown_is ∙ comes)),
+        (λ comes. typed_mnemonics source call.job (sym types_is ∙ within comes)),
+        says_both old mid new (line_if shown shown_line) (line_if begun typing_line ++ memory_line) first says,
+      )
+      said_of_job secret passphrase filled fills shown types tells mid (With status read_to written_to) untyped shown_is types_is tells_is first says =
+          by_call source destination words old new call found faultless status (record {
+            done = λ none. subst (λ (b : Bool). Says contents old new (line_if b shown_line
+                ++ (line_if (types_mnemonics source call.job) typing_line ++ line_if (tells_of_none source destination call) bare_line))) shown_is
+                (subst (λ (b : Bool). Says contents old new (line_if shown shown_line
+                ++ (line_if b typing_line ++ line_if (tells_of_none source destination call) bare_line))) types_is
+                (subst (λ (b : Bool). Says contents old new (line_if shown shown_line ++ (line_if types typing_line ++ line_if b bare_line))) tells_is
+                (says_both old mid new (line_if shown shown_line) (line_if types typing_line ++ line_if tells bare_line) first (says.done none))));
+            typed = λ typed. absurd (untyped typed);
+            refused = λ one.
+                let r = says.refused one in (
+                  r.0,
+                  r.1,
+                  (λ comes. sym types_is ∙ r.2 comes),
+                  r.3,
+                  (λ comes. unfilled_ready source secret passphrase call.job filled fills (sym types_is ∙ r.2 comes) (r.4 comes)),
+                  subst (λ (b : Bool). Says contents old new (line_if b shown_line ++ (line_if r.0 typing_line ++ r.1))) shown_is
+                      (says_both old mid new (line_if shown shown_line) (line_if r.0 typing_line ++ r.1) first r.5),
+                );
+          })

@@ -1,0 +1,189 @@
+-- What the program says on standard error.
+use Rattle.std.specs.Prelude.{◌≡◌, ◌⊎◌, ◌≤◌, ◌++◌, ℕ, Bool, true, false, List, [], Option, Some, Result, Ok, Err, is_some, is_none, bytes_eq, codes}
+use Rattle.std.specs.Prelude.{if◌then◌else◌, length, string_bytes}
+use Rattle.std.specs.Borrow.{Bor}
+use Rattle.std.specs.Io.KnownBytes.{Appends}
+use Rattle.clap.specs.Words.{Text, takes}
+use Rattle.s39_command.specs.declared.command.Call.{Call}
+use Rattle.s39_command.specs.declared.command.Job.{Job}
+use Rattle.s39_command.specs.declared.command.Job.TheVariants.{Create, Recover, Drill}
+use Rattle.s39_command.specs.declared.command.BadValues.{BadValues}
+use Rattle.s39_command.specs.declared.command.NoJob.{NoJob}
+use Rattle.s39_command.specs.declared.command.NoJob.TheVariants.{Help, Refused, Values}
+use Rattle.s39_command.specs.declared.command.NoJob.TheVariants as no_job
+use Rattle.s39_command.specs.Command.{AsksForText, GivesBadValues, GivesCall, bad_text, shamir_app}
+use Rattle.s39_input.specs.declared.fault.Fault.{Fault}
+use Rattle.s39_cli.specs.declared.messages.Messages.{Messages}
+use Rattle.s39_cli.specs.declared.runner.Destination.{Destination}
+use Rattle.s39_cli.specs.declared.runner.Destination.TheVariants as written_at
+use Rattle.s39_cli.specs.declared.runner.Ended.{Ended}
+use Rattle.s39_cli.specs.declared.runner.Ended.TheVariants.{With, NoMemory}
+use Rattle.s39_cli.specs.declared.runner.Source.{Source}
+use Rattle.s39_cli.specs.declared.runner.Source.TheVariants as read_at
+use Rattle.s39_cli.specs.declared.work.Unready.{Unready}
+use Rattle.s39_cli.specs.declared.work.Unready.TheVariants.{Secret, Memory}
+use Rattle.s39_cli.specs.Ending.{IsTyped}
+use Rattle.s39_cli.specs.Outcome.{IsReady}
+use Rattle.s39_cli.specs.Values.{input_name}
+
+module _ {E : Type 0} (contents : E → Option (List ℕ)) where
+  -- if the writer has taken all that was said, it had taken all before, and this text follows what it held
+  abbrev pub Says : Messages E → Messages E → List ℕ → Type 0
+  Says old new text = new.is_whole ≡ true → (old.is_whole ≡ true) × Appends (contents old.device) (contents new.device) text
+
+-- the line, if this holds
+abbrev pub line_if : Bool → Text → Text
+line_if holds line = if holds then line else []
+
+-- ---- the lines
+
+-- said before a passphrase is typed
+abbrev pub shown_line : Text
+shown_line = codes "shamir: the passphrase is shown as it is typed\n"
+
+-- said before mnemonics are typed
+abbrev pub typing_line : Text
+typing_line = codes "shamir: type a mnemonic on each line, then press Ctrl-D on an empty line\n"
+
+-- said after secrets that another passphrase would change
+abbrev pub bare_line : Text
+bare_line = codes "shamir: no passphrase was used: a backup with one gives another secret here\n"
+
+-- said for random bytes that would be typed
+abbrev pub typed_line : Text
+typed_line = codes "shamir: random bytes aren't typed: pass them in, as with head -c N /dev/urandom | shamir create ..\n"
+
+-- said of what follows a refusal at a terminal
+abbrev pub rest_line : Text
+rest_line = codes "shamir: the rest of the input is dropped: end it with Ctrl-D\n"
+
+-- said for a secret that isn't hexadecimal
+abbrev pub secret_line : Text
+secret_line = codes "shamir: master secret isn't hexadecimal\n"
+
+-- said for arguments that are no texts
+abbrev pub no_text_line : Text
+no_text_line = codes "shamir: the arguments aren't UTF-8\n"
+
+-- said for want of memory
+abbrev pub memory_line : Text
+memory_line = codes "shamir: out of memory\n"
+
+-- ---- when they are said
+
+-- the passphrase is typed: the input is a terminal, and the passphrase is its first line
+abbrev pub types_passphrase : Source → Option (Bor Text) → Bool
+types_passphrase read_at.Terminal (Some file) = bytes_eq file.now input_name
+types_passphrase _ _ = false
+
+-- mnemonics are typed: the input is a terminal, and the command reads mnemonics
+abbrev pub types_mnemonics : Source → Job → Bool
+types_mnemonics read_at.Elsewhere job = false
+types_mnemonics read_at.Terminal (Create plan secret passphrase exponent extendable) = false
+types_mnemonics read_at.Terminal _ = true
+
+-- a person types the input, or sees the output
+abbrev pub is_attended : Source → Destination → Bool
+is_attended read_at.Elsewhere written_at.Elsewhere = false
+is_attended _ _ = true
+
+-- the command recovers secrets, and no fingerprint is expected
+abbrev pub recovers_any : Job → Bool
+recovers_any (Recover passphrase form expected) = is_none expected
+recovers_any (Drill passphrase after limit form expected) = is_none expected
+recovers_any _ = false
+
+-- no passphrase is given, neither in the words nor in a file, and the command recovers secrets without a fingerprint to tell
+abbrev pub is_bare : Call → Bool
+is_bare call = if call.has_passphrase then false else if is_some call.files.passphrase then false else recovers_any call.job
+
+-- a person is told that no passphrase was used
+abbrev pub tells_of_none : Source → Destination → Call → Bool
+tells_of_none source destination call = if is_attended source destination then is_bare call else false
+
+-- all that is said if the exit status is 0
+abbrev pub said_of : Source → Destination → Call → Text
+said_of source destination call = line_if (types_passphrase source call.files.passphrase) shown_line
+    ++ (line_if (types_mnemonics source call.job) typing_line ++ line_if (tells_of_none source destination call) bare_line)
+
+-- ---- what is said with each exit status
+
+-- the most bytes of a refusal's message
+abbrev pub longest_message : ℕ
+longest_message = 104
+
+-- this comes to pass only if that may
+abbrev pub IsWithin : Bool → Bool → Type 0
+IsWithin comes may = comes ≡ true → may ≡ true
+
+-- whether the input is a terminal
+abbrev pub is_terminal : Source → Bool
+is_terminal read_at.Terminal = true
+is_terminal read_at.Elsewhere = false
+
+module _ {E : Type 0} (contents : E → Option (List ℕ)) where
+  -- With exit status 0, exactly the lines of `said_of` are said. For random bytes that would be typed it is that line. With 1 it is the
+  -- line about a passphrase that is typed, the line about mnemonics if the command began to read them, for which its texts had to be right,
+  -- and at most one more message.
+  pub record IsSaidOfCall (source : Source) (destination : Destination) (call : Call) (old new : Messages E) (status : ℕ) : Type 0 where
+    pub done : status ≡ 0 → Says contents old new (said_of source destination call)
+    pub typed : IsTyped source call.job → Says contents old new typed_line
+    pub refused : status ≡ 1 → (begun : Bool) × (text : Text) × IsWithin begun (types_mnemonics source call.job) × (length text ≤ longest_message)
+        × (begun ≡ true → IsReady call.job)
+        × Says contents old new (line_if (types_passphrase source call.files.passphrase) shown_line ++ (line_if begun typing_line ++ text))
+
+  -- Nothing is said beside help or the version. Values that are missing or given twice have their text. What is said of a call is as
+  -- above.
+  pub record IsSaidAs (source : Source) (destination : Destination) (words : List Text) (old new : Messages E) (status : ℕ) : Type 0 where
+    pub asked : AsksForText words → status ≡ 0 → Says contents old new []
+    pub taken : takes shamir_app words ≡ true
+        → ((bad : BadValues) × GivesBadValues words bad × Says contents old new (bad_text bad))
+        ⊎ ((call : Call) × GivesCall words call × IsSaidOfCall source destination call old new status)
+
+  -- If memory runs out, that is said, after the lines that were said before.
+  abbrev pub IsSaid : {R W : Type 0} → Source → Destination → List Text → Messages E → Messages E → Ended R W → Type 0
+  IsSaid source destination words old new (With status read_to written_to) = IsSaidAs source destination words old new status
+  IsSaid source destination words old new NoMemory = (typed begun : Bool) × IsWithin typed (is_terminal source) × IsWithin begun (is_terminal source)
+      × Says contents old new (line_if typed shown_line ++ (line_if begun typing_line ++ memory_line))
+
+-- ---- within the program; no public contract cites this
+
+-- memory hasn't run out, and this holds for the exit status
+abbrev pub OnStatus : {R W : Type 0} → Ended R W → (ℕ → Type 0) → Type 0
+OnStatus (With status read_to written_to) Is = Is status
+OnStatus NoMemory Is = ⊥
+
+module _ {E : Type 0} (contents : E → Option (List ℕ)) where
+  -- the message of a refusal is said
+  abbrev pub SaysMessage : Messages E → Messages E → Type 0
+  SaysMessage old new = (text : Text) × (length text ≤ longest_message) × Says contents old new text
+
+  -- a fault is said; without one it is said that no passphrase was used, if a person is told so
+  abbrev pub SaysAnswer : Result Bool Fault → Bool → Messages E → Messages E → Type 0
+  SaysAnswer (Ok is_well) tells_of_none old new = Says contents old new (line_if tells_of_none bare_line)
+  SaysAnswer (Err fault) tells_of_none old new = SaysMessage old new
+
+  -- why a job isn't begun is said, with its exit status
+  abbrev pub IsSaidUnbegun : {R W : Type 0} → Unready → Messages E → Messages E → Ended R W → Type 0
+  IsSaidUnbegun Secret old new ended = OnStatus ended (λ status. (status ≡ 2) × Says contents old new secret_line)
+  IsSaidUnbegun Memory old new ended = (ended ≡ NoMemory) × Says contents old new memory_line
+  IsSaidUnbegun _ old new ended = OnStatus ended (λ status. (status ≡ 1) × SaysMessage old new)
+
+  -- what is said for a job, by whether mnemonics are typed for it, and whether a person is told that no passphrase was used
+  pub record IsSaidBy (job : Job) (types_mnemonics tells_of_none : Bool) (old new : Messages E) (status : ℕ) : Type 0 where
+    pub done : status ≡ 0 → Says contents old new (line_if types_mnemonics typing_line ++ line_if tells_of_none bare_line)
+    pub refused : status ≡ 1 → (begun : Bool) × (text : Text) × IsWithin begun types_mnemonics × (length text ≤ longest_message)
+        × (begun ≡ true → IsReady job) × Says contents old new (line_if begun typing_line ++ text)
+
+  -- the same for how it ends
+  abbrev pub IsSaidOfJob : {R W : Type 0} → Job → Bool → Bool → Messages E → Messages E → Ended R W → Type 0
+  IsSaidOfJob job types_mnemonics tells_of_none old new (With status read_to written_to) = IsSaidBy job types_mnemonics tells_of_none old new status
+  IsSaidOfJob job types_mnemonics tells_of_none old new NoMemory =
+      (begun : Bool) × IsWithin begun types_mnemonics × Says contents old new (line_if begun typing_line ++ memory_line)
+
+  -- what is said for words that give no job
+  abbrev pub IsSaidWithoutJob : {R W : Type 0} → NoJob → Messages E → Messages E → Ended R W → Type 0
+  IsSaidWithoutJob (Help text) old new ended = OnStatus ended (λ status. status ≡ 0 → Says contents old new [])
+  IsSaidWithoutJob (Refused text) old new ended = OnStatus ended (λ status. (status ≡ 2) × Says contents old new (string_bytes text))
+  IsSaidWithoutJob (Values bad) old new ended = OnStatus ended (λ status. (status ≡ 2) × Says contents old new (bad_text bad))
+  IsSaidWithoutJob no_job.Memory old new ended = (ended ≡ NoMemory) × Says contents old new memory_line

@@ -1,0 +1,88 @@
+//! What a person at a terminal is told beside the answer of a command.
+ghost use Rattle.std.specs.Prelude.{◌≡◌};
+ghost use Rattle.s39_cli.specs.Said.{is_attended, is_bare, recovers_any, tells_of_none, types_mnemonics, types_passphrase};
+
+use crate::runner::{Destination, Source};
+use crate::values::INPUT;
+use s39_command::{Call, Job};
+
+/// Said before a passphrase is typed.
+pub(crate) const SHOWN: &[u8] = b"shamir: the passphrase is shown as it is typed\n";
+
+/// Said before mnemonics are typed.
+pub(crate) const TYPING: &[u8] =
+    b"shamir: type a mnemonic on each line, then press Ctrl-D on an empty line\n";
+
+/// Said after secrets that another passphrase would change.
+pub(crate) const BARE: &[u8] =
+    b"shamir: no passphrase was used: a backup with one gives another secret here\n";
+
+/// Which of these lines are said, if the command comes so far.
+#[derive(Clone, Copy)]
+pub(crate) struct Notes {
+    pub(crate) types_passphrase: bool,
+    pub(crate) types_mnemonics: bool,
+    pub(crate) tells_of_none: bool,
+}
+
+impl Notes {
+    /// Those of a call.
+    pub(crate) fn of(source: Source, destination: Destination, call: &Call) -> Notes
+        ensures passphrase { result.types_passphrase ≡ types_passphrase source call.now.files.passphrase }
+        ensures mnemonics { result.types_mnemonics ≡ types_mnemonics source call.now.job }
+        ensures none { result.tells_of_none ≡ tells_of_none source destination call.now }
+    {
+        Notes {
+            types_passphrase: types_passphrase(source, call.files.passphrase),
+            types_mnemonics: types_mnemonics(source, &call.job),
+            tells_of_none: is_attended(source, destination) && is_bare(call),
+        }
+    }
+}
+
+/// Whether the passphrase is typed.
+fn types_passphrase(source: Source, file: Option<&str>) -> bool
+    ensures { result ≡ types_passphrase source file.entry }
+{
+    match (source, file) {
+        (Source::Terminal, Some(name)) => name == INPUT,
+        _ => false,
+    }
+}
+
+/// Whether mnemonics are typed.
+fn types_mnemonics(source: Source, job: &Job) -> bool
+    ensures { result ≡ types_mnemonics source job.now }
+{
+    match (source, job) {
+        (Source::Elsewhere, _) | (Source::Terminal, Job::Create { .. }) => false,
+        _ => true,
+    }
+}
+
+/// Whether a person types the input, or sees the output.
+fn is_attended(source: Source, destination: Destination) -> bool
+    ensures { result ≡ is_attended source destination }
+{
+    match (source, destination) {
+        (Source::Elsewhere, Destination::Elsewhere) => false,
+        _ => true,
+    }
+}
+
+/// Whether no passphrase is given, and the command recovers secrets without a fingerprint to tell.
+fn is_bare(call: &Call) -> bool
+    ensures { result ≡ is_bare call.now }
+{
+    !call.has_passphrase && call.files.passphrase.is_none() && recovers_any(&call.job)
+}
+
+/// Whether the command recovers secrets, and no fingerprint is expected.
+fn recovers_any(job: &Job) -> bool
+    ensures { result ≡ recovers_any job.now }
+{
+    match job {
+        Job::Recover { expected, .. } | Job::Drill { expected, .. } => expected.is_none(),
+        _ => false,
+    }
+}

@@ -1,0 +1,180 @@
+//! What is said of a refusal, and the exit status that goes with it.
+ghost use Rattle.std.specs.Prelude.{◌≡◌, ◌≢◌};
+ghost use Rattle.std.specs.IoError.{error_kind};
+ghost use Rattle.s39_cli.specs.Ending.{EndsUnbegun};
+ghost use Rattle.s39_cli.specs.Outcome.{status_of, status_of_refusal};
+ghost use Rattle.s39_cli.specs.Said.{IsSaidUnbegun, Says, SaysAnswer, SaysMessage, memory_line, no_text_line};
+
+use crate::delivery::Finished;
+use crate::messages::Messages;
+use crate::notes::{BARE, Notes};
+use crate::runner::{DEVICE_FAILED, DONE, Ended, NO_JOB, NO_MEMORY, REFUSED};
+use crate::work::Unready;
+use s39_input::{Fault, Refusal};
+use s39_refusal::Cause;
+use s39_text::FaultText;
+use std::fmt::{Display, InlineText};
+use std::io;
+use std::io::{ErrorKind, Write};
+
+/// The most bytes of a refusal's message: a line's number of 20 digits, a number of three, and a text of 64 bytes among 17 others.
+const MESSAGE_BYTES: usize = 104;
+
+/// The most bytes of a file's name in a message, which are as many as the system takes.
+const NAME_BYTES: usize = 4095;
+
+/// The most bytes that say why a file's value isn't read.
+const REASON_BYTES: usize = 128;
+
+/// More than the most bytes of a message that names a file.
+const FILE_BYTES: usize = NAME_BYTES + REASON_BYTES + 12;
+
+/// Says why a command can't be begun.
+pub(crate) fn unbegun<R: Drop, W: Drop, E: Write>(
+    unready: Unready,
+    input: R,
+    output: W,
+    errors: &mut Messages<E>,
+) -> Ended<R, W>
+    ensures ends { EndsUnbegun unready input output result }
+    ensures said { IsSaidUnbegun E.contents unready errors.old errors.new result }
+{
+    let status = match unready {
+        Unready::Secret => {
+            errors.say(b"shamir: master secret isn't hexadecimal\n");
+            NO_JOB
+        }
+        Unready::Plan(error) => refuse(error.cause(), errors),
+        Unready::Cursor(error) => refuse(error.cause(), errors),
+        Unready::Fingerprint(error) => refuse(error.cause(), errors),
+        Unready::Names(error) => refuse(error.cause(), errors),
+        Unready::Memory => return no_memory_left(errors),
+    };
+    Ended::With {
+        status,
+        input,
+        output,
+    }
+}
+
+/// Says why a text of the command line gives nothing, and gives the exit status.
+fn refuse<E: Write>(cause: Cause, errors: &mut Messages<E>) -> u8
+    ensures status { result ≡ 1 }
+    ensures said { SaysMessage E.contents errors.old errors.new }
+{
+    say_fault(None, cause, errors);
+    REFUSED
+}
+
+/// Says a refusal, at its line if there is one, in one write.
+fn say_fault<E: Write>(line: Option<u64>, cause: Cause, errors: &mut Messages<E>)
+    ensures { SaysMessage E.contents errors.old errors.new }
+{
+    let text: InlineText<MESSAGE_BYTES> = InlineText::of(format_args!(
+        "{}\n",
+        FaultText::of(line, cause)
+    ));
+    errors.say(text.as_str().as_bytes());
+}
+
+/// Says why the value of a file isn't read, in one write. A longer name is cut.
+pub(crate) fn say_of_file<D: Display + Drop, E: Write>(
+    name: &str,
+    reason: D,
+    errors: &mut Messages<E>,
+) {
+    let text: InlineText<FILE_BYTES> = InlineText::new()
+        .and_str("shamir: ", 8)
+        .and_str(name, NAME_BYTES)
+        .and_str(": ", 2)
+        .and(reason, REASON_BYTES)
+        .and_str("\n", 1);
+    errors.say(text.as_str().as_bytes());
+}
+
+/// Says what a command answered.
+pub(crate) fn answered<R: Drop, W: Drop, E: Write>(
+    finished: Finished<R, W>,
+    notes: Notes,
+    errors: &mut Messages<E>,
+) -> Ended<R, W>
+    ensures ends { result ≡ Ended.With (status_of finished.answer) finished.input finished.output }
+    ensures said { SaysAnswer E.contents finished.answer notes.tells_of_none errors.old errors.new }
+{
+    let Finished {
+        answer,
+        input,
+        output,
+    } = finished;
+    let status = status_of(answer, notes.tells_of_none, errors);
+    Ended::With {
+        status,
+        input,
+        output,
+    }
+}
+
+/// The exit status of an answer. A fault is said, and of an answer without one whether no passphrase was used.
+fn status_of<E: Write>(
+    answer: Result<bool, Fault>,
+    tells_of_none: bool,
+    errors: &mut Messages<E>,
+) -> u8
+    ensures status { result ≡ status_of answer }
+    ensures said { SaysAnswer E.contents answer tells_of_none errors.old errors.new }
+{
+    match answer {
+        Ok(is_well) => {
+            errors.say_if(tells_of_none, BARE);
+            if is_well { DONE } else { REFUSED }
+        }
+        Err(fault) => report(fault, errors),
+    }
+}
+
+/// Says the fault of a run, and gives the exit status.
+pub(crate) fn report<E: Write>(fault: Fault, errors: &mut Messages<E>) -> u8
+    ensures status { result ≡ status_of_refusal fault.refusal }
+    ensures said { SaysMessage E.contents errors.old errors.new }
+{
+    say_fault(fault.line, fault.refusal.cause(), errors);
+    match fault.refusal {
+        Refusal::Device(_) => DEVICE_FAILED,
+        _ => REFUSED,
+    }
+}
+
+/// Reports why the arguments can't be read as words, and returns the exit status: 4 if there is no memory for them, and 2 if
+/// they aren't UTF-8.
+pub fn no_words<E: Write>(error: &io::Error, errors: &mut Messages<E>) -> u8
+    ensures memory { error_kind error.now ≡ ErrorKind.OutOfMemory → result ≡ 4 }
+    ensures other { error_kind error.now ≢ ErrorKind.OutOfMemory → result ≡ 2 }
+    ensures memory_said { error_kind error.now ≡ ErrorKind.OutOfMemory
+        → Says E.contents errors.old errors.new memory_line }
+    ensures other_said { error_kind error.now ≢ ErrorKind.OutOfMemory
+        → Says E.contents errors.old errors.new no_text_line }
+{
+    if error.kind() == ErrorKind::OutOfMemory {
+        return no_memory(errors);
+    }
+    errors.say(b"shamir: the arguments aren't UTF-8\n");
+    NO_JOB
+}
+
+/// Says that there is no memory.
+pub(crate) fn no_memory_left<R, W, E: Write>(errors: &mut Messages<E>) -> Ended<R, W>
+    ensures ends { result ≡ Ended.NoMemory }
+    ensures said { Says E.contents errors.old errors.new memory_line }
+{
+    no_memory(errors);
+    Ended::NoMemory
+}
+
+/// Says that there is no memory, without taking any, and gives the exit status.
+fn no_memory<E: Write>(errors: &mut Messages<E>) -> u8
+    ensures status { result ≡ 4 }
+    ensures said { Says E.contents errors.old errors.new memory_line }
+{
+    errors.say(b"shamir: out of memory\n");
+    NO_MEMORY
+}

@@ -1,0 +1,269 @@
+//! What a person at a terminal is told, and that a message is one write.
+
+use s39_cli::{Destination, Messages, Source, program};
+use s39_fixtures::devices::{FailingOnce, Full, Interrupted};
+use s39_fixtures::shelves::Held;
+use s39_fixtures::{
+    FIVE, ONE_OF_ONE, ONE_OF_ONE_BAD_CHECKSUM, TWO_NEEDED_MEMBER_0, TWO_NEEDED_MEMBER_2, forged,
+    lines,
+};
+use std::alloc::Global;
+use std::io::{ErrorKind, Write};
+use std::process::Abort;
+use std::test::Fail;
+
+const TYPING: &str = "shamir: type a mnemonic on each line, then press Ctrl-D on an empty line\n";
+
+const SHOWN: &str = "shamir: the passphrase is shown as it is typed\n";
+
+const BARE: &str = "shamir: no passphrase was used: a backup with one gives another secret here\n";
+
+/// Where the input comes from, and where the output goes.
+type Place = (Source, Destination);
+
+const TYPED: Place = (Source::Terminal, Destination::Elsewhere);
+
+const SEEN: Place = (Source::Elsewhere, Destination::Terminal);
+
+const PIPED: Place = (Source::Elsewhere, Destination::Elsewhere);
+
+/// Runs the words at this place over a file `f`, and returns the status.
+fn run<W: Write + Drop, E: Write + Drop>(
+    alloc: Global,
+    words: &[&str],
+    input: &str,
+    output: W,
+    errors: E,
+    (source, destination): Place,
+) -> u8 {
+    let shelf = Held {
+        files: &[("f", b"TREZOR\n")],
+    };
+    let input = input.as_bytes();
+    let errors = &mut Messages::new(errors);
+    program(
+        &shelf,
+        alloc,
+        words,
+        input,
+        output,
+        errors,
+        source,
+        destination,
+    )
+    .status()
+}
+
+/// The words at this place say these lines, one after another, with this status.
+fn expect_said(
+    rt: &impl Abort,
+    alloc: Global,
+    (words, input, place): (&[&str], &str, Place),
+    wanted: &[&str],
+    status: u8,
+) -> Result<(), Fail> {
+    let mut said = Vec::new(alloc);
+    let answer = run(alloc, words, input, Vec::new(alloc), &mut said, place);
+    let mut all = String::new(alloc);
+    for line in wanted {
+        all.push_str(line)?;
+    }
+    assert_eq!(rt; said.as_slice(), all.as_bytes(), "{words:?}");
+    assert_eq!(rt; answer, status, "{words:?}");
+    Ok(())
+}
+
+#[test]
+fn asks_for_mnemonics_at_a_terminal(rt: HostRuntime) -> Result<(), Fail> {
+    let alloc = rt.alloc();
+    let one = lines(alloc, &[ONE_OF_ONE])?;
+    let commands: [&[&str]; 6] = [
+        &["shamir", "show"],
+        &["shamir", "recover", "--passphrase", "TREZOR"],
+        &["shamir", "drill", "--passphrase="],
+        &["shamir", "status"],
+        &["shamir", "reissue", "1of1", "0.0"],
+        &["shamir", "repair"],
+    ];
+    for words in commands {
+        expect_said(&rt, alloc, (words, &one, TYPED), &[TYPING], 0)?;
+        expect_said(&rt, alloc, (words, &one, SEEN), &[], 0)?;
+        expect_said(&rt, alloc, (words, &one, PIPED), &[], 0)?;
+    }
+    Ok(())
+}
+
+#[test]
+fn asks_for_none_where_a_value_is_refused(rt: HostRuntime) -> Result<(), Fail> {
+    let alloc = rt.alloc();
+    let one = lines(alloc, &[ONE_OF_ONE])?;
+    let cases: [(&[&str], &str, u8); 7] = [
+        (
+            &["shamir", "drill", "--after", "x"],
+            "shamir: 61 bad cursor\n",
+            1,
+        ),
+        (
+            &["shamir", "recover", "--expect", "x"],
+            "shamir: 44 bad fingerprint\n",
+            1,
+        ),
+        (
+            &["shamir", "drill", "--expect", "x"],
+            "shamir: 44 bad fingerprint\n",
+            1,
+        ),
+        (
+            &["shamir", "reissue", "x", "0.0"],
+            "shamir: 31 bad plan\n",
+            1,
+        ),
+        (
+            &["shamir", "reissue", "1of1", "x"],
+            "shamir: 63 bad list of names\n",
+            1,
+        ),
+        (
+            &["shamir", "recover", "--passphrase", "\x07"],
+            "shamir: 41 passphrase byte 1 not printable\n",
+            1,
+        ),
+        (
+            &["shamir", "drill", "--passphrase", "a\x07"],
+            "shamir: 41 passphrase byte 2 not printable\n",
+            1,
+        ),
+    ];
+    for (words, told, status) in cases {
+        expect_said(&rt, alloc, (words, &one, TYPED), &[told], status)?;
+    }
+    Ok(())
+}
+
+#[test]
+fn tells_that_no_passphrase_was_used(rt: HostRuntime) -> Result<(), Fail> {
+    let alloc = rt.alloc();
+    let one = lines(alloc, &[ONE_OF_ONE])?;
+    let five = lines(alloc, &FIVE)?;
+    for command in ["recover", "drill"] {
+        let bare = ["shamir", command];
+        expect_said(&rt, alloc, (&bare, &one, TYPED), &[TYPING, BARE], 0)?;
+        expect_said(&rt, alloc, (&bare, &one, SEEN), &[BARE], 0)?;
+        expect_said(&rt, alloc, (&bare, &one, PIPED), &[], 0)?;
+        let told = ["shamir", command, "--fingerprint"];
+        expect_said(&rt, alloc, (&told, &one, SEEN), &[BARE], 0)?;
+        for option in [
+            "--passphrase=",
+            "--passphrase=TREZOR",
+            "--passphrase-file=f",
+        ] {
+            let given = ["shamir", command, option];
+            expect_said(&rt, alloc, (&given, &one, TYPED), &[TYPING], 0)?;
+            expect_said(&rt, alloc, (&given, &one, SEEN), &[], 0)?;
+        }
+    }
+    expect_said(&rt, alloc, (&["shamir", "drill"], &five, SEEN), &[BARE], 0)?;
+    let other = ["shamir", "drill", "--expect=00000000"];
+    expect_said(&rt, alloc, (&other, &one, SEEN), &[], 1)?;
+    Ok(())
+}
+
+#[test]
+fn tells_that_no_passphrase_was_used_after_mismatches(rt: HostRuntime) -> Result<(), Fail> {
+    let alloc = rt.alloc();
+    let first = forged(TWO_NEEDED_MEMBER_0, 0xFF)?;
+    let second = forged(TWO_NEEDED_MEMBER_2, 0xFD)?;
+    let changed = lines(
+        alloc,
+        &[
+            std::str::from_utf8(first.as_slice())?,
+            std::str::from_utf8(second.as_slice())?,
+        ],
+    )?;
+    let drill = ["shamir", "drill"];
+    expect_said(&rt, alloc, (&drill, &changed, SEEN), &[BARE], 1)?;
+    expect_said(&rt, alloc, (&drill, &changed, PIPED), &[], 1)?;
+    Ok(())
+}
+
+#[test]
+fn tells_nothing_more_after_a_refusal(rt: HostRuntime) -> Result<(), Fail> {
+    let alloc = rt.alloc();
+    let lack = "shamir: 30 incomplete: 0 of 1 groups\n";
+    let few = lines(alloc, &[TWO_NEEDED_MEMBER_2])?;
+    let bad = lines(alloc, &[ONE_OF_ONE_BAD_CHECKSUM])?;
+    let checksum = "shamir: line 1: 13 bad checksum\n";
+    for command in ["recover", "drill"] {
+        let words = ["shamir", command];
+        expect_said(&rt, alloc, (&words, &few, SEEN), &[lack], 1)?;
+        expect_said(&rt, alloc, (&words, &few, TYPED), &[TYPING, lack], 1)?;
+        expect_said(&rt, alloc, (&words, &bad, TYPED), &[TYPING, checksum], 1)?;
+    }
+    Ok(())
+}
+
+#[test]
+fn tells_that_a_typed_passphrase_is_shown(rt: HostRuntime) -> Result<(), Fail> {
+    let alloc = rt.alloc();
+    let typed = lines(alloc, &["TREZOR", ONE_OF_ONE])?;
+    let words = ["shamir", "recover", "--passphrase-file=-"];
+    expect_said(&rt, alloc, (&words, &typed, TYPED), &[SHOWN, TYPING], 0)?;
+    expect_said(&rt, alloc, (&words, &typed, SEEN), &[], 0)?;
+    // A value that isn't printable, or too long.
+    let long = "x".repeat(alloc, 1025)?;
+    let cases: [(&str, &str, u8); 2] = [
+        ("\x07\n", "shamir: 41 passphrase byte 1 not printable\n", 1),
+        (&long, "shamir: -: the value has more than 1024 bytes\n", 2),
+    ];
+    for (input, told, status) in cases {
+        expect_said(&rt, alloc, (&words, input, TYPED), &[SHOWN, told], status)?;
+    }
+    Ok(())
+}
+
+#[test]
+fn keeps_its_answer_where_nothing_can_be_said(rt: HostRuntime) -> Result<(), Fail> {
+    let alloc = rt.alloc();
+    let typed = lines(alloc, &["", ONE_OF_ONE])?;
+    let words = ["shamir", "recover", "--passphrase-file=-"];
+    let bare = ["shamir", "drill"];
+    for (words, input) in [(words.as_slice(), typed.as_str()), (&bare, ONE_OF_ONE)] {
+        let (mut all, mut none, mut one) = (Vec::new(alloc), Vec::new(alloc), Vec::new(alloc));
+        let told = run(alloc, words, input, &mut all, Vec::new(alloc), TYPED);
+        let untold = run(alloc, words, input, &mut none, Full, TYPED);
+        // The first line fails. The lines behind it are said.
+        let mut halting = FailingOnce::new(alloc, ErrorKind::Other, b"");
+        let halted = run(alloc, words, input, &mut one, &mut halting, TYPED);
+        assert_eq!(rt; (told, untold, halted, halting.calls), (0, 0, 0, 2));
+        assert_eq!(rt;
+            (all.len() > 0, none.as_slice(), one.as_slice()),
+            (true, all.as_slice(), all.as_slice())
+        );
+    }
+    Ok(())
+}
+
+#[test]
+fn says_a_refusal_in_one_write(rt: HostRuntime) -> Result<(), Fail> {
+    let alloc = rt.alloc();
+    let bad = lines(alloc, &[ONE_OF_ONE_BAD_CHECKSUM])?;
+    let two = lines(alloc, &[TWO_NEEDED_MEMBER_0, ONE_OF_ONE])?;
+    let long = "x".repeat(alloc, 5000)?;
+    let named = ["shamir", "recover", "--passphrase-file", &long];
+    let cases: [(&[&str], &str); 7] = [
+        (&["shamir", "reveal"], ""),
+        (&["shamir", "create", "1of1"], ""),
+        (&["shamir", "create", "1of1", "--master-secret=0"], ""),
+        (&["shamir", "show"], &bad),
+        (&["shamir", "recover"], &two),
+        (&["shamir", "recover", "--passphrase-file", "g"], ""),
+        (&named, ""),
+    ];
+    for (words, input) in cases {
+        let mut errors = Interrupted::new(alloc, 0);
+        let status = run(alloc, words, input, Vec::new(alloc), &mut errors, PIPED);
+        assert!(rt; status != 0 && errors.calls == 1, "{words:?}");
+        assert!(rt; errors.bytes.as_slice().ends_with(b"\n"), "{words:?}");
+    }
+    Ok(())
+}

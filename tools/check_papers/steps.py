@@ -1,0 +1,304 @@
+"""What an owner can answer in the tasks 'new', 'replace' and 'repair', the ways back, and answers where the screen is full."""
+from hands import MORE, Failed, say
+from refusals import NUMBERED, end_by_keys, started, word_prompt
+from tasks import FINGERPRINT, PASSPHRASE, SECRET, SIGN, SOUND_PAPER, THREE_GROUPS, Owner, paper_prompt
+
+import plain
+
+MENU = say("home.choose")
+
+
+def check_new():
+    """Plans, digits and passphrases that are refused, papers that are typed back wrongly, and the owner's own secret."""
+    with started("new", "1of3") as owner:
+        owner.wait(say("new.plan.choose"))
+        owner.expect(say("refused.34", first=0))
+        if MORE.encode() in owner.raw:
+            raise Failed("the screen is full right before a question")
+        owner.answer(say("new.plan.choose"), "3of2")
+        owner.answer(say("new.plan.choose"), "two of three")
+        owner.expect(say("refused.33", first=0))
+        owner.answer(say("new.plan.choose"), "1")
+        owner.expect(say("refused.31"))
+        owner.answer(say("new.secret"), "4")
+        owner.answer(say("new.secret"), "m")
+        owner.answer(f"{say('new.flag')} (y/n)", "n")
+        owner.answer(say("new.exponent"), "16")
+        owner.answer(say("new.exponent"), "0")
+        owner.expect(say("more.exponent.wrong"))
+        owner.answer(say("new.secret"), "3")
+        type_own_secret(owner)
+        owner.answer(say("new.passphrase"), "Straße")
+        owner.answer(say("new.passphrase"), "")
+        owner.expect(say("refused.41", first=5))
+        owner.answer(f"{say('new.passphrase.none')} {say('screen.yes.back')}", "n")
+        owner.answer(say("new.passphrase"), "one")
+        owner.answer(say("new.passphrase.again"), "two")
+        owner.answer(say("new.passphrase"), PASSPHRASE)
+        owner.expect(say("passphrase.differ"))
+        owner.answer(say("new.passphrase.again"), PASSPHRASE)
+        papers = owner.written()
+        type_back(owner, papers)
+        owner.wait(say("noted.done.own"))
+        owner.expect(say("back.same", name="0.2"))
+        owner.expect(say("verdict.all.own", quorums="3 quorums", fingerprint=FINGERPRINT))
+        owner.expect(say("noted.own"))
+        owner.answer(say("noted.done.own"), "")
+        owner.answer(say("screen.end"), "")
+        owner.end(0)
+        fields = plain.parse(papers[0].encode())
+        if (fields["extendable"], fields["exponent"]) != (0, 0):
+            raise Failed("the flag and the exponent that were asked for aren't in the papers")
+
+
+def type_own_secret(owner):
+    """Types digits that are refused, digits that differ, and digits that have another fingerprint than the noted one, and then those of
+    the secret. No paper is shown before."""
+    digits = say("new.secret.digits")
+    for typed, text in [
+        ("bb54g", say("secret.not_hex")),
+        ("", say("secret.missing")),
+        (SECRET[:31], say("secret.odd", digits=31)),
+        (SECRET[:30], say("refused.42", first=15)),
+    ]:
+        owner.answer(digits, typed)
+        owner.wait(digits)
+        owner.expect(text)
+    owner.answer(digits, SECRET)
+    owner.answer(say("new.secret.again"), f"{SECRET[:-1]}0")
+    owner.wait(digits)
+    owner.expect(say("secret.differ"))
+    for typed, noted in [(f"{SECRET[:-1]}0", FINGERPRINT), (SECRET, "01234567")]:
+        owner.answer(digits, typed)
+        owner.answer(say("new.secret.again"), typed)
+        owner.answer(say("noted.ask"), noted)
+        owner.wait(digits)
+        owner.expect(say("secret.other", fingerprint=by_digits(typed), noted=noted))
+    owner.answer(digits, f"{SECRET[:16]} {SECRET[16:].upper()}")
+    owner.answer(say("new.secret.again"), SECRET)
+    owner.wait(say("noted.ask"))
+    owner.expect(say("new.secret.count", digits=32, bytes=16))
+    owner.answer(say("noted.ask"), "xyz")
+    owner.answer(say("noted.ask"), FINGERPRINT)
+    owner.wait(say("new.passphrase"))
+    owner.expect(say("noted.wrong"))
+    owner.expect(say("secret.same"))
+    if say("new.write") in owner.asked:
+        raise Failed("a paper is shown before the digits are right")
+
+
+def by_digits(digits):
+    """Returns the fingerprint of a secret, by the plain reading."""
+    return plain.told(bytes.fromhex(digits), True)
+
+
+def type_back(owner, papers):
+    """Types three papers back: first another one, one of another backup, and a look at the first again."""
+    owner.answer(say("screen.next"), "")
+    first = say("back.ask", name="0.0")
+    owner.answer(first, papers[1])
+    owner.wait(first)
+    owner.expect(say("back.other", name="0.0", typed="0.1"))
+    owner.answer(first, SOUND_PAPER)
+    owner.wait(first)
+    owner.expect(say("back.foreign", name="0.0", typed="0.0"))
+    owner.answer(first, " ".join(["?", *papers[0].split()[1:]]))
+    owner.answer(word_prompt(1), SIGN)
+    owner.expect(say("entry.mark.none", number=1, word="?"))
+    owner.answer(first, "")
+    owner.wait(say("new.write"))
+    if owner.words() != papers[0]:
+        raise Failed("the paper that is shown again isn't the first")
+    owner.answer(say("new.write"), "")
+    for at, line in enumerate(papers):
+        owner.answer(say("back.ask", name=f"0.{at}"), line)
+
+
+def check_replace():
+    """A paper that may be in other hands, plans that don't fit, and papers that aren't determined."""
+    with Owner() as owner:
+        owner.prepare()
+        owner.answer(MENU, "replace")
+        owner.wait(say("replace.how"))
+        owner.expect("first try 'Read a damaged paper' (repair)")
+        owner.answer(say("replace.how"), "2")
+        owner.wait(say("screen.end"))
+        owner.expect(say("replace.new.move"))
+        owner.answer(say("screen.end"), "")
+        owner.end(0)
+    with started("replace") as owner:
+        owner.answer(say("replace.how"), "1")
+        owner.collect(THREE_GROUPS[:1])
+        owner.wait(say("more.papers"))
+        owner.expect(say("replace.none_yet"))
+        owner.answer(say("more.papers"), "")
+        owner.type_paper(paper_prompt(2), THREE_GROUPS[1])
+        owner.reply(paper_prompt(3), "")
+        ask_groups(owner)
+        members, needed = say("replace.ask.group", group=0, needed=2), [say("replace.ask.needed", group=group) for group in (1, 2)]
+        owner.answer(members, "17")
+        owner.wait(members)
+        owner.expect(say("replace.members.wrong"))
+        owner.answer(members, "1")
+        owner.wait(members)
+        owner.expect(say("replace.members.few", name="0.1", group=0, papers="2 papers"))
+        owner.answer(members, "3")
+        owner.wait(needed[0])
+        owner.expect(say("replace.needed.hint", group=1))
+        owner.answer(needed[0], "1")
+        owner.answer(needed[1], "2")
+        owner.wait(say("replace.choose"))
+        owner.expect(say("replace.found", names="0.2"))
+        owner.expect("1.0: That takes 1 paper more of group 1. Or it takes 2 complete groups besides")
+        owner.expect("2.0, 2.1: That takes 2 papers more of group 2. Or it takes 1 paper more of group 2, and")
+        owner.answer(say("replace.choose"), "2")
+        owner.type_paper(paper_prompt(3), THREE_GROUPS[3])
+        owner.reply(paper_prompt(4), "")
+        owner.answer(say("replace.groups.ask"), "2.0")
+        owner.answer(needed[1], "1")
+        owner.wait(say("replace.choose"))
+        owner.expect(say("replace.found", names="2.0"))
+        owner.answer(say("replace.choose"), "2.0")
+        owner.wait(say("new.write"))
+        if owner.words() != THREE_GROUPS[4]:
+            raise Failed("the paper that is written again has other words")
+        end_by_keys(owner)
+
+
+def ask_groups(owner):
+    """Only the groups that the owner names are asked for, and only they are told of."""
+    groups = say("replace.groups.ask")
+    owner.answer(groups, "0 3")
+    owner.wait(groups)
+    owner.expect(say("replace.groups.wrong", last=2))
+    owner.forget()
+    owner.answer(groups, "0")
+    owner.answer(say("replace.ask.group", group=0, needed=2), "3")
+    owner.wait(say("replace.choose"))
+    owner.expect(say("replace.found", names="0.2"))
+    if "That takes" in owner.emulator.all_seen():
+        raise Failed("the program tells of papers of groups that aren't wanted")
+    owner.answer(say("replace.choose"), "0.9")
+    owner.answer(say("replace.choose"), "2")
+    owner.expect(say("screen.answers", answers="1, 2, 0.2"))
+    owner.answer(say("more.papers"), "")
+    owner.answer(paper_prompt(3), "")
+    owner.answer(groups, "")
+
+
+def check_repair():
+    """Two papers that fit, none, a wrong word, and too many open words."""
+    menu = say("damaged.menu")
+    with started("repair") as owner:
+        ask = say("damaged.ask")
+        words = SOUND_PAPER.split()
+        owner.answer(ask, " ".join(["? ? ? ?", *words[4:]]))
+        owner.answer(NUMBERED, SIGN)
+        owner.expect(say("damaged.refused.16", first=4))
+        owner.answer(ask, " ".join([*words[:2], "acad?", "acax?", *words[4:]]))
+        owner.answer(word_prompt(4), "?")
+        owner.expect(say("entry.mark", number=4, word="acax?"))
+        owner.wait(menu)
+        owner.expect(say("damaged.limits", case=say("damaged.limits.2")))
+        owner.answer(menu, "")
+        owner.wait(menu)
+        owner.expect(say("screen.answers", answers="w, t, e"))
+        owner.answer(menu, "t")
+        owner.answer(ask, " ".join([words[0], "?", *words[2:]]))
+        two = say("damaged.menu.two")
+        owner.wait(two, menu)
+        owner.type("e\n")
+        owner.end(0)
+    with started("repair") as owner:
+        owner.answer(ask, SOUND_PAPER.replace("agency", "zero"))
+        owner.wait(word_prompt(5))
+        owner.expect(say("damaged.refused.18", first=5))
+        owner.answer(word_prompt(5), "agen")
+        owner.wait(menu)
+        owner.expect(say("damaged.whole"))
+        owner.answer(menu, "e")
+        owner.end(0)
+
+
+
+
+def check_wrong_plan():
+    """What a wrong answer does, if no paper of a group is here: with 1, a paper is written that isn't of the backup, and with more, none."""
+    plan = plain.parse_plan("2/1of1,2of3,1of1")
+    shares = plain.create(plan, bytes(range(16)), b"", 0, False, bytes(range(plain.random_needed(plan, 16))))
+    papers = [plain.mnemonic(share) for share in shares]
+    for needed in ("1", "2"):
+        with started("replace") as owner:
+            owner.answer(say("replace.how"), "1")
+            owner.collect([papers[0], papers[-1]])
+            owner.answer(say("replace.groups.ask"), "1")
+            owner.answer(say("replace.ask.needed", group=1), needed)
+            owner.wait(say("replace.choose"))
+            if needed == "2":
+                owner.expect(say("replace.untold"))
+            else:
+                owner.answer(say("replace.choose"), "1.0")
+                owner.wait(say("new.write"))
+                if owner.words() in papers:
+                    raise Failed("a wrong number of needed papers gives a paper of the backup")
+            end_by_keys(owner)
+
+
+def check_back():
+    """From each of the first questions, the owner goes back to the one before, and at last to the tasks."""
+    secret, plan = say("new.secret"), say("new.plan.choose")
+    with Owner() as owner:
+        owner.prepare()
+        owner.answer(MENU, "1")
+        owner.answer(plan, "b")
+        owner.answer(MENU, "new")
+        owner.answer(plan, "2")
+        owner.answer(secret, "B")
+        owner.answer(plan, "1")
+        owner.answer(secret, "3")
+        owner.answer(say("new.secret.digits"), "b")
+        owner.answer(secret, "1")
+        owner.answer(say("new.passphrase"), "")
+        owner.answer(f"{say('new.passphrase.none')} {say('screen.yes.back')}", "b")
+        owner.wait(secret)
+        owner.expect(say("plan.sentence.any", needed=2, members=3))
+        end_by_keys(owner)
+    with started("new", "2of3") as owner:
+        owner.answer(secret, "b")
+        owner.answer(plan, "b")
+        owner.answer(MENU, "replace")
+        owner.answer(say("replace.how"), "b")
+        owner.answer(MENU, "4")
+        owner.answer(say("replace.how"), "1")
+        owner.collect(THREE_GROUPS[:2])
+        owner.answer(say("replace.groups.ask"), "0")
+        owner.answer(say("replace.ask.group", group=0, needed=2), "b")
+        owner.answer(paper_prompt(3), "")
+        owner.answer(say("replace.groups.ask"), "b")
+        owner.wait(paper_prompt(3))
+        end_by_keys(owner)
+
+
+def check_full():
+    """What is typed where the screen is full is the answer to the question that follows. An arrow is no answer."""
+    for keys, rows, columns in [(["2\n"], 20, 80), (["\x1b[B", "2", "\n"], 20, 80), (["2", "\n", "\n"], 16, 40), (["\n", "3of5\n"], 16, 40)]:
+        with Owner("new", rows=rows, columns=columns) as owner:
+            owner.prepare()
+            owner.wait_full()
+            for at, key in enumerate(keys):
+                owner.type(key)
+                while owner.pull(0.3):
+                    pass
+            owner.wait(say("new.secret"))
+            owner.expect(say("plan.sentence.any", needed=3, members=5))
+            if owner.asked.count(say("new.plan.choose")):
+                raise Failed("an answer is asked for again")
+            end_by_keys(owner)
+
+
+CHECKS = [check_new, check_replace, check_wrong_plan, check_repair, check_back, check_full]
+
+
+def check(see):
+    for one in CHECKS:
+        one()
