@@ -77,7 +77,7 @@ SIDE_BY_SIDE = $(if $(filter -j%,$(MAKEFLAGS)),,-j$(JOBS)) --no-print-directory
 DOCUMENTS = README.md CHANGELOG.md CONTRIBUTING.md SECURITY.md NOTICE
 # This command prints the name of each call of the library. `make install-lib` makes a link with each of these names to the
 # manual page shamir(3).
-CALLS = sed -n 's/^shamir_answer \([a-z_]*\).*/\1/p' include/shamir.h
+CALLS = sed -n 's/^\(shamir_answer\|void\) \(shamir_[a-z_]*\).*/\2/p' include/shamir.h
 SOURCES = $(shell find crates -path '*/out' -prune -o -type f -print) crates.txt
 
 TIMING = crates/s39_timing/out/timing
