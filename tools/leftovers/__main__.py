@@ -5,10 +5,12 @@
 It compiles tools/leftovers.c with libshamir.a. This program makes one call, and gives what then lies below the frame of the caller.
 There, the tool searches for the secret, the encrypted secret, the passphrase, the random bytes and the values of shares: their bytes
 and digits, and any eight of these in a row. It also searches for any three words of a mnemonic in a row. And it checks that what
-the call touched is 0, except in the highest FRAMES bytes: the frames of the call and of the clearing are there. The tool needs a C
-compiler for x86-64. If there is none, it says so and checks nothing.
+the call touched is 0, except in the highest FRAMES bytes: the frames of the call and of the clearing are there.
 
-It exits with status 1 if something is found, or if a call answers another code than it must.
+It also adds up the frames of the functions that a call reaches, as objdump shows them. A call must clear as much, whatever it is
+given. The tool needs a C compiler for x86-64 and objdump. It says what it doesn't check without them.
+
+It exits with status 1 if something is found, if a call answers another code than it must, or if it can reach further than it clears.
 """
 import argparse
 import os
@@ -27,6 +29,7 @@ sys.dont_write_bytecode = True
 
 import backups  # noqa: E402
 import cases  # noqa: E402
+import frames  # noqa: E402
 
 COMPILER = os.environ.get("CC", "cc").split()
 STRICT = ["-std=c11", "-O1", "-Wall", "-Wextra", "-Werror", "-pedantic", f"-I{ROOT}/include"]
@@ -64,13 +67,8 @@ def leftovers(program: str, case: cases.Case, needles: backups.Needles) -> Tuple
     return told, lowest
 
 
-def main() -> None:
-    words = argparse.ArgumentParser()
-    words.add_argument("--archive", type=pathlib.Path, default=ROOT / "libshamir.a")
-    archive = words.parse_args().archive
-    if not shutil.which(COMPILER[0]) or platform.machine() != "x86_64":
-        print(f"tools/leftovers: there is no {COMPILER[0]} for x86-64, so nothing is checked")
-        return
+def all_leftovers(archive: pathlib.Path) -> Tuple[List[str], int, int]:
+    """Makes all calls. Returns what they leave, how many they are, and the lowest byte that one leaves other than 0."""
     told: List[str] = []
     count = deepest = 0
     with tempfile.TemporaryDirectory() as folder, ThreadPoolExecutor() as pool:
@@ -81,6 +79,31 @@ def main() -> None:
             for found, lowest in pool.map(lambda case: leftovers(program, case, needles), made):
                 told += [f"{len(backup.secret)} bytes: {it}" for it in found]
                 count, deepest = count + 1, max(deepest, lowest)
+    return told, count, deepest
+
+
+def too_deep(archive: pathlib.Path) -> List[str]:
+    """Returns which calls can reach further down than they clear."""
+    sizes = frames.sizes_of(str(archive))
+    return [
+        f"shamir_{call} can reach {sizes[call].reached} bytes down, and clears {sizes[call].cleared}"
+        for call in cases.CALLS
+        if sizes[call].reached > sizes[call].cleared
+    ]
+
+
+def main() -> None:
+    words = argparse.ArgumentParser()
+    words.add_argument("--archive", type=pathlib.Path, default=ROOT / "libshamir.a")
+    archive = words.parse_args().archive
+    if not shutil.which(COMPILER[0]) or platform.machine() != "x86_64":
+        print(f"tools/leftovers: there is no {COMPILER[0]} for x86-64, so nothing is checked")
+        return
+    told, count, deepest = all_leftovers(archive)
+    if shutil.which("objdump"):
+        told += too_deep(archive)
+    else:
+        print("tools/leftovers: objdump isn't there, so nothing says how far down a call can reach")
     if told:
         more = [f"and {len(told) - SHOWN} more"] if len(told) > SHOWN else []
         sys.exit("tools/leftovers: after a call, its stack isn't clear\n  " + "\n  ".join(told[:SHOWN] + more))

@@ -8,7 +8,8 @@ PLAN = "2/2of3,1of1,3of5"
 LENGTHS = [16, 18, 32, 128]
 MANY = ",".join(["16of16"] * 16)
 ROOM = 253440
-NO_TEXT = b""
+# These calls get something secret.
+CALLS = ["parse", "create", "recover", "drill", "status", "reissue", "repair", "fingerprint", "words"]
 
 Argument = Union[bytes, str, int]
 
