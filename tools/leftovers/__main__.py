@@ -84,7 +84,7 @@ def all_leftovers(archive: pathlib.Path) -> Tuple[List[str], int, int]:
 
 def too_deep(archive: pathlib.Path) -> List[str]:
     """Returns which calls can reach further down than they clear."""
-    sizes = frames.sizes_of(str(archive))
+    sizes = frames.sizes_of(str(archive), cases.CALLS)
     return [
         f"shamir_{call} can reach {sizes[call].reached} bytes down, and clears {sizes[call].cleared}"
         for call in cases.CALLS

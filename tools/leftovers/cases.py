@@ -60,12 +60,12 @@ def refused_lines(backup: Backup) -> Iterator[Case]:
     good = backup.lines("0.0")
     for code, line in [
         (11, good[:-1] + b"x"),
-        (12, b" ".join(good.split(b" ")[:-1])),
+        (12, b" ".join(good.split(b" ")[:15])),
         (13, wrong_word(good[:-1], 12)),
         (21, with_fields(backup.shares[1], id=first["id"] ^ 1)),
         (27, with_fields(backup.shares[1], member_threshold=4)),
         (28, other_value(first)),
-        (71, b"# " + 100 * good),
+        (71, good[:-1] + 1024 * b" "),
     ]:
         yield Case("status", code, [good + line, ROOM])
 
@@ -136,16 +136,17 @@ def lines_alone(backup: Backup) -> Iterator[Case]:
     """Yields the calls of one line, and those of one secret."""
     line = backup.mnemonics[0]
     words = line.split(b" ")
-    lost = b" ".join(words[:5] + [b"?", b"?", b"?"] + words[8:])
+    one_lost, lost = (b" ".join(words[:5] + count * [b"?"] + words[5 + count :]) for count in (1, 3))
+    short = b" ".join(words[:15])
     for code, given, room in [
-        (0, line, 128), (1, line, 15), (11, line + b"x", 128), (12, line + b" acid", 128), (13, wrong_word(line, 7), 128)
+        (0, line, 128), (1, line, 15), (11, line + b"x", 128), (12, short, 128), (13, wrong_word(line, 7), 128)
     ]:
         yield Case("parse", code, [given, room])
     yield Case("parse", 15, [with_fields(backup.shares[0], group_threshold=4), 128])
     two_wrong = wrong_word(wrong_word(line, 7), 9)
     for code, given, room in [
-        (0, lost, ROOM), (0, line, ROOM), (1, lost, 100), (11, line + b"x", ROOM), (12, line + b" acid", ROOM),
-        (13, two_wrong, ROOM), (16, lost.replace(words[9], b"?", 1), ROOM), (17, wrong_word(lost, 9), ROOM),
+        (0, lost, ROOM), (0, line, ROOM), (1, lost, 100), (11, line + b"x", ROOM), (12, short, ROOM),
+        (13, two_wrong, ROOM), (16, lost.replace(words[9], b"?", 1), ROOM), (17, wrong_word(one_lost, 9), ROOM),
         (18, wrong_word(line, 7), ROOM),
     ]:
         yield Case("repair", code, [given, room])

@@ -52,7 +52,7 @@ def functions_of(archive: str) -> Dict[str, Function]:
         function.frame += lowered([line for line in lines if not line.startswith("R_")])
         for line, following in zip(lines, lines[1:] + [""]):
             if line.startswith(("call", "j")) and following.startswith("R_"):
-                function.calls.add(re.sub(r"^R_\S+ (\.text\.)?|-0x4$", "", following))
+                function.calls.add(re.sub(r"^R_\S+ (\.text\.(unlikely\.)?)?|-0x4$", "", following))
             elif re.match(r"call +\*|(sub|add|and|mov|lea) .*[^,]*,%rsp$", line) and not re.match(r"(sub|add|and) +\$", line):
                 function.unclear = line
     return found
@@ -81,13 +81,14 @@ class Sizes:
     cleared: int
 
 
-def sizes_of(archive: str) -> Dict[str, Sizes]:
-    """Returns the sizes of each call of the library. One that clears nothing clears 0 bytes."""
+def sizes_of(archive: str, calls: List[str]) -> Dict[str, Sizes]:
+    """Returns the sizes of calls of the library. One that clears nothing clears 0 bytes."""
     functions = functions_of(archive)
     depth = depth_in(functions)
     found = {}
-    for name in (name for name in functions if name.startswith("shamir_")):
-        clearings = [CLEARING.fullmatch(called) for called in functions[name].calls]
-        below = max((depth(called) for called in functions[name].calls if not CLEARING.fullmatch(called)), default=0)
-        found[name.removeprefix("shamir_")] = Sizes(functions[name].frame + below, max((int(it[1]) * WORD for it in clearings if it), default=0))
+    for call in calls:
+        function = functions[f"shamir_{call}"]
+        clearings = [CLEARING.fullmatch(called) for called in function.calls]
+        below = max((depth(called) for called in function.calls if not CLEARING.fullmatch(called)), default=0)
+        found[call] = Sizes(function.frame + below, max((int(it[1]) * WORD for it in clearings if it), default=0))
     return found

@@ -8,16 +8,24 @@ use std::sync::atomic::{AtomicIn, Rule};
 /// How many words of 64 bits a KiB has.
 const KIB: usize = 128;
 
-// How many words each call clears, which is more than it reaches down.
-pub(crate) const WORDS: usize = 4 * KIB;
+// How many words each call clears: somewhat more than it reaches down, which tools/leftovers tells.
+pub(crate) const WORDS: usize = 6 * KIB;
+
 pub(crate) const PARSE: usize = 8 * KIB;
+
 pub(crate) const FINGERPRINT: usize = 8 * KIB;
-pub(crate) const REPAIR: usize = 16 * KIB;
-pub(crate) const CREATE: usize = 128 * KIB;
-pub(crate) const RECOVER: usize = 192 * KIB;
-pub(crate) const STATUS: usize = 256 * KIB;
-pub(crate) const DRILL: usize = 384 * KIB;
-pub(crate) const REISSUE: usize = 448 * KIB;
+
+pub(crate) const REPAIR: usize = 20 * KIB;
+
+pub(crate) const CREATE: usize = 96 * KIB;
+
+pub(crate) const STATUS: usize = 224 * KIB;
+
+pub(crate) const RECOVER: usize = 264 * KIB;
+
+pub(crate) const DRILL: usize = 352 * KIB;
+
+pub(crate) const REISSUE: usize = 416 * KIB;
 
 /// A word that is always 0.
 struct Zero;

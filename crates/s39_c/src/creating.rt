@@ -65,7 +65,9 @@ pub extern "C" fn shamir_create(
       extendable = extendable;
     }) random.now mnemonics.old mnemonics.new result }
 {
-    let answer = create_answer(plan, secret, passphrase, exponent, extendable, random, mnemonics);
+    let answer = create_answer(
+        plan, secret, passphrase, exponent, extendable, random, mnemonics,
+    );
     let _ = clear_stack::<CREATE>();
     answer
 }

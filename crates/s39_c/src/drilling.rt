@@ -63,7 +63,16 @@ pub extern "C" fn shamir_drill(
         (GivesDrill (λ kind names n. DrillsCreated kind passphrase.now names n (whole lines.now))
         after.now limit form expected.now text.old text.new result) }
 {
-    let answer = drill_answer(lines, passphrase, max_exponent, after, limit, form, expected, text);
+    let answer = drill_answer(
+        lines,
+        passphrase,
+        max_exponent,
+        after,
+        limit,
+        form,
+        expected,
+        text,
+    );
     let _ = clear_stack::<DRILL>();
     answer
 }

@@ -56,11 +56,7 @@ pub extern "C" fn shamir_parse(
 
 /// The answer of `shamir_parse`.
 #[inline(never)]
-fn parse_answer(
-    line: &[u8],
-    share: &mut ShamirShare,
-    value: &mut [u8],
-) -> ShamirAnswer
+fn parse_answer(line: &[u8], share: &mut ShamirShare, value: &mut [u8]) -> ShamirAnswer
     ensures { GivesShare line.now share.old share.new value.old value.new result }
 {
     match parse(line) {

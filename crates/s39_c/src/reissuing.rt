@@ -49,12 +49,7 @@ pub extern "C" fn shamir_reissue(
 
 /// The answer of `shamir_reissue`.
 #[inline(never)]
-fn reissue_answer(
-    plan: &[u8],
-    names: &[u8],
-    lines: &[u8],
-    mnemonics: &mut [u8],
-) -> ShamirAnswer
+fn reissue_answer(plan: &[u8], names: &[u8], lines: &[u8], mnemonics: &mut [u8]) -> ShamirAnswer
     ensures reissues { GivesReissued
         (λ threshold groups wanted. IsReissueOutput threshold groups wanted (whole lines.now))
         plan.now names.now mnemonics.old mnemonics.new result }
