@@ -39,6 +39,8 @@ INSTALL ?= install
 LDCONFIG ?= ldconfig
 PREFIX ?= /usr/local
 BINDIR ?= $(PREFIX)/bin
+# With 711 and root as its owner, a user can run the program and can't read it. So it leaves no core file (SECURITY.md).
+BINMODE ?= 755
 LIBDIR ?= $(PREFIX)/lib
 INCLUDEDIR ?= $(PREFIX)/include
 MANDIR ?= $(PREFIX)/share/man
@@ -172,7 +174,7 @@ install-bin:
 	@test -f shamir || { echo "make install-bin: ./shamir isn't here: 'make' proves and builds it" >&2; exit 1; }
 	$(INSTALL) -d "$(DESTDIR)$(BINDIR)" "$(DESTDIR)$(MANDIR)/man1" "$(DESTDIR)$(BASHDIR)" "$(DESTDIR)$(ZSHDIR)" "$(DESTDIR)$(FISHDIR)" \
 		"$(DESTDIR)$(DOCDIR)/docs" "$(DESTDIR)$(DOCDIR)/examples"
-	$(INSTALL) -m 755 shamir "$(DESTDIR)$(BINDIR)/shamir"
+	$(INSTALL) -m $(BINMODE) shamir "$(DESTDIR)$(BINDIR)/shamir"
 	$(INSTALL) -m 644 man/shamir.1 "$(DESTDIR)$(MANDIR)/man1/shamir.1"
 	$(INSTALL) -m 644 completions/shamir.bash "$(DESTDIR)$(BASHDIR)/shamir"
 	$(INSTALL) -m 644 completions/_shamir "$(DESTDIR)$(ZSHDIR)/_shamir"
