@@ -5,7 +5,8 @@
 It compiles tools/leftovers.c with libshamir.a. This program makes one call, and gives what then lies below the frame of the caller.
 There, the tool searches for the secret, the encrypted secret, the passphrase, the random bytes and the values of shares: their bytes
 and digits, and any eight of these in a row. It also searches for any three words of a mnemonic in a row. And it checks that what
-the call touched is 0, except in the highest FRAMES bytes: the frames of the call and of the clearing are there.
+the call touched is 0. Only the highest FRAMES bytes may be others, where the frames of the call and of the clearing are, and the
+lowest eight, where the clearing puts the address to which its last step returns.
 
 It also adds up the frames of the functions that a call reaches, as objdump shows them. A call must clear as much, whatever it is
 given. The tool needs a C compiler for x86-64 and objdump. It says what it doesn't check without them.
@@ -34,7 +35,8 @@ import frames  # noqa: E402
 COMPILER = os.environ.get("CC", "cc").split()
 STRICT = ["-std=c11", "-O1", "-Wall", "-Wextra", "-Werror", "-pedantic", f"-I{ROOT}/include"]
 UNTOUCHED = b"\xa5"
-FRAMES = 512
+FRAMES = 384
+ADDRESS = 8
 SHOWN = 20
 
 
@@ -61,7 +63,7 @@ def leftovers(program: str, case: cases.Case, needles: backups.Needles) -> Tuple
     touched = stack.lstrip(UNTOUCHED)
     found = sorted({what: len(touched) - at for at, what in needles.within(touched)}.items())
     told = [f"{name} leaves {what}, {below} bytes below the caller" for what, below in found]
-    lowest = len(touched.lstrip(b"\0"))
+    lowest = len(touched[ADDRESS:].lstrip(b"\0"))
     if lowest > FRAMES:
         told.append(f"{name} leaves bytes other than 0, {lowest} bytes below the caller")
     return told, lowest

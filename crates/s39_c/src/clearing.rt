@@ -34,10 +34,22 @@ impl Rule for Zero {
     ghost invariant = { λ word. word ≡ 0 };
 }
 
-/// Fills this many words of the stack, below the frame of the caller, with zeros. It reads them back as atomic words, so that
-/// the compiler leaves out neither the reads nor the zeros.
-#[inline(never)]
+/// Fills this many words of the stack, below the frame of the caller, with zeros.
+///
+/// The first call of `memset` in a program may keep registers on the stack, below the words that it fills. So the first one
+/// fills few words, and the second one fills what the first one left.
 pub(crate) fn clear_stack<const COUNT: usize>() -> u64
+    requires { COUNT ≤ 65536 }
+    ensures { result ≡ 0 }
+{
+    let _ = zero_words::<KIB>();
+    zero_words::<COUNT>()
+}
+
+/// Fills this many words of the stack with zeros. It reads them back as atomic words, so that the compiler leaves out neither
+/// the reads nor the zeros.
+#[inline(never)]
+fn zero_words<const COUNT: usize>() -> u64
     requires { COUNT ≤ 65536 }
     ensures { result ≡ 0 }
 {
