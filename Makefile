@@ -14,7 +14,8 @@
 #   make check-page  checks shamir.html in Chromium and in Firefox: each task by keyboard, each refusal, what the browser keeps
 #   make check-papers  checks shamir-papers in terminals: each task, each wrong answer, what the terminal and the memory keep
 #   make check-js    checks the JavaScript package alone: its types, and its tests with both forms of the library
-#   make check-secrets   looks with valgrind for branches and addresses of the library that depend on secrets
+#   make check-secrets   looks with valgrind for branches and addresses of the library that depend on secrets, and for secrets that
+#                    its calls leave on the stack
 #   make faults      makes each allocation, open, read and write of the program fail in turn
 #   make compare     compares the program, and the repair of the library, with a plain reading of the standard in Python, on
 #                    generated cases; and the page and shamir-papers with the program
@@ -38,6 +39,8 @@ INSTALL ?= install
 LDCONFIG ?= ldconfig
 PREFIX ?= /usr/local
 BINDIR ?= $(PREFIX)/bin
+# With 711 and root as its owner, a user can run the program and can't read it. So it leaves no core file (SECURITY.md).
+BINMODE ?= 755
 LIBDIR ?= $(PREFIX)/lib
 INCLUDEDIR ?= $(PREFIX)/include
 MANDIR ?= $(PREFIX)/share/man
@@ -77,7 +80,7 @@ SIDE_BY_SIDE = $(if $(filter -j%,$(MAKEFLAGS)),,-j$(JOBS)) --no-print-directory
 DOCUMENTS = README.md CHANGELOG.md CONTRIBUTING.md SECURITY.md NOTICE
 # This command prints the name of each call of the library. `make install-lib` makes a link with each of these names to the
 # manual page shamir(3).
-CALLS = sed -n 's/^shamir_answer \([a-z_]*\).*/\1/p' include/shamir.h
+CALLS = sed -n 's/^\(shamir_answer\|void\) \(shamir_[a-z_]*\).*/\2/p' include/shamir.h
 SOURCES = $(shell find crates -path '*/out' -prune -o -type f -print) crates.txt
 
 TIMING = crates/s39_timing/out/timing
@@ -140,6 +143,7 @@ check-packages: shamir libshamir.so $(if $(shell command -v wasm-opt 2> /dev/nul
 
 check-secrets: libshamir.a $(TIMING)
 	@$(PYTHON) tools/timing
+	@$(PYTHON) tools/leftovers
 
 # Proves and builds the program that tools/timing looks at, beside the library.
 $(TIMING): $(SOURCES)
@@ -170,7 +174,7 @@ install-bin:
 	@test -f shamir || { echo "make install-bin: ./shamir isn't here: 'make' proves and builds it" >&2; exit 1; }
 	$(INSTALL) -d "$(DESTDIR)$(BINDIR)" "$(DESTDIR)$(MANDIR)/man1" "$(DESTDIR)$(BASHDIR)" "$(DESTDIR)$(ZSHDIR)" "$(DESTDIR)$(FISHDIR)" \
 		"$(DESTDIR)$(DOCDIR)/docs" "$(DESTDIR)$(DOCDIR)/examples"
-	$(INSTALL) -m 755 shamir "$(DESTDIR)$(BINDIR)/shamir"
+	$(INSTALL) -m $(BINMODE) shamir "$(DESTDIR)$(BINDIR)/shamir"
 	$(INSTALL) -m 644 man/shamir.1 "$(DESTDIR)$(MANDIR)/man1/shamir.1"
 	$(INSTALL) -m 644 completions/shamir.bash "$(DESTDIR)$(BASHDIR)/shamir"
 	$(INSTALL) -m 644 completions/_shamir "$(DESTDIR)$(ZSHDIR)/_shamir"

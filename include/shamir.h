@@ -21,21 +21,20 @@
  * returns for every input. Calls share no data, so any number of threads can make calls at once.
  *
  * A call uses at most SHAMIR_STACK_BYTES bytes of stack; the main thread has more by default. In a thread with a smaller stack,
- * a call can crash the program. Give a thread more than SHAMIR_STACK_BYTES, because its own functions use some too;
- * examples/c/cleared.c gives it twice as much.
+ * a call can crash the program. Give a thread more than SHAMIR_STACK_BYTES, because its own functions use some too.
  *
  * A buffer is a pointer and a length in bytes. If the length is 0, the pointer isn't used and may be NULL. A pointer to a
  * struct must not be NULL. An output buffer or an output struct must not overlap any other argument. Lengths exclude any
  * terminating NUL; an embedded NUL is part of the text. No call writes a terminating NUL. Texts have the type char, and
  * secrets, values and random bytes have the type uint8_t. So a compiler can warn if a text and bytes are exchanged.
  *
- * Each call returns a shamir_answer. If its code is SHAMIR_DONE, the call succeeded. The output is at the start of the output
+ * Each call but shamir_wipe returns a shamir_answer. If its code is SHAMIR_DONE, the call succeeded. The output is at the start of the output
  * buffer, and the bytes after it are unchanged. The answer's field "written" is the length of the output. Any other code is a
  * refusal. On refusal the output buffer and the output struct are unchanged, and "written" is 0.
  *
- * The library doesn't clear its stack, where copies of secrets and passphrases may remain. examples/c/cleared.c makes calls
- * on a stack of its own, and clears that stack afterwards. The time of a call can depend on secrets. docs/LIBRARY.md says what
- * is promised and what isn't.
+ * Before a call that gets a secret, a passphrase or a mnemonic returns, it clears the stack that it used. This is tested, not
+ * proved. It clears no registers. The caller clears its own buffers, with shamir_wipe. examples/c/cleared.c keeps them out of swap
+ * and core files too. The time of a call can depend on secrets. docs/LIBRARY.md says what is promised and what isn't.
  */
 #ifndef SHAMIR_H
 #define SHAMIR_H
@@ -509,6 +508,17 @@ shamir_answer shamir_text(const shamir_answer *answer, char *text, size_t text_b
  */
 SHAMIR_CALL
 shamir_answer shamir_version(char *text, size_t text_bytes);
+
+/*
+ * Clears a buffer of the caller, such as one that held a secret: every byte of it becomes 0.
+ *
+ * A compiler may leave out a memset of memory that nobody reads again, and can't leave out this call. It refuses nothing, so it
+ * returns no answer.
+ *
+ *     shamir_wipe(secret, sizeof secret);
+ */
+SHAMIR_CALL_IGNORABLE
+void shamir_wipe(void *buffer, size_t buffer_bytes);
 
 #ifdef __cplusplus
 }

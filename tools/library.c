@@ -729,6 +729,26 @@ static void check_version(void)
     compare(shamir_version(fresh(0), 0), too_short(version.length), none);
 }
 
+/* Checks that every byte of a buffer is cleared, and no byte before or after it. */
+static void check_wipe(void)
+{
+    unsigned char *bytes;
+    size_t length;
+    size_t i;
+
+    export_name = "shamir_wipe";
+    for (length = 0; length < ROOM_BYTES - 1; length++) {
+        bytes = fresh(ROOM_BYTES);
+        shamir_wipe(bytes + 1, length);
+        for (i = 0; i < ROOM_BYTES; i++) {
+            if (bytes[i] != (0 < i && i <= length ? 0 : UNTOUCHED)) {
+                differ("a byte isn't cleared, or another one is");
+            }
+        }
+    }
+    shamir_wipe(fresh(0), 0);
+}
+
 /* Checks the flag of a new backup: it's set by any number except 0. The room has the text of a mnemonic and its line feed. */
 static void check_flag(void)
 {
@@ -789,6 +809,7 @@ int main(void)
     CHECK_EACH("shamir_words", words_examples, check_words)
     check_flag();
     check_version();
+    check_wipe();
     check_unknown();
     return differences != 0;
 }

@@ -10,7 +10,7 @@ FOREIGN = "ffi.rs"
 # What stands for a type of C in the declarations.
 TYPES = {
     "const char *": "*const c_char", "char *": "*mut c_char", "const uint8_t *": "*const u8", "uint8_t *": "*mut u8", "size_t": "usize",
-    "uint32_t": "u32", "shamir_share *": "*mut Fields", "const shamir_answer *": "*const Answer",
+    "uint32_t": "u32", "void *": "*mut u8", "shamir_share *": "*mut Fields", "const shamir_answer *": "*const Answer",
 }
 FIELDS = {"uint8_t": "u8", "uint16_t": "u16", "uint32_t": "u32", "uint64_t": "u64"}
 STRUCTS = {"shamir_answer": "Answer", "shamir_share": "Fields"}
@@ -31,12 +31,13 @@ def in_line(text):
 def check_declarations(foreign):
     """Checks that the crate declares the calls and structs of the header."""
     header, declared = HEADER.read_text(), {}
-    for name, given in re.findall(r"^    fn (shamir_\w+)\(([^)]*)\) -> Answer;$", foreign, re.MULTILINE):
-        declared[name] = [in_line(one) for one in given.strip().rstrip(",").split(",")]
+    for name, given, result in re.findall(r"^    fn (shamir_\w+)\(([^)]*)\)( -> Answer)?;$", foreign, re.MULTILINE):
+        declared[name] = [in_line(one) for one in given.strip().rstrip(",").split(",")] + [result]
     wanted = {}
-    for name, given in re.findall(r"^shamir_answer (shamir_\w+)\(([^;]*)\);", header, re.MULTILINE):
+    for result, name, given in re.findall(r"^(shamir_answer|void) (shamir_\w+)\(([^;]*)\);", header, re.MULTILINE):
         parts = (re.fullmatch(r"(.*?)(\w+)", in_line(one)) for one in given.split(","))
         wanted[name] = [f"{part[2]}: {TYPES[part[1] if part[1].endswith('*') else part[1].strip()]}" for part in parts]
+        wanted[name].append(" -> Answer" if result == "shamir_answer" else "")
     if not wanted or declared != wanted:
         sys.exit(f"bindings/rust and include/shamir.h declare these calls differently, or one of them doesn't: {difference(declared, wanted)}")
     for struct, name in STRUCTS.items():
@@ -67,7 +68,7 @@ def check_unsafe(texts):
         if said is None:
             sys.exit(f"bindings/rust/src/{FOREIGN}:{number + 1}: the unsafe block doesn't say why it is right")
         quoted = re.fullmatch(r'"(.*)"', said[1])
-        if quoted is None and "write_volatile" not in line or quoted and quoted[1] not in header:
+        if quoted is None or quoted[1] not in header:
             sys.exit(f"bindings/rust/src/{FOREIGN}:{number + 1}: include/shamir.h doesn't say {said[1]}")
 
 

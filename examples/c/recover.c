@@ -20,16 +20,6 @@ static uint8_t secret[SHAMIR_SECRET_BYTES_MAX];
 /* The hexadecimal digits of the secret, and a line feed. */
 static char digits[2 * SHAMIR_SECRET_BYTES_MAX + 1];
 
-/* Clears memory. Without volatile, the compiler could leave this out. */
-static void clear(volatile void *memory, size_t count)
-{
-    volatile char *bytes = memory;
-
-    while (count > 0) {
-        bytes[--count] = 0;
-    }
-}
-
 /* Reads a file into lines. Returns 0 if the file can't be read or is too long. */
 static int read_lines(const char *name, size_t *bytes)
 {
@@ -108,8 +98,8 @@ int main(int argc, char **argv)
     } else if (read_lines(argv[1], &bytes)) {
         status = recover(bytes, argc == 3 ? argv[2] : "");
     }
-    clear(lines, sizeof lines);
-    clear(secret, sizeof secret);
-    clear(digits, sizeof digits);
+    shamir_wipe(lines, sizeof lines);
+    shamir_wipe(secret, sizeof secret);
+    shamir_wipe(digits, sizeof digits);
     return status;
 }

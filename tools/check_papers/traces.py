@@ -12,8 +12,6 @@ from tasks import PASSPHRASE, Owner, check_check, check_new, make, paper_prompt,
 
 # A passphrase that nothing else has.
 OWN_PASSPHRASE = "7mQ zebra-crossing 4tV"
-# So much memory a thread has for its stack.
-STACK_BYTES = 1 << 20
 # These calls write a file, make one, reach another machine, or start a program.
 WRITING = re.compile(r"O_WRONLY|O_RDWR|O_CREAT|O_APPEND|O_TMPFILE")
 FORBIDDEN = {"creat", "mkdir", "mkdirat", "mknod", "rename", "renameat", "renameat2", "link", "linkat", "symlink", "symlinkat", "truncate", "socket", "connect", "fork", "vfork", "memfd_create"}
@@ -57,13 +55,12 @@ def look_at(text):
         raise Failed(f"programs are started: {started}")
 
 
-def memory_of(number, with_stacks=True):
-    """Yields each part of the memory of a process that it can write, with or without the stacks of its threads."""
+def memory_of(number):
+    """Yields each part of the memory of a process that it can write."""
     with open(f"/proc/{number}/maps") as maps, open(f"/proc/{number}/mem", "rb", buffering=0) as memory:
         for line in maps:
             begin, end, kind = re.match(r"([0-9a-f]+)-([0-9a-f]+) (\S+)", line).groups()
-            is_stack = "[stack]" in line or int(end, 16) - int(begin, 16) == STACK_BYTES
-            if kind.startswith("rw") and (with_stacks or not is_stack):
+            if kind.startswith("rw"):
                 memory.seek(int(begin, 16))
                 try:
                     yield memory.read(int(end, 16) - int(begin, 16))
@@ -97,7 +94,6 @@ def check_memory():
             seen["typed"] = look_for(session, {"passphrase": OWN_PASSPHRASE.encode()})
         if prompt == say("screen.end"):
             seen["memory"] = b"".join(memory_of(session.run.pid))
-            seen["outside stacks"] = b"".join(memory_of(session.run.pid, False))
 
     with Owner("new", "2of3") as owner:
         owner.prepare()
@@ -110,9 +106,8 @@ def check_memory():
         raise Failed("a passphrase that the program holds isn't found in its memory, so this check sees nothing")
     secret = secret_of(papers, OWN_PASSPHRASE)
     texts = {"the passphrase": OWN_PASSPHRASE.encode(), "the digits of the secret": secret.encode(), **of_papers(papers)}
+    texts["the secret"] = bytes.fromhex(secret)
     left = [what for what, text in texts.items() if text in seen["memory"]]
-    # The library leaves the secret's bytes on the stack of the thread that called it.
-    left += ["the secret"] if bytes.fromhex(secret) in seen["outside stacks"] else []
     if left:
         raise Failed(f"after a backup was made, the memory of the program still has {', '.join(left)}")
     check_memory_of_check(papers, noted, secret)

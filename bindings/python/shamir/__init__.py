@@ -27,8 +27,9 @@ libshamir.so in the folder of this package, where `make lib` puts it, or else th
 library isn't there, lacks a call, or has another first version number than the package, it raises ImportError.
 
 Calls share no data, so any number of threads can make calls at once. A call uses at most 512 KiB of stack. A call in a
-thread with a smaller `threading.stack_size` can crash the program; 1,048,576 is enough for every call. Neither the
-package nor the library clears the memory where copies of secrets and passphrases remain.
+thread with a smaller `threading.stack_size` can crash the program; 1,048,576 is enough for every call. The library
+clears the stack that a call used, and the package the buffer of its output. It doesn't clear what Python keeps: the
+arguments, their copies and the results.
 """
 from __future__ import annotations
 
@@ -199,6 +200,7 @@ def _declared(library: ctypes.CDLL) -> ctypes.CDLL:
     ]:
         function = getattr(library, name)
         function.argtypes, function.restype = arguments, _Answer
+    library.shamir_wipe.argtypes, library.shamir_wipe.restype = _ROOM, None
     return library
 
 
@@ -339,10 +341,12 @@ def _checked(answer: _Answer) -> _Answer:
 
 
 def _answered(call: _Call, room: int) -> Tuple[bytes, _Answer]:
-    """Return what a call writes into a buffer of this length, and its answer."""
+    """Return what a call writes into a buffer of this length, and its answer. The buffer is cleared."""
     buffer = ctypes.create_string_buffer(room)
     answer = _checked(call(buffer, room))
-    return ctypes.string_at(buffer, answer.written), answer
+    output = ctypes.string_at(buffer, answer.written)
+    _library.shamir_wipe(buffer, answer.written)
+    return output, answer
 
 
 def _filled(call: _Call, room: int) -> bytes:

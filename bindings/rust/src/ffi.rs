@@ -1,11 +1,10 @@
-//! The calls of the library over slices, and the clearing of bytes. All unsafe code of the crate is in this module.
+//! The calls of the library over slices. All unsafe code of the crate is in this module.
 //!
 //! The text in quotation marks before each unsafe block is of `shamir.h`, and says what the block rests on. A slice is always a
 //! pointer and a length that fit together. A slice that a call writes is borrowed exclusively, so it overlaps nothing.
 #![allow(unsafe_code)]
 
 use core::ffi::c_char;
-use core::sync::atomic::{Ordering, compiler_fence};
 
 /// `shamir_answer`.
 #[repr(C)]
@@ -77,6 +76,7 @@ unsafe extern "C" {
     fn shamir_words(letters: *const c_char, letters_bytes: usize, text: *mut c_char, text_bytes: usize) -> Answer;
     fn shamir_text(answer: *const Answer, text: *mut c_char, text_bytes: usize) -> Answer;
     fn shamir_version(text: *mut c_char, text_bytes: usize) -> Answer;
+    fn shamir_wipe(buffer: *mut u8, buffer_bytes: usize);
 }
 
 #[cfg(feature = "alloc")]
@@ -246,11 +246,8 @@ pub(crate) fn version(room: &mut [u8]) -> Answer {
     unsafe { shamir_version(room, room_bytes) }
 }
 
-/// Writes zeros over bytes. The writes are volatile, so the compiler can't leave them out.
+/// Writes zeros over bytes. The library does it, so the compiler of this crate can't leave it out.
 pub(crate) fn wipe(bytes: &mut [u8]) {
-    for byte in bytes {
-        // SAFETY: `byte` is a reference, so one byte may be written there. This block rests on nothing of `shamir.h`.
-        unsafe { core::ptr::write_volatile(byte, 0) };
-    }
-    compiler_fence(Ordering::SeqCst);
+    // SAFETY: "Clears a buffer of the caller, such as one that held a secret: every byte of it becomes 0."
+    unsafe { shamir_wipe(bytes.as_mut_ptr(), bytes.len()) }
 }

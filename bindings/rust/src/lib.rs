@@ -45,8 +45,8 @@
 //!
 //! # Secrets in memory
 //!
-//! A [`Secret`] clears itself when it is dropped. So do mnemonics, drills and random bytes that the crate keeps. The library doesn't
-//! clear its stack, where copies of secrets and passphrases may remain after a call. The caller clears its own texts.
+//! A [`Secret`] clears itself when it is dropped. So do mnemonics, drills and random bytes that the crate keeps. Each call of the
+//! library clears the stack that it used, which is tested. The caller clears its own texts.
 //!
 //! # Stack and threads
 //!

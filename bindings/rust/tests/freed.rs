@@ -1,5 +1,5 @@
-//! What a dropped secret leaves in the heap. In optimized code, a compiler leaves out writes to memory that is freed next, unless they
-//! are volatile. So this test looks at the memory after it is freed, and `tools/rust` runs it with optimization across crates.
+//! What a dropped secret leaves in the heap. In optimized code, a compiler leaves out writes to memory that is freed next, unless
+//! another library makes them. So this test looks at the memory after it is freed, and `tools/rust` runs it with optimization across crates.
 #![allow(unsafe_code)]
 use shamir::{SECRET_BYTES_MAX, Secret};
 use std::alloc::{Layout, alloc, dealloc};

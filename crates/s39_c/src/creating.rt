@@ -4,6 +4,7 @@ ghost use Rattle.s39_kdf.specs.Limits.{exponent_bits};
 ghost use Rattle.s39_c.specs.Creating.{GivesMnemonics, GivesBackup, GivesNumber};
 
 use crate::answer::ShamirAnswer;
+use crate::clearing::{CREATE, clear_stack};
 use s39_backup::{Options, Plan};
 use s39_creating::create_lines;
 use s39_input::Fault;
@@ -48,6 +49,32 @@ pub extern "C" fn shamir_random_needed(plan: &[u8], secret_bytes: usize) -> Sham
 /// ```
 #[unsafe(no_mangle)]
 pub extern "C" fn shamir_create(
+    plan: &[u8],
+    secret: &[u8],
+    passphrase: &[u8],
+    exponent: u32,
+    extendable: u32,
+    random: &[u8],
+    mnemonics: &mut [u8],
+) -> ShamirAnswer
+    ensures { GivesBackup (record {
+      plan = plan.now;
+      secret = secret.now;
+      passphrase = passphrase.now;
+      exponent = exponent;
+      extendable = extendable;
+    }) random.now mnemonics.old mnemonics.new result }
+{
+    let answer = create_answer(
+        plan, secret, passphrase, exponent, extendable, random, mnemonics,
+    );
+    let _ = clear_stack::<CREATE>();
+    answer
+}
+
+/// The answer of `shamir_create`.
+#[inline(never)]
+fn create_answer(
     plan: &[u8],
     secret: &[u8],
     passphrase: &[u8],

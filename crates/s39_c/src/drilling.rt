@@ -8,6 +8,7 @@ ghost use Rattle.s39_kdf.specs.Noted.{noted_in};
 ghost use Rattle.s39_c.specs.Exponents.{UpTo};
 
 use crate::answer::ShamirAnswer;
+use crate::clearing::{DRILL, clear_stack};
 use crate::exponent::exponent_above;
 use s39_drilling::drill_lines;
 use s39_drilling::laws::created_backups_drill;
@@ -44,6 +45,41 @@ use s39_set::{Quorum, parse_quorum};
 /// ```
 #[unsafe(no_mangle)]
 pub extern "C" fn shamir_drill(
+    lines: &[u8],
+    passphrase: &[u8],
+    max_exponent: u32,
+    after: &[u8],
+    limit: u32,
+    form: u32,
+    expected: &[u8],
+    text: &mut [u8],
+) -> ShamirAnswer
+    ensures drills { UpTo max_exponent lines.now text.old text.new result
+        (GivesDrill (λ kind names n. IsDrillOutput kind passphrase.now names n (whole lines.now))
+        after.now limit form expected.now text.old text.new result) }
+    // For mnemonics of a created backup and its passphrase, the call lists their quorums and no others, each with the secret
+    // in this form. Or the refusal says that they have no quorum, or that the cursor doesn't name one.
+    ensures complete { UpTo max_exponent lines.now text.old text.new result
+        (GivesDrill (λ kind names n. DrillsCreated kind passphrase.now names n (whole lines.now))
+        after.now limit form expected.now text.old text.new result) }
+{
+    let answer = drill_answer(
+        lines,
+        passphrase,
+        max_exponent,
+        after,
+        limit,
+        form,
+        expected,
+        text,
+    );
+    let _ = clear_stack::<DRILL>();
+    answer
+}
+
+/// The answer of `shamir_drill`.
+#[inline(never)]
+fn drill_answer(
     lines: &[u8],
     passphrase: &[u8],
     max_exponent: u32,

@@ -5,6 +5,7 @@ ghost use Rattle.s39_kdf.specs.Fingerprint.{fingerprint_of};
 ghost use Rattle.s39_c.specs.Fingerprinting.{GivesFingerprint};
 
 use crate::answer::ShamirAnswer;
+use crate::clearing::{FINGERPRINT, clear_stack};
 use crate::lengths::FINGERPRINT_BYTES_MAX;
 use crate::memory::give;
 use s39_input::{Fault, write_hex};
@@ -24,6 +25,16 @@ use s39_kdf::{check_secret_length, fingerprint};
 /// ```
 #[unsafe(no_mangle)]
 pub extern "C" fn shamir_fingerprint(secret: &[u8], text: &mut [u8]) -> ShamirAnswer
+    ensures { GivesFingerprint secret.now text.old text.new result }
+{
+    let answer = fingerprint_answer(secret, text);
+    let _ = clear_stack::<FINGERPRINT>();
+    answer
+}
+
+/// The answer of `shamir_fingerprint`.
+#[inline(never)]
+fn fingerprint_answer(secret: &[u8], text: &mut [u8]) -> ShamirAnswer
     ensures { GivesFingerprint secret.now text.old text.new result }
 {
     match check_secret_length(secret.len()) {

@@ -6,6 +6,7 @@
 #![tactic(auto)]
 
 mod answer;
+mod clearing;
 mod creating;
 mod drilling;
 mod exponent;
@@ -20,6 +21,7 @@ mod repairing;
 mod status;
 mod telling;
 mod version;
+mod wiping;
 mod words;
 
 pub use answer::ShamirAnswer;
@@ -33,6 +35,7 @@ pub use repairing::shamir_repair;
 pub use status::shamir_status;
 pub use telling::shamir_text;
 pub use version::shamir_version;
+pub use wiping::shamir_wipe;
 pub use words::shamir_words;
 
 #[cfg(test)]

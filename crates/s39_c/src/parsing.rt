@@ -3,6 +3,7 @@ ghost use Rattle.std.specs.Prelude.{◌≡◌};
 ghost use Rattle.s39_c.specs.Parsing.{header_of, GivesShare};
 
 use crate::answer::ShamirAnswer;
+use crate::clearing::{PARSE, clear_stack};
 use crate::memory::give;
 use s39_words::{ShareFields, parse};
 
@@ -46,6 +47,16 @@ pub extern "C" fn shamir_parse(
     share: &mut ShamirShare,
     value: &mut [u8],
 ) -> ShamirAnswer
+    ensures { GivesShare line.now share.old share.new value.old value.new result }
+{
+    let answer = parse_answer(line, share, value);
+    let _ = clear_stack::<PARSE>();
+    answer
+}
+
+/// The answer of `shamir_parse`.
+#[inline(never)]
+fn parse_answer(line: &[u8], share: &mut ShamirShare, value: &mut [u8]) -> ShamirAnswer
     ensures { GivesShare line.now share.old share.new value.old value.new result }
 {
     match parse(line) {

@@ -7,6 +7,7 @@ ghost use Rattle.s39_c.specs.Exponents.{UpTo};
 ghost use Rattle.s39_c.specs.Recovering.{GivesExpectedSecret, GivesSecret};
 
 use crate::answer::ShamirAnswer;
+use crate::clearing::{RECOVER, clear_stack};
 use crate::exponent::exponent_above;
 use crate::memory::give;
 use s39_kdf::{NotedFingerprint, parse_fingerprint};
@@ -34,6 +35,29 @@ use s39_reading::recover_secret;
 /// ```
 #[unsafe(no_mangle)]
 pub extern "C" fn shamir_recover(
+    lines: &[u8],
+    passphrase: &[u8],
+    max_exponent: u32,
+    expected: &[u8],
+    secret: &mut [u8],
+) -> ShamirAnswer
+    ensures recovers { UpTo max_exponent lines.now secret.old secret.new result
+        (GivesExpectedSecret (λ noted. IsRecoverOutput Digits noted passphrase.now (whole lines.now))
+        expected.now secret.old secret.new result) }
+    // For mnemonics of a created backup and its passphrase, the result is its secret, or why there is no quorum, or that
+    // another secret is expected.
+    ensures created { UpTo max_exponent lines.now secret.old secret.new result
+        (GivesExpectedSecret (λ noted. RecoversCreated Digits noted passphrase.now (whole lines.now))
+        expected.now secret.old secret.new result) }
+{
+    let answer = recover_answer(lines, passphrase, max_exponent, expected, secret);
+    let _ = clear_stack::<RECOVER>();
+    answer
+}
+
+/// The answer of `shamir_recover`.
+#[inline(never)]
+fn recover_answer(
     lines: &[u8],
     passphrase: &[u8],
     max_exponent: u32,

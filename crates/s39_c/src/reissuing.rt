@@ -5,6 +5,7 @@ ghost use Rattle.s39_c.specs.Answers.{GivesOutput};
 ghost use Rattle.s39_c.specs.Reissuing.{GivesNamed, GivesReissued};
 
 use crate::answer::ShamirAnswer;
+use crate::clearing::{REISSUE, clear_stack};
 use s39_backup::Plan;
 use s39_creating::reissue_lines;
 use s39_set::{Quorum, parse_names};
@@ -32,6 +33,23 @@ pub extern "C" fn shamir_reissue(
     lines: &[u8],
     mnemonics: &mut [u8],
 ) -> ShamirAnswer
+    ensures reissues { GivesReissued
+        (λ threshold groups wanted. IsReissueOutput threshold groups wanted (whole lines.now))
+        plan.now names.now mnemonics.old mnemonics.new result }
+    // For names of the plan and mnemonics of a backup created by it, the result is the backup's own mnemonics with these
+    // names. Or it is the refusal of the first name whose mnemonic isn't determined, or of lines without a mnemonic.
+    ensures created { GivesReissued
+        (λ threshold groups wanted. ReissuesCreated threshold groups wanted (whole lines.now))
+        plan.now names.now mnemonics.old mnemonics.new result }
+{
+    let answer = reissue_answer(plan, names, lines, mnemonics);
+    let _ = clear_stack::<REISSUE>();
+    answer
+}
+
+/// The answer of `shamir_reissue`.
+#[inline(never)]
+fn reissue_answer(plan: &[u8], names: &[u8], lines: &[u8], mnemonics: &mut [u8]) -> ShamirAnswer
     ensures reissues { GivesReissued
         (λ threshold groups wanted. IsReissueOutput threshold groups wanted (whole lines.now))
         plan.now names.now mnemonics.old mnemonics.new result }

@@ -4,6 +4,7 @@ ghost use Rattle.s39_input.specs.Repair.{shares_of};
 ghost use Rattle.s39_c.specs.Repairing.{GivesLines, GivesRepaired};
 
 use crate::answer::ShamirAnswer;
+use crate::clearing::{REPAIR, clear_stack};
 use s39_input::{WrittenLines, lines_of_repaired, put};
 use s39_repair::{Repaired, repair};
 
@@ -30,6 +31,16 @@ use s39_repair::{Repaired, repair};
 /// ```
 #[unsafe(no_mangle)]
 pub extern "C" fn shamir_repair(line: &[u8], mnemonics: &mut [u8]) -> ShamirAnswer
+    ensures { GivesRepaired line.now mnemonics.old mnemonics.new result }
+{
+    let answer = repair_answer(line, mnemonics);
+    let _ = clear_stack::<REPAIR>();
+    answer
+}
+
+/// The answer of `shamir_repair`.
+#[inline(never)]
+fn repair_answer(line: &[u8], mnemonics: &mut [u8]) -> ShamirAnswer
     ensures { GivesRepaired line.now mnemonics.old mnemonics.new result }
 {
     match repair(line) {

@@ -4,6 +4,7 @@ ghost use Rattle.s39_reading.specs.Status.{IsStatusOutput};
 ghost use Rattle.s39_c.specs.Status.{GivesStatus};
 
 use crate::answer::ShamirAnswer;
+use crate::clearing::{STATUS, clear_stack};
 use s39_reading::status_lines;
 
 /// Tells how many members of each group are among the mnemonics in `lines`, in the format of the command `status`. The
@@ -23,6 +24,16 @@ use s39_reading::status_lines;
 /// ```
 #[unsafe(no_mangle)]
 pub extern "C" fn shamir_status(lines: &[u8], text: &mut [u8]) -> ShamirAnswer
+    ensures { GivesStatus (IsStatusOutput (whole lines.now)) text.old text.new result }
+{
+    let answer = status_answer(lines, text);
+    let _ = clear_stack::<STATUS>();
+    answer
+}
+
+/// The answer of `shamir_status`.
+#[inline(never)]
+fn status_answer(lines: &[u8], text: &mut [u8]) -> ShamirAnswer
     ensures { GivesStatus (IsStatusOutput (whole lines.now)) text.old text.new result }
 {
     match status_lines(lines, text) {

@@ -357,3 +357,12 @@ fn refuses_drills(rt: HostRuntime) {
         assert_eq!(rt; text, [7; 100]);
     }
 }
+
+#[test]
+fn wipes(rt: HostRuntime) {
+    let mut bytes = [7; 12];
+    shamir_wipe(&mut bytes[3..9]);
+    assert_eq!(rt; bytes, [7, 7, 7, 0, 0, 0, 0, 0, 0, 7, 7, 7]);
+    shamir_wipe(&mut bytes[..0]);
+    assert_eq!(rt; bytes, [7, 7, 7, 0, 0, 0, 0, 0, 0, 7, 7, 7]);
+}

@@ -4,6 +4,7 @@ ghost use Rattle.s39_words.specs.Layout.{word_list_length};
 ghost use Rattle.s39_c.specs.Words.{GivesWords, lines_between};
 
 use crate::answer::ShamirAnswer;
+use crate::clearing::{WORDS, clear_stack};
 use s39_input::put;
 use s39_words::{WordRange, word_at, words_beginning};
 
@@ -22,6 +23,16 @@ use s39_words::{WordRange, word_at, words_beginning};
 /// ```
 #[unsafe(no_mangle)]
 pub extern "C" fn shamir_words(letters: &[u8], text: &mut [u8]) -> ShamirAnswer
+    ensures { GivesWords letters.now text.old text.new result }
+{
+    let answer = words_answer(letters, text);
+    let _ = clear_stack::<WORDS>();
+    answer
+}
+
+/// The answer of `shamir_words`.
+#[inline(never)]
+fn words_answer(letters: &[u8], text: &mut [u8]) -> ShamirAnswer
     ensures { GivesWords letters.now text.old text.new result }
 {
     let words = words_beginning(letters);

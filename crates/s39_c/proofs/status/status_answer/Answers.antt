@@ -2,7 +2,7 @@ use Rattle.std.proofs.Common.{Ok, Err}
 use Rattle.s39_input.specs.Input.{whole}
 use Rattle.s39_reading.specs.Status.{IsStatusOutput}
 use Rattle.s39_c.proofs.Outputs.{gives_status}
-use Rattle.s39_c.proofs.status.shamir_status.Goals as goal
+use Rattle.s39_c.proofs.status.status_answer.Goals as goal
 
 pub returns-in-Ok : goal.returns-in-Ok
 returns-in-Ok c =

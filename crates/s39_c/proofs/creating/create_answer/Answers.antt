@@ -1,7 +1,7 @@
 use Rattle.std.proofs.Common.{inr, refl}
 use Rattle.s39_backup.specs.Created.{Asked}
 use Rattle.s39_c.specs.Creating.{Asks}
-use Rattle.s39_c.proofs.creating.shamir_create.Goals as goal
+use Rattle.s39_c.proofs.creating.create_answer.Goals as goal
 
 pub returns-in-Ok : goal.returns-in-Ok
 returns-in-Ok c =

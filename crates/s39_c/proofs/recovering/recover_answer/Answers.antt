@@ -1,5 +1,5 @@
 use Rattle.std.proofs.Common.{refl, inr}
-use Rattle.s39_c.proofs.recovering.shamir_recover.Goals as goal
+use Rattle.s39_c.proofs.recovering.recover_answer.Goals as goal
 
 pub returns-in-None-clause-recovers : goal.returns-in-None-clause-recovers
 returns-in-None-clause-recovers c = inr (c.in-None.ensures.none refl, c.recover.ensures.recovers)

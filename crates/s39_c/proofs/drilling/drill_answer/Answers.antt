@@ -1,5 +1,5 @@
 use Rattle.std.proofs.Common.{refl, inr}
-use Rattle.s39_c.proofs.drilling.shamir_drill.Goals as goal
+use Rattle.s39_c.proofs.drilling.drill_answer.Goals as goal
 
 pub returns-in-None-clause-drills : goal.returns-in-None-clause-drills
 returns-in-None-clause-drills c = inr (c.in-None.ensures.none refl, c.drill.ensures.drills)

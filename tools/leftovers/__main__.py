@@ -1,0 +1,116 @@
+"""Checks that each call of the library leaves nothing secret on the stack below its caller.
+
+    python3 tools/leftovers [--archive PATH]
+
+It compiles tools/leftovers.c with libshamir.a. This program makes one call, and gives what then lies below the frame of the caller.
+There, the tool searches for the secret, the encrypted secret, the passphrase, the random bytes and the values of shares: their bytes
+and digits, and any eight of these in a row. It also searches for any three words of a mnemonic in a row. And it checks that what
+the call touched is 0. Only the highest FRAMES bytes may be others, where the frames of the call and of the clearing are, and the
+lowest eight, where the clearing puts the address to which its last step returns.
+
+It also adds up the frames of the functions that a call reaches, as objdump shows them. A call must clear as much, whatever it is
+given. The tool needs a C compiler for x86-64 and objdump. It says what it doesn't check without them.
+
+It exits with status 1 if something is found, if a call answers another code than it must, or if it can reach further than it clears.
+"""
+import argparse
+import os
+import pathlib
+import platform
+import shutil
+import subprocess
+import sys
+import tempfile
+from concurrent.futures import ThreadPoolExecutor
+from typing import List, Tuple
+
+ROOT = pathlib.Path(__file__).resolve().parents[2]
+sys.path[:0] = [str(ROOT / "tools" / "leftovers"), str(ROOT / "tools")]
+sys.dont_write_bytecode = True
+
+import backups  # noqa: E402
+import cases  # noqa: E402
+import frames  # noqa: E402
+
+COMPILER = os.environ.get("CC", "cc").split()
+STRICT = ["-std=c11", "-O1", "-Wall", "-Wextra", "-Werror", "-pedantic", f"-I{ROOT}/include"]
+UNTOUCHED = b"\xa5"
+FRAMES = 384
+ADDRESS = 8
+SHOWN = 20
+
+
+def answered(program: str, case: cases.Case) -> Tuple[int, bytes]:
+    """Makes a call. Returns its code, and the stack below the caller."""
+    texts = [it if isinstance(it, bytes) else str(it).encode() for it in case.arguments]
+    given = b"".join(b"%d\n%b\n" % (len(text), text) for text in texts)
+    done = subprocess.run([program, case.call], input=given, capture_output=True)
+    if done.returncode:
+        sys.exit(f"tools/leftovers: {case.call} ends with status {done.returncode}")
+    head, _, rest = done.stdout.partition(b"\n")
+    code, written, count = map(int, head.split())
+    if len(rest) != written + count:
+        sys.exit(f"tools/leftovers: {case.call} gives {len(rest)} bytes instead of {written} and {count}")
+    return code, rest[written:]
+
+
+def leftovers(program: str, case: cases.Case, needles: backups.Needles) -> Tuple[List[str], int]:
+    """Returns what a call leaves, and how many bytes below the caller the lowest is that it leaves other than 0."""
+    name = f"shamir_{case.call} with the code {case.code}"
+    code, stack = answered(program, case)
+    if code != case.code:
+        return [f"{name} answers {code}"], 0
+    touched = stack.lstrip(UNTOUCHED)
+    found = sorted({what: len(touched) - at for at, what in needles.within(touched)}.items())
+    told = [f"{name} leaves {what}, {below} bytes below the caller" for what, below in found]
+    lowest = len(touched[ADDRESS:].lstrip(b"\0"))
+    if lowest > FRAMES:
+        told.append(f"{name} leaves bytes other than 0, {lowest} bytes below the caller")
+    return told, lowest
+
+
+def all_leftovers(archive: pathlib.Path) -> Tuple[List[str], int, int]:
+    """Makes all calls. Returns what they leave, how many they are, and the lowest byte that one leaves other than 0."""
+    told: List[str] = []
+    count = deepest = 0
+    with tempfile.TemporaryDirectory() as folder, ThreadPoolExecutor() as pool:
+        program = f"{folder}/leftovers"
+        subprocess.run([*COMPILER, *STRICT, str(ROOT / "tools" / "leftovers.c"), str(archive), "-o", program], check=True)
+        for backup, made in cases.all_cases():
+            needles = backups.Needles(backup)
+            for found, lowest in pool.map(lambda case: leftovers(program, case, needles), made):
+                told += [f"{len(backup.secret)} bytes: {it}" for it in found]
+                count, deepest = count + 1, max(deepest, lowest)
+    return told, count, deepest
+
+
+def too_deep(archive: pathlib.Path) -> List[str]:
+    """Returns which calls can reach further down than they clear."""
+    sizes = frames.sizes_of(str(archive), cases.CALLS)
+    return [
+        f"shamir_{call} can reach {sizes[call].reached} bytes down, and clears {sizes[call].cleared}"
+        for call in cases.CALLS
+        if sizes[call].reached > sizes[call].cleared
+    ]
+
+
+def main() -> None:
+    words = argparse.ArgumentParser()
+    words.add_argument("--archive", type=pathlib.Path, default=ROOT / "libshamir.a")
+    archive = words.parse_args().archive
+    if not shutil.which(COMPILER[0]) or platform.machine() != "x86_64":
+        print(f"tools/leftovers: there is no {COMPILER[0]} for x86-64, so nothing is checked")
+        return
+    told, count, deepest = all_leftovers(archive)
+    if shutil.which("objdump"):
+        told += too_deep(archive)
+    else:
+        print("tools/leftovers: objdump isn't there, so nothing says how far down a call can reach")
+    if told:
+        more = [f"and {len(told) - SHOWN} more"] if len(told) > SHOWN else []
+        sys.exit("tools/leftovers: after a call, its stack isn't clear\n  " + "\n  ".join(told[:SHOWN] + more))
+    print(f"after each of {count} calls of the library, nothing secret is left on its stack; below {deepest} bytes, all of it is 0")
+
+
+if __name__ == "__main__":
+    main()

@@ -1,0 +1,103 @@
+"""A backup, its secrets, and the forms in which memory can hold them."""
+import importlib
+import random
+import re
+from dataclasses import dataclass
+from typing import Any, Dict, Iterator, List, Tuple
+
+plain: Any = importlib.import_module("plain")
+
+PASSPHRASE = b"correct horse battery"
+WINDOW = 8
+RUN = 3
+# Bytes with fewer than eight zeros in a row: nothing that is looked for is in others.
+FILLED = re.compile(rb"\0{0,7}[^\0](?:\0{0,7}[^\0])*")
+
+
+@dataclass(frozen=True)
+class Backup:
+    """A backup by a plan, without the extendable flag and with the exponent 0."""
+
+    plan: str
+    secret: bytes
+    random: bytes
+    shares: List[Dict[str, Any]]
+
+    @property
+    def mnemonics(self) -> List[bytes]:
+        return [plain.mnemonic(share).encode() for share in self.shares]
+
+    def lines(self, *names: str) -> bytes:
+        """Returns the mnemonics with these names, or all."""
+        taken = [f"{share['group']}.{share['member']}" for share in self.shares]
+        return b"".join(line + b"\n" for name, line in zip(taken, self.mnemonics) if name in names or not names)
+
+
+def created(plan: str, length: int) -> Backup:
+    draw = random.Random(f"{plan} {length}")
+    secret = draw.randbytes(length)
+    given = draw.randbytes(plain.random_needed(plain.parse_plan(plan), length))
+    return Backup(plan, secret, given, plain.create(plain.parse_plan(plan), secret, PASSPHRASE, 0, False, given))
+
+
+def values(backup: Backup) -> Iterator[Tuple[str, bytes]]:
+    """Yields what is secret in a backup, each with its name."""
+    yield "the secret", backup.secret
+    yield "the encrypted secret", plain.encrypt(backup.secret, PASSPHRASE, backup.shares[0])
+    yield "the passphrase", PASSPHRASE
+    yield "random bytes", backup.random
+    members: Dict[int, List[Tuple[int, bytes]]] = {}
+    for share in backup.shares:
+        yield "the value of a share", share["value"]
+        members.setdefault(share["group"], []).append((share["member"], share["value"]))
+    for share in backup.shares:
+        threshold = share["member_threshold"]
+        yield "a group share", plain.combine(threshold, members[share["group"]][:threshold])
+
+
+def forms(value: bytes) -> Iterator[bytes]:
+    """Yields a value as its bytes, as its digits, and as the words of 32 bits into which SHA-256 takes it, at each alignment."""
+    yield value
+    yield value.hex().encode()
+    for begin in range(4):
+        whole = value[begin : len(value) - (len(value) - begin) % 4]
+        yield b"".join(whole[at : at + 4][::-1] for at in range(0, len(whole), 4))
+
+
+def runs(mnemonic: bytes) -> Iterator[bytes]:
+    """Yields three words in a row, as text, as rows of eight bytes, and as indices of 16, 32 and 64 bits."""
+    words = mnemonic.split(b" ")
+    for at in range(len(words) - RUN + 1):
+        three = words[at : at + RUN]
+        yield b" ".join(three)
+        for filler in (b" ", b"\0"):
+            yield b"".join(word.ljust(8, filler) for word in three)
+        for size in (2, 4, 8):
+            yield b"".join(plain.INDEX[word].to_bytes(size, "little") for word in three)
+
+
+class Needles:
+    """What a search looks for: by its first bytes, each whole text and its name."""
+
+    def __init__(self, backup: Backup) -> None:
+        self._found: Dict[bytes, List[Tuple[bytes, str]]] = {}
+        for name, value in values(backup):
+            for form in forms(value):
+                for at in range(max(1, len(form) - WINDOW + 1)):
+                    self._add(form[at : at + WINDOW], name)
+        for mnemonic in backup.mnemonics:
+            for run in runs(mnemonic):
+                self._add(run, "words of a mnemonic")
+
+    def _add(self, text: bytes, name: str) -> None:
+        same = self._found.setdefault(text[:WINDOW], [])
+        if (text, name) not in same:
+            same.append((text, name))
+
+    def within(self, memory: bytes) -> Iterator[Tuple[int, str]]:
+        """Yields where something secret begins in memory, and what it is."""
+        for stretch in FILLED.finditer(memory):
+            for at in range(*stretch.span()):
+                for text, name in self._found.get(memory[at : at + WINDOW], []):
+                    if memory.startswith(text, at):
+                        yield at, name
