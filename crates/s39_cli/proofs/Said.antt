@@ -1,5 +1,5 @@
 -- What is said on standard error, from what the parts say.
-use Rattle.std.proofs.Common.{◌≡◌, ◌⊎◌, ◌≤◌, ◌∙◌, ◌++◌, ⊎_elim, ℕ, All, Bool, Bor, true, false, List, [], Option, Result, Ok, Err, ap, arith, inl, inr, length, refl, subst, sym, true≢false}
+use Rattle.std.proofs.Common.{◌≡◌, ◌⊎◌, ◌≤◌, ◌∙◌, ◌++◌, ⊎_elim, ℕ, All, Bool, Bor, IsFalse, true, false, List, [], Option, Result, Ok, Err, ap, arith, inl, inr, length, refl, subst, sym, true≢false}
 use Rattle.std.proofs.KnownBytes.{Appends-nil, Appends-trans}
 use Rattle.clap.specs.Words.{Text, fault_of, takes}
 use Rattle.s39_kdf.specs.Limits.{IsPrintable}
@@ -34,7 +34,7 @@ use Rattle.s39_drilling.specs.Drill.{WritesDrillOf}
 use Rattle.s39_cli.specs.Ending.{Delivers, HasStatus, IsTyped}
 use Rattle.s39_cli.specs.Values.{IsFilledBy}
 use Rattle.s39_cli.specs.Outcome.{IsReady, judged, status_of, status_of_refusal, where_done, without_mismatches}
-use Rattle.s39_cli.specs.Said.{IsSaid, IsSaidAs, IsSaidBy, IsSaidOfCall, IsSaidOfJob, IsSaidUnbegun, IsSaidWithoutJob, IsWithin, OnStatus}
+use Rattle.s39_cli.specs.Said.{IsSaid, IsSaidAs, IsSaidBy, IsSaidOfCall, IsSaidOfJob, IsSaidUnbegun, IsSaidWithoutJob, IsSilentAtNone, IsWithin, OnStatus}
 use Rattle.s39_cli.specs.Said.{Says, SaysAnswer, SaysMessage, longest_message, memory_line}
 use Rattle.s39_cli.specs.Said.{bare_line, is_terminal, line_if, shown_line, tells_of_none, typed_line, types_mnemonics, types_passphrase, typing_line}
 use Rattle.s39_cli.specs.Work.{HasBadPassphrase, IsWorkOutput}
@@ -293,3 +293,12 @@ module _ {E : Type 0} (contents : E → Option (List ℕ)) where
                       (says_both old mid new (line_if shown shown_line) (line_if r.0 typing_line ++ r.1) first r.5),
                 );
           })
+
+-- ---- nothing is said
+
+pub silent_job : {R W M : Type 0} (attended passphrase mnemonics none : Bool) (ended : Ended R W) (old said new : M)
+    → (IsFalse attended → IsFalse passphrase × IsFalse mnemonics × IsFalse none) → (IsFalse passphrase → said ≡ old)
+    → (IsFalse mnemonics → IsSilentAtNone none ended said new) → IsSilentAtNone attended ended old new
+silent_job attended passphrase mnemonics none (With status read_to written_to) old said new nobody first job = λ done away.
+    let all = nobody away in job all.1 done all.2 ∙ first all.0
+silent_job attended passphrase mnemonics none NoMemory old said new nobody first job = tt

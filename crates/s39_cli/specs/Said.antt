@@ -1,5 +1,5 @@
 -- What the program says on standard error.
-use Rattle.std.specs.Prelude.{◌≡◌, ◌⊎◌, ◌≤◌, ◌++◌, ℕ, Bool, true, false, List, [], Option, Some, Result, Ok, Err, is_some, is_none, bytes_eq, codes}
+use Rattle.std.specs.Prelude.{◌≡◌, ◌⊎◌, ◌≤◌, ◌++◌, ℕ, Bool, IsFalse, true, false, List, [], Option, Some, Result, Ok, Err, is_some, is_none, bytes_eq, codes}
 use Rattle.std.specs.Prelude.{if◌then◌else◌, length, string_bytes}
 use Rattle.std.specs.Borrow.{Bor}
 use Rattle.std.specs.Io.KnownBytes.{Appends}
@@ -22,7 +22,7 @@ use Rattle.s39_cli.specs.declared.runner.Source.{Source}
 use Rattle.s39_cli.specs.declared.runner.Source.TheVariants as read_at
 use Rattle.s39_cli.specs.declared.work.Unready.{Unready}
 use Rattle.s39_cli.specs.declared.work.Unready.TheVariants.{Secret, Memory}
-use Rattle.s39_cli.specs.Ending.{IsTyped}
+use Rattle.s39_cli.specs.Ending.{IsTyped, OnEnd}
 use Rattle.s39_cli.specs.Outcome.{IsReady}
 use Rattle.s39_cli.specs.Values.{input_name}
 
@@ -115,6 +115,10 @@ longest_message = 104
 -- this comes to pass only if that may
 abbrev pub IsWithin : Bool → Bool → Type 0
 IsWithin comes may = comes ≡ true → may ≡ true
+
+-- with exit status 0 nothing is said, if no person is told of anything
+abbrev pub IsSilentAtNone : {R W M : Type 0} → Bool → Ended R W → M → M → Type 0
+IsSilentAtNone tells ended old new = OnEnd ended (λ status read_to written_to. status ≡ 0 → IsFalse tells → new ≡ old)
 
 -- whether the input is a terminal
 abbrev pub is_terminal : Source → Bool

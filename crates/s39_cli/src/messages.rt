@@ -1,5 +1,5 @@
 //! The writer of messages.
-ghost use Rattle.std.specs.Prelude.{◌≡◌, true};
+ghost use Rattle.std.specs.Prelude.{◌≡◌, true, IsFalse};
 ghost use Rattle.s39_cli.specs.Said.{Says, line_if};
 
 use std::io::Write;
@@ -33,7 +33,8 @@ impl<E: Write> Messages<E> {
 
     /// Says a text if that is wanted.
     pub(crate) fn say_if(&mut self, is_wanted: bool, text: &[u8])
-        ensures { Says E.contents self.old self.new (line_if is_wanted text.now) }
+        ensures said { Says E.contents self.old self.new (line_if is_wanted text.now) }
+        ensures silent { IsFalse is_wanted → self.new ≡ self.old }
     {
         if is_wanted {
             self.say(text);

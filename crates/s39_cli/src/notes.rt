@@ -1,5 +1,5 @@
 //! What a person at a terminal is told beside the answer of a command.
-ghost use Rattle.std.specs.Prelude.{◌≡◌};
+ghost use Rattle.std.specs.Prelude.{◌≡◌, IsFalse};
 ghost use Rattle.s39_cli.specs.Said.{is_attended, is_bare, recovers_any, tells_of_none, types_mnemonics, types_passphrase};
 
 use crate::runner::{Destination, Source};
@@ -31,6 +31,8 @@ impl Notes {
         ensures passphrase { result.types_passphrase ≡ types_passphrase source call.now.files.passphrase }
         ensures mnemonics { result.types_mnemonics ≡ types_mnemonics source call.now.job }
         ensures none { result.tells_of_none ≡ tells_of_none source destination call.now }
+        ensures unattended { IsFalse (is_attended source destination) → IsFalse result.types_passphrase
+            × IsFalse result.types_mnemonics × IsFalse result.tells_of_none }
     {
         Notes {
             types_passphrase: types_passphrase(source, call.files.passphrase),

@@ -2,7 +2,7 @@
 ghost use Rattle.std.specs.Prelude.{◌≡◌, ◌≢◌, ◌≤◌, ◌⊎◌, map, false, IsFalse, IsTrue};
 ghost use Rattle.s39_command.specs.Command.{IsInRange};
 ghost use Rattle.s39_cli.specs.Ending.{DoesJob, Ends, EndsUnread, EndsWithoutJob, IsTyped, OnEnd, status_in};
-ghost use Rattle.s39_cli.specs.Said.{IsSaid, IsSaidOfJob, IsSaidWithoutJob, OnStatus, Says, typed_line};
+ghost use Rattle.s39_cli.specs.Said.{IsSaid, IsSaidOfJob, IsSaidWithoutJob, IsSilentAtNone, OnStatus, Says, is_attended, typed_line};
 ghost use Rattle.s39_cli.specs.Untouched.{IsUntouchedBy, IsUntouchedIfRefused};
 ghost use Rattle.s39_cli.specs.Work.{HasBadPassphrase};
 
@@ -97,6 +97,8 @@ pub fn program<S: Shelf, R: Read + Drop, W: Write + Drop, E: Write>(
     ensures untouched { IsUntouchedIfRefused (map (λ word. word.now) words.now) result output }
     ensures said { IsSaid E.contents source destination (map (λ word. word.now) words.now)
         errors.old errors.new result }
+    // Of any writer of messages.
+    ensures silent { IsSilentAtNone (is_attended source destination) result errors.old errors.new }
 {
     let call = match read_words(alloc, words) {
         Ok(call) => call,
@@ -138,6 +140,8 @@ fn by_job<R: Read + Drop, W: Write + Drop, E: Write>(
     ensures untouched { IsUntouchedBy job.entry result output }
     ensures said { IsSaidOfJob E.contents job.entry notes.types_mnemonics notes.tells_of_none
         errors.old errors.new result }
+    ensures silent { IsFalse notes.types_mnemonics
+        → IsSilentAtNone notes.tells_of_none result errors.old errors.new }
 {
     let work = match Work::of(alloc, job) {
         Ok(work) => work,
@@ -169,6 +173,7 @@ fn without_job<R: Drop, W: Write + Drop, E: Write>(
 ) -> Ended<R, W>
     ensures ends { EndsWithoutJob W.contents no_job input output result }
     ensures said { IsSaidWithoutJob E.contents no_job errors.old errors.new result }
+    ensures silent { IsSilentAtNone false result errors.old errors.new }
 {
     match no_job {
         NoJob::Help(text) => {

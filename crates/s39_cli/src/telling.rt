@@ -1,9 +1,9 @@
 //! What is said of a refusal, and the exit status that goes with it.
-ghost use Rattle.std.specs.Prelude.{◌≡◌, ◌≢◌};
+ghost use Rattle.std.specs.Prelude.{◌≡◌, ◌≢◌, IfOk, IsFalse};
 ghost use Rattle.std.specs.IoError.{error_kind};
 ghost use Rattle.s39_cli.specs.Ending.{EndsUnbegun};
 ghost use Rattle.s39_cli.specs.Outcome.{status_of, status_of_refusal};
-ghost use Rattle.s39_cli.specs.Said.{IsSaidUnbegun, Says, SaysAnswer, SaysMessage, memory_line, no_text_line};
+ghost use Rattle.s39_cli.specs.Said.{IsSaidUnbegun, IsSilentAtNone, Says, SaysAnswer, SaysMessage, memory_line, no_text_line};
 
 use crate::delivery::Finished;
 use crate::messages::Messages;
@@ -100,6 +100,7 @@ pub(crate) fn answered<R: Drop, W: Drop, E: Write>(
 ) -> Ended<R, W>
     ensures ends { result ≡ Ended.With (status_of finished.answer) finished.input finished.output }
     ensures said { SaysAnswer E.contents finished.answer notes.tells_of_none errors.old errors.new }
+    ensures silent { IsSilentAtNone notes.tells_of_none result errors.old errors.new }
 {
     let Finished {
         answer,
@@ -122,6 +123,7 @@ fn status_of<E: Write>(
 ) -> u8
     ensures status { result ≡ status_of answer }
     ensures said { SaysAnswer E.contents answer tells_of_none errors.old errors.new }
+    ensures silent { IfOk answer (λ is_well. IsFalse tells_of_none → errors.new ≡ errors.old) }
 {
     match answer {
         Ok(is_well) => {

@@ -39,18 +39,18 @@ returns-then-goes_by_lines-clause-said g c =
     let run = c.by_lines.result in
     said_by_work g.E.Write.contents g.R.Read.remaining g.W.Write.contents c.args.job c.args.notes.types_mnemonics c.args.notes.tells_of_none c.asks.result
     c.in-Ok.work run.answer c.args.input run.input c.args.output run.output c.answered.result c.args.errors.now c.say_if.new.self c.answered.new.errors
-    (ready_of_work c.args.job c.in-Ok.work c.in-Ok.ensures.work) c.asks.ensures c.by_lines.ensures c.say_if.ensures c.answered.ensures.said c.answered.ensures.ends
+    (ready_of_work c.args.job c.in-Ok.work c.in-Ok.ensures.work) c.asks.ensures c.by_lines.ensures c.say_if.ensures.said c.answered.ensures.said c.answered.ensures.ends
 
 pub returns-in-Some-clause-said : goal.returns-in-Some-clause-said
 returns-in-Some-clause-said g c =
     let run = c.in-Some.finished in
     said_by_work g.E.Write.contents g.R.Read.remaining g.W.Write.contents c.args.job c.args.notes.types_mnemonics c.args.notes.tells_of_none c.asks.result
     c.in-Ok.work run.answer c.args.input run.input c.args.output run.output c.answered-in-Some.result c.args.errors.now c.say_if.new.self
-    c.answered-in-Some.new.errors (ready_of_work c.args.job c.in-Ok.work c.in-Ok.ensures.work) c.asks.ensures c.in-Some.ensures.delivers c.say_if.ensures c.answered-in-Some.ensures.said
+    c.answered-in-Some.new.errors (ready_of_work c.args.job c.in-Ok.work c.in-Ok.ensures.work) c.asks.ensures c.in-Some.ensures.delivers c.say_if.ensures.said c.answered-in-Some.ensures.said
     c.answered-in-Some.ensures.ends
 
 pub returns-clause-said : goal.returns-clause-said
 returns-clause-said g c =
     said_for_memory g.E.Write.contents c.args.job c.args.notes.types_mnemonics c.args.notes.tells_of_none c.asks.result c.in-Ok.work c.no_memory_left.result
-    c.args.errors.now c.say_if.new.self c.no_memory_left.new.errors c.asks.ensures c.say_if.ensures c.no_memory_left.ensures.said
+    c.args.errors.now c.say_if.new.self c.no_memory_left.new.errors c.asks.ensures c.say_if.ensures.said c.no_memory_left.ensures.said
     c.no_memory_left.ensures.ends

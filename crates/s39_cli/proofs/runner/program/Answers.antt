@@ -2,7 +2,7 @@ use Rattle.std.proofs.Common.{◌≡◌, ℕ, Bor, List, map, option_map}
 use Rattle.s39_cli.specs.declared.values.NoValue.TheVariants.{TooLong}
 use Rattle.s39_cli.proofs.Ends.{ends_by_job, ends_typed, ends_unread, ends_without_job}
 use Rattle.s39_cli.proofs.Untouched.{job_untouched, jobless_untouched, typed_untouched, unread_untouched}
-use Rattle.s39_cli.proofs.Said.{said_of_job, said_typed, said_unread, said_without_job}
+use Rattle.s39_cli.proofs.Said.{said_of_job, said_typed, said_unread, said_without_job, silent_job}
 use Rattle.s39_cli.proofs.runner.program.Goals as goal
 
 pub returns-in-Err-clause-ends : goal.returns-in-Err-clause-ends
@@ -83,4 +83,10 @@ returns-clause-said g c =
     c.in-Ok.ensures.faultless (option_map (λ held. held.items) c.in-Ok-read.values.secret)
     (option_map (λ held. held.items) c.in-Ok-read.values.passphrase) c.fill.result c.fill.ensures.filled notes.types_passphrase notes.types_mnemonics notes.tells_of_none c.say_if.new.self c.by_job.result
     (c.is_typed.ensures.untyped c.if-is_typed.false) c.of-notes.ensures.passphrase c.of-notes.ensures.mnemonics c.of-notes.ensures.none
-    c.say_if.ensures c.by_job.ensures.said
+    c.say_if.ensures.said c.by_job.ensures.said
+
+pub returns-clause-silent : goal.returns-clause-silent
+returns-clause-silent g c =
+    let notes = c.of-notes.result in
+    silent_job _ notes.types_passphrase notes.types_mnemonics notes.tells_of_none c.by_job.result c.args.errors.now c.say_if.new.self c.by_job.new.errors
+    c.of-notes.ensures.unattended c.say_if.ensures.silent c.by_job.ensures.silent
