@@ -1,7 +1,7 @@
 //! What a person at a terminal is told, and that a message is one write.
 
 use s39_cli::{Destination, Messages, Source, program};
-use s39_fixtures::devices::{FailingOnce, Full, Interrupted};
+use s39_fixtures::devices::{FailingAtFirst, Full, Interrupted};
 use s39_fixtures::shelves::Held;
 use s39_fixtures::{
     FIVE, ONE_OF_ONE, ONE_OF_ONE_BAD_CHECKSUM, TWO_NEEDED_MEMBER_0, TWO_NEEDED_MEMBER_2, forged,
@@ -232,7 +232,7 @@ fn keeps_its_answer_where_nothing_can_be_said(rt: HostRuntime) -> Result<(), Fai
         let told = run(alloc, words, input, &mut all, Vec::new(alloc), TYPED);
         let untold = run(alloc, words, input, &mut none, Full, TYPED);
         // The first line fails. The lines behind it are said.
-        let mut halting = FailingOnce::new(alloc, ErrorKind::Other, b"");
+        let mut halting = FailingAtFirst::new(alloc, ErrorKind::Other, 1, b"");
         let halted = run(alloc, words, input, &mut one, &mut halting, TYPED);
         assert_eq!(rt; (told, untold, halted, halting.calls), (0, 0, 0, 2));
         assert_eq!(rt;
