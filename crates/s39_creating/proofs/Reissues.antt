@@ -1,7 +1,8 @@
 -- The command `reissue`.
 pub mod Firsts
-pub mod Outputs
 pub mod Named
+pub mod Given
+pub mod Outputs
 pub mod OneReissued
 pub mod OfBackups
 pub mod OneCreated

@@ -1,15 +1,19 @@
 -- The output of `reissue`.
-use Rattle.std.specs.Prelude.{◌≡◌, ◌≢◌, ◌⊎◌, ℕ, List, [], ◌∷◌, ◌++◌, All, Contains, Result, Ok, Err}
-use Rattle.std.specs.List.{AllZip}
+use Rattle.std.specs.Prelude.{◌≡◌, ◌≢◌, ◌⊎◌, ◌↔◌, ℕ, ◌==◌, ◌&&◌, not, nat_lt, if◌then◌else◌, Bool, false, true, List, [], ◌∷◌, ◌++◌, length, find, All, Contains, Option, Some, None, Result, Ok, Err}
+use Rattle.std.specs.List.{AllZip, list_all, slice_get}
+use Rattle.std.specs.Option.{option_map_or}
+use Rattle.std.specs.Result.{result_map_both}
+use Rattle.s39_lists.specs.Each.{and_then, each}
 use Rattle.s39_words.specs.declared.ShareFields.{ShareFields}
 use Rattle.s39_set.specs.Names.{Name, Names}
 use Rattle.s39_set.specs.declared.set_lack.SetLack.TheVariants.{NoShares}
 use Rattle.s39_set.specs.ShareSet.{name_of}
 use Rattle.s39_backup.specs.declared.plan.Members.{Members}
-use Rattle.s39_backup.specs.declared.reissue_error.ReissueError.{ReissueError}
 use Rattle.s39_backup.specs.declared.reissue_error.TooFew.{TooFew}
 use Rattle.s39_backup.specs.Plan.{IsNameOfPlan}
-use Rattle.s39_backup.specs.Reissue.{AreOfPlan, IsReissue, IsDetermined, IsUndetermined}
+use Rattle.s39_backup.specs.Reissue.{reissue_of, AreOfPlan, IsDetermined, IsUndetermined}
+use Rattle.s39_input.specs.declared.fault.LineRefusal.{LineRefusal}
+use Rattle.s39_input.specs.declared.fault.Stop.{Stop}
 use Rattle.s39_input.specs.declared.fault.Refusal.TheVariants.{Lack, NotInPlan, OtherPlan, Undetermined as TooFewRefusal}
 use Rattle.s39_input.specs.declared.fault.Fault.{Fault}
 use Rattle.s39_input.specs.Input.{Input}
@@ -17,9 +21,16 @@ use Rattle.s39_input.specs.Fault.{fault_of, fault_of_stop, fault_of_reissue}
 use Rattle.s39_input.specs.Accepted.{IsReadAs}
 use Rattle.s39_input.specs.Create.{ArePrintedLines}
 use Rattle.s39_input.specs.OfBackup.{HoldsMnemonicsOf}
-use Rattle.s39_input.specs.Steps.{Then, nothing_for}
 
 -- ---- names
+
+-- the plan has this name
+abbrev pub is_name_of_plan : List Members → Name → Bool
+is_name_of_plan groups name = option_map_or (λ members. nat_lt name.1 members.count) (slice_get groups name.0) false
+
+-- the first of these names that the plan doesn't have
+abbrev pub first_other : List Members → Names → Option Name
+first_other groups names = find (λ name. not (is_name_of_plan groups name)) names
 
 -- this is the first of these names that the plan doesn't have
 pub record IsFirstOther (groups : List Members) (names : Names) (name : Name) : Type 0 where
@@ -29,73 +40,70 @@ pub record IsFirstOther (groups : List Members) (names : Names) (name : Name) : 
   pub earlier : All (IsNameOfPlan groups) before
   pub other : ¬ IsNameOfPlan groups name
 
--- the plan has all of these names, or this is the first that it doesn't have
-abbrev pub AreNamesOfPlan : List Members → Names → Result (Unit {0}) Name → Type 0
-AreNamesOfPlan groups names (Ok _) = All (IsNameOfPlan groups) names
-AreNamesOfPlan groups names (Err name) = IsFirstOther groups names name
-
 -- the fault of a name that the plan doesn't have
 abbrev pub fault_of_name : Name → Fault
 fault_of_name name = fault_of (NotInPlan name.0 name.1)
 
--- ---- the set
-
--- the set has shares, or none
-abbrev pub HasShares : List ShareFields → Result (Unit {0}) (Unit {0}) → Type 0
-HasShares set (Ok _) = set ≢ []
-HasShares set (Err _) = set ≡ []
-
--- a backup of the plan can have all of these shares, or it can't
-abbrev pub IsOfThePlan : ℕ → List Members → List ShareFields → Result (Unit {0}) (Unit {0}) → Type 0
-IsOfThePlan group_threshold groups set (Ok _) = AreOfPlan group_threshold groups set
-IsOfThePlan group_threshold groups set (Err _) = ¬ AreOfPlan group_threshold groups set
+-- the fault of the first name that the plan doesn't have, if there is one
+abbrev pub judged_names : List Members → Names → Result (Unit {0}) Fault
+judged_names groups names = option_map_or (λ name. Err (fault_of_name name)) (first_other groups names) (Ok tt)
 
 -- ---- the shares of the names
 
-module _ (set : List ShareFields) (group_threshold : ℕ) (groups : List Members) where
-  -- the shares at hand give these shares with these names, one for each name, in this order
-  abbrev pub AreTheirShares : Names → List ShareFields → Type 0
-  AreTheirShares names shares = AllZip (λ name share. IsReissue set group_threshold groups name (Ok share)) names shares
+-- a backup of the plan can have this share
+abbrev pub is_of_plan : ℕ → List Members → ShareFields → Bool
+is_of_plan group_threshold groups share =
+    (share.group_threshold == group_threshold) && (share.group_count == length groups)
+    && option_map_or (λ members. nat_lt share.member_index members.count && (share.member_threshold == members.threshold))
+    (slice_get groups share.group_index) false
 
-  -- this is why the shares at hand don't give the share of a name, while they give those of the names before it
-  pub record IsFirstMissing (names : Names) (error : ReissueError) : Type 0 where
-    pub before : Names
-    pub name : Name
-    pub after : Names
-    pub shares : List ShareFields
-    pub parts : names ≡ before ++ name ∷ after
-    pub earlier : AreTheirShares before shares
-    pub missing : IsReissue set group_threshold groups name (Err error)
+-- These tests are the relations of plans: the plan has all names, or the one that is found is the first that it doesn't have; and
+-- a backup of the plan can have all of these shares, or it can't.
+pub record TestPlans (group_threshold : ℕ) (groups : List Members) (names : Names) (set : List ShareFields) : Type 0 where
+  pub all : (first_other groups names ≡ None) ↔ All (IsNameOfPlan groups) names
+  pub first : (name : Name) → first_other groups names ≡ Some name → IsFirstOther groups names name
+  pub shares : (list_all (is_of_plan group_threshold groups) set ≡ true) ↔ AreOfPlan group_threshold groups set
 
-  -- the shares of these names, or why the first missing one is missing
-  abbrev pub AreReissued : Names → Result (List ShareFields) ReissueError → Type 0
-  AreReissued names (Ok shares) = AreTheirShares names shares
-  AreReissued names (Err error) = IsFirstMissing names error
+-- the share that a set gives for a name of the plan, or the fault; a plan always gives one or the other for a name that it has
+abbrev pub given : List ShareFields → ℕ → List Members → Name → Result ShareFields Fault
+given set group_threshold groups name =
+    option_map_or (λ result. result_map_both (λ share. share) fault_of_reissue result) (reissue_of set group_threshold groups name)
+    (Err (fault_of OtherPlan))
+
+-- The shares that a set gives for these names; or the first fault that applies: the set has no shares, no backup of the
+-- plan can have all of them, or the share of a name isn't given.
+abbrev pub given_all : ℕ → List Members → Names → List ShareFields → Result (List ShareFields) Fault
+given_all group_threshold groups names [] = Err (fault_of (Lack NoShares))
+given_all group_threshold groups names (share ∷ shares) =
+    if list_all (is_of_plan group_threshold groups) (share ∷ shares) then each (given (share ∷ shares) group_threshold groups) names
+    else Err (fault_of OtherPlan)
 
 -- ---- the output
 
--- The shares of these names, as a set gives them; or the first fault that applies: the set has no shares, no backup of
--- the plan can have all of them, or the share of a name isn't given.
-abbrev pub IsReissued : ℕ → List Members → Names → List ShareFields → Result (List ShareFields) Fault → Type 0
-IsReissued group_threshold groups names set =
-    Then (HasShares set) (λ _. Err (fault_of (Lack NoShares))) (λ _.
-    Then (IsOfThePlan group_threshold groups set) (λ _. Err (fault_of OtherPlan)) (λ _.
-    Then (AreReissued set group_threshold groups names) (λ error. Err (fault_of_reissue error)) (λ shares result. result ≡ Ok shares)))
+-- the set that an input is read as, or the fault
+abbrev pub set_or_fault : Result (List ShareFields) (Stop LineRefusal) → Result (List ShareFields) Fault
+set_or_fault read = result_map_both (λ set. set) fault_of_stop read
 
--- the mnemonics of these shares are written, one on each line
-abbrev pub WritesMnemonics : List ShareFields → List ℕ × Result (Unit {0}) Fault → Type 0
-WritesMnemonics shares written = (text : List ℕ) × ArePrintedLines shares text × (written ≡ (text, Ok tt))
+-- The shares of which `reissue` writes the mnemonics for the plan, the names and what the input is read as, or the
+-- fault. It judges the names first, then the lines of the input, and then the set of their shares.
+abbrev pub reissued : ℕ → List Members → Names → Result (List ShareFields) (Stop LineRefusal) → Result (List ShareFields) Fault
+reissued group_threshold groups names read =
+    and_then (λ _. and_then (given_all group_threshold groups names) (set_or_fault read)) (judged_names groups names)
 
--- the mnemonics of the shares of these names are written; or nothing, and the fault is answered
-abbrev pub WritesReissued : ℕ → List Members → Names → List ShareFields → List ℕ × Result (Unit {0}) Fault → Type 0
-WritesReissued group_threshold groups names set = Then (IsReissued group_threshold groups names set) nothing_for WritesMnemonics
+-- these are the shares for an input, or this is the fault
+abbrev pub IsReissued : ℕ → List Members → Names → Input → Result (List ShareFields) Fault → Type 0
+IsReissued group_threshold groups names input result =
+    (read : Result (List ShareFields) (Stop LineRefusal)) × IsReadAs input read × (reissued group_threshold groups names read ≡ result)
 
--- `reissue` writes this text for the plan, the names and the input, and gives this answer. It judges the names first,
--- then the lines of the input, and then the set of their shares.
+-- the mnemonics of these shares are written, one on each line; or nothing is written, and the answer is the fault
+abbrev pub AreWritten : Result (List ShareFields) Fault → List ℕ → Result (Unit {0}) Fault → Type 0
+AreWritten (Ok shares) text answer = ArePrintedLines shares text × (answer ≡ Ok tt)
+AreWritten (Err fault) text answer = (text ≡ []) × (answer ≡ Err fault)
+
+-- `reissue` writes this text for the plan, the names and the input, and gives this answer
 abbrev pub IsReissueOutput : ℕ → List Members → Names → Input → List ℕ → Result (Unit {0}) Fault → Type 0
 IsReissueOutput group_threshold groups names input text answer =
-    Then (AreNamesOfPlan groups names) (λ name. nothing_for (fault_of_name name)) (λ _.
-    Then (IsReadAs input) (λ stop. nothing_for (fault_of_stop stop)) (WritesReissued group_threshold groups names)) (text, answer)
+    (result : Result (List ShareFields) Fault) × IsReissued group_threshold groups names input result × AreWritten result text answer
 
 -- ---- mnemonics of a created backup
 

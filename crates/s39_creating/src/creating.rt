@@ -6,6 +6,7 @@ ghost use Rattle.s39_set.specs.Names.{most_names};
 ghost use Rattle.s39_backup.specs.Asking.{asked_of};
 ghost use Rattle.s39_creating.specs.declared.creating.TheConstants.{ROOM};
 ghost use Rattle.s39_input.specs.Create.{ArePrintedLines, IsCreateOutput};
+ghost use Rattle.s39_creating.specs.Reissue.{AreWritten};
 ghost use Rattle.s39_creating.specs.Writing.{HasRead, WritesPrinted};
 ghost use Rattle.s39_input.specs.Device.{failure_of};
 ghost use Rattle.s39_input.specs.Fault.{fault_of};
@@ -204,8 +205,21 @@ fn mnemonic_line(share: &Share) -> Line
     line
 }
 
+/// Puts the mnemonics of the shares that an answer has at the front of a slice.
+pub(crate) fn put_answer(
+    answer: &Result<Created, Fault>,
+    text: &mut [u8],
+) -> Result<WrittenLines, Unwritten>
+    ensures { Puts (AreWritten answer.now) text.old text.new result }
+{
+    match answer {
+        Ok(created) => Ok(put_mnemonics(created.shares(), text)?),
+        Err(fault) => Err(Unwritten::Refused(*fault)),
+    }
+}
+
 /// Puts the mnemonics of shares at the front of a slice, each followed by a line feed, if they fit.
-pub(crate) fn put_mnemonics(shares: &[Share], text: &mut [u8]) -> Result<WrittenLines, TooShort>
+fn put_mnemonics(shares: &[Share], text: &mut [u8]) -> Result<WrittenLines, TooShort>
     requires are_shares { All IsShare shares.now }
     requires few { length shares.now ≤ most_names }
     ensures put { IfOk result (λ put. (lines : List ℕ) × ArePrintedLines shares.now lines

@@ -11,12 +11,13 @@ ghost use Rattle.s39_input.specs.declared.fault.Fault.{Fault};
 ghost use Rattle.s39_creating.specs.declared.creating.TheConstants.{MAX_BACKUP_RANDOM_BYTES};
 ghost use Rattle.s39_input.specs.Input.{Input};
 ghost use Rattle.s39_kdf.specs.Bytes.{AreBytes};
+ghost use Rattle.s39_words.specs.declared.ShareFields.{ShareFields};
 ghost use Rattle.s39_set.specs.Names.{Names};
 ghost use Rattle.s39_backup.specs.Plan.{IsPlan};
 ghost use Rattle.s39_backup.specs.declared.plan.Members.{Members};
 ghost use Rattle.s39_backup.specs.Created.{Asked, most_random};
 ghost use Rattle.s39_input.specs.Create.{IsCreateOutput};
-ghost use Rattle.s39_creating.specs.Reissue.{IsFirstOther, IsReissueOutput};
+ghost use Rattle.s39_creating.specs.Reissue.{IsFirstOther, IsReissueOutput, TestPlans};
 ghost use Rattle.s39_input.specs.declared.slices.Unwritten.{Unwritten};
 ghost use Rattle.s39_input.specs.declared.slices.WrittenLines.{WrittenLines};
 ghost use Rattle.s39_input.specs.Slices.{Puts};
@@ -55,6 +56,12 @@ pub fn refusals_have_causes<R: Read, W: Write>()
         → Runs R.remaining W.contents (IsCreateOutput asked) reader read_to writer written_to
         (Err (fault_of (SecretLength bad)))
         → ¬ IsSecretLength (length asked.secret) }
+{}
+
+/// `reissue` tests names and shares for what the definitions of a plan say.
+pub fn plans_are_tested()
+    ensures { (group_threshold : ℕ) (groups : List Members) (names : Names) (set : List ShareFields)
+        → TestPlans group_threshold groups names set }
 {}
 
 /// If a run answers without a read, its answer is right for every input. This holds for all devices.

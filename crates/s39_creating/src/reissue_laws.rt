@@ -9,7 +9,7 @@ ghost use Rattle.s39_creating.specs.Reissue.{IsReissueOutput, ReissuesCreated};
 
 use s39_backup::laws::{
     backups_reissue_their_shares, every_name_has_a_reissue, names_are_determined_or_not,
-    one_reissue, reissued_shares_are_shares,
+    reissued_shares_are_shares,
 };
 use s39_input::laws::{
     accepted_inputs_are_share_sets, every_input_is_read, mnemonics_are_read_as_their_shares,
@@ -32,9 +32,6 @@ pub fn one_reissue_output()
 {
     one_set();
     every_input_is_read();
-    accepted_inputs_are_share_sets();
-    one_reissue();
-    every_name_has_a_reissue();
     reissued_shares_are_shares();
     one_printed_form();
     every_share_has_a_printed_form();
@@ -53,5 +50,6 @@ pub fn created_backups_reissue()
     accepted_inputs_are_share_sets();
     mnemonics_are_read_as_their_shares();
     backups_reissue_their_shares();
+    every_name_has_a_reissue();
     names_are_determined_or_not();
 }

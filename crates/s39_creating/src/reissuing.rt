@@ -1,18 +1,19 @@
 //! The command `reissue`: mnemonics of a backup, computed from others of it.
-ghost use Rattle.std.specs.Prelude.{◌≡◌, ◌≢◌, ℕ, List, ◌<◌, ◌≤◌, [], All, Ok, Err, IfOk, IfErr, OnOk, length};
+ghost use Rattle.std.specs.Prelude.{◌≡◌, ◌≢◌, ℕ, ◌<◌, ◌≤◌, All, Err, IfErr, OnOk, length};
+ghost use Rattle.s39_lists.specs.Each.{each};
 ghost use Rattle.s39_set.specs.Names.{most_names};
 ghost use Rattle.s39_backup.specs.Plan.{IsNameOfPlan};
 ghost use Rattle.s39_backup.specs.Reissue.{AreOfPlan};
-ghost use Rattle.s39_input.specs.Create.{ArePrintedLines};
 ghost use Rattle.s39_input.specs.Fault.{fault_of};
 ghost use Rattle.s39_input.specs.Input.{whole};
-ghost use Rattle.s39_creating.specs.Reissue.{IsFirstOther, AreReissued, IsReissued, IsReissueOutput, ReissuesCreated};
+ghost use Rattle.s39_creating.specs.Reissue.{first_other, given, given_all, IsReissued, IsReissueOutput, ReissuesCreated};
 ghost use Rattle.s39_input.specs.Runs.{Runs};
 ghost use Rattle.s39_input.specs.Slices.{Puts};
 
-use crate::creating::{put_mnemonics, write_mnemonics};
+use crate::creating::{put_answer, write_mnemonics};
 use crate::laws::created_backups_reissue;
-use s39_backup::{Created, Plan, ReissueError, is_of_plan, reissue};
+use s39_backup::{Created, Plan, is_of_plan, reissue};
+use s39_input::laws::every_input_is_read;
 use s39_input::{
     Counting, DeviceFailure, Fault, Refusal, Unwritten, WrittenLines, read_set, set_in,
 };
@@ -98,6 +99,27 @@ pub fn run_reissue<R: Read, W: Write>(
         → result ≡ Err (fault_of (Refusal.NotInPlan group member)) → input.new ≡ input.old }
 {
     created_backups_reissue();
+    write_reissued(plan, names, input, output)
+}
+
+/// Writes the mnemonics with these names of a plan, as `run_reissue` says.
+fn write_reissued<R: Read, W: Write>(
+    plan: &Plan,
+    names: &Quorum,
+    input: &mut Counting<R>,
+    output: &mut Counting<W>,
+) -> Result<(), Fault>
+    requires readable { input.old.failures < u64.MAX }
+    requires writable { output.old.failures < u64.MAX }
+    ensures runs { Runs R.remaining W.contents
+        (IsReissueOutput plan.now.group_threshold plan.now.groups.items names.now)
+        input.old input.new output.old output.new result }
+    ensures untouched { IfErr result (λ fault.
+        fault.refusal ≢ Refusal.Device DeviceFailure.Write → output.new ≡ output.old) }
+    ensures unread { (group member : ℕ)
+        → result ≡ Err (fault_of (Refusal.NotInPlan group member)) → input.new ≡ input.old }
+{
+    every_input_is_read();
     let pairs = names.pairs();
     check_names(plan, pairs)?;
     let set = read_set(input)?;
@@ -149,21 +171,15 @@ pub fn reissue_lines(
         text.old text.new result }
 {
     created_backups_reissue();
-    match reissued_of(plan, names, lines) {
-        Ok(created) => Ok(put_mnemonics(created.shares(), text)?),
-        Err(fault) => Err(Unwritten::Refused(fault)),
-    }
+    put_answer(&reissued_of(plan, names, lines), text)
 }
 
 /// The shares of these names of a plan, as lines in memory give them.
 fn reissued_of(plan: &Plan, names: &Quorum, lines: &[u8]) -> Result<Created, Fault>
-    ensures shares { IfOk result (λ shares. (text : List ℕ) → ArePrintedLines shares text
-        → IsReissueOutput plan.now.group_threshold plan.now.groups.items names.now
-        (whole lines.now) text (Ok tt)) }
-    ensures refused { IfErr result (λ fault.
-        IsReissueOutput plan.now.group_threshold plan.now.groups.items names.now
-        (whole lines.now) [] (Err fault)) }
+    ensures { IsReissued plan.now.group_threshold plan.now.groups.items names.now
+        (whole lines.now) result }
 {
+    every_input_is_read();
     let wanted = names.pairs();
     check_names(plan, wanted)?;
     let set = set_in(lines)?;
@@ -174,7 +190,8 @@ fn reissued_of(plan: &Plan, names: &Quorum, lines: &[u8]) -> Result<Created, Fau
 fn check_names(plan: &Plan, names: &[(u8, u8)]) -> Result<(), OtherName>
     ensures all { OnOk result (All (IsNameOfPlan plan.now.groups.items) names.now) }
     ensures other { IfErr result
-        (λ name. IsFirstOther plan.now.groups.items names.now (name.group, name.member)) }
+        (λ name. first_other plan.now.groups.items names.now
+        ≡ Some (name.group, name.member)) }
 {
     for (group, member) in names {
         if !plan.has_name(*group, *member) {
@@ -191,7 +208,8 @@ fn check_names(plan: &Plan, names: &[(u8, u8)]) -> Result<(), OtherName>
 fn shares_of(plan: &Plan, names: &[(u8, u8)], set: &ShareSet) -> Result<Created, Fault>
     requires names { All (IsNameOfPlan plan.now.groups.items) names.now }
     requires few { length names.now ≤ most_names }
-    ensures { IsReissued plan.now.group_threshold plan.now.groups.items names.now set.now result }
+    ensures { given_all plan.now.group_threshold plan.now.groups.items names.now set.now
+        ≡ result }
 {
     if set.is_empty() {
         return Err(Fault::from(Refusal::Lack(SetLack::NoShares)));
@@ -199,17 +217,17 @@ fn shares_of(plan: &Plan, names: &[(u8, u8)], set: &ShareSet) -> Result<Created,
     if !is_of_plan(set, plan) {
         return Err(Fault::from(Refusal::OtherPlan));
     }
-    Ok(reissue_each(plan, names, set)?)
+    reissue_each(plan, names, set)
 }
 
 /// The shares of these names of a plan, as a set of shares of the plan gives them, or why the first missing one is
 /// missing.
-fn reissue_each(plan: &Plan, names: &[(u8, u8)], set: &ShareSet) -> Result<Created, ReissueError>
+fn reissue_each(plan: &Plan, names: &[(u8, u8)], set: &ShareSet) -> Result<Created, Fault>
     requires of_plan { AreOfPlan plan.now.group_threshold plan.now.groups.items set.now }
     requires names { All (IsNameOfPlan plan.now.groups.items) names.now }
     requires few { length names.now ≤ most_names }
-    ensures { AreReissued set.now plan.now.group_threshold plan.now.groups.items
-        names.now result }
+    ensures { each (given set.now plan.now.group_threshold plan.now.groups.items) names.now
+        ≡ result }
 {
     let mut shares = Created::new();
     for (group, member) in names {

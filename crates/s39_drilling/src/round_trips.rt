@@ -21,7 +21,7 @@ use s39_input::laws::{
     accepted_inputs_are_share_sets, one_set, written_mnemonics_are_of_the_backup,
 };
 use s39_set::laws::{one_lack, one_listing};
-use s39_words::laws::{one_reading, printed_forms};
+use s39_words::laws::printed_forms;
 
 /// `create`, then `drill` with the same passphrase. For all lines that `create` writes for random bytes, `drill` lists
 /// exactly the quorums, each with the secret, and answers no mismatch, unless another fingerprint is expected. For some of them, in any order and with repeats,
@@ -43,7 +43,6 @@ pub fn written_mnemonics_drill()
         × ListsSecretOrCause form set asked.secret after limit output answer }
 {
     printed_forms();
-    one_reading();
     accepted_inputs_are_share_sets();
     whole_backups_meet_the_thresholds();
     written_mnemonics_are_of_the_backup();

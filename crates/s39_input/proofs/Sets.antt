@@ -1,7 +1,8 @@
 -- The set of an input.
-pub mod Collected
 pub mod OneSet
-pub mod SomeSet
+pub mod Collected
+pub mod WithShare
+pub mod Refusals
 pub mod Checked
 pub mod BackupSets
 pub mod WrittenLines

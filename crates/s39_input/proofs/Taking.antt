@@ -2,4 +2,4 @@
 pub mod Parts
 pub mod Reading
 pub mod Held
-pub mod Leads
+pub mod Led

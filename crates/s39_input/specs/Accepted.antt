@@ -1,10 +1,12 @@
 -- The set of the shares that an input holds, or why it is refused.
-use Rattle.std.specs.Prelude.{◌≡◌, ◌⊎◌, ℕ, List, map, filter_map, take, All, Contains, Option, Some, None, Result, Ok, Err}
-use Rattle.std.specs.List.{AllZip, slice_get}
+use Rattle.std.specs.Prelude.{◌≡◌, ℕ, List, [], ◌∷◌, map, filter_map, All, Contains, Option, Some, None, Result, Ok, Err}
+use Rattle.std.specs.declared.cmp.Ordering.{Ordering}
+use Rattle.std.specs.declared.cmp.Ordering.TheVariants.{Less, Equal, Greater}
+use Rattle.s39_lists.specs.Each.{and_then}
 use Rattle.s39_kdf.specs.declared.limits.BadPassphrase.{BadPassphrase}
 use Rattle.s39_kdf.specs.Limits.{IsPrintable, IsFirstUnprintable}
 use Rattle.s39_words.specs.declared.ShareFields.{ShareFields}
-use Rattle.s39_set.specs.Names.{IsAscending}
+use Rattle.s39_set.specs.Names.{IsAscending, name_cmp}
 use Rattle.s39_set.specs.ShareSet.{IsShareSet, name_of, refusal_of}
 use Rattle.s39_set.specs.declared.set_error.SetError.{SetError}
 use Rattle.s39_input.specs.declared.fault.LineRefusal.{LineRefusal}
@@ -13,17 +15,9 @@ use Rattle.s39_input.specs.declared.fault.Stop.{Stop}
 use Rattle.s39_input.specs.declared.fault.Refusal.TheVariants.{Passphrase}
 use Rattle.s39_input.specs.declared.fault.Fault.{Fault}
 use Rattle.s39_input.specs.Fault.{fault_of, fault_of_stop}
-use Rattle.s39_input.specs.Input.{Input}
-use Rattle.s39_input.specs.Lines.{Holds, IsRefusedBy, LeadTo}
+use Rattle.s39_input.specs.Input.{Input, lines_of}
+use Rattle.s39_input.specs.Lines.{share_in, led}
 use Rattle.s39_input.specs.Steps.{Then}
-
--- the shares among what lines hold, in the order of the lines
-abbrev pub shares_in : List (Option ShareFields) → List ShareFields
-shares_in held = filter_map (λ share. share) held
-
--- none of these shares is refused by those before it
-abbrev pub AllJoin : List ShareFields → Type 0
-AllJoin shares = (k : ℕ) (share : ShareFields) → slice_get shares k ≡ Some share → refusal_of (take k shares) share ≡ None
 
 -- the set has exactly these shares, each once, in the order of their names
 pub record IsSetOf (shares set : List ShareFields) : Type 0 where
@@ -31,27 +25,48 @@ pub record IsSetOf (shares set : List ShareFields) : Type 0 where
   pub all : All (Contains set) shares
   pub only : All (Contains shares) set
 
--- these lines hold these shares, which can stand in one set
-pub record HoldTogether (lines : List (List ℕ)) (shares : List ShareFields) : Type 0 where
-  pub held : List (Option ShareFields)
-  pub holds : AllZip Holds lines held
-  pub shares_are : shares ≡ shares_in held
-  pub join : AllJoin shares
+-- A set that begins with `first`, once `share` is in it too: it stands behind or before `first`. If both have one name,
+-- `first` stays, and `share` is left out.
+abbrev pub placed : Ordering → ShareFields → ShareFields → List ShareFields → List ShareFields → List ShareFields
+placed Less share first others more = first ∷ more
+placed Equal share first others more = first ∷ others
+placed Greater share first others more = share ∷ first ∷ others
 
--- a line is refused for itself, or because its share can't join those of the lines before it
-abbrev pub IsRefusedAmong : List ShareFields → List ℕ → LineRefusal → Type 0
-IsRefusedAmong earlier line refusal =
-    IsRefusedBy line refusal
-    ⊎ ((share : ShareFields) × (error : SetError) × Holds line (Some share) × (refusal_of earlier share ≡ Some error) × (refusal ≡ Set error))
+-- the set with this share, in the order of the names; if a share of the set has its name, nothing changes
+abbrev pub with_share : ShareFields → List ShareFields → List ShareFields
+with_share share [] = share ∷ []
+with_share share (first ∷ others) = placed (name_cmp (name_of first) (name_of share)) share first others (with_share share others)
 
--- the input's lines hold these shares together, up to where they stop
-abbrev pub HoldShares : Input → List ShareFields → Result (Unit {0}) (Stop LineRefusal) → Type 0
-HoldShares = LeadTo HoldTogether IsRefusedAmong
+-- the set with this share, unless this error refuses it
+abbrev pub joined : List ShareFields → ShareFields → Option SetError → Result (List ShareFields) LineRefusal
+joined set share None = Ok (with_share share set)
+joined set share (Some error) = Err (Set error)
 
--- the input is accepted as the set of its shares, or refused by its first line that is refused, or a failed read
+-- the set with what a line holds, or why the share can't join it
+abbrev pub with_held : List ShareFields → Option ShareFields → Result (List ShareFields) LineRefusal
+with_held set None = Ok set
+with_held set (Some share) = joined set share (refusal_of set share)
+
+-- the set with what this line holds; or why the line is refused: by itself, or as its share can't join the set
+abbrev pub with_line : List ShareFields → List ℕ → Result (List ShareFields) LineRefusal
+with_line set line = and_then (with_held set) (share_in line)
+
+-- the set of the shares of an input's lines, or the first line that is refused, or that a read failed
+unfoldable pub read_as : Input → Result (List ShareFields) (Stop LineRefusal)
+read_as input = led with_line input.ended 0 [] (lines_of input)
+
+-- the input is read as this: as a set, or it's refused
 abbrev pub IsReadAs : Input → Result (List ShareFields) (Stop LineRefusal) → Type 0
-IsReadAs input (Ok set) = (shares : List ShareFields) × HoldShares input shares (Ok tt) × IsSetOf shares set
-IsReadAs input (Err stop) = (shares : List ShareFields) × HoldShares input shares (Err stop)
+IsReadAs input read = read_as input ≡ read
+
+-- the share that a line holds, if it does
+abbrev pub held_share : Result (Option ShareFields) LineRefusal → Option ShareFields
+held_share (Ok held) = held
+held_share (Err refusal) = None
+
+-- the shares that lines hold, in the order of the lines
+abbrev pub shares_in : List (List ℕ) → List ShareFields
+shares_in lines = filter_map (λ line. held_share (share_in line)) lines
 
 -- the passphrase is printable, or refused for its first byte that isn't printable
 abbrev pub IsJudged : List ℕ → Result (Unit {0}) BadPassphrase → Type 0

@@ -1,6 +1,6 @@
 -- The output of a command that answers each line of its input by itself.
-use Rattle.std.specs.Prelude.{◌≡◌, ℕ, List, [], ◌∷◌, Option, Result, Ok, Err}
-use Rattle.std.specs.List.{AllZip, flat_map}
+use Rattle.std.specs.Prelude.{◌≡◌, ℕ, suc, Bool, List, [], ◌∷◌, map, Option, Result, Ok, Err}
+use Rattle.std.specs.List.{flat_map}
 use Rattle.s39_input.specs.declared.each_line.Unanswered.{Unanswered}
 use Rattle.s39_input.specs.declared.each_line.Unanswered.TheVariants.{Line, WriteFailed}
 use Rattle.s39_input.specs.declared.fault.LineRefusal.{LineRefusal}
@@ -11,23 +11,21 @@ use Rattle.s39_input.specs.declared.fault.Refusal.TheVariants.{Device}
 use Rattle.s39_input.specs.declared.fault.Fault.{Fault}
 use Rattle.s39_input.specs.Device.{Counted}
 use Rattle.s39_input.specs.Output.{WritesWhole, WritesPart}
-use Rattle.s39_input.specs.Input.{Input}
+use Rattle.s39_input.specs.Input.{Input, lines_of}
 use Rattle.s39_input.specs.Fault.{fault_of, fault_of_stop, answer_of}
-use Rattle.s39_input.specs.Lines.{LeadTo}
+use Rattle.s39_input.specs.Lines.{at_line, at_end}
 
-module _ {H : Type 0} (Says : List ℕ → Result H LineRefusal → Type 0) where
-  -- the input's lines say these, each by itself, up to where they stop
-  abbrev pub SayEach : Input → List H → Result (Unit {0}) (Stop LineRefusal) → Type 0
-  SayEach = LeadTo (AllZip (λ line said. Says line (Ok said))) (λ said line refusal. Says line (Err refusal))
+-- What lines say, each by itself, up to the first that is refused, and how this ends. They come after n others of an input,
+-- which ended or failed behind them.
+abbrev pub said_until : {H : Type 0} → Bool → ℕ → List (Result H LineRefusal) → List H × Result (Unit {0}) (Stop LineRefusal)
+said_until ended n [] = ([], at_end ended tt)
+said_until ended n (Ok said ∷ others) = let rest = said_until ended (suc n) others in (said ∷ rest.0, rest.1)
+said_until ended n (Err cause ∷ others) = ([], at_line n (Err cause))
 
-  -- For each line the text of what it says is written. The answer is made of what all lines say, or it is the fault.
-  pub record IsOutputOfEach {T : Type 0} (text_of : H → List ℕ) (answer_to : List H → T) (input : Input) (text : List ℕ) (answer : Result T Fault)
-      : Type 0 where
-    pub said : List H
-    pub stop : Result (Unit {0}) (Stop LineRefusal)
-    pub says : SayEach input said stop
-    pub text_is : text ≡ flat_map text_of said
-    pub answer_is : answer ≡ answer_of (answer_to said) stop
+-- The text of what each line says, and the answer: it is made of what all lines say, or it is the fault.
+abbrev pub output_of_each : {H T : Type 0} → (H → List ℕ) → (List H → T) → (List ℕ → Result H LineRefusal) → Input → List ℕ × Result T Fault
+output_of_each text_of answer_to say input =
+    let all = said_until input.ended 0 (map say (lines_of input)) in (flat_map text_of all.0, answer_of (answer_to all.0) all.1)
 
 -- Within a run; no public contract cites this.
 module _ {W S H : Type 0} (contents : W → Option (List ℕ)) (Says : List ℕ → Result H LineRefusal → Type 0) (text_of : H → List ℕ) (output : S → Counted W)

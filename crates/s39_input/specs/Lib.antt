@@ -7,6 +7,7 @@ pub mod Runs
 pub mod Midway
 pub mod Output
 pub mod Accepted
+pub mod Refused
 pub mod Collecting
 pub mod SecretForm
 pub mod EachLine
@@ -16,3 +17,4 @@ pub mod Create
 pub mod OfBackup
 pub mod Slices
 pub mod Lengths
+pub mod Theory

@@ -1,48 +1,50 @@
--- What lines hold, and where the lines of an input stop being taken.
-use Rattle.std.specs.Prelude.{◌≡◌, ◌⊎◌, ℕ, ◌<◌, ◌≤◌, List, ◌∷◌, ◌++◌, length, Option, Some, None, true, false, Result, Ok, Err}
+-- What lines hold, and where the lines of an input lead.
+use Rattle.std.specs.Prelude.{◌≡◌, ℕ, suc, List, [], ◌∷◌, length, Option, Some, None, Bool, true, false, nat_lt, if◌then◌else◌, Result, Ok, Err}
+use Rattle.s39_lists.specs.Each.{and_then}
 use Rattle.s39_words.specs.declared.ShareFields.{ShareFields}
-use Rattle.s39_words.specs.Reading.{Reads}
+use Rattle.s39_words.specs.Reading.{reading}
 use Rattle.s39_input.specs.declared.fault.LineRefusal.{LineRefusal}
 use Rattle.s39_input.specs.declared.fault.LineRefusal.TheVariants.{Word, TooLong}
-use Rattle.s39_input.specs.declared.fault.RefusedLine.{RefusedLine}
 use Rattle.s39_input.specs.declared.fault.Stop.{Stop}
 use Rattle.s39_input.specs.declared.fault.Stop.TheVariants.{AtLine, ReadFailed}
-use Rattle.s39_input.specs.Input.{Input, longest_line, lines_of, is_skipped}
+use Rattle.s39_input.specs.Input.{longest_line, is_skipped}
 use Rattle.s39_input.specs.Fault.{line_number}
 
--- What a line says by itself, if `Reads` says what a text is read as: nothing if it is skipped, else what it is read as. It
--- is refused for its length, or for the error of its reading.
-module _ {A E : Type 0} (Reads : List ℕ → Result A E → Type 0) (refusal_of : E → LineRefusal) where
-  abbrev pub Says : List ℕ → Result (Option A) LineRefusal → Type 0
-  Says line (Ok None) = (length line ≤ longest_line) × (is_skipped line ≡ true)
-  Says line (Ok (Some read)) = (length line ≤ longest_line) × (is_skipped line ≡ false) × Reads line (Ok read)
-  Says line (Err refusal) =
-      ((longest_line < length line) × (refusal ≡ TooLong))
-      ⊎ ((length line ≤ longest_line) × (is_skipped line ≡ false) × ((error : E) × Reads line (Err error) × (refusal ≡ refusal_of error)))
+-- what a line holds that is neither too long nor skipped
+abbrev pub held : {A E : Type 0} → (E → LineRefusal) → Result A E → Result (Option A) LineRefusal
+held refusal_of (Ok read) = Ok (Some read)
+held refusal_of (Err error) = Err (refusal_of error)
 
--- what a line holds: nothing if it is skipped, else the share that it reads as
+-- What a line says by itself, if this is its reading. It is refused if it is too long. It says nothing if it is skipped, and
+-- otherwise what it is read as, or it is refused for the error of its reading.
+abbrev pub said : {A E : Type 0} → (E → LineRefusal) → List ℕ → Result A E → Result (Option A) LineRefusal
+said refusal_of line read =
+    if nat_lt longest_line (length line) then Err TooLong else if is_skipped line then Ok None else held refusal_of read
+
+-- what a line holds: nothing if it is skipped, else the share that it is read as; or why it is refused by itself
+abbrev pub share_in : List ℕ → Result (Option ShareFields) LineRefusal
+share_in line = said Word line (reading line)
+
+-- the line holds this: nothing, or a share
 abbrev pub Holds : List ℕ → Option ShareFields → Type 0
-Holds line held = Says Reads Word line (Ok held)
+Holds line held = share_in line ≡ Ok held
 
--- a line is refused for itself: for its length, or for what its words are read as
-abbrev pub IsRefusedBy : List ℕ → LineRefusal → Type 0
-IsRefusedBy line refusal = Says Reads Word line (Err refusal)
+-- the line isn't refused by itself: it holds a share, or nothing
+abbrev pub IsReadable : List ℕ → Type 0
+IsReadable line = (held : Option ShareFields) × Holds line held
 
--- Lines are taken one after the other: `Takes lines reached` if these lead there, and `Refuses reached line cause` if
--- the next line is then refused.
-module _ {S C : Type 0} (Takes : List (List ℕ) → S → Type 0) (Refuses : S → List ℕ → C → Type 0) where
-  -- the lines before the first that is refused lead there; that line's number and the cause are these
-  pub record IsRefusedLine (lines : List (List ℕ)) (reached : S) (refused : RefusedLine C) : Type 0 where
-    pub before : List (List ℕ)
-    pub line : List ℕ
-    pub after : List (List ℕ)
-    pub parts : lines ≡ before ++ line ∷ after
-    pub taken : Takes before reached
-    pub refuses : Refuses reached line refused.refusal
-    pub number_is : refused.number ≡ line_number (length before)
+-- what a line leads to that comes after n others, or that it is refused
+abbrev pub at_line : {S C : Type 0} → ℕ → Result S C → Result S (Stop C)
+at_line n (Ok s) = Ok s
+at_line n (Err cause) = Err (AtLine (record { number = line_number n; refusal = cause }))
 
-  -- the lines of an input lead there, up to the first that is refused, or to a failed read, or all of them
-  abbrev pub LeadTo : Input → S → Result (Unit {0}) (Stop C) → Type 0
-  LeadTo input reached (Ok _) = (input.ended ≡ true) × Takes (lines_of input) reached
-  LeadTo input reached (Err (AtLine refused)) = IsRefusedLine (lines_of input) reached refused
-  LeadTo input reached (Err ReadFailed) = (input.ended ≡ false) × Takes (lines_of input) reached
+-- what all lines lead to if the input ended, or that a read failed
+abbrev pub at_end : {S C : Type 0} → Bool → S → Result S (Stop C)
+at_end true s = Ok s
+at_end false s = Err ReadFailed
+
+-- Where lines lead from a state, each in turn, up to the first that is refused. They come after n others of an input, which
+-- ended or failed behind them.
+abbrev pub led : {S C : Type 0} → (S → List ℕ → Result S C) → Bool → ℕ → S → List (List ℕ) → Result S (Stop C)
+led step ended n s [] = at_end ended s
+led step ended n s (line ∷ lines) = and_then (λ t. led step ended (suc n) t lines) (at_line n (step s line))

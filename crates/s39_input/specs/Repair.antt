@@ -1,5 +1,5 @@
 -- The output of `repair`.
-use Rattle.std.specs.Prelude.{◌≡◌, ◌≢◌, ℕ, List, [], ◌∷◌, Option, Some, None, Bool, true, false, not, nat_lt, length, Result, Ok, Err}
+use Rattle.std.specs.Prelude.{◌≡◌, ◌≢◌, ◌⊎◌, ◌<◌, ◌≤◌, ℕ, List, [], ◌∷◌, Option, Some, None, Bool, true, false, not, nat_lt, length, Result, Ok, Err}
 use Rattle.std.specs.List.{AllZip, flat_map, list_all}
 use Rattle.std.specs.Option.{option_to_list}
 use Rattle.s39_words.specs.declared.ShareFields.{ShareFields}
@@ -8,11 +8,12 @@ use Rattle.s39_repair.specs.declared.repaired.Repaired.{Repaired}
 use Rattle.s39_repair.specs.declared.repair_error.RepairError.{RepairError}
 use Rattle.s39_repair.specs.Answer.{Repairs}
 use Rattle.s39_repair.specs.Marks.{Fits}
-use Rattle.s39_input.specs.declared.fault.LineRefusal.TheVariants.{Marks}
+use Rattle.s39_input.specs.declared.fault.LineRefusal.{LineRefusal}
+use Rattle.s39_input.specs.declared.fault.LineRefusal.TheVariants.{Marks, TooLong}
 use Rattle.s39_input.specs.declared.fault.Fault.{Fault}
-use Rattle.s39_input.specs.Input.{Input, ended_line, is_skipped}
-use Rattle.s39_input.specs.EachLine.{IsOutputOfEach}
-use Rattle.s39_input.specs.Lines.{Says}
+use Rattle.s39_input.specs.Input.{Input, ended_line, is_skipped, longest_line}
+use Rattle.s39_input.specs.EachLine.{output_of_each}
+use Rattle.s39_input.specs.Lines.{said}
 
 -- the shares whose mnemonics fit, in the order of their words
 abbrev pub shares_of : Repaired → List ShareFields
@@ -33,9 +34,24 @@ abbrev pub fits_one : Option (List (List ℕ)) → Bool
 fits_one None = true
 fits_one (Some mnemonics) = not (nat_lt 1 (length mnemonics))
 
--- `repair` writes this text for the input, and gives this answer: whether one mnemonic fitted each line
+-- what `repair` writes for the input, and whether one mnemonic fitted each line, if this gives the printed forms of the
+-- mnemonics that fit a line
+unfoldable pub repair_output : (List ℕ → Result (List (List ℕ)) RepairError) → Input → List ℕ × Result Bool Fault
+repair_output fitting = output_of_each mnemonics_text (list_all fits_one) (λ line. said Marks line (fitting line))
+
+-- `repair` writes this text for the input, and gives this answer
 abbrev pub IsRepairOutput : Input → List ℕ → Result Bool Fault → Type 0
-IsRepairOutput = IsOutputOfEach (Says RepairsTo Marks) mnemonics_text (list_all fits_one)
+IsRepairOutput input text answer =
+    (fitting : List ℕ → Result (List (List ℕ)) RepairError) × ((line : List ℕ) → RepairsTo line (fitting line))
+    × (repair_output fitting input ≡ (text, answer))
+
+-- What a line of marks says by itself, if `Answers` says what fits it. Within a run; no public contract cites this.
+abbrev pub MarksSay : {A : Type 0} → (List ℕ → Result A RepairError → Type 0) → List ℕ → Result (Option A) LineRefusal → Type 0
+MarksSay Answers line (Ok None) = (length line ≤ longest_line) × (is_skipped line ≡ true)
+MarksSay Answers line (Ok (Some found)) = (length line ≤ longest_line) × (is_skipped line ≡ false) × Answers line (Ok found)
+MarksSay Answers line (Err refusal) =
+    ((longest_line < length line) × (refusal ≡ TooLong))
+    ⊎ ((length line ≤ longest_line) × (is_skipped line ≡ false) × ((error : RepairError) × Answers line (Err error) × (refusal ≡ Marks error)))
 
 -- two different mnemonics fit a line that isn't skipped
 pub record TwoFit (line : List ℕ) : Type 0 where

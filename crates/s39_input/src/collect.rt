@@ -12,14 +12,17 @@ use crate::fault::{Fault, LineRefusal, Refusal, Stop};
 use crate::lines::{TakeLine, share_in, take_lines, take_lines_of};
 use s39_kdf::check_passphrase;
 use s39_set::ShareSet;
-use s39_set::laws::{one_more_is_added, same_shares_refuse_the_same};
 use std::io::Read;
 
 /// A set takes a line by adding the share that it holds.
 impl TakeLine for ShareSet {
-    ghost use Rattle.std.proofs.Common.{inl, refl};
+    ghost use Rattle.std.proofs.Common.{ap};
+    ghost use Rattle.s39_lists.specs.Each.{and_then};
+    ghost use Rattle.s39_words.specs.Reading.{reading};
+    ghost use Rattle.s39_input.specs.Accepted.{with_held};
+    ghost use Rattle.s39_input.specs.Theory.LongLines.{long_is_refused};
     ghost use Rattle.s39_input.specs.Collecting.{CollectsLine};
-    ghost use Rattle.s39_input.specs.declared.fault.LineRefusal.TheVariants.{TooLong};
+    ghost use Rattle.s39_input.specs.declared.fault.LineRefusal.TheVariants.{TooLong, Word};
 
     type Refusal = LineRefusal;
 
@@ -30,17 +33,21 @@ impl TakeLine for ShareSet {
     ghost length_refusal = { TooLong };
 
     fn take_line(&mut self, line: &[u8]) -> Result<(), LineRefusal> {
-        if let Some(share) = share_in(line)? {
-            self.add(share).map_err(LineRefusal::Set)?;
+        let Some(share) = share_in(line)? else {
+            return Ok(());
+        };
+        match self.add(share) {
+            Ok(_) => Ok(()),
+            Err(error) => Err(LineRefusal::Set(error)),
         }
-        Ok(())
     }
 
     fn too_long() -> LineRefusal {
         LineRefusal::TooLong
     }
 
-    ghost refuses_long = { λ set line long. inl (inl (long, refl)) };
+    ghost refuses_long = { λ set line long. ap (and_then (with_held set))
+        (long_is_refused Word line (reading line) long) };
 }
 
 /// The set of the shares of an input, each once, if the passphrase is printable. The passphrase is judged before
@@ -60,8 +67,6 @@ pub fn checked_set<R: Read>(passphrase: &[u8], input: &mut Counting<R>) -> Resul
     ensures unread { (bad : BadPassphrase)
         → result ≡ Err (fault_of (Refusal.Passphrase bad)) → input.new ≡ input.old }
 {
-    same_shares_refuse_the_same();
-    one_more_is_added();
     check_passphrase(passphrase)?;
     let mut set = ShareSet::new();
     take_lines(input, &mut set)?;
@@ -85,8 +90,6 @@ pub fn read_set<R: Read>(input: &mut Counting<R>) -> Result<ShareSet, Stop<LineR
     ensures is_set { IfOk result IsShareSet }
     ensures failures { input.new.failures ≡ input.old.failures + stop_failures result }
 {
-    same_shares_refuse_the_same();
-    one_more_is_added();
     let mut shares = ShareSet::new();
     take_lines(input, &mut shares)?;
     Ok(shares)
@@ -97,8 +100,6 @@ pub fn set_in(bytes: &[u8]) -> Result<ShareSet, Stop<LineRefusal>>
     ensures read { IsReadAs (whole bytes.now) result }
     ensures is_set { IfOk result IsShareSet }
 {
-    same_shares_refuse_the_same();
-    one_more_is_added();
     let mut shares = ShareSet::new();
     take_lines_of(bytes, &mut shares)?;
     Ok(shares)

@@ -1,21 +1,27 @@
 //! Facts about the definitions. Each is the contract of a function that does nothing.
-ghost use Rattle.std.specs.Prelude.{◌≡◌, ◌≤◌, ◌⊎◌, ℕ, length, List, All, Contains, Bool, false, Result, Ok, IfOk, None};
+ghost use Rattle.std.specs.Prelude.{◌≡◌, ◌<◌, ◌≤◌, ◌⊎◌, ℕ, length, List, All, Contains, Bool, true, false, Result, Ok, Err, IfOk, Some, None};
 ghost use Rattle.s39_words.specs.declared.ShareFields.{ShareFields};
+ghost use Rattle.s39_words.specs.Reading.{Reads};
+ghost use Rattle.s39_words.specs.declared.word_error.WordError.{WordError};
 ghost use Rattle.s39_set.specs.Names.{Names, AreNames};
 ghost use Rattle.s39_set.specs.Written.{quorum_text};
 ghost use Rattle.s39_input.specs.Lengths.{longest_names};
 ghost use Rattle.s39_set.specs.ShareSet.{IsShareSet};
 ghost use Rattle.s39_input.specs.declared.fault.LineRefusal.{LineRefusal};
+ghost use Rattle.s39_input.specs.declared.fault.LineRefusal.TheVariants.{TooLong, Word};
+ghost use Rattle.s39_input.specs.declared.fault.RefusedLine.{RefusedLine};
 ghost use Rattle.s39_input.specs.declared.fault.Stop.{Stop};
+ghost use Rattle.s39_input.specs.declared.fault.Stop.TheVariants.{AtLine, ReadFailed};
 ghost use Rattle.s39_input.specs.declared.lines.TheConstants.{MAX_LINE_BYTES};
 ghost use Rattle.s39_input.specs.Device.{Counted};
 ghost use Rattle.s39_input.specs.declared.fault.Fault.{Fault};
 ghost use Rattle.s39_input.specs.Runs.{Runs, Writes};
 ghost use Rattle.s39_input.specs.Show.{IsShowOutput};
 ghost use Rattle.s39_input.specs.Repair.{IsRepairOutput, TwoFit};
-ghost use Rattle.s39_input.specs.Input.{Input, longest_line, whole, lines_of};
-ghost use Rattle.s39_input.specs.Lines.{Holds};
-ghost use Rattle.s39_input.specs.Accepted.{IsReadAs, CheckedSetLaws};
+ghost use Rattle.s39_input.specs.Input.{Input, is_skipped, longest_line, whole, lines_of};
+ghost use Rattle.s39_input.specs.Lines.{Holds, IsReadable, share_in};
+ghost use Rattle.s39_input.specs.Accepted.{IsReadAs, IsSetOf, CheckedSetLaws, shares_in};
+ghost use Rattle.s39_input.specs.Refused.{AreAccepted, IsFirstRefused};
 ghost use Rattle.s39_backup.specs.Plan.{IsPlan};
 ghost use Rattle.s39_backup.specs.Created.{Asked, AreOfBackup};
 ghost use Rattle.s39_input.specs.Create.{IsCreateOutput};
@@ -24,13 +30,7 @@ ghost use Rattle.s39_input.specs.OfBackup.{HoldsMnemonicsOf};
 use s39_backup::laws::shares_of_a_backup_agree;
 use s39_kdf::laws::passphrases_are_printable_or_not;
 use s39_repair::laws::{one_answer, some_answer};
-use s39_set::laws::{
-    one_more_is_added, same_shares_refuse_the_same, sets_are_their_shares, sets_take_shares,
-};
-use s39_words::laws::{
-    every_share_has_a_printed_form, every_text_has_a_reading, one_printed_form, one_reading,
-    printed_forms,
-};
+use s39_words::laws::{every_share_has_a_printed_form, one_printed_form, printed_forms};
 use std::io::{Read, Write};
 
 /// The limit of the code is that of the definitions.
@@ -42,30 +42,50 @@ pub fn numbers()
 pub fn one_set()
     ensures { (input : Input) (answer another : Result (List ShareFields) (Stop LineRefusal))
         → IsReadAs input answer → IsReadAs input another → answer ≡ another }
-{
-    sets_are_their_shares();
-    one_reading();
-}
+{}
 
 /// Every input is read as something: a share set, or a refusal.
 pub fn every_input_is_read()
     ensures { (input : Input)
         → (answer : Result (List ShareFields) (Stop LineRefusal))
         × IsReadAs input answer × IfOk answer IsShareSet }
-{
-    every_text_has_a_reading();
-    sets_take_shares();
-    same_shares_refuse_the_same();
-    one_more_is_added();
-}
+{}
 
 /// If an input is accepted, it is read as a share set.
 pub fn accepted_inputs_are_share_sets()
     ensures { (input : Input) (set : List ShareFields) → IsReadAs input (Ok set) → IsShareSet set }
-{
-    every_input_is_read();
-    one_set();
-}
+{}
+
+/// A line that is too long is refused for that. Otherwise it holds nothing if it is skipped. A line that isn't skipped holds
+/// the share that it is read as, or it is refused for the error of its reading.
+pub fn lines_hold_what_they_are_read_as()
+    ensures too_long { (line : List ℕ) → longest_line < length line → share_in line ≡ Err TooLong }
+    ensures skipped { (line : List ℕ) → length line ≤ longest_line → is_skipped line ≡ true
+        → Holds line None }
+    ensures read { (line : List ℕ) (share : ShareFields) → length line ≤ longest_line
+        → is_skipped line ≡ false → Reads line (Ok share) → Holds line (Some share) }
+    ensures refused { (line : List ℕ) (error : WordError) → length line ≤ longest_line
+        → is_skipped line ≡ false → Reads line (Err error) → share_in line ≡ Err (Word error) }
+{}
+
+/// If an input is accepted, it ended, and the set has exactly the shares of its lines, each once, in the order of their
+/// names. None of its lines is refused by itself.
+pub fn sets_have_the_shares_of_their_lines()
+    ensures shares { (input : Input) (set : List ShareFields) → IsReadAs input (Ok set)
+        → (input.ended ≡ true) × IsSetOf (shares_in (lines_of input)) set }
+    ensures readable { (input : Input) (set : List ShareFields) → IsReadAs input (Ok set)
+        → All IsReadable (lines_of input) }
+{}
+
+/// If an input is refused at a line, the lines before it are accepted. This line is the first that is refused, by itself
+/// or because its share can't join the set of theirs, and the refusal has its number. If a read failed, all lines that
+/// came are accepted.
+pub fn lines_before_a_refusal_are_accepted()
+    ensures refused { (input : Input) (refused : RefusedLine LineRefusal)
+        → IsReadAs input (Err (AtLine refused)) → IsFirstRefused (lines_of input) refused }
+    ensures failed { (input : Input) → IsReadAs input (Err ReadFailed)
+        → (input.ended ≡ false) × ((set : List ShareFields) × AreAccepted (lines_of input) set) }
+{}
 
 /// A passphrase and an input give one set, which is a share set, or one fault.
 pub fn one_checked_set()
@@ -84,8 +104,6 @@ pub fn mnemonics_are_read_as_their_shares()
         → (set : List ShareFields) × IsReadAs input (Ok set)
         × All (Contains mnemonics.shares) set }
 {
-    one_reading();
-    every_input_is_read();
     shares_of_a_backup_agree();
 }
 
@@ -131,18 +149,14 @@ pub fn unread_inputs_decide_nothing<R: Read, W: Write>()
 pub fn some_show_output()
     ensures { (input : Input)
         → (text : List ℕ) × (answer : Result (Unit {0}) Fault) × IsShowOutput input text answer }
-{
-    every_text_has_a_reading();
-}
+{}
 
 /// An input has at most one output of `show`: one text, and one answer.
 pub fn one_show_output()
     ensures { (input : Input) (text other : List ℕ) (answer another : Result (Unit {0}) Fault)
         → IsShowOutput input text answer → IsShowOutput input other another
         → (text ≡ other) × (answer ≡ another) }
-{
-    one_reading();
-}
+{}
 
 /// Every input has an output of `repair`.
 pub fn some_repair_output()

@@ -1,9 +1,9 @@
 //! The lines of an input, and what they hold.
-ghost use Rattle.std.specs.Prelude.{◌≡◌, ◌≢◌, ℕ, ◌+◌, ◌<◌, ◌≤◌, List, [], ◌∷◌, ◌++◌, All, length, find, not, Bool, true, Ok, Err, IfOk, IfErr, OnOk, min};
+ghost use Rattle.std.specs.Prelude.{◌≡◌, ◌≢◌, ℕ, ◌+◌, ◌<◌, ◌≤◌, List, [], ◌∷◌, ◌++◌, All, length, find, not, Bool, true, Ok, Err, IfErr, OnOk, min};
 ghost use Rattle.s39_words.specs.Spelling.{is_separator};
 ghost use Rattle.s39_input.specs.Fault.{stop_failures};
 ghost use Rattle.s39_input.specs.Input.{longest_line, is_skipped, whole};
-ghost use Rattle.s39_input.specs.Lines.{Holds, IsRefusedBy};
+ghost use Rattle.s39_input.specs.Lines.{share_in};
 ghost use Rattle.s39_input.specs.Midway.{RunsOver, ReachesOrStops, IsMidway};
 ghost use Rattle.s39_input.specs.Runs.{OfInput};
 
@@ -72,8 +72,7 @@ pub(crate) fn is_skipped(line: &[u8]) -> bool
 /// The share that a line holds, or `None` if the line is skipped.
 pub(crate) fn share_in(line: &[u8]) -> Result<Option<Share>, LineRefusal>
     requires { length line.now ≤ longest_line }
-    ensures held { IfOk result (λ held. Holds line.now held) }
-    ensures refused { IfErr result (λ refusal. IsRefusedBy line.now refusal) }
+    ensures { share_in line.now ≡ result }
 {
     if is_skipped(line) {
         return Ok(None);

@@ -5,10 +5,8 @@ ghost use Rattle.s39_words.specs.Layout.{longest_text};
 ghost use Rattle.s39_words.specs.Printing.{IsPrinted};
 ghost use Rattle.s39_input.specs.Create.{ArePrintedLines};
 ghost use Rattle.s39_input.specs.Input.{ended_line, longest_line};
-ghost use Rattle.s39_input.specs.Lines.{Says};
-ghost use Rattle.s39_input.specs.Repair.{IsRepairOutput, shares_of};
+ghost use Rattle.s39_input.specs.Repair.{IsRepairOutput, MarksSay, shares_of};
 ghost use Rattle.s39_input.specs.Runs.{Runs};
-ghost use Rattle.s39_input.specs.declared.fault.LineRefusal.{LineRefusal as Cause};
 
 use crate::device::Counting;
 use crate::each_line::{Unanswered, answered};
@@ -16,9 +14,9 @@ use crate::fault::{Fault, LineRefusal};
 use crate::lines::{TakeLine, is_skipped, take_lines};
 use crate::output::{WriteFailed, write_text};
 use arrayvec::ArrayVec;
-use s39_repair::laws::some_answer;
+use s39_repair::laws::{one_answer, some_answer};
 use s39_repair::{Repaired, repair};
-use s39_words::laws::every_share_has_a_printed_form;
+use s39_words::laws::{every_share_has_a_printed_form, one_printed_form};
 use s39_words::{MAX_TEXT_BYTES, Share, print};
 use std::io::{Read, Write};
 
@@ -55,8 +53,8 @@ pub fn lines_of_repaired(repaired: &Repaired) -> RepairedLines
 /// The mnemonics that fit the marks of a line, or `None` if the line is skipped.
 fn repaired_in(line: &[u8]) -> Result<Option<Repaired>, LineRefusal>
     requires { length line.now ≤ longest_line }
-    ensures held { IfOk result (λ repaired. Says Repairs Cause.Marks line.now (Ok repaired)) }
-    ensures refused { IfErr result (λ refusal. Says Repairs Cause.Marks line.now (Err refusal)) }
+    ensures held { IfOk result (λ repaired. MarksSay Repairs line.now (Ok repaired)) }
+    ensures refused { IfErr result (λ refusal. MarksSay Repairs line.now (Err refusal)) }
 {
     if is_skipped(line) {
         return Ok(None);
@@ -80,16 +78,15 @@ impl<W: Write> TakeLine for Repairing<'_, W> {
     ghost use Rattle.std.specs.List.{list_all};
     ghost use Rattle.std.proofs.Common.{inl};
     ghost use Rattle.s39_input.specs.EachLine.{AnswersLine};
-    ghost use Rattle.s39_input.specs.Lines.{Says};
-    ghost use Rattle.s39_input.specs.Repair.{RepairsTo, fits_one, mnemonics_text};
+    ghost use Rattle.s39_input.specs.Repair.{MarksSay, RepairsTo, fits_one, mnemonics_text};
     ghost use Rattle.s39_input.specs.declared.each_line.Unanswered.TheVariants.{Line as AtLine};
-    ghost use Rattle.s39_input.specs.declared.fault.LineRefusal.TheVariants.{TooLong, Marks};
+    ghost use Rattle.s39_input.specs.declared.fault.LineRefusal.TheVariants.{TooLong};
 
     type Refusal = Unanswered;
 
     ghost can_take = { λ repairing. repairing.output.now.failures < 2 ^ 64 - 1 };
 
-    ghost takes = { AnswersLine W.contents (Says RepairsTo Marks) mnemonics_text
+    ghost takes = { AnswersLine W.contents (MarksSay RepairsTo) mnemonics_text
         (λ repairing. repairing.output.now)
         (λ old said new. (new.output.ghost_name ≡ old.output.ghost_name)
         × (new.one_each ≡ (old.one_each && list_all fits_one said))) };
@@ -134,7 +131,9 @@ fn repair_lines<R: Read, W: Write>(
     ensures runs { Runs R.remaining W.contents IsRepairOutput input.old input.new
         repairing.old.output.now repairing.new.output.now result }
 {
+    one_answer();
     some_answer();
+    one_printed_form();
     every_share_has_a_printed_form();
     let stopped = take_lines(input, repairing);
     answered(repairing.one_each, stopped)

@@ -10,7 +10,6 @@ use crate::fault::{Fault, LineRefusal};
 use crate::lines::{TakeLine, share_in, take_lines};
 use crate::output::{Line, WriteFailed, push_field, push_hex, push_text, write_text};
 use s39_words::Share;
-use s39_words::laws::every_text_has_a_reading;
 use std::io::{Read, Write};
 
 /// Room for the fields before the value: their names, and eight numbers of at most five digits.
@@ -53,11 +52,11 @@ fn line_of(share: &Share) -> Line
 
 /// An output takes a line by writing the fields of the share that it holds.
 impl<W: Write> TakeLine for Counting<W> {
-    ghost use Rattle.std.specs.Prelude.{◌<◌, ◌-◌, ◌^◌, refl};
-    ghost use Rattle.std.proofs.Common.{inl};
-    ghost use Rattle.s39_words.specs.Reading.{Reads};
+    ghost use Rattle.std.specs.Prelude.{◌≡◌, ◌<◌, ◌-◌, ◌^◌, refl};
+    ghost use Rattle.s39_words.specs.Reading.{reading};
     ghost use Rattle.s39_input.specs.EachLine.{AnswersLine};
-    ghost use Rattle.s39_input.specs.Lines.{Says};
+    ghost use Rattle.s39_input.specs.Lines.{share_in};
+    ghost use Rattle.s39_input.specs.Theory.LongLines.{long_is_refused};
     ghost use Rattle.s39_input.specs.Show.{line_text};
     ghost use Rattle.s39_input.specs.declared.each_line.Unanswered.TheVariants.{Line as AtLine};
     ghost use Rattle.s39_input.specs.declared.fault.LineRefusal.TheVariants.{TooLong, Word};
@@ -66,7 +65,7 @@ impl<W: Write> TakeLine for Counting<W> {
 
     ghost can_take = { λ output. output.failures < 2 ^ 64 - 1 };
 
-    ghost takes = { AnswersLine W.contents (Says Reads Word) line_text (λ output. output)
+    ghost takes = { AnswersLine W.contents (λ line said. share_in line ≡ said) line_text (λ output. output)
         (λ old said new. Unit {0}) };
 
     ghost length_refusal = { AtLine TooLong };
@@ -86,7 +85,7 @@ impl<W: Write> TakeLine for Counting<W> {
         Unanswered::Line(LineRefusal::TooLong)
     }
 
-    ghost refuses_long = { λ output line long. (inl (long, refl), refl) };
+    ghost refuses_long = { λ output line long. (long_is_refused Word line (reading line) long, refl) };
 }
 
 /// Writes a line for each mnemonic of the input, with its fields, in the order of the input's lines (SLIP-0039, "Format
@@ -121,6 +120,5 @@ pub fn run_show<R: Read, W: Write>(
     ensures { Runs R.remaining W.contents IsShowOutput input.old input.new output.old output.new
         result }
 {
-    every_text_has_a_reading();
     answered((), take_lines(input, output))
 }

@@ -1,99 +1,120 @@
--- Whether a plan has names, and whether a backup of it may have shares.
-use Rattle.std.proofs.Common.{◌≡◌, ◌⊎◌, ℕ, ◌<◌, List, [], ◌∷◌, length, All, Option, Some, None, refl, sym, subst, inl, inr}
-use Rattle.std.proofs.Common.{ap, ◌∙◌, arith, Ok, Err}
-use Rattle.std.specs.Prelude.{IsSomeAnd}
-use Rattle.std.specs.List.{slice_get}
-use Rattle.std.proofs.lemmas.Bool.{cases_eq, cases_lt}
+-- Names of a plan and shares of it, by tests.
+use Rattle.std.proofs.Common.{◌≡◌, ◌↔◌, ℕ, suc, ◌+◌, ◌<◌, ◌&&◌, ◌==◌, not, Bool, true, false, List, [], ◌∷◌, length, take, drop, get_or, find, All, Option, Some, None, refl, sym, subst, ap, ◌∙◌, arith, Ok}
+use Rattle.std.specs.Prelude.{IsSomeAnd, nat_lt}
+use Rattle.std.specs.List.{list_all, slice_get}
+use Rattle.std.specs.Option.{option_map_or}
+use Rattle.std.proofs.Math.Seq.{split_at}
+use Rattle.std.proofs.lemmas.Bool.{and_parts, and_from, eqb-true, eq-eqb, not-false, not_from_true}
+use Rattle.std.proofs.lemmas.Bool.Decides.{nat_tests}
+use Rattle.std.proofs.lemmas.List.{take_more}
+use Rattle.std.proofs.lemmas.List.Elements.{All-cons, All-nil, All-weaker}
+use Rattle.std.proofs.lemmas.List.Folds.{find-append}
+use Rattle.std.proofs.lemmas.List.Sums.{AllPass-from_list_all, list_all-from_AllPass}
+use Rattle.s39_lists.proofs.Finds.{find-none, none-passes}
 use Rattle.s39_words.specs.declared.ShareFields.{ShareFields}
 use Rattle.s39_set.specs.Names.{Name, Names}
 use Rattle.s39_backup.specs.declared.plan.Members.{Members}
 use Rattle.s39_backup.specs.Plan.{IsNameOfPlan}
 use Rattle.s39_backup.specs.Reissue.{IsOfPlan, AreOfPlan}
-use Rattle.s39_creating.specs.Reissue.{AreNamesOfPlan, HasShares, IsOfThePlan}
-use Rattle.s39_input.proofs.Steps.{AtMostOne, AtLeastOne}
-use Rattle.s39_creating.proofs.Reissues.Firsts.{all_at, all_or_first, first_once}
+use Rattle.s39_creating.specs.Reissue.{is_name_of_plan, first_other, IsFirstOther, judged_names, is_of_plan, TestPlans}
+
+-- ---- the first element that passes a test
+
+module _ {X : Type 0} (test : X → Bool) (xs : List X) (k : ℕ) (d : X) (below : k < length xs) (earlier : find test (take k xs) ≡ None) where
+  pub find-here : test (get_or xs k d) ≡ true → find test xs ≡ Some (get_or xs k d)
+  find-here passes =
+      ap (find test) (split_at xs k d below) ∙ find-append test (take k xs) (get_or xs k d ∷ drop (suc k) xs) ∙ rw (earlier, passes) refl
+
+  pub find-later : test (get_or xs k d) ≡ false → find test (take (k + 1) xs) ≡ None
+  find-later fails = ap (find test) (take_more xs k d below) ∙ find-append test (take k xs) (get_or xs k d ∷ []) ∙ rw (earlier, fails) refl
 
 -- ---- names
 
--- a plan has a name, or it hasn't
-name_or_not : (groups : List Members) (name : Name) → IsNameOfPlan groups name ⊎ (IsNameOfPlan groups name → ⊥)
-name_or_not groups name = by (slice_get groups name.0) refl
-  where
-    by : (at : Option Members) → slice_get groups name.0 ≡ at → IsNameOfPlan groups name ⊎ (IsNameOfPlan groups name → ⊥)
-    by None is = inr (λ has. subst (λ o. IsSomeAnd o (λ m. name.1 < m.count)) is has)
-    by (Some members) is = elim (cases_lt name.1 members.count) [
-      | inl low ↦ inl (subst (λ o. IsSomeAnd o (λ m. name.1 < m.count)) (sym is) low)
-      | inr high ↦ inr (λ has. (let low = subst (λ o. IsSomeAnd o (λ m. name.1 < m.count)) is has in omega arith))
-    ]
+module _ (groups : List Members) where
+  pub name_tested : (name : Name) → (is_name_of_plan groups name ≡ true) ↔ IsNameOfPlan groups name
+  name_tested name = by (slice_get groups name.0)
+    where
+      by : (at : Option Members) → (option_map_or (λ members. nat_lt name.1 members.count) at false ≡ true) ↔ IsSomeAnd at (λ members. name.1 < members.count)
+      by None = ((λ t. absurd (cc)), (λ s. absurd s))
+      by (Some members) = ((λ t. grind (arith, nat_tests)), (λ s. grind (arith, nat_tests)))
 
-pub names_once : (groups : List Members) (names : Names) → AtMostOne (AreNamesOfPlan groups names)
-names_once groups names (Ok _) (Ok _) p q = refl
-names_once groups names (Ok _) (Err name) p q =
-    absurd (q.other (all_at (IsNameOfPlan groups) q.before name q.after (subst (All (IsNameOfPlan groups)) q.parts p)))
-names_once groups names (Err name) (Ok _) p q =
-    absurd (p.other (all_at (IsNameOfPlan groups) p.before name p.after (subst (All (IsNameOfPlan groups)) p.parts q)))
-names_once groups names (Err name) (Err other) p q =
-    ap Err (first_once (IsNameOfPlan groups) p.before q.before p.after q.after name other (sym p.parts ∙ q.parts) p.earlier p.other q.earlier q.other)
+  -- the plan has all names if none is refused
+  pub none_other : (names : Names) → first_other groups names ≡ None → All (IsNameOfPlan groups) names
+  none_other names none =
+      All-weaker _ (IsNameOfPlan groups) (λ name fails. (name_tested name).0 (not-false (is_name_of_plan groups name) fails)) names
+      (none-passes (λ name. not (is_name_of_plan groups name)) names none)
 
-pub some_names : (groups : List Members) (names : Names) → AtLeastOne (AreNamesOfPlan groups names)
-some_names groups names = elim (all_or_first (IsNameOfPlan groups) (name_or_not groups) names) [
-  | inl all ↦ (Ok tt, all)
-  | inr first ↦ (
-    Err first.item,
-    record { before = first.before; after = first.after; parts = first.parts; earlier = first.earlier; other = first.other },
-  )
-]
+  -- the first name that is refused follows names of the plan
+  pub first_is : (names : Names) (name : Name) → first_other groups names ≡ Some name → IsFirstOther groups names name
+  first_is [] name found = absurd (cc)
+  first_is (n ∷ ns) name found = by (first_is ns name) (is_name_of_plan groups n) refl
+    where
+      by : (first_other groups ns ≡ Some name → IsFirstOther groups ns name) → (b : Bool) → is_name_of_plan groups n ≡ b
+          → IsFirstOther groups (n ∷ ns) name
+      by further true is =
+          let step : first_other groups (n ∷ ns) ≡ first_other groups ns = rw is refl in
+          let rest = further (sym step ∙ found) in
+          record {
+            before = n ∷ rest.before;
+            after = rest.after;
+            parts = ap (λ (l : Names). n ∷ l) rest.parts;
+            earlier = All-cons (IsNameOfPlan groups) n rest.before ((name_tested n).0 is) rest.earlier;
+            other = rest.other;
+          }
+      by further false is =
+          let here : first_other groups (n ∷ ns) ≡ Some n = rw is refl in
+          let both : Some n ≡ Some name = sym here ∙ found in
+          let same : n ≡ name = cc in
+          record {
+            before = [];
+            after = ns;
+            parts = ap (λ (x : Name). x ∷ ns) same;
+            earlier = All-nil (IsNameOfPlan groups);
+            other = λ of. (let test : is_name_of_plan groups n ≡ true = (name_tested n).1 (subst (IsNameOfPlan groups) (sym same) of) in
+                let bad : true ≡ false = sym test ∙ is in absurd (cc));
+          }
 
--- ---- the set
+  pub none_found : (names : Names) → All (IsNameOfPlan groups) names → first_other groups names ≡ None
+  none_found names named =
+      find-none (λ name. not (is_name_of_plan groups name)) names
+      (All-weaker (IsNameOfPlan groups) _ (λ name has. not_from_true (is_name_of_plan groups name) ((name_tested name).1 has)) names named)
 
-pub shares_once : (set : List ShareFields) → AtMostOne (HasShares set)
-shares_once set (Ok _) (Ok _) p q = refl
-shares_once set (Ok _) (Err _) p q = absurd (p q)
-shares_once set (Err _) (Ok _) p q = absurd (q p)
-shares_once set (Err _) (Err _) p q = refl
+  pub all_named : (names : Names) → All (IsNameOfPlan groups) names → judged_names groups names ≡ Ok tt
+  all_named names named =
+      rw (none_found names named) refl
 
-pub some_shares : (set : List ShareFields) → AtLeastOne (HasShares set)
-some_shares [] = (Err tt, refl)
-some_shares (s ∷ ss) = (Ok tt, λ none. absurd (cc))
+-- ---- shares
 
 module _ (group_threshold : ℕ) (groups : List Members) where
-  -- a share is one of these members
-  abbrev IsMember : ShareFields → Option Members → Type 0
-  IsMember share at = IsSomeAnd at (λ m. (share.member_index < m.count) × (share.member_threshold ≡ m.threshold))
-
-  -- a share is one that a backup of the plan may have, or it isn't
-  share_or_not : (share : ShareFields) → IsOfPlan group_threshold groups share ⊎ (IsOfPlan group_threshold groups share → ⊥)
-  share_or_not share = by (slice_get groups share.group_index) refl
+  share_tested : (share : ShareFields) → (is_of_plan group_threshold groups share ≡ true) ↔ IsOfPlan group_threshold groups share
+  share_tested share = (
+    λ passes.
+        let (first, member) = and_parts _ _ passes in
+        let (threshold, count) = and_parts _ _ first in
+        record { threshold_is = eqb-true _ _ threshold; count_is = eqb-true _ _ count; member_is = (by (slice_get groups share.group_index)).0 member },
+    λ of.
+        and_from _ _ (and_from _ _ (eq-eqb _ _ of.threshold_is) (eq-eqb _ _ of.count_is)) ((by (slice_get groups share.group_index)).1 of.member_is),
+  )
     where
-      by : (at : Option Members) → slice_get groups share.group_index ≡ at
-          → IsOfPlan group_threshold groups share ⊎ (IsOfPlan group_threshold groups share → ⊥)
-      by None is = inr (λ of. subst (IsMember share) is of.member_is)
-      by (Some members) is = elim (cases_eq share.group_threshold group_threshold) [
-        | inr other ↦ inr (λ of. other of.threshold_is)
-        | inl threshold ↦ elim (cases_eq share.group_count (length groups)) [
-          | inr other ↦ inr (λ of. other of.count_is)
-          | inl count ↦ elim (cases_eq share.member_threshold members.threshold) [
-            | inr other ↦ inr (λ of. other (subst (IsMember share) is of.member_is).1)
-            | inl needed ↦ elim (cases_lt share.member_index members.count) [
-              | inl low ↦ inl (record { threshold_is = threshold; count_is = count; member_is = subst (IsMember share) (sym is) (low, needed) })
-              | inr high ↦ inr (λ of. (let low = (subst (IsMember share) is of.member_is).0 in omega arith))
-            ]
-          ]
-        ]
-      ]
+      by : (at : Option Members)
+          → (option_map_or (λ members. nat_lt share.member_index members.count && (share.member_threshold == members.threshold)) at false ≡ true)
+          ↔ IsSomeAnd at (λ members. (share.member_index < members.count) × (share.member_threshold ≡ members.threshold))
+      by None = ((λ t. absurd (cc)), (λ s. absurd s))
+      by (Some members) = ((λ t. (grind (arith, nat_tests), grind (arith, nat_tests))), (λ s. grind (arith, nat_tests)))
 
-  pub plan_once : (set : List ShareFields) → AtMostOne (IsOfThePlan group_threshold groups set)
-  plan_once set (Ok _) (Ok _) p q = refl
-  plan_once set (Ok _) (Err _) p q = absurd (q p)
-  plan_once set (Err _) (Ok _) p q = absurd (p q)
-  plan_once set (Err _) (Err _) p q = refl
+  pub set_tested : (set : List ShareFields) → (list_all (is_of_plan group_threshold groups) set ≡ true) ↔ AreOfPlan group_threshold groups set
+  set_tested set = (
+    λ passes.
+        All-weaker _ (IsOfPlan group_threshold groups) (λ share. (share_tested share).0) set
+        (AllPass-from_list_all (is_of_plan group_threshold groups) set passes),
+    λ of.
+        list_all-from_AllPass (is_of_plan group_threshold groups) set
+        (All-weaker (IsOfPlan group_threshold groups) _ (λ share. (share_tested share).1) set of),
+  )
 
-  pub some_plan : (set : List ShareFields) → AtLeastOne (IsOfThePlan group_threshold groups set)
-  some_plan set = elim (all_or_first (IsOfPlan group_threshold groups) share_or_not set) [
-    | inl all ↦ (Ok tt, all)
-    | inr first ↦ (
-      Err tt,
-      λ all. first.other (all_at (IsOfPlan group_threshold groups) first.before first.item first.after
-          (subst (AreOfPlan group_threshold groups) first.parts all)),
-    )
-  ]
+pub test_plans : (group_threshold : ℕ) (groups : List Members) (names : Names) (set : List ShareFields) → TestPlans group_threshold groups names set
+test_plans group_threshold groups names set = record {
+  all = (none_other groups names, none_found groups names);
+  first = first_is groups names;
+  shares = set_tested group_threshold groups set;
+}

@@ -33,6 +33,32 @@ module _ {W : Type 0} (contents : W → Option (List ℕ)) where
     failure = let none = first.no_failure in let one = part.failure in omega arith;
   }
 
+  -- a part of a text is a part of a longer one
+  pub longer_part : (old new : Counted W) (text more : List ℕ) → WritesPart contents old text new → WritesPart contents old (text ++ more) new
+  longer_part old new text more part = record {
+    written = part.written;
+    unwritten = part.unwritten ++ more;
+    parts = ap (λ l. l ++ more) part.parts ∙ append_assoc part.written part.unwritten more;
+    appends = part.appends;
+    failure = part.failure;
+  }
+
+  -- a text is written before an output
+  pub writes_more : {T : Type 0} (IsRest IsOutput : List ℕ → Result T Fault → Type 0) (old mid new : Counted W) (text : List ℕ) (answer : Result T Fault)
+      → WritesWhole contents old text mid → Writes contents IsRest mid new answer
+      → ((rest : List ℕ) (full : Result T Fault) → IsRest rest full → IsOutput (text ++ rest) full) → Writes contents IsOutput old new answer
+  writes_more IsRest IsOutput old mid new text answer first w is = record {
+    text = text ++ w.text;
+    full_answer = w.full_answer;
+    output = is w.text w.full_answer w.output;
+    written = text ++ w.written;
+    unwritten = w.unwritten;
+    parts = ap (λ l. text ++ l) w.parts ∙ sym (append_assoc text w.written w.unwritten);
+    appends = Appends-trans (contents old.device) (contents mid.device) (contents new.device) text w.written first.appends w.appends;
+    whole = λ same. w.whole (same ∙ sym first.no_failure);
+    cut_short = λ other. w.cut_short (λ same. other (same ∙ first.no_failure));
+  }
+
   module _ {T : Type 0} (IsOutput : List ℕ → Result T Fault → Type 0) where
     -- the whole output is written
     pub writes_whole : (old new : Counted W) (text : List ℕ) (answer : Result T Fault) → WritesWhole contents old text new → IsOutput text answer

@@ -1,192 +1,156 @@
--- A run that collects the shares of its lines into a set.
-use Rattle.std.proofs.Common.{◌≡◌, ℕ, List, [], ◌∷◌, ◌++◌, length, get_or, take, All, Contains, refl, sym, ap, ◌∙◌, subst}
-use Rattle.std.proofs.Common.{◌⊎◌, inl, inr, append_assoc, arith, Option, Some, None, Ok, Err}
-use Rattle.std.proofs.lemmas.Bool.{cases_lt}
-use Rattle.std.proofs.lemmas.List.{append-nil, length_push, get_or_append_left, get_or_push, take-append-le, take_at}
-use Rattle.std.proofs.lemmas.List.Elements.{All-nil, All-contains, All-push, All-contains_itself, Contains-append_left, Contains-push}
-use Rattle.std.proofs.lemmas.List.Elements.{Contains-get_or, filter_map-append}
-use Rattle.std.proofs.lemmas.Option.{slice_get_within, get_or_from_slice_get, slice_get-get_or}
+-- The set that lines lead to has their shares.
+use Rattle.std.proofs.Common.{◌≡◌, ◌⊎◌, ℕ, Bool, true, false, List, [], ◌∷◌, get_or, All, Contains, inl, inr, refl, sym, ap, ◌∙◌, subst, suc}
+use Rattle.std.proofs.Common.{Option, Some, None, Result, Ok, Err, Less}
+use Rattle.std.specs.List.{cons_option}
+use Rattle.std.specs.Result.{IfOk}
+use Rattle.std.proofs.lemmas.List.Elements.{All-nil, All-cons, All-contains, All-contains_itself}
+use Rattle.s39_lists.proofs.Each.{then_gives}
+use Rattle.s39_lists.proofs.Pairs.{AllPairs-nil}
+use Rattle.s39_lists.proofs.Sublists.{each, Contains-head, Contains-cons, Contains-nil}
+use Rattle.s39_lists.specs.Each.{and_then}
 use Rattle.s39_words.specs.declared.ShareFields.{ShareFields}
 use Rattle.s39_words.specs.Share.{IsShare}
-use Rattle.s39_set.specs.Names.{IsAscending}
+use Rattle.s39_words.proofs.OneReading.{spelled_from_read}
+use Rattle.s39_set.specs.declared.set_error.SetError.{SetError}
+use Rattle.s39_set.specs.Names.{name_cmp}
 use Rattle.s39_set.specs.ShareSet.{Agrees, IsShareSet, refusal_of}
-use Rattle.s39_set.specs.SetFacts.{SameSharesRefuseTheSame, OneMoreIsAdded}
 use Rattle.s39_input.specs.declared.fault.LineRefusal.{LineRefusal}
 use Rattle.s39_input.specs.declared.fault.Stop.{Stop}
-use Rattle.s39_input.specs.declared.fault.Stop.TheVariants.{AtLine, ReadFailed}
 use Rattle.s39_input.specs.Input.{Input, lines_of}
-use Rattle.s39_input.specs.Lines.{Holds}
-use Rattle.s39_input.specs.Midway.{TakesLines, RunsOver}
-use Rattle.s39_input.specs.Accepted.{shares_in, AllJoin, IsSetOf, IsRefusedAmong, HoldTogether, IsReadAs}
-use Rattle.s39_input.specs.Collecting.{AddsShare, AddsHeld, CollectsLine}
-use Rattle.s39_input.proofs.Taking.Held.{AllZip-one_more}
+use Rattle.s39_input.specs.Lines.{Holds, share_in, at_line, at_end, led}
+use Rattle.s39_input.specs.Accepted.{IsSetOf, IsReadAs, read_as, shares_in, held_share, with_share, with_held, with_line, joined}
+use Rattle.s39_input.specs.Collecting.{CollectsLine, ended_in}
+use Rattle.s39_input.specs.Midway.{RunsOver}
+use Rattle.s39_input.proofs.Sets.WithShare.{Grows, grows}
+use Rattle.s39_input.proofs.Taking.Held.{held_is_read}
+use Rattle.s39_input.proofs.Taking.Led.{runs_led}
 
--- ---- one share more
+-- ---- one line
 
--- the set is that of these shares, which can stand in one set
-pub record IsCollected (shares set : List ShareFields) : Type 0 where
-  pub join : AllJoin shares
-  pub set_is : IsSetOf shares set
-  pub is_set : IsShareSet set
+-- the set has what a line holds
+abbrev pub Joins : List ShareFields → Option ShareFields → List ShareFields → Type 0
+Joins set None more = set ≡ more
+Joins set (Some share) more = Grows set share more
 
-no_pairs : IsAscending []
-no_pairs i j d before below = absurd (omega arith)
+record HasTaken (set : List ShareFields) (line : List ℕ) (more : List ShareFields) : Type 0 where
+  held : Option ShareFields
+  holds : Holds line held
+  joins : Joins set held more
 
-collected_none : IsCollected [] []
-collected_none = record {
-  join = λ k share at. absurd (let bad : None ≡ Some share = at in cc);
-  set_is = record {
-    ascending = no_pairs;
-    all = All-nil (Contains []);
-    only = All-nil (Contains []);
-  };
-  is_set = record {
-    each = All-nil IsShare;
-    ascending = no_pairs;
-    agree = All-nil (λ s. All (Agrees s) []);
-  };
-}
+pub held_share_is_share : (line : List ℕ) (share : ShareFields) → Holds line (Some share) → IsShare share
+held_share_is_share line share holds = (spelled_from_read line share (held_is_read line share holds)).is_share
 
-AllJoin-more : (shares : List ShareFields) (share : ShareFields) → AllJoin shares → refusal_of shares share ≡ None → AllJoin (shares ++ share ∷ [])
-AllJoin-more shares share join joins k s at =
-    let below = slice_get_within (shares ++ share ∷ []) k s at in
-    let longer = length_push shares share in
-    let here : get_or (shares ++ share ∷ []) k s ≡ s = get_or_from_slice_get (shares ++ share ∷ []) k s s at in
-    elim (cases_lt k (length shares)) [
-      | inl lt ↦
-          let earlier : get_or shares k s ≡ s = sym (get_or_append_left shares (share ∷ []) s k lt) ∙ here in
-          let before : take k (shares ++ share ∷ []) ≡ take k shares = take-append-le k shares (share ∷ []) (omega arith) in
-          rw before (join k s (slice_get-get_or shares k s lt ∙ ap Some earlier))
-      | inr ge ↦
-          let last : length shares ≡ k = omega arith in
-          let same : share ≡ s = sym (get_or_push shares share s k last) ∙ here in
-          let before : take k (shares ++ share ∷ []) ≡ shares = take_at shares (share ∷ []) k last in
-          rw before (subst (λ (x : ShareFields). refusal_of shares x ≡ None) same joins)
-    ]
-
--- ---- the shares of lines
-
--- the lines hold shares, of which this is the set
-pub record IsCollectedOf (lines : List (List ℕ)) (set : List ShareFields) : Type 0 where
-  pub shares : List ShareFields
-  pub together : HoldTogether lines shares
-  pub collected : IsCollected shares set
-
-pub collected_none_of : IsCollectedOf [] []
-collected_none_of = record {
-  shares = [];
-  together = record { held = []; holds = tt; shares_are = refl; join = collected_none.join };
-  collected = collected_none;
-}
-
--- ---- the set with one share more
-
-module _ (same_shares : SameSharesRefuseTheSame) (one_more : OneMoreIsAdded) where
-  -- what stood in the set, or the share, is in the new one
-  Contains-added : (old new : List ShareFields) (share : ShareFields) → AddsShare old share new → All (Contains new) old × Contains new share
-  Contains-added old new share adds =
-      elim adds.added [
-        | inl (has_share, same) ↦ (subst (λ l. All (Contains l) old) (sym same) (All-contains_itself old), subst (λ l. Contains l share) (sym same) has_share)
-        | inr more ↦ (
-          (λ k d below. (one_more old share new more (get_or old k d)).1 (inl (Contains-get_or old k d below))),
-          (one_more old share new more share).1 (inr refl),
-        )
-      ]
-
-  -- and nothing else is
-  only_added : (old new : List ShareFields) (share s : ShareFields) → AddsShare old share new → Contains new s → Contains old s ⊎ (share ≡ s)
-  only_added old new share s adds has_s =
-      elim adds.added [
-        | inl (has_share, same) ↦ inl (subst (λ l. Contains l s) same has_s)
-        | inr more ↦ (one_more old share new more s).0 has_s
-      ]
-
-  collected_more : (shares old new : List ShareFields) (share : ShareFields) → IsCollected shares old → AddsShare old share new
-      → IsCollected (shares ++ share ∷ []) new
-  collected_more shares old new share c adds = record {
-    join = AllJoin-more shares share c.join (same_shares shares old share c.set_is.only c.set_is.all ∙ adds.joins);
-    set_is = record {
-      ascending = adds.is_set.ascending;
-      all =
-          let has = Contains-added old new share adds in
-          All-push (Contains new) shares share (λ k d below. All-contains (Contains new) old (get_or shares k d) has.0 (c.set_is.all k d below)) has.1;
-      only = λ k d below.
-          let s = get_or new k d in
-          elim (only_added old new share s adds (Contains-get_or new k d below)) [
-            | inl before ↦ Contains-append_left shares (share ∷ []) s (All-contains (Contains shares) old s c.set_is.only before)
-            | inr same ↦ subst (Contains (shares ++ share ∷ [])) same (Contains-push shares share)
-          ];
-    };
-    is_set = adds.is_set;
-  }
-
-  -- what a line holds is added
-  pub collected_held : (lines : List (List ℕ)) (line : List ℕ) (held : Option ShareFields) (old new : List ShareFields) → IsCollectedOf lines old
-      → Holds line held → AddsHeld old held new
-      → IsCollectedOf (lines ++ line ∷ []) new
-  collected_held lines line None old new c holds adds = record {
-    shares = c.shares;
-    together = record {
-      held = c.together.held ++ None ∷ [];
-      holds = AllZip-one_more Holds lines c.together.held line None c.together.holds holds;
-      shares_are = c.together.shares_are ∙ sym (filter_map-append (λ (o : Option ShareFields). o) c.together.held (None ∷ [])
-          ∙ append-nil (shares_in c.together.held));
-      join = c.together.join;
-    };
-    collected = subst (IsCollected c.shares) adds c.collected;
-  }
-  collected_held lines line (Some share) old new c holds adds =
-      let more = collected_more c.shares old new share c.collected adds in record {
-        shares = c.shares ++ share ∷ [];
-        together = record {
-          held = c.together.held ++ Some share ∷ [];
-          holds = AllZip-one_more Holds lines c.together.held line (Some share) c.together.holds holds;
-          shares_are = ap (λ l. l ++ share ∷ []) c.together.shares_are ∙ sym
-              (filter_map-append (λ (o : Option ShareFields). o) c.together.held (Some share ∷ []));
-          join = more.join;
-        };
-        collected = more;
+has_taken : (set : List ShareFields) (line : List ℕ) (more : List ShareFields) → IsShareSet set → with_line set line ≡ Ok more → HasTaken set line more
+has_taken set line more is taken = by (share_in line) refl taken where
+  share_taken : (share : ShareFields) → Holds line (Some share) → (cause : Option SetError) → refusal_of set share ≡ cause
+      → joined set share cause ≡ Ok more → HasTaken set line more
+  share_taken share holds (Some error) cause taken = absurd (cc)
+  share_taken share holds None none taken =
+      let same : with_share share set ≡ more = cc in record {
+        held = Some share;
+        holds = holds;
+        joins = subst (Grows set share) same (grows set share is (held_share_is_share line share holds) none);
       }
 
-  collected_lines : (before lines : List (List ℕ)) (old set : List ShareFields) → IsCollectedOf before old → TakesLines CollectsLine lines old set
-      → IsCollectedOf (before ++ lines) set
-  collected_lines before [] old set c t = rw append-nil (subst (IsCollectedOf before) t c)
-  collected_lines before (line ∷ lines) old set c (next, (held, holds, adds), t) =
-      subst (λ ls. IsCollectedOf ls set) (append_assoc before (line ∷ []) lines)
-      (collected_lines (before ++ line ∷ []) lines next set (collected_held before line held old next c holds adds) t)
+  by : (said : Result (Option ShareFields) LineRefusal) → share_in line ≡ said → and_then (with_held set) said ≡ Ok more → HasTaken set line more
+  by (Err refusal) says taken = absurd (cc)
+  by (Ok None) says taken = record { held = None; holds = says; joins = cc }
+  by (Ok (Some share)) says taken = share_taken share says (refusal_of set share) refl taken
 
-  collected_all : (lines : List (List ℕ)) (old set : List ShareFields) → old ≡ [] → TakesLines CollectsLine lines old set → IsCollectedOf lines set
-  collected_all lines old set none t = collected_lines [] lines old set (subst (IsCollectedOf []) (sym none) collected_none_of) t
+-- ---- all lines
 
-  -- what the set refuses, its shares refuse
-  pub refused_among : (shares set : List ShareFields) (line : List ℕ) (refusal : LineRefusal) → IsCollected shares set → IsRefusedAmong set line refusal
-      → IsRefusedAmong shares line refusal
-  refused_among shares set line refusal c (inl refused) = inl refused
-  refused_among shares set line refusal c (inr (share, error, holds, cause, is)) =
-      inr (share, error, holds, same_shares shares set share c.set_is.only c.set_is.all ∙ cause, is)
+-- the set has grown by the shares of these lines
+pub record IsCollected (set : List ShareFields) (lines : List (List ℕ)) (more : List ShareFields) : Type 0 where
+  pub is_set : IsShareSet more
+  pub earlier : All (Contains more) set
+  pub all : All (Contains more) (shares_in lines)
+  pub only : (s : ShareFields) → Contains more s → Contains set s ⊎ Contains (shares_in lines) s
 
-  -- a run that takes all lines of an input gives the set that the input holds
-  pub runs_accepted : (input : Input) (old set : List ShareFields) → old ≡ [] → RunsOver CollectsLine input old set (Ok tt)
-      → IsReadAs input (Ok set) × IsShareSet set
-  runs_accepted input old set none (ended, taken) =
-      let all = collected_all (lines_of input) old set none taken in
-      ((all.shares, (ended, all.together), all.collected.set_is), all.collected.is_set)
+collected_none : (set : List ShareFields) → IsShareSet set → IsCollected set [] set
+collected_none set is = record { is_set = is; earlier = All-contains_itself set; all = All-nil (Contains set); only = λ s has. inl has }
 
-  -- a run that stops gives the first line that is refused, or that a read failed
-  pub runs_refused : (input : Input) (old set : List ShareFields) (stop : Stop LineRefusal) → old ≡ [] → RunsOver CollectsLine input old set (Err stop)
-      → IsReadAs input (Err stop)
-  runs_refused input old set (AtLine refused) none (reached, at) =
-      let earlier = collected_all at.before old reached none at.taken in (
-        earlier.shares,
-        record {
-          before = at.before;
-          line = at.line;
-          after = at.after;
-          parts = at.parts;
-          taken = earlier.together;
-          refuses = refused_among earlier.shares reached at.line refused.refusal earlier.collected at.refuses;
-          number_is = at.number_is;
-        },
-      )
-  runs_refused input old set ReadFailed none (failed, taken) =
-      let all = collected_all (lines_of input) old set none taken in (all.shares, (failed, all.together))
+collected_line : (line : List ℕ) (lines : List (List ℕ)) (set next more : List ShareFields) (held : Option ShareFields) → Joins set held next
+    → IsCollected next lines more → shares_in (line ∷ lines) ≡ cons_option held (shares_in lines) → IsCollected set (line ∷ lines) more
+collected_line line lines set next more None same c shares =
+    subst (λ (l : List ShareFields). IsCollected l (line ∷ lines) more) (sym same) (record {
+      is_set = c.is_set;
+      earlier = c.earlier;
+      all = subst (All (Contains more)) (sym shares) c.all;
+      only = λ s has. subst (λ l. Contains next s ⊎ Contains l s) (sym shares) (c.only s has);
+    })
+collected_line line lines set next more (Some share) grown c shares = record {
+  is_set = c.is_set;
+  earlier = λ k d below. All-contains (Contains more) next (get_or set k d) c.earlier (grown.earlier k d below);
+  all = subst (All (Contains more)) (sym shares)
+      (All-cons (Contains more) share (shares_in lines) (All-contains (Contains more) next share c.earlier grown.here) c.all);
+  only = λ s has. subst (λ l. Contains set s ⊎ Contains l s) (sym shares) (elim (c.only s has) [
+    | inl before ↦ elim (grown.only s before) [
+      | inl earlier ↦ inl earlier
+      | inr same ↦ inr (subst (Contains (share ∷ shares_in lines)) same (Contains-head share (shares_in lines)))
+    ]
+    | inr later ↦ inr (Contains-cons share (shares_in lines) s later)
+  ]);
+}
+
+all_ended : {S C : Type 0} (ended : Bool) (s t : S) → at_end {S = S} {C = C} ended s ≡ Ok t → (ended ≡ true) × (s ≡ t)
+all_ended true s t is = (refl, cc)
+all_ended false s t is = absurd (cc)
+
+pub line_taken : {S C : Type 0} (n : ℕ) (taken : Result S C) (s : S) → at_line n taken ≡ Ok s → taken ≡ Ok s
+line_taken n (Ok t) s is = cc
+line_taken n (Err cause) s is = absurd (cc)
+
+pub collected : (ended : Bool) (n : ℕ) (set : List ShareFields) (lines : List (List ℕ)) (more : List ShareFields) → IsShareSet set
+    → led with_line ended n set lines ≡ Ok more → (ended ≡ true) × IsCollected set lines more
+collected ended n set [] more is leads =
+    let end = all_ended ended set more leads in (end.0, subst (IsCollected set []) end.1 (collected_none set is))
+collected ended n set (line ∷ lines) more is leads =
+    let first = then_gives (λ t. led with_line ended (suc n) t lines) (at_line n (with_line set line)) more leads in
+    let taken = has_taken set line first.a is (line_taken n (with_line set line) first.a first.first_is) in
+    let valid = next_is_set taken.held taken.joins in
+    let rest = collected ended (suc n) first.a lines more valid first.then_is in (
+      rest.0,
+      collected_line line lines set first.a more taken.held taken.joins rest.1 (ap (λ r. cons_option (held_share r) (shares_in lines)) taken.holds),
+    )
+  where
+    next_is_set : {next : List ShareFields} (held : Option ShareFields) → Joins set held next → IsShareSet next
+    next_is_set None same = subst IsShareSet same is
+    next_is_set (Some share) grown = grown.is_set
+
+pub no_shares : IsShareSet []
+no_shares = record { each = All-nil IsShare; ascending = AllPairs-nil (λ a b. name_cmp a b ≡ Less); agree = All-nil (λ share. All (Agrees share) []) }
+
+-- ---- an input
+
+-- a run that collects what lines hold gives what the input is read as
+pub runs_read : (input : Input) (old new : List ShareFields) (answer : Result (Unit {0}) (Stop LineRefusal)) → old ≡ []
+    → RunsOver CollectsLine input old new answer → IsReadAs input (ended_in new answer)
+unfolding read_as
+runs_read input old new answer none runs =
+    ap (λ s. led with_line input.ended 0 s (lines_of input)) (sym none) ∙ runs_led with_line input.ended 0 (lines_of input) old new answer runs
+
+-- the set that lines lead to has exactly their shares
+pub set_of : (lines : List (List ℕ)) (set : List ShareFields) → IsCollected [] lines set → IsSetOf (shares_in lines) set
+set_of lines set c = record {
+  ascending = c.is_set.ascending;
+  all = c.all;
+  only = each (Contains (shares_in lines)) set (λ s has. elim (c.only s has) [
+    | inl none ↦ absurd (Contains-nil s none)
+    | inr held ↦ held
+  ]);
+}
+
+-- an accepted input ended, and is read as the set of the shares of its lines
+pub accepted : (input : Input) (set : List ShareFields) → IsReadAs input (Ok set)
+    → IsShareSet set × ((input.ended ≡ true) × IsSetOf (shares_in (lines_of input)) set)
+unfolding read_as
+accepted input set read =
+    let (ended, c) = collected input.ended 0 [] (lines_of input) set no_shares read in
+    (c.is_set, (ended, set_of (lines_of input) set c))
+
+-- so an input is read as a share set, or it's refused
+pub some_read : (input : Input) → (answer : Result (List ShareFields) (Stop LineRefusal)) × IsReadAs input answer × IfOk answer IsShareSet
+some_read input = (read_as input, refl, by (read_as input) refl) where
+  by : (answer : Result (List ShareFields) (Stop LineRefusal)) → read_as input ≡ answer → IfOk answer IsShareSet
+  by (Ok set) read = (accepted input set read).0
+  by (Err stop) read = tt

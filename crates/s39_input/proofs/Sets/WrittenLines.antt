@@ -16,6 +16,7 @@ use Rattle.s39_backup.specs.Created.{Asked}
 use Rattle.s39_input.specs.Create.{ArePrintedLines, IsCreateOutput}
 use Rattle.s39_input.specs.OfBackup.{HoldsNothingOrOneOf, HoldsMnemonicsOf}
 use Rattle.s39_input.proofs.Runs.PrintedLines.{without_line_feeds}
+use Rattle.s39_input.proofs.Taking.Held.{holds_read}
 use Rattle.s39_input.proofs.Texts.LineFeeds.{parts_of_lines}
 
 letter_not_skipped : (letter : ℕ) (rest : List ℕ) → IsLetter letter → is_skipped (letter ∷ rest) ≡ false
@@ -30,7 +31,7 @@ module _ (first : (share : ShareFields) (text : List ℕ) → IsPrinted text sha
   printed_holds share line printed =
       let (letter, rest, is, small) = first share line printed in
       let fits = short share line printed in
-      (omega arith, ap is_skipped is ∙ letter_not_skipped letter rest small, read_from_spelled line share printed.spells)
+      holds_read line share (omega arith) (ap is_skipped is ∙ letter_not_skipped letter rest small) (read_from_spelled line share printed.spells)
 
   lines_hold : (all : List ShareFields) (lines : List (List ℕ)) (shares : List ShareFields) → AllZip IsPrinted lines shares → All (Contains all) shares
       → All (HoldsNothingOrOneOf all) lines
@@ -50,7 +51,7 @@ module _ (first : (share : ShareFields) (text : List ℕ) → IsPrinted text sha
   text_holds shares text p =
       subst (All (HoldsNothingOrOneOf shares)) (sym (lines_are shares text p))
       (All-push (HoldsNothingOrOneOf shares) p.lines [] (lines_hold shares p.lines shares p.printed (All-contains_itself shares))
-      (None, (omega arith, refl), tt))
+      (None, refl, tt))
 
   selected_holds : (shares : List ShareFields) (text line : List ℕ) → All (HoldsNothingOrOneOf shares) (lines_of (whole text))
       → Holds line None ⊎ Contains (lines_of (whole text)) line → HoldsNothingOrOneOf shares line

@@ -1,16 +1,17 @@
 -- A run over lines, as bytes come.
 use Rattle.std.proofs.Common.{◌≡◌, ℕ, ◌+◌, ◌-◌, ◌^◌, min, ◌<◌, ◌≤◌, Bool, true, false, List, [], ◌∷◌, ◌++◌, length}
-use Rattle.std.proofs.Common.{subst, refl, sym, ap, ◌∙◌, ◌⊎◌, inl, inr, append_assoc, arith, Option, Result, Ok, Err}
+use Rattle.std.proofs.Common.{subst, subst₂, suc, refl, sym, ap, ◌∙◌, ◌⊎◌, inl, inr, append_assoc, arith, Option, Result, Ok, Err}
 use Rattle.std.proofs.Common.{OnOk, IfErr}
 use Rattle.std.proofs.lemmas.List.{append-nil, length-append}
 use Rattle.std.specs.Prelude.{◌≢◌, All}
 use Rattle.std.specs.Io.KnownBytes.{Consumes}
 use Rattle.s39_input.specs.declared.fault.RefusedLine.{RefusedLine}
+use Rattle.s39_input.specs.declared.fault.Stop.{Stop}
 use Rattle.s39_input.specs.declared.fault.Stop.TheVariants.{AtLine, ReadFailed}
 use Rattle.s39_input.specs.Device.{Counted}
-use Rattle.s39_input.specs.Input.{longest_line, parts_of, lines_of}
+use Rattle.s39_input.specs.Input.{longest_line, parts_of, finished_parts}
 use Rattle.s39_input.specs.Fault.{line_number}
-use Rattle.s39_input.specs.Midway.{TakesLines, StopsAtLine, RunsOver, IsMidway, StopsWithin, ReachesOrStops}
+use Rattle.s39_input.specs.Midway.{TakesLines, RunsOn, RunsOver, IsMidway, StopsWithin, ReachesOrStops}
 use Rattle.s39_input.proofs.Taking.Parts.{parts_of-more, parts_of-part, parts_of-onto, first_part, finished_parts-keeps, finished_parts-drops}
 
 module _ {S C : Type 0} (takes : S → List ℕ → Result (Unit {0}) C → S → Type 0) where
@@ -20,16 +21,34 @@ module _ {S C : Type 0} (takes : S → List ℕ → Result (Unit {0}) C → S �
   TakesLines-more [] line old mid new p t = (new, subst (λ s. takes s line (Ok tt) new) (sym p) t, refl)
   TakesLines-more (x ∷ lines) line old mid new p t = (p.0, p.1, TakesLines-more lines line p.0 mid new p.2 t)
 
-  -- a line that is refused, and that a line feed ended or that is too long, stops the run
+  -- a run goes on behind lines that are taken
+  runs_on : (ended : Bool) (n k : ℕ) (lines more : List (List ℕ)) (old mid new : S) (answer : Result (Unit {0}) (Stop C)) → k ≡ length lines + n
+      → TakesLines takes lines old mid → RunsOn takes ended k more mid new answer → RunsOn takes ended n (lines ++ more) old new answer
+  runs_on ended n k [] more old mid new answer count same rest =
+      let first : k ≡ n = omega (arith, count) in
+      subst₂ (λ (j : ℕ) (s : S). RunsOn takes ended j more s new answer) first (sym same) rest
+  runs_on ended n k (line ∷ lines) more old mid new answer count (next, here, later) rest =
+      inl (next, here, runs_on ended (suc n) k lines more next mid new answer (omega (arith, count)) later rest)
+
+  -- and stops at a line that is refused
+  stops_at : (ended : Bool) (lines : List (List ℕ)) (line : List ℕ) (after : List (List ℕ)) (refused : RefusedLine C) (old mid new : S)
+      → TakesLines takes lines old mid → takes mid line (Err refused.refusal) new → refused.number ≡ line_number (length lines)
+      → RunsOn takes ended 0 (lines ++ line ∷ after) old new (Err (AtLine refused))
+  stops_at ended lines line after refused old mid new t r n =
+      runs_on ended 0 (length lines) lines (line ∷ after) old mid new (Err (AtLine refused)) (omega arith) t
+      (inr (refused.refusal, r, ap (λ (k : ℕ). Err (AtLine (record { number = k; refusal = refused.refusal }))) (sym n)))
+
+  -- if a line feed ended that line, or if it is too long, this holds whatever follows
   stops : (bytes : List ℕ) (ended : Bool) (lines : List (List ℕ)) (line : List ℕ) (after : List (List ℕ)) (refused : RefusedLine C) (old mid new : S)
       → parts_of bytes ≡ lines ++ line ∷ after → (0 < length after) ⊎ (longest_line < length line)
       → TakesLines takes lines old mid → takes mid line (Err refused.refusal) new → refused.number ≡ line_number (length lines)
-      → StopsAtLine takes (lines_of (record { bytes = bytes; ended = ended })) old new refused
+      → RunsOver takes (record { bytes = bytes; ended = ended }) old new (Err (AtLine refused))
   stops bytes true lines line after refused old mid new e whole t r n =
-      (mid, record { before = lines; line = line; after = after; parts = e; taken = t; refuses = r; number_is = n })
+      subst (λ ls. RunsOn takes true 0 ls old new (Err (AtLine refused))) (sym e) (stops_at true lines line after refused old mid new t r n)
   stops bytes false lines line after refused old mid new e whole t r n =
       let kept = finished_parts-keeps lines line after whole in
-      (mid, record { before = lines; line = line; after = kept.0; parts = rw e kept.1; taken = t; refuses = r; number_is = n })
+      subst (λ ls. RunsOn takes false 0 ls old new (Err (AtLine refused))) (sym (ap finished_parts e ∙ kept.1))
+      (stops_at false lines line kept.0 refused old mid new t r n)
 
   -- ---- one byte more
 
@@ -89,7 +108,7 @@ module _ {S C : Type 0} (takes : S → List ℕ → Result (Unit {0}) C → S �
   pub stops_further : (came more : List ℕ) (refused : RefusedLine C) (old new : S) → StopsWithin takes came old new refused
       → StopsWithin takes (came ++ more) old new refused
   stops_further came more refused old new h rest ended =
-      subst (λ bytes. StopsAtLine takes (lines_of (record { bytes = bytes; ended = ended })) old new refused) (sym (append_assoc came more rest))
+      subst (λ bytes. RunsOver takes (record { bytes = bytes; ended = ended }) old new (Err (AtLine refused))) (sym (append_assoc came more rest))
       (h (more ++ rest) ended)
 
   -- what is left of the line once a line feed after a part of it ended it
@@ -111,19 +130,25 @@ module _ {S C : Type 0} (takes : S → List ℕ → Result (Unit {0}) C → S �
   -- the input ended: its last line is taken as it is, or refused
   pub runs_to_end : (came u : List ℕ) (number : ℕ) (old mid new : S) → IsMidway takes came u number old mid → takes mid u (Ok tt) new
       → RunsOver takes (record { bytes = came; ended = true }) old new (Ok tt)
-  runs_to_end came u number old mid new m t = (refl, rw m.parts (TakesLines-more m.lines u old mid new m.taken t))
+  runs_to_end came u number old mid new m t =
+      subst (λ ls. RunsOn takes true 0 ls old new (Ok tt)) (sym m.parts)
+      (runs_on true 0 (length m.lines) m.lines (u ∷ []) old mid new (Ok tt) (omega arith) m.taken (inl (new, t, (refl, refl))))
 
   -- the input ended: its last line is refused
   pub runs_to_refusal : (came u : List ℕ) (number : ℕ) (refused : RefusedLine C) (old mid new : S) → IsMidway takes came u number old mid
       → takes mid u (Err refused.refusal) new → refused.number ≡ number
       → RunsOver takes (record { bytes = came; ended = true }) old new (Err (AtLine refused))
   runs_to_refusal came u number refused old mid new m r n =
-      (mid, record { before = m.lines; line = u; after = []; parts = m.parts; taken = m.taken; refuses = r; number_is = n ∙ m.number_is })
+      subst (λ ls. RunsOn takes true 0 ls old new (Err (AtLine refused))) (sym m.parts)
+      (stops_at true m.lines u [] refused old mid new m.taken r (n ∙ m.number_is))
 
   -- a read failed: the unfinished line is dropped
   pub runs_to_failure : (came u : List ℕ) (number : ℕ) (old new : S) → IsMidway takes came u number old new
       → RunsOver takes (record { bytes = came; ended = false }) old new (Err ReadFailed)
-  runs_to_failure came u number old new m = (refl, rw (m.parts, finished_parts-drops m.lines u m.short) m.taken)
+  runs_to_failure came u number old new m =
+      subst (λ ls. RunsOn takes false 0 ls old new (Err ReadFailed))
+      (append-nil m.lines ∙ sym (ap finished_parts m.parts ∙ finished_parts-drops m.lines u m.short))
+      (runs_on false 0 (length m.lines) m.lines [] old new new (Err ReadFailed) (omega arith) m.taken (refl, refl))
 
 -- between two reads of a run: what came of the first reader's bytes, and what is taken of it
 pub record IsReading {S C D : Type 0} (takes : S → List ℕ → Result (Unit {0}) C → S → Type 0) (can_take : S → Type 0) (remaining : D → Option (List ℕ))

@@ -1,6 +1,6 @@
-use Rattle.std.proofs.Common.{All, take}
-use Rattle.s39_backup.specs.Plan.{IsNameOfPlan}
+use Rattle.std.proofs.Common.{◌≡◌, take, None}
+use Rattle.s39_creating.specs.Reissue.{first_other}
 use Rattle.s39_creating.proofs.reissuing.check_names.Given as goal
 
 abbrev pub invariant-loop-group : goal.invariant-loop-group
-invariant-loop-group l = All (IsNameOfPlan l.plan.groups.items) (take l.group-index l.names)
+invariant-loop-group l = first_other l.plan.groups.items (take l.group-index l.names) ≡ None

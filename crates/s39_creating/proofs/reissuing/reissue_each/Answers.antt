@@ -1,9 +1,10 @@
-use Rattle.std.proofs.Common.{suc, take, drop, subst, arith}
-use Rattle.std.proofs.lemmas.List.{length-take-le, take_all}
+use Rattle.std.proofs.Common.{◌≡◌, Ok, refl, subst, arith}
+use Rattle.std.proofs.lemmas.List.{take_all}
 use Rattle.std.proofs.lemmas.Result.{err_from_is_err_and}
-use Rattle.s39_backup.specs.Reissue.{IsReissue}
-use Rattle.s39_creating.specs.Reissue.{AreTheirShares}
-use Rattle.s39_creating.proofs.Reissues.Firsts.{split_at, zip_length, zip_next}
+use Rattle.s39_lists.specs.Each.{each}
+use Rattle.s39_lists.proofs.Each.{each-few, each-more, each-stops}
+use Rattle.s39_input.specs.Fault.{fault_of_reissue}
+use Rattle.s39_creating.specs.Reissue.{given}
 use Rattle.s39_creating.proofs.reissuing.reissue_each.Goals as goal
 
 pub reissue-requires-clause-name : goal.reissue-requires-clause-name
@@ -14,34 +15,27 @@ push-requires c =
     let plan = c.args.plan.now in
     let few = c.requires.few in
     let within = c.loop-group-test.true in
-    let number =
-    zip_length (λ name. IsReissue c.args.set.now plan.group_threshold plan.groups.items name) (take c.loop-group.group-index c.args.names.now)
-    c.loop-group.shares c.loop-group.invariant in
-    omega (arith, length-take-le c.loop-group.group-index c.args.names.now (omega arith))
+    omega (
+      arith,
+      each-few (given c.args.set.now plan.group_threshold plan.groups.items) c.args.names.now c.loop-group.group-index c.loop-group.shares within
+          c.loop-group.invariant,
+    )
 
 pub returns-in_err-share : goal.returns-in_err-share
 returns-in_err-share c =
     let p = err_from_is_err_and c.from_residual.result c.from_residual.ensures.1 in
-    let names = c.args.names.now in
-    let k = c.loop-group.group-index in
-    rw (p.1, p.2) (record {
-      before = take k names;
-      name = _;
-      after = drop (suc k) names;
-      shares = c.loop-group.shares;
-      parts = split_at names k (0, 0) c.loop-group-test.true;
-      earlier = c.loop-group.invariant;
-      missing = c.in_err-share.ensures.reissue;
-    })
+    let plan = c.args.plan.now in
+    rw (p.1, p.2) (each-stops (given c.args.set.now plan.group_threshold plan.groups.items) c.args.names.now c.loop-group.group-index (0, 0) c.loop-group.shares
+    (fault_of_reissue c.in_err-share.field-0.0) c.loop-group-test.true c.loop-group.invariant (rw c.in_err-share.ensures.reissue refl))
 
 pub loop-group-preserved : goal.loop-group-preserved
 loop-group-preserved c =
     let plan = c.args.plan.now in
-    rw (c.push.ensures) (zip_next (λ name. IsReissue c.args.set.now plan.group_threshold plan.groups.items name) c.args.names.now
-    c.loop-group.group-index (0, 0) c.loop-group.shares c.in_ok-share.share c.loop-group-test.true c.loop-group.invariant c.in_ok-share.ensures.reissue)
+    rw (c.push.ensures) (each-more (given c.args.set.now plan.group_threshold plan.groups.items) c.args.names.now c.loop-group.group-index (0, 0)
+    c.loop-group.shares c.in_ok-share.share c.loop-group-test.true c.loop-group.invariant (rw c.in_ok-share.ensures.reissue refl))
 
 pub returns : goal.returns
 returns c =
     let plan = c.args.plan.now in
-    subst (λ ns. AreTheirShares c.args.set.now plan.group_threshold plan.groups.items ns c.loop-group.shares)
+    subst (λ ns. each (given c.args.set.now plan.group_threshold plan.groups.items) ns ≡ Ok c.loop-group.shares)
     (take_all c.loop-group.group-index c.args.names.now c.loop-group-test.false) c.loop-group.invariant

@@ -10,7 +10,7 @@ returns-clause-all_lines c = λ form asked random text limit output answer plan 
     c.created_backups_drill.ensures form asked.passphrase None limit (whole text) output answer drills asked.secret
     (c.written_mnemonics_are_of_the_backup.ensures.all_lines asked random text plan created) in
     let meets =
-    whole_text_meets c.printed_forms.ensures.first c.printed_forms.ensures.letters c.printed_forms.ensures.short c.one_reading.ensures
+    whole_text_meets c.printed_forms.ensures.first c.printed_forms.ensures.letters c.printed_forms.ensures.short
     c.whole_backups_meet_the_thresholds.ensures asked random text set plan created read
     (c.accepted_inputs_are_share_sets.ensures (whole text) set read) in
     let listed = lists_whole form set meets asked.secret limit output answer gives in

@@ -1,9 +1,9 @@
-use Rattle.std.proofs.Common.{◌∙◌, ◌+◌, refl, sym, ap}
+use Rattle.std.proofs.Common.{◌∙◌, ◌+◌, Ok, Err, refl, sym, ap}
 use Rattle.std.proofs.lemmas.Result.{err_from_is_err_and}
 use Rattle.s39_input.specs.Steps.{gives, refuses}
 use Rattle.s39_input.proofs.Runs.Devices.{OfInput-map, of_nothing, some_input}
 use Rattle.s39_input.proofs.Sets.Checked.{stop_reads, stop_writes}
-use Rattle.s39_input.proofs.Sets.Collected.{runs_accepted, runs_refused}
+use Rattle.s39_input.proofs.Sets.Collected.{runs_read, accepted}
 use Rattle.s39_input.proofs.collect.checked_set.Goals as goal
 
 pub returns-in_err-check_passphrase-clause-checked : goal.returns-in_err-check_passphrase-clause-checked
@@ -18,8 +18,7 @@ returns-in_err-take_lines-clause-checked g c =
     let stop = c.in_err-take_lines.field-0.0 in
     rw (p.1, p.2) (OfInput-map c.in_err-take_lines.ensures.runs
     (λ input runs. gives tt (c.in_ok-check_passphrase.ensures.accepted.0 refl) (refuses stop
-    (runs_refused c.same_shares_refuse_the_same.ensures c.one_more_is_added.ensures input c.new-set.result c.take_lines.new.taker stop c.new-set.ensures runs)
-    refl)))
+    (runs_read input c.new-set.result c.take_lines.new.taker (Err stop) c.new-set.ensures runs) refl)))
 
 pub returns-in_err-take_lines-clause-read_failures : goal.returns-in_err-take_lines-clause-read_failures
 returns-in_err-take_lines-clause-read_failures g c =
@@ -35,11 +34,9 @@ pub returns-clause-checked : goal.returns-clause-checked
 returns-clause-checked g c =
     OfInput-map c.in_ok-take_lines.ensures.runs
     (λ input runs. gives tt (c.in_ok-check_passphrase.ensures.accepted.0 refl) (gives c.take_lines.new.taker
-    (runs_accepted c.same_shares_refuse_the_same.ensures c.one_more_is_added.ensures input c.new-set.result c.take_lines.new.taker c.new-set.ensures runs).0
-    refl))
+    (runs_read input c.new-set.result c.take_lines.new.taker (Ok tt) c.new-set.ensures runs) refl))
 
 pub returns-clause-is_set : goal.returns-clause-is_set
 returns-clause-is_set g c =
     let (input, runs) = some_input g.R.Read.remaining c.args.input.now c.take_lines.new.input _ c.in_ok-take_lines.ensures.runs in
-    (runs_accepted c.same_shares_refuse_the_same.ensures c.one_more_is_added.ensures input c.new-set.result
-    c.take_lines.new.taker c.new-set.ensures runs).1
+    (accepted input c.take_lines.new.taker (runs_read input c.new-set.result c.take_lines.new.taker (Ok tt) c.new-set.ensures runs)).0

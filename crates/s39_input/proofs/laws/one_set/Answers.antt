@@ -1,5 +1,5 @@
-use Rattle.s39_input.proofs.Sets.OneSet.{read_once}
+use Rattle.std.proofs.Common.{sym, ◌∙◌}
 use Rattle.s39_input.proofs.laws.one_set.Goals as goal
 
 pub returns : goal.returns
-returns c = read_once c.sets_are_their_shares.ensures c.one_reading.ensures
+returns c = λ input answer another p q. sym p ∙ q

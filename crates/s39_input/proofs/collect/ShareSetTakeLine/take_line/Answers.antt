@@ -1,7 +1,11 @@
-use Rattle.std.proofs.Common.{inr, rules}
-use Rattle.std.proofs.lemmas.Result.{err_from_is_err_and}
+use Rattle.std.proofs.Common.{ap, ◌∙◌, Ok}
+use Rattle.s39_lists.specs.Each.{and_then}
+use Rattle.s39_input.specs.Accepted.{with_held}
+use Rattle.s39_input.proofs.Sets.WithShare.{added}
 use Rattle.s39_input.proofs.collect.ShareSetTakeLine.take_line.Goals as goal
 
-pub returns-in_err-map_err-clause-taken : goal.returns-in_err-map_err-clause-taken
-returns-in_err-map_err-clause-taken c =
-    let p = err_from_is_err_and c.from_residual-in_err-map_err.result c.from_residual-in_err-map_err.ensures.1 in rw (p.1, p.2) (inr (search rules))
+pub returns-in-Ok-clause-taken : goal.returns-in-Ok-clause-taken
+returns-in-Ok-clause-taken c =
+    let taken = c.in-Ok.ensures in
+    ap (and_then (with_held c.args.self.now)) (c.in_ok-share.ensures ∙ ap Ok c.in-Some.is)
+    ∙ added c.args.self.now c.add.new.self c.in-Some.share c.in-Ok.field-0 taken.accepted taken.repeat taken.new taken.repeat_unchanged taken.is_set

@@ -1,0 +1,2 @@
+-- Facts that proofs in `src` cite.
+pub mod LongLines
