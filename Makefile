@@ -15,7 +15,7 @@
 #   make check-papers  checks shamir-papers in terminals: each task, each wrong answer, what the terminal and the memory keep
 #   make check-js    checks the JavaScript package alone: its types, and its tests with both forms of the library
 #   make check-secrets   looks with valgrind for branches and addresses of the library that depend on secrets, and for secrets that
-#                    its calls leave on the stack
+#                    its calls leave on the stack, and that the program leaves in its memory
 #   make faults      makes each allocation, open, read and write of the program fail in turn
 #   make compare     compares the program, and the repair of the library, with a plain reading of the standard in Python, on
 #                    generated cases; and the page and shamir-papers with the program
@@ -141,7 +141,7 @@ check-packages: shamir libshamir.so $(if $(shell command -v wasm-opt 2> /dev/nul
 	@tools/packages
 	@tools/debs
 
-check-secrets: libshamir.a $(TIMING)
+check-secrets: shamir libshamir.a $(TIMING)
 	@$(PYTHON) tools/timing
 	@$(PYTHON) tools/leftovers
 

@@ -20,14 +20,15 @@ const USUAL_WORDS = 20;
  * paper, the owner can go back: then it returns null.
  *
  * @param {Desk} desk
- * @param {{title: string, intro: string, repaired?: string}} what `repaired` is the name of a paper that was repaired, if there is one
+ * @param {{title: string, intro: string, repaired?: string, task?: string}} what `repaired` is the name of a paper that was repaired, if
+ *   there is one, and `task` has its own words for what is enough
  * @returns {Promise<Collected | null>}
  */
-export async function collectPapers(desk, { title, intro, repaired = "" }) {
+export async function collectPapers(desk, { title, intro, repaired = "", task = "" }) {
   /** @type {Kind[]} */
   const kinds = await desk.ask("kinds");
   const status = kinds.length ? await desk.ask("status") : null;
-  return new Promise((resolve) => new Collection(desk, { kinds, status, repaired, onEnd: resolve }).show(title, intro));
+  return new Promise((resolve) => new Collection(desk, { kinds, status, repaired, task, onEnd: resolve }).show(title, intro));
 }
 
 /**
@@ -37,10 +38,11 @@ export async function collectPapers(desk, { title, intro, repaired = "" }) {
  * @param {(Node | null)[]} told
  * @param {Status} status
  * @param {Kind[]} kinds
+ * @param {string} [task]
  * @returns {Promise<"papers" | "end">}
  */
-export function askForMore(title, told, status, kinds) {
-  return ask(title, [...told, picture(status, kinds[0].groupCount), paragraph(say("close"))], [
+export function askForMore(title, told, status, kinds, task = "") {
+  return ask(title, [...told, picture(status, kinds[0].groupCount, task), paragraph(say("close"))], [
     { key: "papers", label: say("collect.more"), kind: "primary" },
     { key: "end", label: say("end") },
   ]);
@@ -66,6 +68,7 @@ class Collection {
   #kinds;
   #status;
   #repaired;
+  #task;
   #onEnd;
   #found = element("div", { class: "found" });
   #fault = element("p", { class: "fault", role: "alert" });
@@ -76,14 +79,15 @@ class Collection {
 
   /**
    * @param {Desk} desk
-   * @param {{kinds: Kind[], status: Status | null, repaired: string, onEnd: (found: Collected | null) => void}} start `kinds` are the
-   *   papers that the worker holds
+   * @param {{kinds: Kind[], status: Status | null, repaired: string, task: string, onEnd: (found: Collected | null) => void}} start
+   *   `kinds` are the papers that the worker holds
    */
-  constructor(desk, { kinds, status, repaired, onEnd }) {
+  constructor(desk, { kinds, status, repaired, task, onEnd }) {
     this.#desk = desk;
     this.#kinds = kinds;
     this.#status = status;
     this.#repaired = repaired;
+    this.#task = task;
     this.#onEnd = onEnd;
     this.#entry = new PaperEntry(desk.begun.words, kinds[0]?.words ?? USUAL_WORDS, (line) => this.#take(line));
   }
@@ -110,7 +114,7 @@ class Collection {
       this.#status = status;
       this.#draw();
       const told = say(isNew ? "collect.taken" : "collect.repeated", { name: kind.name });
-      return { isTaken: true, text: `${told} ${saidWhole(status, kind.groupCount)}` };
+      return { isTaken: true, text: `${told} ${saidWhole(status, kind.groupCount, this.#task)}` };
     } catch (error) {
       return { isTaken: false, text: saidError(error), words: wordsToLookAt(error) };
     }
@@ -133,7 +137,7 @@ class Collection {
     );
     this.#found.replaceChildren();
     if (!this.#status) return;
-    this.#found.append(element("h2", {}, say("collect.found")), element("ul", { class: "rows" }, ...rows), picture(this.#status, this.#kinds[0].groupCount));
+    this.#found.append(element("h2", {}, say("collect.found")), element("ul", { class: "rows" }, ...rows), picture(this.#status, this.#kinds[0].groupCount, this.#task));
   }
 
   /**

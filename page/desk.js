@@ -202,17 +202,19 @@ function hex(bytes) {
 
 /**
  * Makes a backup of a new secret of `bytes` bytes, or of the secret with these digits. Returns what is wrong with the digits, or an
- * empty text: they have another fingerprint than the one that was noted ("other"), or stand for no bytes. `noted` may be empty.
+ * empty text: they have another fingerprint than the one that was noted ("other"), or stand for no bytes. `noted` may be empty. `place`
+ * says which digit is none.
  *
  * @param {{plan: string, bytes: number, digits: Uint8Array | null, noted?: string, exponent: number, extendable: boolean}} given
- * @returns {{fault: "not_hex" | "odd" | "other" | "", fingerprint: string}}
+ * @returns {{fault: "not_hex" | "odd" | "other" | "", fingerprint: string, place?: number}}
  */
 function make({ plan, bytes, digits, noted = "", exponent, extendable }) {
   const fault = digits ? faultOf(digits) : "";
+  const place = digits ? digits.findIndex((digit) => digitValue(digit) < 0) + 1 : 0;
   const secret = digits ? unhex(digits) : crypto.getRandomValues(new Uint8Array(bytes));
   if (digits) wipe(digits);
   try {
-    if (fault !== "") return { fault, fingerprint: "" };
+    if (fault !== "") return { fault, fingerprint: "", place };
     // The engine refuses a secret that no backup can have before it is compared.
     engine.randomNeeded(plan, secret.length);
     const fingerprint = engine.fingerprint(secret);

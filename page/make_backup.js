@@ -227,9 +227,9 @@ async function created(desk, plan, { secret, passphrase }, { exponent, extendabl
   try {
     await desk.ask("passphrase", { passphrase }, [passphrase.buffer]);
     const digits = secret.digits?.length ?? 0;
-    const { fault, fingerprint } = await desk.askLong("make", { plan: planText(plan), exponent, extendable, ...secret });
+    const { fault, fingerprint, place = 0 } = await desk.askLong("make", { plan: planText(plan), exponent, extendable, ...secret });
     if (fault === "" && secret.noted !== "") tellNext(say("secret.same"));
-    return fault === "" ? "" : say(`secret.${fault}`, { digits, fingerprint, noted: secret.noted });
+    return fault === "" ? "" : say(`secret.${fault}`, { digits, fingerprint, place, noted: secret.noted });
   } catch (error) {
     return error instanceof Stopped ? say("make.stopped") : saidError(error);
   } finally {

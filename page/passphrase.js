@@ -20,8 +20,11 @@ export function passphraseFields(desk, isTwice) {
   const again = isTwice ? hidden(say("passphrase.again"), texts) : null;
   const none = tick(say("passphrase.none"), () => {});
   const fault = element("p", { class: "fault", role: "alert" });
+  // Whether the owner was asked about a space that isn't seen.
+  let isAsked = false;
   first.field.addEventListener("input", async () => {
     none.field.checked = false;
+    isAsked = false;
     const told = await refusalOf(desk, first.field.value);
     if (fault.textContent !== told) fault.textContent = told;
   });
@@ -32,7 +35,10 @@ export function passphraseFields(desk, isTwice) {
     if (none.field.checked) return typed || again?.field.value ? say("passphrase.both") : null;
     if (typed === "") return say("passphrase.missing");
     if (fault.textContent !== "") return say("passphrase.unfit");
-    return again && again.field.value !== typed ? say("passphrase.differ") : null;
+    if (again && again.field.value !== typed) return say("passphrase.differ");
+    if (typed === typed.trim() || isAsked) return null;
+    isAsked = true;
+    return say("passphrase.space");
   };
   return { box, missing, read: () => bytesOf(first.field.value) };
 }

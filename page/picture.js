@@ -29,12 +29,14 @@ function boxes({ threshold, names }) {
 }
 
 /**
- * Draws the groups of the papers that were typed. `groupCount` is how many groups their backup has.
+ * Draws the groups of the papers that were typed. `groupCount` is how many groups their backup has. `task` has its own words for what is
+ * enough.
  *
  * @param {Status} status
  * @param {number} groupCount
+ * @param {string} [task]
  */
-export function picture(status, groupCount) {
+export function picture(status, groupCount, task = "") {
   const rows = Array.from({ length: groupCount }, (_, group) => {
     const found = status.groups.find((it) => it.group === group);
     const isComplete = found !== undefined && found.names.length >= found.threshold;
@@ -47,7 +49,7 @@ export function picture(status, groupCount) {
       element("span", {}, told),
     );
   });
-  return element("div", { class: "picture" }, element("p", { class: status.enough ? "good" : "note" }, saidWhole(status, groupCount)), element("ul", {}, ...rows));
+  return element("div", { class: "picture" }, element("p", { class: status.enough ? "good" : "note" }, saidWhole(status, groupCount, task)), element("ul", {}, ...rows));
 }
 
 /**
@@ -55,10 +57,12 @@ export function picture(status, groupCount) {
  *
  * @param {Status} status
  * @param {number} groupCount
+ * @param {string} [task]
  */
-export function saidWhole({ complete, required, enough, groups }, groupCount) {
-  if (enough) return say("status.enough");
-  if (groupCount > 1) return say("status.not_enough", { needed: counted(required, "whole"), here: complete });
+export function saidWhole({ complete, required, enough, groups }, groupCount, task = "") {
   const [{ threshold, names }] = groups;
-  return say("status.not_enough", { needed: counted(threshold, "paper"), here: names.length });
+  const about = task === "replace" && groupCount === 1 && threshold > 1 ? "replace" : "status";
+  if (enough) return say(`${about}.enough`);
+  if (groupCount > 1) return say("status.not_enough", { needed: counted(required, "whole"), here: complete });
+  return say(`${about}.not_enough`, { needed: counted(threshold, "paper"), here: names.length });
 }

@@ -55,6 +55,27 @@ export function saidPlan(plan) {
 }
 
 /**
+ * Says which papers may not be lost, and which are enough alone. If there are none, says nothing.
+ *
+ * @param {Plan} plan
+ */
+export function saidRisks({ needed, groups }) {
+  const form = (/** @type {unknown[]} */ names) => (names.length === 1 ? "one" : "many");
+  const said = [];
+  if (needed === groups.length) {
+    const alone = groups.flatMap(({ members }, at) => (members === 1 ? [`${at}.0`] : []));
+    if (alone.length) said.push(say(`plan.lost.${form(alone)}`, { names: alone.join(", ") }));
+    groups.forEach((group, at) => {
+      if (group.members > 1 && group.needed === group.members) said.push(say(groups.length === 1 ? "plan.lost.any" : "plan.lost.group", { group: at }));
+    });
+  }
+  const single = groups.flatMap((group, at) => (group.needed === 1 ? [at] : []));
+  if (single.length && needed === 1) said.push(say(`plan.found.${form(single)}`, { names: single.map((at) => `${at}.0`).join(", ") }));
+  if (single.length && needed > 1) said.push(say(`plan.found.group.${form(single)}`, { groups: single.join(", ") }));
+  return said.join(" ");
+}
+
+/**
  * Says what a paper of a plan takes to be of use.
  *
  * @param {Plan} plan

@@ -1,6 +1,6 @@
 // The choice of a plan: proposals in plain words, or groups and members by buttons.
 import { button, choice, element, paragraph } from "./dom.js";
-import { saidPlan } from "./plan.js";
+import { saidPlan, saidRisks } from "./plan.js";
 import { say } from "./say.js";
 import { announce } from "./screen.js";
 
@@ -49,7 +49,7 @@ export class PlanChoice {
   }
 
   #tell() {
-    const text = saidPlan(this.plan);
+    const text = `${saidPlan(this.plan)} ${saidRisks(this.plan)}`.trim();
     if (this.#sentence.textContent && this.#sentence.textContent !== text) announce(text);
     this.#sentence.textContent = text;
   }

@@ -57,7 +57,7 @@ async function replaceDestroyed(desk) {
   /** @type {Wanted | null} */
   let before = null;
   for (;;) {
-    const collected = await collectPapers(desk, { title: say("replace.title"), intro: say("replace.intro") });
+    const collected = await collectPapers(desk, { title: say("replace.title"), intro: say("replace.intro"), task: "replace" });
     if (collected === null) return "back";
     const { status, kinds } = collected;
     if (!mayDetermine(status)) {
@@ -65,13 +65,48 @@ async function replaceDestroyed(desk) {
       if ((await tellFew(status, kinds, key)) === "end") return "end";
       continue;
     }
-    /** @type {{answered: Wanted, missing: Missing[]} | "papers"} */
-    const found = await planAndMissing(desk, status, kinds[0], before);
-    if (found === "papers") continue;
-    before = found.answered;
-    const answer = (await writeMissing(desk, before.plan, found.missing, kinds[0].words)) ?? (await drillRest(desk, kinds[0]));
-    if (answer === "end") return answer;
+    /** @type {{before: Wanted | null, answer: "papers" | "drill"}} */
+    const written = await planAndWrite(desk, status, kinds[0], before);
+    before = written.before;
+    if (written.answer === "drill" && (await drillRest(desk, kinds[0])) === "end") return "end";
   }
+}
+
+/**
+ * Asks for the plan, and lets the owner write missing papers. Returns what was given of the plan, and whether the owner goes on to the
+ * drill or back to the papers. From what is missing, the owner may go back to the plan.
+ *
+ * @param {Desk} desk
+ * @param {Status} status
+ * @param {Kind} kind
+ * @param {Wanted | null} before what was given before
+ * @returns {Promise<{before: Wanted | null, answer: "papers" | "drill"}>}
+ */
+async function planAndWrite(desk, status, kind, before) {
+  for (;;) {
+    /** @type {{answered: Wanted, missing: Missing[]} | "papers"} */
+    const found = await planAndMissing(desk, status, kind, before);
+    if (found === "papers") return { before, answer: found };
+    before = found.answered;
+    const answer = await writeMissing(desk, before.plan, found.missing, { words: kind.words, said: saidNumbers(status, before) });
+    if (answer !== "plan") return { before, answer };
+    status = await desk.ask("status");
+  }
+}
+
+/**
+ * Says for each group how many papers the owner gave it, and which these are.
+ *
+ * @param {Status} status
+ * @param {Wanted} answered
+ */
+function saidNumbers({ groups }, { plan, wanted }) {
+  const asked = groups.filter(({ group, threshold }) => wanted.includes(group) && threshold > 1);
+  return asked.map(({ group }) => {
+    const { members } = plan.groups[group];
+    const values = { group, papers: counted(members, "paper"), first: `${group}.0`, last: `${group}.${members - 1}` };
+    return say(plan.groups.length === 1 ? "replace.said.only" : "replace.said", values);
+  });
 }
 
 /**
@@ -91,22 +126,22 @@ function mayDetermine({ enough, groups }) {
  * @param {string} key what too few papers mean here
  */
 function tellFew(status, kinds, key) {
-  return askForMore(say("replace.few"), [paragraph(say(key), "note")], status, kinds);
+  return askForMore(say("replace.few"), [paragraph(say(key), "note")], status, kinds, key === "replace.too_few" ? "" : "replace");
 }
 
 /**
- * Lets the owner write missing papers, as many as are wanted. Returns whether the owner wants to go back to the papers, or null.
+ * Lets the owner write missing papers, as many as are wanted. Returns where the owner wants to go then.
  *
  * @param {Desk} desk
  * @param {Plan} plan
  * @param {Missing[]} missing
- * @param {number} words
+ * @param {{words: number, said: string[]}} what how many words a paper has, and on which numbers of papers the missing ones rest
+ * @returns {Promise<"papers" | "plan" | "drill">}
  */
-async function writeMissing(desk, plan, missing, words) {
+async function writeMissing(desk, plan, missing, { words, said }) {
   for (;;) {
-    const chosen = await askWhich(missing);
-    if (chosen === "papers") return chosen;
-    if (chosen === "drill") return null;
+    const chosen = await askWhich(missing, said);
+    if (typeof chosen === "string") return chosen;
     await writeAndTypeBack(desk, { index: chosen.index, name: chosen.name, takes: saidTakes(plan, chosen.name) }, words);
     missing.splice(missing.indexOf(chosen), 1);
   }
@@ -258,21 +293,24 @@ async function findMissing(desk, { plan, wanted }, status) {
  * Lists the missing papers, and asks which one to write down, or what else to do.
  *
  * @param {Missing[]} missing
- * @returns {Promise<Missing | "papers" | "drill">}
+ * @param {string[]} said
+ * @returns {Promise<Missing | "papers" | "plan" | "drill">}
  */
-async function askWhich(missing) {
+async function askWhich(missing, said) {
   const told = missing.filter(({ index }) => index < 0);
   const found = missing.filter(({ index }) => index >= 0);
   const intro = missing.length === 0 ? say("replace.none") : found.length ? say("replace.found", { names: found.map(({ name }) => name).join(", ") }) : say("replace.untold");
   const rows = told.map(({ name, text }) => element("li", {}, `${name}: ${text}`));
-  const children = [paragraph(intro), rows.length ? element("ul", { class: "rows" }, ...rows) : null];
+  const had = said.length ? paragraph(say(missing.length ? "replace.had" : "replace.had.all")) : null;
+  const children = [...said.map((text) => paragraph(text)), paragraph(intro), rows.length ? element("ul", { class: "rows" }, ...rows) : null, had];
   const answers = /** @type {{key: string, label: string, kind?: string}[]} */ ([
     ...found.map(({ name }, at) => ({ key: name, label: say("replace.write", { name }), kind: at ? "" : "primary" })),
     ...(told.length ? [{ key: "papers", label: say("collect.more"), kind: found.length ? "" : "primary" }] : []),
     { key: "drill", label: say("replace.end"), kind: missing.length ? "" : "primary" },
+    { key: "plan", label: say("back") },
   ]);
   const chosen = await ask(say("replace.which"), children, answers);
-  return found.find(({ name }) => name === chosen) ?? (chosen === "papers" ? "papers" : "drill");
+  return found.find(({ name }) => name === chosen) ?? /** @type {"papers" | "plan" | "drill"} */ (chosen);
 }
 
 /**

@@ -72,7 +72,7 @@ export function typeBack(desk, { index, name }, place, words) {
         // Nothing of another paper can stay. The right one is told on the next screen.
         return { isTaken: true, isFault: true, text: isSame ? "" : say(kind.name === name ? "back.foreign" : "back.other", { name, typed: kind.name }) };
       } catch (error) {
-        return { isTaken: false, text: saidError(error), words: wordsToLookAt(error) };
+        return { isTaken: false, text: saidError(error, "back"), words: wordsToLookAt(error) };
       }
     });
     const again = button(say("back.again", { name }), () => resolve(false));

@@ -84,6 +84,10 @@ FAULTS = [
     ("Enter in a passphrase does nothing", "page/screen.js", 'if (event.key !== "Enter") return;', "return;", of_page(lambda page: steps.check_passphrase(page, unseen))),
     ("what wallets don't take is refused late", "page/desk.js", "error.code !== NO_SHARES", "error.code < NO_SHARES", of_page(lambda page: refusals.check_values(page, unseen))),
     ("too few papers are told late", "page/replace.js", "if (!mayDetermine(status)) {", "if (false) {", of_page(lambda page: refusals.check_mixed(page, unseen))),
+    ("a number of papers can't be given again", "page/replace.js", '    { key: "plan", label: say("back") },\n', "", of_page(lambda page: steps.check_wanted(page, unseen))),
+    ("a space at the end of a passphrase isn't told", "page/passphrase.js", "if (typed === typed.trim() || isAsked) return null;", "if (true) return null;", of_page(lambda page: refusals.check_values(page, unseen))),
+    ("a paper without which nothing is recovered isn't told", "page/plan_choice.js", " ${saidRisks(this.plan)}", "", of_page(lambda page: steps.check_make(page, unseen))),
+    ("typing back offers to read a damaged paper", "page/show_paper.js", 'saidError(error, "back")', "saidError(error)", of_page(lambda page: tasks.check_make(page, unseen))),
     ("a heading is read as words", "page/spelling.js", 'replace(HEADING, " ")', "trim()", of_page(lambda page: refusals.check_words(page, unseen))),
     ("a hidden tab shows a paper", "page/main.js", "if (document.hidden) conceal();", "", of_page(lambda page: hidden(page))),
 ]

@@ -152,11 +152,15 @@ def check_values(page, see):
     page.push(say("make.create"))
     page.wait_text(say("secret.missing"))
     check_digits(page, see)
-    for passphrase, again, text in [("pässword", "pässword", say("passphrase.unfit")), (PASSPHRASE, "TREZOr", say("passphrase.differ"))]:
+    for passphrase, again, text in [
+        ("pässword", "pässword", say("passphrase.unfit")),
+        (PASSPHRASE, "TREZOr", say("passphrase.differ")),
+        (f"{PASSPHRASE} ", f"{PASSPHRASE} ", say("passphrase.space")),
+    ]:
         type_digits(page, SECRET, SECRET, FINGERPRINT)
         for field, value in [("passphrase.label", passphrase), ("passphrase.again", again)]:
             page.fill(say(field), value)
-            if field == "passphrase.label" and value != PASSPHRASE:
+            if field == "passphrase.label" and value.strip() != PASSPHRASE:
                 page.wait_text(said(41, first=2))
                 see("a passphrase that wallets don't take")
         page.push(say("make.create"))
@@ -173,7 +177,7 @@ def check_digits(page, see):
     other = plain.told(bytes.fromhex(changed_digits), True)
     for digits, again, noted, text in [
         (SECRET[:-2], SECRET[:-2], FINGERPRINT, said(42, first=15)),
-        (SECRET[:-1] + "g", SECRET[:-1] + "g", FINGERPRINT, say("secret.not_hex")),
+        (SECRET[:-1] + "g", SECRET[:-1] + "g", FINGERPRINT, say("secret.not_hex", place=32)),
         (SECRET[:-1], SECRET[:-1], FINGERPRINT, say("secret.odd", digits=31)),
         (changed_digits, changed_digits, FINGERPRINT, say("secret.other", fingerprint=other, noted=FINGERPRINT)),
         (SECRET, changed_digits, FINGERPRINT, say("secret.differ")),

@@ -1,7 +1,7 @@
 """The ways back, what Enter does in a field that isn't a word's, and the questions for the plan of papers."""
 from browsers import Failed
 from refusals import fill_plan, paste
-from tasks import FINGERPRINT, PASSPHRASE, SOUND_PAPER, THREE_GROUPS, begin, plain
+from tasks import FINGERPRINT, PASSPHRASE, SOUND_PAPER, THREE_GROUPS, begin, example, plain
 from texts import counted, say
 
 
@@ -29,7 +29,7 @@ def check_first_steps(page, _):
 
 
 def check_make(page, _):
-    """From the secret, the owner can go back to the plan, which stays."""
+    """From the secret, the owner can go back to the plan, which stays. A plan in which one lost paper loses all says so."""
     begin(page, "make")
     page.choose(say("plan.three"))
     page.push(say("continue"))
@@ -38,6 +38,12 @@ def check_make(page, _):
     page.wait_text(say("plan.sentence.any", needed=3, members=5))
     if not page.is_true("(it) => it.getAttribute('aria-checked') === 'true'", page.node("radio", say("plan.three"))):
         raise Failed("on the way back, another plan is chosen")
+    page.choose(say("plan.home"))
+    page.wait_text(say("plan.found.group.many", groups="1, 2"))
+    page.choose(say("plan.own"))
+    for name in (say("plan.drop"), say("plan.drop"), f"{say('plan.fewer')}: {say('plan.members', group=0)}"):
+        page.push(name)
+    page.wait_text(say("plan.lost.any"))
     go_back(page, say("home.title"))
 
 
@@ -99,7 +105,7 @@ def check_plan_of_papers(page, see):
 
 
 def check_wanted(page, see):
-    """Only the groups that are filled in are told of."""
+    """Only the groups that are filled in are told of. A number of papers that isn't right can be given again."""
     begin(page, "replace")
     page.choose(say("replace.destroyed"))
     page.push(say("continue"))
@@ -113,6 +119,16 @@ def check_wanted(page, see):
     fill_plan(page, "3", {})
     page.push(say("continue"))
     page.wait_text(say("replace.found", names="0.2"))
+    for members, names in [("5", "0.2, 0.3, 0.4"), ("2", ""), ("3", "0.2")]:
+        page.push(say("back"))
+        page.wait_title(say("replace.plan.title"))
+        page.go_to("spinbutton", say("replace.members", group=0))
+        page.evaluate("document.activeElement.select()")
+        page.type(members)
+        page.push(say("continue"))
+        page.wait_text(say("replace.found", names=names) if names else say("replace.none"))
+        page.wait_text(say("replace.had" if names else "replace.had.all"))
+        page.wait_text(say("replace.said", group=0, papers=counted(int(members), "paper"), first="0.0", last=f"0.{int(members) - 1}"))
     if "That takes" in page.text():
         raise Failed("the page tells of papers of groups that aren't wanted")
     see("missing papers of one group")
@@ -120,4 +136,22 @@ def check_wanted(page, see):
     page.wait_title(say("home.title"))
 
 
-CHECKS = [check_first_steps, check_make, check_passphrase, check_plan_of_papers, check_wanted]
+def check_one_group(page, _):
+    """Of a backup with one group, the page says what is enough to write a paper."""
+    papers = example("two-needed.txt")
+    begin(page, "replace")
+    page.choose(say("replace.destroyed"))
+    page.push(say("continue"))
+    paste(page, papers[0])
+    page.wait_text(say("replace.not_enough", needed=counted(2, "paper"), here=1))
+    paste(page, papers[1])
+    page.wait_text(say("replace.enough"))
+    page.push(say("collect.end"))
+    page.fill(say("replace.members.only"), "3", "spinbutton")
+    page.push(say("continue"))
+    page.wait_text(say("replace.said.only", papers=counted(3, "paper"), first="0.0", last="0.2"))
+    page.push(say("clear"))
+    page.wait_title(say("home.title"))
+
+
+CHECKS = [check_first_steps, check_make, check_passphrase, check_plan_of_papers, check_wanted, check_one_group]

@@ -116,6 +116,8 @@ def make(page, plan_label, words, passphrase, see, digits=None):
             page.type(papers[0] + " ")
             page.wait_text(say("back.other", typed="0.0", name=f"{name['group']}.{name['member']}"))
             see("typed another paper back")
+        if number == 2:
+            type_wrongly(page, line.split())
         type_paper(page, line, is_by_four=number % 2 == 1)
     page.wait_title(say("make.drill"))
     page.wait_text(say("back.same", name=typed))
@@ -132,6 +134,14 @@ def make(page, plan_label, words, passphrase, see, digits=None):
     see("backup is made")
     end(page)
     return papers, fingerprint
+
+
+def type_wrongly(page, words):
+    """Types a paper back with two words that changed places, as if it was written down so."""
+    at = next(it for it in range(2, len(words) - 1) if words[it] != words[it + 1])
+    type_paper(page, " ".join([*words[:at], words[at + 1], words[at], *words[at + 2 :]]))
+    page.wait_text(say("back.refused.13"))
+    page.push(say("entry.empty"))
 
 
 def type_digits(page, digits, again, noted):

@@ -105,8 +105,7 @@ def compare_check(case):
         collect(owner, case, papers)
         if status == 1 and not output:
             return expect_too_few(owner, case, papers)
-        owner.answer(say("passphrase.ask"), case.passphrase)
-        owner.answer(say("noted.ask"), case.noted)
+        owner.passphrase(case.passphrase, case.noted)
         owner.wait(say("next.good"), say("next.again"), say("next.papers"))
         owner.expect(expected_verdict(case, output.splitlines()[:-1]))
         owner.type("\x03")
@@ -120,8 +119,7 @@ def compare_recover(case):
         collect(owner, case, papers)
         if " 30 " in message:
             return expect_too_few(owner, case, papers)
-        owner.answer(say("passphrase.ask"), case.passphrase)
-        owner.answer(say("noted.ask"), "")
+        owner.passphrase(case.passphrase, "")
         if status:
             owner.wait(say("next.papers"))
             owner.expect(say("refused.number", told="", code=re.search(r"\d+", message)[0]).strip())

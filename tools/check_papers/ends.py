@@ -7,8 +7,8 @@ import signal
 import subprocess
 import sys
 
-from hands import BINDING, PATIENCE, Failed, Interrupted, Session, environment, habits, say
-from tasks import THREE_GROUPS, Owner, check_check, check_new, check_recover, check_repair, check_replace, paper_prompt
+from hands import BINDING, END, PATIENCE, Failed, Interrupted, Session, environment, habits, say
+from tasks import FINGERPRINT, PASSPHRASE, THREE_GROUPS, Owner, check_check, check_new, check_recover, check_repair, check_replace, paper_prompt
 
 import plain
 
@@ -175,7 +175,142 @@ def check_menu():
             owner.end(130)
 
 
+def stay(owner, keys, prompt):
+    """Presses Ctrl-C or Ctrl-D, and stays: the question comes again, and the screen is as it was."""
+    shown = owner.screen()
+    owner.type(keys)
+    owner.wait(END)
+    if re.search(r"\d+\. [a-z]+", owner.screen()):
+        raise Failed("the words of a paper show beside another question")
+    owner.answer(END, "n")
+    owner.wait(prompt)
+    if owner.screen() != shown:
+        raise Failed(f"after the question the screen shows {owner.screen()!r}, and not {shown!r}")
+
+
+def leave(owner, keys, status, said, is_asked=True):
+    """Ends the program, and checks what it says of the papers, and whether it asks before."""
+    owner.type(keys)
+    owner.end(status, said)
+    if owner.was_asked != is_asked:
+        raise Failed(f"the program asked before it ended: {owner.was_asked}")
+
+
+def first_paper(owner):
+    """Makes a backup, and returns the first paper that is shown."""
+    owner.answer(say("new.secret"), "")
+    owner.answer(say("new.passphrase"), PASSPHRASE)
+    owner.answer(say("new.passphrase.again"), PASSPHRASE)
+    owner.wait(say("new.write"))
+    return owner.words()
+
+
+def made_until(owner, prompt):
+    """Makes a backup of one paper, up to this question. What is typed of it stays, if the owner doesn't end."""
+    owner.prepare()
+    line = first_paper(owner)
+    for ask, typed in [(say("new.write"), ""), (say("screen.next"), ""), (say("back.ask", name="0.0"), line), (say("noted.done"), ""), (say("screen.end"), "")]:
+        owner.wait(ask)
+        if ask == prompt:
+            return
+        if typed:
+            half = len(line) // 2
+            owner.type(typed[:half])
+            while not owner.screen().endswith(typed[:half].strip()[-3:]):
+                owner.pull(0.1)
+            owner.type("\x03")
+            owner.answer(END, "n")
+            typed = typed[half:]
+        owner.type(typed + "\n")
+
+
+def check_written():
+    """Once a paper was shown to be written, Ctrl-C and Ctrl-D ask, and the program says what the papers are that were written."""
+    for prompt in (say("new.write"), say("screen.next"), say("back.ask", name="0.0")):
+        with Owner("new", "1of1") as owner:
+            made_until(owner, prompt)
+            stay(owner, "\x03", prompt)
+            stay(owner, "\x04", prompt)
+            leave(owner, "\x03", 130, "ended.unfinished")
+    with Owner("new", "1of1") as owner:
+        made_until(owner, say("noted.done"))
+        leave(owner, "\x04", 130, "ended.made")
+    with Owner("new", "1of1") as owner:
+        made_until(owner, say("screen.end"))
+        leave(owner, "\x03", 130, "ended.made", False)
+    with Owner("new", "1of1") as owner:
+        made_until(owner, say("new.write"))
+        owner.type("\x03")
+        owner.wait(END)
+        leave(owner, "\x03", 130, "ended.unfinished", False)
+    with Owner("new", "1of1") as owner:
+        made_until(owner, say("new.write"))
+        owner.send(signal.SIGTERM)
+        owner.end(-signal.SIGTERM, "ended.unfinished")
+
+
+def check_written_again():
+    """The same for papers that are written again, and for a drill that runs."""
+    with Owner("repair") as owner:
+        owner.prepare()
+        owner.answer(say("damaged.ask"), THREE_GROUPS[0].replace(THREE_GROUPS[0].split()[9], "?"))
+        owner.answer(say("damaged.menu"), "w")
+        owner.wait(say("new.write"))
+        stay(owner, "\x03", say("new.write"))
+        leave(owner, "\x03", 130, "ended.repaired")
+    for is_drilled in (False, True):
+        with Owner("replace") as owner:
+            owner.prepare()
+            owner.answer(say("replace.how"), "1")
+            owner.collect([THREE_GROUPS[0], *THREE_GROUPS[3:]])
+            owner.answer(say("replace.groups.ask"), "0")
+            owner.answer(say("replace.ask.group", group=0, needed=2), "2")
+            owner.answer(say("replace.choose"), "1")
+            owner.answer(say("new.write"), "")
+            owner.answer(say("back.ask", name="0.1"), THREE_GROUPS[1])
+            owner.wait(say("replace.choose"))
+            if is_drilled:
+                owner.answer(say("replace.choose"), "")
+                owner.passphrase(PASSPHRASE, FINGERPRINT)
+                owner.wait(say("next.good"))
+            leave(owner, "\x03", 130, "ended.replaced", not is_drilled)
+    check_held_drill()
+
+
+def check_held_drill():
+    """Ctrl-C while the drill of a new backup runs: the drill goes on if the owner stays."""
+    with Owner("new", "1of1") as owner:
+        owner.prepare()
+        owner.answer(say("new.secret"), "m")
+        owner.answer(f"{say('new.flag')} (y/n)", "y")
+        owner.answer(say("new.exponent"), "8")
+        line = first_paper(owner)
+        owner.answer(say("new.write"), "")
+        owner.answer(say("screen.next"), "")
+        owner.answer(say("back.ask", name="0.0"), line)
+        owner.expect(say("time.long", exponent=8, time="").split("about")[0])
+        owner.type("\x03")
+        owner.wait(END)
+        owner.expect(say("end.unfinished"))
+        owner.answer(END, "n")
+        owner.wait(say("noted.done"))
+        leave(owner, "\x03", 130, "ended.made")
+
+
+CHECKS = [
+    check_written,
+    check_written_again,
+    check_in_the_middle,
+    check_signals,
+    check_work,
+    check_stopped_drill,
+    check_closed,
+    check_no_terminal,
+    check_menu,
+]
+
+
 def check(see):
     check_keys(see)
-    for one in (check_in_the_middle, check_signals, check_work, check_stopped_drill, check_closed, check_no_terminal, check_menu):
+    for one in CHECKS:
         one()

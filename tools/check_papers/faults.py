@@ -8,6 +8,7 @@ import hands
 import looks
 import refusals
 import scrollback
+import slips
 import steps
 import tasks
 import traces
@@ -20,8 +21,8 @@ FAULTS = [
     ("Ctrl-Z leaves the screen as it is", "terminal", "        self._leave()\n        signal.signal(signal.SIGTSTP, signal.SIG_DFL)", "        signal.signal(signal.SIGTSTP, signal.SIG_DFL)", scrollback.check),
     ("the echo stays off", "terminal", "termios.tcsetattr(self._source, termios.TCSAFLUSH, self._saved)", "pass", tasks.check),
     ("a passphrase is shown", "line", "        if not self._is_hidden:\n            self._terminal.write(_shown(more))", "        self._terminal.write(_shown(more))", lambda see: check_hidden()),
-    ("a wrong word is taken for the nearest", "entry", "return [self._word(number, mark) if word is None", "return [nearest(self._list, mark)[0] if word is None", lambda see: refusals.check_words()),
-    ("a wrong paper is taken when it is typed back", "shown", "    if typed is not None and is_same(paper, typed):", "    if typed is not None:", lambda see: steps.check_new()),
+    ("a wrong word is taken for the nearest", "entry", "marks = [mark if word is None else word", "marks = [nearest(self._list, mark)[0] if word is None else word", lambda see: refusals.check_words()),
+    ("a wrong paper is taken when it is typed back", "shown", "    if is_same(paper, typed):", "    if True:", lambda see: steps.check_new()),
     ("a paper of another backup is taken", "desk", "shamir.status([*self.lines, paper.line])", "shamir.status([paper.line])", lambda see: refusals.check_others()),
     ("every quorum is said to be right", "quorums", "return tried.fingerprint == fingerprint if tried.expected is None else tried.expected", "return True", lambda see: refusals.check_mixed()),
     ("what was pasted answers a question that nobody saw", "entry", "        self._screen.drop_typed()\n        self._screen.tell(text, \"bad\")", "        self._screen.tell(text, \"bad\")", lambda see: refusals.check_pasted()),
@@ -35,8 +36,25 @@ FAULTS = [
     ("a paper that is here is beyond the plan", "replace", "if members > last:", "if True:", lambda see: steps.check_replace()),
     ("groups that aren't wanted are told of", "replace", "if name not in here and int(name.split(\".\")[0]) in wanted]", "if name not in here]", lambda see: steps.check_replace()),
     ("Enter alone drops words that were found", "repair", '"t": "again"', '"": "again", "t": "again"', lambda see: steps.check_repair()),
-    ("an answer where the screen is full is lost", "screen", "self._begun += first_key(self._terminal)", "first_key(self._terminal)", lambda see: steps.check_full()),
+    ("an answer where the screen is full is lost", "screen", "self._begun += self._held_on(lambda: first_key(self._terminal))", "self._held_on(lambda: first_key(self._terminal))", lambda see: steps.check_full()),
     ("the last line is wider than the screen", "__main__", "wrapped(text, max(1, terminal.size.columns - 1))", "[text]", looks.check),
+    ("a damaged paper isn't named at the end", "collect", "    names = desk.damaged\n", "    names: list[str] = []\n", lambda see: slips.check_damaged()),
+    ("the number of papers can't be given again", "replace", "chosen, _likely(answers), has_back=True)", "chosen, _likely(answers))", lambda see: slips.check_number()),
+    ("without a noted fingerprint, a passphrase is typed once", "questions", "        if noted or not desk.passphrase:", "        if True:", lambda see: slips.check_twice()),
+    ("Ctrl-C ends half written papers at once", "screen", "self._held, self._terminal.is_held = text, bool(text)", 'self._held, self._terminal.is_held = "", False', lambda see: ends.check_written()),
+    ("a backup that is made is called unfinished", "new", '        desk.written = "made"\n', "", lambda see: ends.check_written()),
+    ("a paper isn't shown again while it is typed back", "entry", "            if not begun and self._show is not None:", "            if False:", lambda see: slips.check_written_wrongly()),
+    ("typing back asks for question marks", "shown", 'Entry(screen, len(paper.words), "back", show_again)', 'Entry(screen, len(paper.words), "", show_again)', lambda see: slips.check_written_wrongly()),
+    ("words that are typed too early clear a paper", "shown", '        if screen.pause(say("new.write")):\n            break\n', '        screen.pause(say("new.write"))\n        break\n', lambda see: slips.check_written_wrongly()),
+    ("words that have no place are lost", "entry", 'begun = f"{text.rstrip()} " if text.strip() else ""', 'begun = ""', lambda see: refusals.check_words()),
+    ("all words with a number that is there twice are lost", "entry", "        return found\n\n    def _whole", "        if misplaced:\n            raise Begun\n        return found\n\n    def _whole", lambda see: refusals.check_numbers()),
+    ("words that don't fit are lost", "entry", "            return self._whole(self._again(marks, None))", "            raise Begun", lambda see: refusals.check_open_words()),
+    ("a word that is too many can't be taken out", "entry", "            if len(shorter) < len(marks):", "            if False:", lambda see: refusals.check_counts()),
+    ("a sign alone ends the papers", "entry", "if not parts and not text.strip():", "if not parts:", lambda see: slips.check_sign()),
+    ("a space at the end of a passphrase isn't told", "questions", '("passphrase.space.last", typed[-1:])', '("passphrase.space.last", typed[:1])', lambda see: slips.check_spaces()),
+    ("a paper without which nothing is recovered isn't told", "plan", "    if plan.needed < len(plan.groups):", "    if True:", lambda see: slips.check_plans()),
+    ("a plan without the number of groups isn't explained", "new", "if GROUPS.fullmatch(text) and", "if False and", lambda see: slips.check_plans()),
+    ("a wrong digit is shown", "secret", 'say("secret.not_hex", place=wrong)', 'say("secret.not_hex", place=typed.decode())', lambda see: steps.check_new()),
     ("the digits of another secret are shown", "recover", "digits = secret.hex()", "digits = secret[::-1].hex()", tasks.check),
 ]
 

@@ -23,6 +23,9 @@ PROGRAM = [sys.executable, "-m", "shamir.papers"]
 # An answer may take this many seconds.
 PATIENCE = 30
 MORE = say("screen.more") + " "
+END = f"{say('end.ask')} (y/n)"
+# What the program says of the papers if it ends before the task does.
+ENDS = ["ended", *(f"ended.{it}" for it in ("unfinished", "made", "replaced", "repaired"))]
 
 
 class Failed(Exception):
@@ -62,6 +65,8 @@ class Session:
         self.run = subprocess.Popen(command or [*before, *PROGRAM, *words], stdin=self.theirs, stdout=self.theirs, stderr=self.theirs, env=given, preexec_fn=self._own)
         self.raw = b""
         self.asked = []
+        # Whether the program asked before it ended.
+        self.was_asked = False
 
     def _own(self):
         """Makes the terminal the one that controls the new process."""
@@ -156,11 +161,15 @@ class Session:
         found = dict(re.findall(r"(\d+)\. ([a-z]+)", self.emulator.shown.text()))
         return " ".join(found[str(number)] for number in range(1, len(found) + 1))
 
-    def end(self, status):
-        """Waits for the end, and checks the status, the terminal's modes, and what the terminal keeps."""
+    def end(self, status, said=""):
+        """Waits for the end, and checks the status, the terminal's modes, and what the terminal keeps. If the program asks whether to end,
+        the answer is yes. `said` is the key of what the program must say at its end, if it matters."""
         deadline = time.monotonic() + PATIENCE
         while self.run.poll() is None:
             self.pull(0.05)
+            if not self.was_asked and self._before().endswith(END + " "):
+                self.was_asked = True
+                self.type("y\n")
             if time.monotonic() > deadline:
                 raise Failed(f"the program doesn't end; it shows: {self.screen()}")
         while self.pull(0.05):
@@ -178,8 +187,8 @@ class Session:
         if bare:
             raise Failed(f"a number that owners don't know is shown: {bare[0]}")
         kept = "".join(self.emulator.kept().split())
-        ends = ["closed"] if status == 0 else ["ended", "ended.unfinished"]
-        if not self.is_plain and kept not in [say(it).replace(" ", "") for it in ends]:
+        ends = [say("closed")] if status == 0 else [f"{say(it)} {say('ended.close')}" for it in ([said] if said else ENDS)]
+        if not self.is_plain and kept not in [it.replace(" ", "") for it in ends]:
             raise Failed(f"when the program is gone, the terminal still shows {kept!r}")
 
     def send(self, number):

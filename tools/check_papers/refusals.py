@@ -13,6 +13,8 @@ LONG = "theory painting academic academic armed sweater year military elder disc
 BIP39 = "legal winner thank year wave sausage worth useful legal winner thank yellow"
 BIP39_LONG = "abandon ability able about above absent absorb abstract absurd abuse access accident " * 2
 NUMBERED = say("entry.numbered", sign=SIGN)
+# This key erases the line.
+ERASE = "\x15"
 
 
 def changed(line, **fields):
@@ -40,6 +42,10 @@ def word_prompt(number):
     return say("entry.word", number=number, sign=SIGN)
 
 
+def back_prompt(number):
+    return say("entry.word.back", number=number, sign=SIGN)
+
+
 def started(task, *words):
     owner = Owner(task, *words)
     owner.prepare()
@@ -55,8 +61,8 @@ def check_words():
         owner.answer(word_prompt(3), "acdmic")
         owner.expect("Word 3, acdemic, isn't in the word list (academic")
         owner.answer(word_prompt(3), "academic agency")
-        owner.answer(word_prompt(3), "ACADemic")
-        owner.expect(say("entry.one"))
+        owner.answer(f"{word_prompt(3)} academic agency", f"{ERASE}ACADemic")
+        owner.expect(say("entry.one", number=3))
         owner.answer(word_prompt(11), "")
         owner.answer(word_prompt(11), "11. coal")
         owner.wait(paper_prompt(2))
@@ -88,7 +94,7 @@ def check_checksum():
         owner.wait(NUMBERED)
         owner.expect(say("refused.13"))
         owner.answer(NUMBERED, "30 acid")
-        owner.answer(NUMBERED, "7 leng 8 solu")
+        owner.answer(f"{NUMBERED} 30 acid", f"{ERASE}7 leng 8 solu")
         owner.wait(paper_prompt(2))
         owner.answer(paper_prompt(2), f"{SIGN}0.0")
         owner.answer(paper_prompt(1), BAD_CHECKSUM)
@@ -169,8 +175,12 @@ def check_numbers():
             owner.expect(say("collect.taken", name="0.0"))
             owner.answer(paper_prompt(2), f"{SIGN}0.0")
         owner.answer(paper_prompt(1), " ".join(rows).replace(" 7.", " 8."))
-        owner.wait(paper_prompt(1))
-        owner.expect(say("entry.twice", number=8))
+        gap = say("entry.gap", count=counted(18, "word"), last=20, numbers="7, 8", sign=SIGN)
+        owner.wait(gap)
+        owner.expect(say("entry.twice", number=8, words="length, solution"))
+        owner.answer(gap, "leng solu")
+        owner.wait(paper_prompt(2))
+        owner.answer(paper_prompt(2), f"{SIGN}0.0")
         owner.answer(paper_prompt(1), " ".join(rows).replace("18. critical", ""))
         owner.answer(say("entry.gap", count=counted(19, "word"), last=20, numbers="18", sign=SIGN), "crit")
         owner.wait(paper_prompt(2))
@@ -182,7 +192,7 @@ def check_counts():
     words = SOUND_PAPER.split()
 
     def on(number, key, **values):
-        return say("entry.on", number=number, sign=SIGN, typed=say(f"entry.count.{key}", few=20, many=33, **values))
+        return say("entry.on.many" if number > 21 else "entry.on", number=number, sign=SIGN, typed=say(f"entry.count.{key}", few=20, many=33, **values))
 
     with started("check") as owner:
         too_few = on(20, "few", count="19 words", missing="1 word is missing", others=14)
@@ -191,12 +201,19 @@ def check_counts():
         owner.wait(too_few)
         owner.expect(say("entry.compare", sign=SIGN))
         owner.answer(too_few, f"{words[19]} acid")
-        owner.answer(on(22, "between", count="21 words", excess="1 word is too many", missing="12 words are missing"), SIGN)
-        owner.answer(paper_prompt(1), SOUND_PAPER)
+        too_many = on(22, "between", count="21 words", excess="1 word is too many", missing="12 words are missing")
+        owner.answer(too_many, SIGN)
+        owner.answer(paper_prompt(1), f"{SOUND_PAPER} acid")
+        owner.answer(too_many, "21")
         owner.answer(paper_prompt(2), " ".join(words[:19]))
-        owner.answer(say("entry.on", number=20, sign=SIGN, typed=say("entry.count.wanted", count=19, words="20 words", missing="1 word is missing")), "acid acid")
-        owner.wait(paper_prompt(2))
+        owner.answer(say("entry.on", number=20, sign=SIGN, typed=say("entry.count.wanted", count=19, words="20 words", missing="1 word is missing")), "keyb acid")
+        over = say("entry.over", sign=SIGN)
+        owner.wait(over)
         owner.expect(say("entry.count.over", count="21 words", words="20 words", excess="1 word is too many"))
+        owner.answer(over, "acid")
+        owner.answer(over, "21")
+        owner.wait(paper_prompt(2))
+        owner.expect(say("collect.repeated", name="0.0"))
         end_by_keys(owner)
 
 
@@ -227,7 +244,8 @@ def check_open_words():
         owner.expect(f"{say('entry.place', number=7)}: class")
         owner.answer(ask, "perhaps")
         owner.answer(ask, "n")
-        owner.answer(paper_prompt(1), " ".join([*words[:5], "?", *words[6:]]))
+        owner.answer(NUMBERED, f"6 ? 7 {words[6]}")
+        owner.expect(say("entry.kept"))
         owner.answer(ask, "y")
         owner.wait(paper_prompt(2))
         said = say("collect.row.repaired", name=name_of(TWO[1]), words=20)

@@ -76,6 +76,7 @@ def check_kept(terminal):
     terminal.answer(paper_prompt(len(THREE_GROUPS) + 1), "")
     terminal.answer(say("passphrase.ask"), "TREZOR")
     terminal.answer(say("noted.ask"), "")
+    terminal.answer(say("new.passphrase.again"), "TREZOR")
     terminal.answer(f"{say('recover.show')} (y/n)", "y")
     terminal.wait(say("recover.clear"))
     if SECRET[:8] not in terminal.shown():
@@ -116,7 +117,7 @@ def check_stop(terminal):
     terminal.keys("Enter")
     terminal.wait(paper_prompt(3))
     terminal.keys("C-c")
-    terminal.wait(f"{say('ended')} $")
+    terminal.wait(f"{say('ended')} {say('ended.close')} $")
     if words_in(terminal.kept()):
         raise Failed(f"the scrollback keeps words: {terminal.kept()!r}")
     terminal.command("echo status $?")

@@ -1,6 +1,6 @@
 """What an owner can answer in the tasks 'new', 'replace' and 'repair', the ways back, and answers where the screen is full."""
 from hands import MORE, Failed, say
-from refusals import NUMBERED, end_by_keys, started, word_prompt
+from refusals import NUMBERED, back_prompt, end_by_keys, started, word_prompt
 from tasks import FINGERPRINT, PASSPHRASE, SECRET, SIGN, SOUND_PAPER, THREE_GROUPS, Owner, paper_prompt
 
 import plain
@@ -31,7 +31,9 @@ def check_new():
         owner.answer(say("new.passphrase"), "Straße")
         owner.answer(say("new.passphrase"), "")
         owner.expect(say("refused.41", first=5))
-        owner.answer(f"{say('new.passphrase.none')} {say('screen.yes.back')}", "n")
+        without = f"{say('new.passphrase.none')} {say('screen.yes')}"
+        owner.answer(without, "b")
+        owner.answer(without, "n")
         owner.answer(say("new.passphrase"), "one")
         owner.answer(say("new.passphrase.again"), "two")
         owner.answer(say("new.passphrase"), PASSPHRASE)
@@ -56,7 +58,8 @@ def type_own_secret(owner):
     the secret. No paper is shown before."""
     digits = say("new.secret.digits")
     for typed, text in [
-        ("bb54g", say("secret.not_hex")),
+        ("bb54g", say("secret.not_hex", place=5)),
+        (f"bb54 {SECRET[4:31]}z", say("secret.not_hex", place=32)),
         ("", say("secret.missing")),
         (SECRET[:31], say("secret.odd", digits=31)),
         (SECRET[:30], say("refused.42", first=15)),
@@ -103,7 +106,7 @@ def type_back(owner, papers):
     owner.wait(first)
     owner.expect(say("back.foreign", name="0.0", typed="0.0"))
     owner.answer(first, " ".join(["?", *papers[0].split()[1:]]))
-    owner.answer(word_prompt(1), SIGN)
+    owner.answer(back_prompt(1), SIGN)
     owner.expect(say("entry.mark.none", number=1, word="?"))
     owner.answer(first, "")
     owner.wait(say("new.write"))
@@ -180,7 +183,7 @@ def ask_groups(owner):
         raise Failed("the program tells of papers of groups that aren't wanted")
     owner.answer(say("replace.choose"), "0.9")
     owner.answer(say("replace.choose"), "2")
-    owner.expect(say("screen.answers", answers="1, 2, 0.2"))
+    owner.expect(say("screen.answers", answers="1, 2, 0.2, b"))
     owner.answer(say("more.papers"), "")
     owner.answer(paper_prompt(3), "")
     owner.answer(groups, "")
@@ -202,7 +205,11 @@ def check_repair():
         owner.expect(say("damaged.limits", case=say("damaged.limits.2")))
         owner.answer(menu, "")
         owner.wait(menu)
-        owner.expect(say("screen.answers", answers="w, t, e"))
+        owner.expect(say("screen.answers", answers="w, c, t, e"))
+        owner.answer(menu, "c")
+        owner.answer(NUMBERED, "5 ?")
+        owner.wait(menu)
+        owner.expect(say("damaged.limits", case=say("damaged.limits.3")))
         owner.answer(menu, "t")
         owner.answer(ask, " ".join([words[0], "?", *words[2:]]))
         two = say("damaged.menu.two")

@@ -65,9 +65,18 @@ class Owner(Session):
         self.prompts.append(prompt)
         self.answer(prompt, text)
 
+    def hide(self, prompt, passphrase):
+        """Types a passphrase. A space at its beginning or end is meant."""
+        self.hidden(prompt, passphrase)
+        for key, edge in [("passphrase.space.first", passphrase[:1]), ("passphrase.space.last", passphrase[-1:])]:
+            if edge == " ":
+                self.reply(f"{say(key)} (y/n)", "y")
+
     def passphrase(self, passphrase, noted):
-        self.hidden(say("passphrase.ask"), passphrase)
+        self.hide(say("passphrase.ask"), passphrase)
         self.reply(say("noted.ask"), noted)
+        if passphrase and not noted:
+            self.hidden(say("new.passphrase.again"), passphrase)
 
     def collect(self, lines):
         """Types papers, and ends their typing."""
@@ -103,11 +112,11 @@ def make(owner, passphrase, names, secret=None, known=""):
         owner.hidden(say("new.secret.digits"), secret)
         owner.hidden(say("new.secret.again"), secret)
         owner.reply(say("noted.ask"), known)
-    owner.hidden(say("new.passphrase"), passphrase)
+    owner.hide(say("new.passphrase"), passphrase)
     if passphrase:
         owner.hidden(say("new.passphrase.again"), passphrase)
     else:
-        owner.reply(f"{say('new.passphrase.none')} {say('screen.yes.back')}", "y")
+        owner.reply(f"{say('new.passphrase.none')} {say('screen.yes' if secret else 'screen.yes.back')}", "y")
     papers = owner.written()
     if [name_of(line) for line in papers] != names:
         raise Failed(f"the papers {names} were expected, and {[name_of(line) for line in papers]} are shown")

@@ -1,8 +1,9 @@
-"""Checks that each call of the library leaves nothing secret on the stack below its caller.
+"""Checks that each call of the library leaves nothing secret on the stack below its caller, and that the program leaves nothing
+secret in its memory.
 
-    python3 tools/leftovers [--archive PATH]
+    python3 tools/leftovers [--archive PATH] [--program PATH]
 
-It compiles tools/leftovers.c with libshamir.a. This program makes one call, and gives what then lies below the frame of the caller.
+Of the library, it compiles tools/leftovers.c with libshamir.a. This program makes one call, and gives what then lies below the frame of the caller.
 There, the tool searches for the secret, the encrypted secret, the passphrase, the random bytes and the values of shares: their bytes
 and digits, and any eight of these in a row. It also searches for any three words of a mnemonic in a row. And it checks that what
 the call touched is 0. Only the highest FRAMES bytes may be others, where the frames of the call and of the clearing are, and the
@@ -11,7 +12,12 @@ lowest eight, where the clearing puts the address to which its last step returns
 It also adds up the frames of the functions that a call reaches, as objdump shows them. A call must clear as much, whatever it is
 given. The tool needs a C compiler for x86-64 and objdump. It says what it doesn't check without them.
 
-It exits with status 1 if something is found, if a call answers another code than it must, or if it can reach further than it clears.
+Of the program, it runs each command: with good ends, with each kind of refusal, with devices that fail, and with values in files and
+in lines of the input. It stops the program when it is about to end, and searches all memory that it can write for the same as above.
+It also checks that on the stack all is 0 below the frames of `main`. For this it needs the right to trace a program.
+
+It exits with status 1 if something is found, if a call or a run answers something else than it must, or if a call can reach further
+than it clears.
 """
 import argparse
 import os
@@ -30,6 +36,8 @@ sys.dont_write_bytecode = True
 
 import backups  # noqa: E402
 import cases  # noqa: E402
+import ends  # noqa: E402
+import exits  # noqa: E402
 import frames  # noqa: E402
 
 COMPILER = os.environ.get("CC", "cc").split()
@@ -94,22 +102,44 @@ def too_deep(archive: pathlib.Path) -> List[str]:
     ]
 
 
-def main() -> None:
-    words = argparse.ArgumentParser()
-    words.add_argument("--archive", type=pathlib.Path, default=ROOT / "libshamir.a")
-    archive = words.parse_args().archive
-    if not shutil.which(COMPILER[0]) or platform.machine() != "x86_64":
-        print(f"tools/leftovers: there is no {COMPILER[0]} for x86-64, so nothing is checked")
-        return
+def of_calls(archive: pathlib.Path) -> List[str]:
+    """Checks the calls of the library. Returns what is wrong."""
+    if not shutil.which(COMPILER[0]):
+        print(f"tools/leftovers: there is no {COMPILER[0]}, so the calls of the library aren't checked")
+        return []
     told, count, deepest = all_leftovers(archive)
     if shutil.which("objdump"):
         told += too_deep(archive)
     else:
         print("tools/leftovers: objdump isn't there, so nothing says how far down a call can reach")
+    if not told:
+        print(f"after each of {count} calls of the library, nothing secret is left on its stack; below {deepest} bytes, all of it is 0")
+    return told
+
+
+def of_runs(program: pathlib.Path) -> List[str]:
+    """Checks the runs of the program. Returns what is wrong."""
+    if not exits.can_trace():
+        print("tools/leftovers: programs can't be traced here, so the runs of the program aren't checked")
+        return []
+    told, count, deepest = ends.all_leftovers(program)
+    if not told:
+        print(f"at the end of each of {count} runs of the program, nothing secret is in its memory; below {deepest} bytes, all of its stack is 0")
+    return told
+
+
+def main() -> None:
+    words = argparse.ArgumentParser()
+    words.add_argument("--archive", type=pathlib.Path, default=ROOT / "libshamir.a")
+    words.add_argument("--program", type=pathlib.Path, default=ROOT / "shamir")
+    given = words.parse_args()
+    if platform.machine() != "x86_64":
+        print("tools/leftovers: this isn't x86-64, so nothing is checked")
+        return
+    told = of_calls(given.archive) + of_runs(given.program)
     if told:
         more = [f"and {len(told) - SHOWN} more"] if len(told) > SHOWN else []
-        sys.exit("tools/leftovers: after a call, its stack isn't clear\n  " + "\n  ".join(told[:SHOWN] + more))
-    print(f"after each of {count} calls of the library, nothing secret is left on its stack; below {deepest} bytes, all of it is 0")
+        sys.exit("tools/leftovers: something is left in memory\n  " + "\n  ".join(told[:SHOWN] + more))
 
 
 if __name__ == "__main__":

@@ -11,7 +11,7 @@ WORD = 8
 OUTSIDE = {"memcpy": 4096, "memmove": 4096, "memset": 4096}
 # A function that calls none may use as much below its frame.
 RED_ZONE = 128
-CLEARING = re.compile(r"s39_c::clearing::(?:clear_stack|zero_words)::<=(\d+)>")
+CLEARING = re.compile(r"s39_clearing::stack::(?:clear_stack|zero_words)::<=(\d+)>")
 
 
 @dataclass

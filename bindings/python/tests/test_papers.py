@@ -17,11 +17,12 @@ if sys.version_info < (3, 10):
 import shamir  # noqa: E402
 import shamir.papers  # noqa: E402
 from shamir.papers.drill import verdict_of  # noqa: E402
-from shamir.papers.entry import Entry, ask_paper, said_count  # noqa: E402
+from shamir.papers.entry import Entry, said_count  # noqa: E402
+from shamir.papers.found import ask_paper  # noqa: E402
 from shamir.papers.line import Line, first_key  # noqa: E402
-from shamir.papers.plan import plan_of, said_plan, said_takes  # noqa: E402
+from shamir.papers.plan import plan_of, said_plan, said_risks, said_takes  # noqa: E402
 from shamir.papers.quorums import Tried, count, quorum_with, suspects  # noqa: E402
-from shamir.papers.spelling import Misplaced, marks_of, nearest, parts_of, placed, said_empty, seems_bip39  # noqa: E402
+from shamir.papers.spelling import Misplaced, continued, nearest, numbers_of, parts_of, placed, said_empty, seems_bip39, without  # noqa: E402
 from shamir.papers.terminal import Ended  # noqa: E402
 from shamir.papers.texts import OWN, TABLE, TASKS, _page, say  # noqa: E402
 
@@ -37,10 +38,11 @@ class Scripted:
     """A screen whose questions have answers."""
 
     def __init__(self, *answers):
-        self.answers, self.told, self.asked = list(answers), [], []
+        self.answers, self.told, self.asked, self.begun = list(answers), [], [], []
 
-    def ask(self, prompt, complete=None, has_back=False):
+    def ask(self, prompt, complete=None, has_back=False, begun=""):
         self.asked.append(prompt)
+        self.begun.append(begun)
         return self.answers.pop(0)
 
     def agree(self, prompt):
@@ -117,12 +119,14 @@ class EntryTests(unittest.TestCase):
                     self.assertEqual(self.read("SLIP-0039 Paper 0.1 " + " ".join(rows))[0], line)
 
     def test_numbers_that_contradict(self):
-        rows = by_rows(ONE, 5)
-        found, screen = self.read(*rows[:2], rows[2].replace("13.", "12."), *rows)
+        rows, words = by_rows(ONE, 5), ONE.split()
+        found, screen = self.read(*rows[:2], rows[2].replace("13.", "12."), *rows[3:], f"12. {words[11]} 13. {words[12]}")
         self.assertEqual(found, ONE)
-        self.assertEqual(screen.told, [say("entry.twice", number=12)])
-        found, screen = self.read(" ".join(rows).replace("20.", "120."), ONE)
-        self.assertEqual((found, screen.told), (ONE, [say("entry.beyond", number=120)]))
+        self.assertIn(say("entry.twice", number=12, words=f"{words[11]}, {words[12]}"), screen.told)
+        self.assertEqual(screen.asked[-1], say("entry.gap", count="18 words", last=20, numbers="12, 13", sign="-"))
+        found, screen = self.read(" ".join(rows).replace("20.", "120."), words[19])
+        self.assertEqual((found, screen.told), (ONE, [say("entry.beyond", number=120, words=words[19])]))
+        self.assertEqual(self.read(rows[0], " ".join(rows))[0], ONE)
 
     def test_numbers_with_a_gap(self):
         rows = by_rows(ONE, 5)
@@ -159,8 +163,19 @@ class EntryTests(unittest.TestCase):
         found, screen = self.read(TWO[0].replace("always", "alwys"), "zzz", "again always", "always")
         self.assertEqual(found, TWO[0])
         self.assertTrue(screen.told[0].startswith("Word 4, alwys, isn't in the word list (always"), screen.told)
-        self.assertIn(say("entry.one"), screen.told)
+        self.assertIn(say("entry.one", number=4), screen.told)
         self.assertEqual(screen.asked[1], say("entry.word", number=4, sign="-"))
+        self.assertEqual(screen.begun, ["", "", "", "again always "])
+
+    def test_words_after_an_unknown_one(self):
+        words = TWO[0].split()
+        first, rest = " ".join([*words[:3], "alwys"]), " ".join(words[3:])
+        self.assertEqual(self.read(first, rest)[0], TWO[0])
+        self.assertEqual(self.read(TWO[0].replace("always", "alwys"), " ".join(words[3:9]))[0], TWO[0])
+        self.assertEqual(self.read(TWO[0].replace("always", "alwys"), TWO[0])[0], TWO[0])
+        self.assertEqual(self.read(first, f"9. {words[8]}", rest)[0], TWO[0])
+        found, screen = self.read(TWO[0].replace("always", "alwys"), f"9. {words[3]}", f"4. {words[3]}")
+        self.assertEqual((found, screen.begun[-1]), (TWO[0], f"9. {words[3]} "))
 
     def test_ambiguous_beginning(self):
         found, screen = self.read(TWO[0].replace("always", "al"), "ALWA")
@@ -191,6 +206,14 @@ class EntryTests(unittest.TestCase):
         found, screen = self.read(" ".join(words), "30 acid", f"5 {words[5]} 6. {words[4]}")
         self.assertEqual(found, TWO[0])
         self.assertIn(say("entry.numbers", count=20), screen.told)
+        self.assertEqual(screen.begun[-1], "30 acid ")
+        self.assertNotIn(say("entry.left_out", sign="-"), screen.told)
+
+    def test_left_out(self):
+        words = TWO[0].split()
+        found, screen = self.read(" ".join([*words[:5], *words[6:]]), words[5], TWO[0])
+        self.assertEqual(found, TWO[0])
+        self.assertIn(say("entry.left_out", sign="-"), screen.told)
 
     def test_all_words_again(self):
         words = TWO[0].split()
@@ -200,11 +223,16 @@ class EntryTests(unittest.TestCase):
     def test_too_many_words(self):
         found, screen = self.read(f"{ONE} acid", "-", ONE)
         self.assertEqual(found, ONE)
-        self.assertEqual(screen.asked[1], say("entry.on", typed=said_count(21, None), number=22, sign="-"))
+        self.assertEqual(screen.asked[1], say("entry.on.many", typed=said_count(21, None), number=22, sign="-"))
+        self.assertEqual(self.read(f"acid {ONE}", "1")[0], ONE)
         for more in ("acid", "acid acid"):
             found, screen = self.read(f"{ONE} {more}", ONE, wanted=20)
             self.assertEqual(found, ONE)
-            self.assertEqual(screen.told, [said_count(20 + len(more.split()), 20)])
+            self.assertEqual(screen.told, [say("entry.typed"), f"{ONE} {more}", said_count(20 + len(more.split()), 20)])
+        found, screen = self.read(f"acid {ONE} acid", "acid", "30", "1, 22", wanted=20)
+        self.assertEqual(found, ONE)
+        self.assertEqual(screen.told[-2:], [say("entry.over.numbers", count=22)] * 2)
+        self.assertEqual(self.read(f"acid {ONE} acid", "22", "1", wanted=20)[0], ONE)
 
     def test_bip39(self):
         words = "legal winner thank year wave sausage worth useful legal winner thank yellow"
@@ -228,6 +256,9 @@ class EntryTests(unittest.TestCase):
         self.assertEqual(ask_paper(taken, marks).line, ONE)
         self.assertIn("Word 4: academic", taken.told)
         self.assertIsNone(ask_paper(Scripted(False), marks))
+        mended = Scripted(False, "7 le?", False, "7 length", True)
+        self.assertEqual(Entry(mended, None).paper(marks).line, ONE)
+        self.assertIsNone(Entry(Scripted(False, "-"), None).paper(marks))
 
     def test_open_words_that_fit_nothing(self):
         words = ONE.split()
@@ -239,14 +270,15 @@ class EntryTests(unittest.TestCase):
 
     def test_drop_sign(self):
         self.assertEqual(Entry(Scripted("-0.1"), None).read("Paper 2:"), ["-0.1"])
-        self.assertEqual(self.read("-")[0], "")
+        found, screen = self.read("-", "12.", "")
+        self.assertEqual((found, screen.told), ("", [say("entry.wordless")] * 2))
         self.assertEqual(self.read("\n".join(["- " + word for word in ONE.split()]).replace("\n", " "))[0], ONE)
 
 
 class SpellingTests(unittest.TestCase):
     def test_marks(self):
-        self.assertEqual(marks_of("1. Shadow 2) PISTOL,acad ? em?? 3shadow"), ["shadow", "pistol", "acad", "?", "em?", "shadow"])
-        self.assertEqual(marks_of(" 12 .. "), [])
+        self.assertEqual([mark for _, mark in parts_of("1. Shadow 2) PISTOL,acad ? em?? 3shadow")], ["shadow", "pistol", "acad", "?", "em?", "shadow"])
+        self.assertEqual(parts_of(" 12 .. "), [])
 
     def test_parts(self):
         self.assertEqual(parts_of("7 shadow, 9. acid"), [(7, "shadow"), (9, "acid")])
@@ -254,14 +286,40 @@ class SpellingTests(unittest.TestCase):
         self.assertEqual(parts_of("SLIP-0039, Paper 0.1: 1. shadow"), [(1, "shadow")])
         self.assertEqual(parts_of(""), [])
 
+    def test_numbers(self):
+        for text, wanted in [("21", [21]), (" 3, 7. ", [3, 7]), ("", []), ("3 acid", []), ("3x", [])]:
+            self.assertEqual(numbers_of(text), wanted)
+        self.assertEqual(without(["shadow", "acid", "pistol"], [1, 3, 7]), ["acid"])
+
+    def test_continued(self):
+        for text, wanted in [
+            ("acid", ["shadow", "acid", "pistol"]),
+            ("acid pistol", ["shadow", "acid", "pistol"]),
+            ("acid pistol adult", ["shadow", "acid", "pistol", "adult"]),
+            ("4. adult", ["shadow", "", "pistol", "adult"]),
+            ("acid adult", None),
+            ("1. adult", None),
+            ("", None),
+        ]:
+            self.assertEqual(continued(["shadow", "acx", "pistol"], 2, parts_of(text)), wanted)
+
     def test_places(self):
-        self.assertEqual(placed([], parts_of("1. shadow 3. acid")), ["shadow", "", "acid"])
-        self.assertEqual(placed(["shadow", "", "acid"], parts_of("pistol 4. adult")), ["shadow", "pistol", "acid", "adult"])
-        self.assertEqual(placed(["shadow"], parts_of("pistol acid")), ["shadow", "pistol", "acid"])
-        for marks, text, number in [([], "1. shadow 1. acid", 1), (["shadow", "", "acid"], "pistol adult", 3), ([], "0. acid", 0), ([], "111. acid", 111)]:
-            with self.assertRaises(Misplaced) as fault:
-                placed(marks, parts_of(text))
-            self.assertEqual(fault.exception.number, number)
+        for marks, text, wanted in [
+            ([], "1. shadow 3. acid", ["shadow", "", "acid"]),
+            (["shadow", "", "acid"], "pistol 4. adult", ["shadow", "pistol", "acid", "adult"]),
+            (["shadow"], "pistol acid", ["shadow", "pistol", "acid"]),
+            (["shadow"], "1. shadow 2. pistol", ["shadow", "pistol"]),
+        ]:
+            self.assertEqual(placed(marks, parts_of(text)), (wanted, []))
+        for marks, text, number, words, rest in [
+            ([], "1. shadow 1. acid", 1, ("shadow", "acid"), []),
+            ([], "1. shadow 1. acid 1. adult 2. pistol", 1, ("shadow", "acid", "adult"), ["", "pistol"]),
+            (["shadow", "", "acid"], "pistol adult", 3, ("acid", "adult"), ["shadow", "pistol"]),
+            ([], "0. acid", 0, ("acid",), []),
+            ([], "7. pistol 111. acid", 111, ("acid",), [*[""] * 6, "pistol"]),
+        ]:
+            self.assertEqual(placed(marks, parts_of(text)), (rest, [Misplaced(number, words)]))
+        self.assertEqual([it.number for it in placed([], parts_of("111. acid adult"))[1]], [111, 112])
         self.assertEqual(said_empty(["a", "", "", "", "b", "", "c", "", ""]), "2 to 4, 6, 8, 9")
 
     def test_nearest(self):
@@ -367,6 +425,22 @@ class PlanTests(unittest.TestCase):
         self.assertEqual(said_plan(plan_of("2of3")), "Any 2 of the 3 papers recover the secret.")
         self.assertIn("group 0 needs any 3 of its 5 papers; group 1 needs its only paper.", said_plan(plan_of("2/3of5,1of1")))
         self.assertEqual(said_takes(plan_of("2/3of5,1of1"), "1.0"), "This paper alone completes group 1. The secret needs 2 groups.")
+
+    def test_risks(self):
+        for plan, wanted in [
+            ("2of3", ""),
+            ("2/2of3,2of3", ""),
+            ("1/2of3,2of2", ""),
+            ("2of2", "If one of these papers is lost, the secret is lost."),
+            ("1of1", "If paper 0.0 is lost, the secret is lost. Whoever finds paper 0.0 needs no other paper."),
+            ("2/3of5,1of1", "If paper 1.0 is lost, the secret is lost. In group 1, one paper is enough: whoever finds it has the whole group."),
+            ("2/2of3,1of1,1of1", "In each of the groups 1, 2, one paper is enough: whoever finds it has the whole group."),
+            ("2/2of2,2of3", "If one paper of group 0 is lost, the secret is lost."),
+            ("1/1of1,1of1,2of3", "Whoever finds one of the papers 0.0, 1.0 needs no other paper."),
+            ("3/1of1,1of1,2of2", "If one of the papers 0.0, 1.0 is lost, the secret is lost. If one paper of group 2 is lost, the secret is lost. In each of the groups 0, 1, one paper is enough: whoever finds it has the whole group."),
+        ]:
+            with self.subTest(plan=plan):
+                self.assertEqual(said_risks(plan_of(plan)), wanted)
 
 
 def outcome(names, fingerprint):

@@ -1,5 +1,5 @@
 -- What `shamir_repair` gives of one line is one answer and one memory, and which slices are too short for it.
-use Rattle.std.proofs.Common.{◌≡◌, ℕ, ◌*◌, ◌+◌, ◌<◌, ◌≤◌, List, [], ◌∷◌, ◌++◌, length, length-append, refl, sym, ap, ap₂, ◌∙◌, subst, inl, inr, arith}
+use Rattle.std.proofs.Common.{◌≡◌, ℕ, ◌*◌, ◌+◌, ◌<◌, ◌≤◌, List, [], ◌∷◌, length, length-append, refl, sym, ap, ◌∙◌, subst, inl, inr, arith}
 use Rattle.std.proofs.Common.{Option, Some, None, Result, Ok, Err}
 use Rattle.std.specs.List.{flat_map, AllZip}
 use Rattle.std.specs.Option.{option_to_list}
@@ -10,7 +10,6 @@ use Rattle.s39_repair.specs.declared.repaired.Repaired.{Repaired}
 use Rattle.s39_repair.specs.declared.repair_error.RepairError.{RepairError}
 use Rattle.s39_repair.specs.declared.repair_error.RepairError.TheVariants.{UnknownWord}
 use Rattle.s39_repair.specs.Answer.{Repairs, cause_of as repair_cause_of}
-use Rattle.s39_input.specs.Create.{ArePrintedLines}
 use Rattle.s39_input.specs.Input.{ended_line}
 use Rattle.s39_input.specs.Repair.{shares_of}
 use Rattle.s39_input.proofs.Runs.PrintedLines.{text_once}

@@ -1,8 +1,7 @@
 -- What calls give, by what is put into a slice; and what a drill gives where it is refused, and of mnemonics of a created backup.
-use Rattle.std.proofs.Common.{◌≡◌, ◌+◌, ℕ, List, [], ap, ap₂, ◌∙◌, inl, inr}
+use Rattle.std.proofs.Common.{◌≡◌, ◌+◌, ℕ, List, [], ap, ◌∙◌, inl, inr}
 use Rattle.std.specs.Prelude.{Option, Result, Ok, Err}
 use Rattle.s39_set.specs.Names.{Names}
-use Rattle.s39_backup.specs.Created.{Asked}
 use Rattle.s39_drilling.specs.declared.drill.Done.{Done}
 use Rattle.s39_input.specs.declared.fault.Fault.{Fault}
 use Rattle.s39_input.specs.declared.slices.Unwritten.{Unwritten}
@@ -11,15 +10,13 @@ use Rattle.s39_input.specs.declared.slices.WrittenLines.{WrittenLines}
 use Rattle.s39_reading.specs.declared.status.WrittenStatus.{WrittenStatus}
 use Rattle.s39_set.specs.declared.status.Status.{Status}
 use Rattle.s39_kdf.specs.declared.secret_form.SecretForm.{SecretForm}
-use Rattle.s39_input.specs.Create.{IsCreateOutput}
 use Rattle.s39_input.specs.Slices.{Puts}
 use Rattle.s39_reading.specs.Slices.{PutsStatus}
 use Rattle.s39_drilling.specs.Slices.{Lists}
-use Rattle.s39_input.specs.Input.{Input, whole}
+use Rattle.s39_input.specs.Input.{Input}
 use Rattle.s39_drilling.specs.Drill.{IsDrillOutput, DrillsCreated}
 use Rattle.s39_c.specs.declared.answer.ShamirAnswer.{ShamirAnswer}
-use Rattle.s39_c.specs.Answers.{GivesOutput, created, done, counted, too_short, unwritten}
-use Rattle.s39_c.specs.Creating.{GivesMnemonics}
+use Rattle.s39_c.specs.Answers.{GivesOutput, done, counted, too_short, unwritten}
 use Rattle.s39_c.specs.Drilling.{GivesListing}
 use Rattle.s39_c.specs.Status.{GivesStatus}
 
@@ -36,20 +33,6 @@ gives_puts IsOutput old new (Ok put) answer (text, output, front, bytes, lines) 
 gives_puts IsOutput old new (Err (TooShort short)) answer (text, output, needed, long, same) is =
     inl (text, output, inr (long, same, is ∙ ap too_short needed))
 gives_puts IsOutput old new (Err (Refused fault)) answer (output, same) is = inr (fault, output, same, is)
-
--- the answer for mnemonics that are put into a slice, or aren't
-abbrev pub created_answer_of : Result WrittenLines Unwritten → ShamirAnswer
-created_answer_of (Ok put) = created put.written put.lines
-created_answer_of (Err cause) = unwritten cause
-
--- mnemonics, and their number
-pub gives_mnemonics : (asked : Asked) (random old new : List ℕ) (result : Result WrittenLines Unwritten) (answer : ShamirAnswer)
-    → Puts (IsCreateOutput asked (whole random)) old new result → answer ≡ created_answer_of result → GivesMnemonics asked random old new answer
-gives_mnemonics asked random old new (Ok put) answer (text, output, front, bytes, lines) is =
-    inl (text, output, inl (front.fits, front.bytes, is ∙ ap₂ created bytes lines))
-gives_mnemonics asked random old new (Err (TooShort short)) answer (text, output, needed, long, same) is =
-    inl (text, output, inr (long, same, is ∙ ap too_short needed))
-gives_mnemonics asked random old new (Err (Refused fault)) answer (output, same) is = inr (fault, output, same, is)
 
 -- the answer for a status that is put into a slice, or isn't
 abbrev pub status_answer_of : Result WrittenStatus Unwritten → ShamirAnswer

@@ -4,8 +4,9 @@ ghost use Rattle.s39_kdf.specs.Limits.{exponent_bits};
 ghost use Rattle.s39_c.specs.Creating.{GivesMnemonics, GivesBackup, GivesNumber};
 
 use crate::answer::ShamirAnswer;
-use crate::clearing::{CREATE, clear_stack};
+use crate::clearing::CREATE;
 use s39_backup::{Options, Plan};
+use s39_clearing::clear_stack;
 use s39_creating::create_lines;
 use s39_input::Fault;
 use s39_kdf::{MAX_EXPONENT, check_secret_length};

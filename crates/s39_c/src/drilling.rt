@@ -8,8 +8,9 @@ ghost use Rattle.s39_kdf.specs.Noted.{noted_in};
 ghost use Rattle.s39_c.specs.Exponents.{UpTo};
 
 use crate::answer::ShamirAnswer;
-use crate::clearing::{DRILL, clear_stack};
+use crate::clearing::DRILL;
 use crate::exponent::exponent_above;
+use s39_clearing::clear_stack;
 use s39_drilling::drill_lines;
 use s39_drilling::laws::created_backups_drill;
 use s39_input::SecretForm;

@@ -5,9 +5,10 @@ ghost use Rattle.s39_kdf.specs.Fingerprint.{fingerprint_of};
 ghost use Rattle.s39_c.specs.Fingerprinting.{GivesFingerprint};
 
 use crate::answer::ShamirAnswer;
-use crate::clearing::{FINGERPRINT, clear_stack};
+use crate::clearing::FINGERPRINT;
 use crate::lengths::FINGERPRINT_BYTES_MAX;
 use crate::memory::give;
+use s39_clearing::clear_stack;
 use s39_input::{Fault, write_hex};
 use s39_kdf::{check_secret_length, fingerprint};
 

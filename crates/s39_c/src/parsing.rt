@@ -3,8 +3,9 @@ ghost use Rattle.std.specs.Prelude.{◌≡◌};
 ghost use Rattle.s39_c.specs.Parsing.{header_of, GivesShare};
 
 use crate::answer::ShamirAnswer;
-use crate::clearing::{PARSE, clear_stack};
+use crate::clearing::PARSE;
 use crate::memory::give;
+use s39_clearing::clear_stack;
 use s39_words::{ShareFields, parse};
 
 /// The fields of a mnemonic, except its value.

@@ -7,9 +7,10 @@ ghost use Rattle.s39_c.specs.Exponents.{UpTo};
 ghost use Rattle.s39_c.specs.Recovering.{GivesExpectedSecret, GivesSecret};
 
 use crate::answer::ShamirAnswer;
-use crate::clearing::{RECOVER, clear_stack};
+use crate::clearing::RECOVER;
 use crate::exponent::exponent_above;
 use crate::memory::give;
+use s39_clearing::clear_stack;
 use s39_kdf::{NotedFingerprint, parse_fingerprint};
 use s39_reading::laws::created_backups_recover;
 use s39_reading::recover_secret;

@@ -5,8 +5,9 @@ ghost use Rattle.s39_c.specs.Answers.{GivesOutput};
 ghost use Rattle.s39_c.specs.Reissuing.{GivesNamed, GivesReissued};
 
 use crate::answer::ShamirAnswer;
-use crate::clearing::{REISSUE, clear_stack};
+use crate::clearing::REISSUE;
 use s39_backup::Plan;
+use s39_clearing::clear_stack;
 use s39_creating::reissue_lines;
 use s39_set::{Quorum, parse_names};
 

@@ -4,7 +4,8 @@ ghost use Rattle.s39_input.specs.Repair.{shares_of};
 ghost use Rattle.s39_c.specs.Repairing.{GivesLines, GivesRepaired};
 
 use crate::answer::ShamirAnswer;
-use crate::clearing::{REPAIR, clear_stack};
+use crate::clearing::REPAIR;
+use s39_clearing::clear_stack;
 use s39_input::{WrittenLines, lines_of_repaired, put};
 use s39_repair::{Repaired, repair};
 

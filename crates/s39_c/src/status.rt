@@ -4,7 +4,8 @@ ghost use Rattle.s39_reading.specs.Status.{IsStatusOutput};
 ghost use Rattle.s39_c.specs.Status.{GivesStatus};
 
 use crate::answer::ShamirAnswer;
-use crate::clearing::{STATUS, clear_stack};
+use crate::clearing::STATUS;
+use s39_clearing::clear_stack;
 use s39_reading::status_lines;
 
 /// Tells how many members of each group are among the mnemonics in `lines`, in the format of the command `status`. The

@@ -4,7 +4,8 @@ ghost use Rattle.s39_words.specs.Layout.{word_list_length};
 ghost use Rattle.s39_c.specs.Words.{GivesWords, lines_between};
 
 use crate::answer::ShamirAnswer;
-use crate::clearing::{WORDS, clear_stack};
+use crate::clearing::WORDS;
+use s39_clearing::clear_stack;
 use s39_input::put;
 use s39_words::{WordRange, word_at, words_beginning};
 

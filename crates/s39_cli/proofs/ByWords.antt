@@ -3,72 +3,73 @@ use Rattle.std.proofs.Common.{◌≡◌, ◌≢◌, ◌⊎◌, ◌∙◌, ℕ, s
 use Rattle.std.specs.Io.KnownBytes.{Appends}
 use Rattle.clap.specs.Words.{Row, Text, first_of, subcommand_of, takes}
 use Rattle.s39_set.specs.Names.{Names}
-use Rattle.s39_set.specs.Written.{IsWrittenForm}
 use Rattle.s39_kdf.specs.declared.secret_form.SecretForm.{SecretForm}
-use Rattle.s39_input.specs.Input.{whole}
+use Rattle.s39_kdf.specs.declared.secret_form.SecretForm.TheVariants.{Digits}
+use Rattle.s39_input.specs.Input.{Input, whole}
 use Rattle.s39_command.specs.declared.command.Job.{Job}
 use Rattle.s39_command.specs.declared.command.Job.TheVariants as job
 use Rattle.s39_cli.specs.declared.runner.Ended.{Ended}
 use Rattle.s39_cli.specs.declared.runner.Ended.TheVariants.{With, NoMemory}
 use Rattle.s39_cli.specs.declared.runner.Source.{Source}
 use Rattle.s39_cli.specs.declared.runner.Source.TheVariants.{Elsewhere}
-use Rattle.s39_command.specs.Command.{Gives, GivesBadValues, GivesCall, HasTwoForms, IsGiven, LacksSecret, NamesFiles, gives_passphrase, shamir_app, text_in}
+use Rattle.s39_command.specs.Command.{Gives, GivesBadValues, GivesCall, HasTwoForms, IsGiven, LacksSecret, NamesFiles, flag_text, gives_passphrase, shamir_app}
 use Rattle.s39_cli.specs.Ending.{AreAllOf, Delivers, DoesJob, Ends, EndsAs, EndsAtOnce, IsOutcome, IsTyped, OnEnd, TakesCall}
 use Rattle.s39_cli.specs.Values.{IsFilledBy, Told}
 use Rattle.s39_command.specs.declared.command.BadValues.{BadValues}
 use Rattle.s39_command.specs.declared.command.BadValues.TheVariants.{NoSecret, TwoSecrets, TwoPassphrases, TwoForms}
 use Rattle.s39_command.specs.declared.command.Call.{Call}
 use Rattle.s39_command.specs.declared.command.ValueFiles.{ValueFiles}
-use Rattle.s39_command.specs.Words.{AreCreateWords, AreDrillWords, AreRecoverWords, IsLimit, limit_of}
-use Rattle.s39_cli.specs.Headline.{CreatedWordsRecover, DrillWordsList, GivesJob, GivesSecret}
-use Rattle.s39_cli.specs.Headline.{RecoverWordsRecover, WordsDrill, WordsRecover, WordsWrite}
-use Rattle.s39_cli.specs.Outcome.{IsReady, WritesFingerprint, WritesNames}
+use Rattle.s39_command.specs.FewerWords.{AreFewCreateWords, AreReissueWords, or_default}
+use Rattle.s39_command.specs.Words.{IsLimit}
+use Rattle.s39_command.proofs.CreateWords.{creation_found}
+use Rattle.s39_command.proofs.DrillWords.{IsDrill, drill_found, drill_taken, drill_values}
+use Rattle.s39_command.proofs.OneCall.{other_job, other_text, said_same}
+use Rattle.s39_command.proofs.RecoverWords.{IsRecovery, recover_values, recovery_found, recovery_taken}
+use Rattle.s39_command.proofs.ReissueWords.{reissue_found, reissue_values, reissue_words_are_taken}
+use Rattle.s39_command.proofs.Words.{Found, found_in, is_fingerprint}
+use Rattle.s39_cli.specs.Fewer.{GoesAfter}
+use Rattle.s39_cli.specs.Headline.{GivesJob, WordsWrite}
+use Rattle.s39_cli.specs.Outcome.{GivesPlan, IsReady, WritesFingerprint, WritesNames}
 use Rattle.s39_cli.proofs.Deliveries.{Delivers-map}
-use Rattle.s39_command.proofs.OneCall.{other_text}
-use Rattle.s39_command.proofs.CreateWords.{create_found, create_words_are_taken}
-use Rattle.s39_command.proofs.Words.{IsDrillFound, IsRecoverFound, drill_found, drill_words_are_taken, recover_found}
-use Rattle.s39_command.proofs.Words.{recover_words_are_taken}
 use Rattle.s39_cli.proofs.Works.{no_cause}
 
--- a text that is given writes what this one does
-names_given : (after : Option (Bor Text)) (text : Text) (names : Names) → text_in after ≡ Some text → IsWrittenForm text names
-    → IfSome (text_in after) WritesNames
-names_given after text names same written = subst (λ (t : Option Text). IfSome t WritesNames) (sym same) (names, written)
+-- ---- jobs that can be begun
 
 -- what is expected is nothing, or a text that writes a fingerprint
 abbrev pub IsSound : Option Text → Type 0
 IsSound expected = IfSome expected WritesFingerprint
 
-pub drill_ready : (source : Source) (form : SecretForm) (expected : Option Text) → IsSound expected → (p q n name : Text) (rows : List Row) (names : Names)
-    → IsDrillFound form expected p q n name rows → IsWrittenForm q names → (j : Job)
-    → Gives name rows j → IsReady j × (IsTyped source j → ⊥)
-drill_ready source form expected sound p q n name rows names found written job.Show gives = (tt, λ b. b)
-drill_ready source form expected sound p q n name rows names found written (job.Create t s w e x) gives =
-    absurd (other_text (codes "drill") (codes "create") refl (sym found.name_is ∙ gives.0))
-drill_ready source form expected sound p q n name rows names found written (job.Recover t f e) gives =
-    absurd (other_text (codes "drill") (codes "recover") refl (sym found.name_is ∙ gives.0))
-drill_ready source form expected sound p q n name rows names found written (job.Drill t after k f e) gives =
-    let reads = subst (λ (o : Option Text). IfSome o WritesFingerprint) (sym (gives.5 ∙ found.expected_is)) sound in
-    ((names_given after q names (gives.2 ∙ found.after_is) written, reads), λ b. b)
-drill_ready source form expected sound p q n name rows names found written job.Status gives = (tt, λ b. b)
-drill_ready source form expected sound p q n name rows names found written job.Repair gives = (tt, λ b. b)
-drill_ready source form expected sound p q n name rows names found written (job.Reissue t g) gives =
-    absurd (other_text (codes "drill") (codes "reissue") refl (sym found.name_is ∙ gives.0))
+names_written : (after : Option Text) (names : Option Names) → GoesAfter after names → IfSome after WritesNames
+names_written None names goes = tt
+names_written (Some text) names goes = (goes.0, goes.2)
 
-pub recover_ready : (source : Source) (form : SecretForm) (expected : Option Text) → IsSound expected → (p name : Text) (rows : List Row)
-    → IsRecoverFound form expected p name rows → (j : Job)
-    → Gives name rows j → IsReady j × (IsTyped source j → ⊥)
-recover_ready source form expected sound p name rows found job.Show gives = (tt, λ b. b)
-recover_ready source form expected sound p name rows found (job.Create t s w e x) gives =
-    absurd (other_text (codes "recover") (codes "create") refl (sym found.name_is ∙ gives.0))
-recover_ready source form expected sound p name rows found (job.Recover t f e) gives =
-    (subst (λ (o : Option Text). IfSome o WritesFingerprint) (sym (gives.3 ∙ found.expected_is)) sound, λ b. b)
-recover_ready source form expected sound p name rows found (job.Drill t after k f e) gives =
-    absurd (other_text (codes "recover") (codes "drill") refl (sym found.name_is ∙ gives.0))
-recover_ready source form expected sound p name rows found job.Status gives = (tt, λ b. b)
-recover_ready source form expected sound p name rows found job.Repair gives = (tt, λ b. b)
-recover_ready source form expected sound p name rows found (job.Reissue t g) gives =
-    absurd (other_text (codes "recover") (codes "reissue") refl (sym found.name_is ∙ gives.0))
+drill_ready : (source : Source) (form : SecretForm) (e p q n : Option Text) (name : Text) (rows : List Row) (names : Option Names)
+    → found_in (name, rows) ≡ drill_values form e p q n → IsSound e → GoesAfter q names → (j : Job) → Gives name rows j
+    → IsReady j × (IsTyped source j → ⊥)
+drill_ready source form e p q n name rows names found sound goes (job.Drill t after k f expected) gives =
+    let read = subst (λ (o : Option Text). IfSome o WritesNames) (sym (gives.2 ∙ ap (λ (f : Found). f.after) found)) (names_written q names goes) in
+    let noted = subst (λ (o : Option Text). IfSome o WritesFingerprint) (sym (gives.5 ∙ ap (λ (f : Found). f.expected) found)) sound in
+    ((read, noted), λ b. b)
+drill_ready source form e p q n name rows names found sound goes j gives =
+    absurd (other_job (codes "drill") name rows j refl (ap (λ (f : Found). f.name) found) gives)
+
+recover_ready : (source : Source) (form : SecretForm) (e p : Option Text) (name : Text) (rows : List Row)
+    → found_in (name, rows) ≡ recover_values form e p → IsSound e → (j : Job) → Gives name rows j → IsReady j × (IsTyped source j → ⊥)
+recover_ready source form e p name rows found sound (job.Recover t f expected) gives =
+    (subst (λ (o : Option Text). IfSome o WritesFingerprint) (sym (gives.3 ∙ ap (λ (f : Found). f.expected) found)) sound, λ b. b)
+recover_ready source form e p name rows found sound j gives =
+    absurd (other_job (codes "recover") name rows j refl (ap (λ (f : Found). f.name) found) gives)
+
+reissue_ready : (source : Source) (plan listed name : Text) (rows : List Row) → found_in (name, rows) ≡ reissue_values plan listed → GivesPlan plan
+    → WritesNames listed → (j : Job) → Gives name rows j → IsReady j × (IsTyped source j → ⊥)
+reissue_ready source plan listed name rows found is_plan written (job.Reissue p l) gives =
+    let same : plan ≡ p.now = said_same (sym (ap (λ (f : Found). f.plan) found) ∙ gives.1) in
+    let same_names : listed ≡ l.now = said_same (sym (ap (λ (f : Found). f.names) found) ∙ gives.2) in
+    ((subst GivesPlan same is_plan, subst WritesNames same_names written), λ b. b)
+reissue_ready source plan listed name rows found is_plan written j gives =
+    absurd (other_job (codes "reissue") name rows j refl (ap (λ (f : Found). f.name) found) gives)
+
+-- ---- words whose values stand in them
 
 -- what is found names no file of a value, and no secret is missing
 pub record IsPlain (name : Text) (rows : List Row) : Type 0 where
@@ -114,45 +115,49 @@ unfilled job.Status filled is = is
 unfilled (job.Reissue plan names) filled is = is
 unfilled job.Repair filled is = is
 
-pub drill_plain : {form : SecretForm} {expected : Option Text} {p q n name : Text} {rows : List Row} → IsDrillFound form expected p q n name rows
-    → (HasTwoForms name rows → ⊥) → IsPlain name rows
-drill_plain found one = record {
-  no_secret_file = found.no_secret_file;
-  no_passphrase_file = found.no_passphrase_file;
-  no_lack = λ lacks. other_text (codes "drill") (codes "create") refl (sym found.name_is ∙ lacks.0);
-  one_form = one;
+-- words are plain if what is found in them is
+plain_by : (name : Text) (rows : List Row) (f : Found) → found_in (name, rows) ≡ f → f.secret_file ≡ None → f.passphrase_file ≡ None
+    → (f.name ≡ codes "create" → f.secret ≡ None → ⊥)
+    → (f.name ≡ codes "drill" → (text : Text) → f.expected ≡ Some text → f.flag ≡ Some (flag_text true) → ⊥) → IsPlain name rows
+plain_by name rows f same no_secret no_passphrase lacks forms = record {
+  no_secret_file = ap (λ (g : Found). g.secret_file) same ∙ no_secret;
+  no_passphrase_file = ap (λ (g : Found). g.passphrase_file) same ∙ no_passphrase;
+  no_lack = λ l. lacks (sym (ap (λ (g : Found). g.name) same) ∙ l.0) (sym (ap (λ (g : Found). g.secret) same) ∙ l.1);
+  one_form = λ two. forms (sym (ap (λ (g : Found). g.name) same) ∙ two.0) two.1.0 (sym (ap (λ (g : Found). g.expected) same) ∙ two.1.1)
+      (sym (ap (λ (g : Found). g.flag) same) ∙ two.2);
 }
 
-pub recover_plain : {form : SecretForm} {expected : Option Text} {p name : Text} {rows : List Row} → IsRecoverFound form expected p name rows
-    → IsPlain name rows
-recover_plain found = record {
-  no_secret_file = found.no_secret_file;
-  no_passphrase_file = found.no_passphrase_file;
-  no_lack = λ lacks. other_text (codes "recover") (codes "create") refl (sym found.name_is ∙ lacks.0);
-  one_form = λ two. other_text (codes "recover") (codes "drill") refl (sym found.name_is ∙ two.0);
-}
+-- no words of a drill that expect a fingerprint ask for fingerprints too
+one_form : (form : SecretForm) (e : Option Text) → IfSome e (λ text. form ≡ Digits) → (text : Text) → e ≡ Some text
+    → Some (flag_text (is_fingerprint form)) ≡ Some (flag_text true) → ⊥
+one_form form None one text given flag = let bad : ⊥ = cc in bad
+one_form form (Some e) digits text given flag =
+    other_text (codes "true") (codes "false") refl (said_same (sym flag ∙ ap (λ (f : SecretForm). Some (flag_text (is_fingerprint f))) digits))
 
-drill_words_plain : (form : SecretForm) (p q n : Text) (words : List Text) → AreDrillWords form p q n words → ArePlain words
-drill_words_plain form p q n words are name rows met =
-    let found = drill_found form p q n words name rows are met in
-    drill_plain found (λ two. none_given (codes "expect") rows found.expected_is two.1)
+drill_plain : (form : SecretForm) (e p q n : Option Text) (words : List Text) → IsDrill form e p q n words → ArePlain words
+drill_plain form e p q n words is name rows met =
+    plain_by name rows (drill_values form e p q n) (drill_found form e p q n words is name rows met) refl refl
+    (λ named. absurd (other_text (codes "drill") (codes "create") refl named)) (λ named. one_form form e is.one_form)
 
-recover_words_plain : (form : SecretForm) (p : Text) (words : List Text) → AreRecoverWords form p words → ArePlain words
-recover_words_plain form p words are name rows met = recover_plain (recover_found form p words name rows are met)
+recover_plain : (form : SecretForm) (e p : Option Text) (words : List Text) → IsRecovery form e p words → ArePlain words
+recover_plain form e p words is name rows met =
+    plain_by name rows (recover_values form e p) (recovery_found form e p words is name rows met) refl refl
+    (λ named. absurd (other_text (codes "recover") (codes "create") refl named))
+    (λ named. absurd (other_text (codes "recover") (codes "drill") refl named))
 
-create_plain : (plan secret p : Text) (words : List Text) → AreCreateWords plan secret p words → ArePlain words
-create_plain plan secret p words are name rows met =
-    let found = create_found plan secret p words name rows are met in
-    let is : first_of (codes "master-secret") rows ≡ Some secret = found.secret_is in
-    record {
-      no_secret_file = found.no_secret_file;
-      no_passphrase_file = found.no_passphrase_file;
-      no_lack = λ lacks. some_none secret (sym is ∙ lacks.1);
-      one_form = λ two. other_text (codes "create") (codes "drill") refl (sym found.name_is ∙ two.0);
-    }
+pub create_plain : (plan secret : Text) (p e : Option Text) (words : List Text) → AreFewCreateWords plan secret p e words → ArePlain words
+create_plain plan secret p e words are name rows met =
+    plain_by name rows _ (creation_found plan secret p e words are name rows met) refl refl (λ named lacks. some_none secret lacks)
+    (λ named. absurd (other_text (codes "create") (codes "drill") refl named))
   where
     some_none : (text : Text) → Some text ≡ None → ⊥
     some_none text same = cc
+
+reissue_plain : (plan listed : Text) (words : List Text) → AreReissueWords plan listed words → ArePlain words
+reissue_plain plan listed words are name rows met =
+    plain_by name rows (reissue_values plan listed) (reissue_found plan listed words are name rows met) refl refl
+    (λ named. absurd (other_text (codes "reissue") (codes "create") refl named))
+    (λ named. absurd (other_text (codes "reissue") (codes "drill") refl named))
 
 pub not_zero : (s m : ℕ) → s ≡ 0 → s ≡ suc m → ⊥
 not_zero s m none some = omega arith
@@ -244,68 +249,61 @@ module _ {R W : Type 0} (told : Told) (remaining : R → Option (List ℕ)) (con
         go j gives (inr (untyped, inr (inr (inr (inr (inl bad)))))) = absurd (not_zero status 0 none bad.1.0)
         go j gives (inr (untyped, inr (inr (inr (inr (inr does)))))) = by_job j gives does.1
 
-    recovery : (form : SecretForm) (p : Text) → AreRecoverWords form p words
-        → Delivers remaining contents (WordsWrite words) reader writer status read_to written_to
-    recovery form p are =
-        ready (λ j gives. recover_ready source form None tt p gives.0 gives.1 (recover_found form p words gives.0 gives.1 are gives.2) j gives.3)
+  -- what words write that can be begun
+  begins : takes shamir_app words ≡ true → ArePlain words → ((j : Job) → GivesJob words j → IsReady j × (IsTyped source j → ⊥)) → (ended : Ended R W)
+      → Ends told remaining contents source words reader writer ended → OnEnd ended (Delivers remaining contents (WordsWrite words) reader writer)
+  begins taken plain is_ready NoMemory ends = tt
+  begins taken plain is_ready (With status read_to written_to) ends = ready status read_to written_to ends taken plain is_ready
 
-  pub drills : DrillWordsList → (form : SecretForm) (p q n : Text) (names : Names) (ended : Ended R W) → AreDrillWords form p q n words
-      → IsWrittenForm q names → IsLimit n → Ends told remaining contents source words reader writer ended
-      → OnEnd ended (Delivers remaining contents (WordsDrill words form p q (limit_of n)) reader writer)
-  drills list form p q n names NoMemory are written limit ends = tt
-  drills list form p q n names (With status read_to written_to) are written limit ends =
-      Delivers-map remaining contents (WordsWrite words) (WordsDrill words form p q (limit_of n)) reader writer status read_to written_to
-      (ready status read_to written_to ends (drill_words_are_taken form p q n words are limit)
-      (drill_words_plain form p q n words are)
-      (λ j gives. drill_ready source form None tt p q n gives.0 gives.1 names (drill_found form p q n words gives.0 gives.1 are gives.2) written j gives.3))
-      (λ input text full writes. (writes, list form p q n words input text full are writes))
+  pub drill : (form : SecretForm) (e p q n : Option Text) (names : Option Names) → IsDrill form e p q n words → IsSound e → GoesAfter q names
+      → IsLimit (or_default n) → (ended : Ended R W) → Ends told remaining contents source words reader writer ended
+      → OnEnd ended (Delivers remaining contents (WordsWrite words) reader writer)
+  drill form e p q n names is sound goes limit =
+      begins (drill_taken form e p q n words is limit) (drill_plain form e p q n words is)
+      (λ j gives. drill_ready source form e p q n gives.0 gives.1 names (drill_found form e p q n words is gives.0 gives.1 gives.2) sound goes j gives.3)
 
-  pub recovers : RecoverWordsRecover → (form : SecretForm) (p : Text) (ended : Ended R W) → AreRecoverWords form p words
-      → Ends told remaining contents source words reader writer ended → OnEnd ended (Delivers remaining contents (WordsRecover words form p) reader writer)
-  recovers recover form p NoMemory are ends = tt
-  recovers recover form p (With status read_to written_to) are ends =
-      Delivers-map remaining contents (WordsWrite words) (WordsRecover words form p) reader writer status read_to written_to
-      (recovery status read_to written_to ends (recover_words_are_taken form p words are)
-      (recover_words_plain form p words are) form p are)
-      (λ input text full writes. (writes, recover form p words input text full are writes))
+  pub recovery : (form : SecretForm) (e p : Option Text) → IsRecovery form e p words → IsSound e → (ended : Ended R W)
+      → Ends told remaining contents source words reader writer ended → OnEnd ended (Delivers remaining contents (WordsWrite words) reader writer)
+  recovery form e p is sound =
+      begins (recovery_taken form e p words is) (recover_plain form e p words is)
+      (λ j gives. recover_ready source form e p gives.0 gives.1 (recovery_found form e p words is gives.0 gives.1 gives.2) sound j gives.3)
 
--- a creation, and a recovery whose reader has what the creation wrote
-pub created_recovers : {R V S W : Type 0} (told : Told) (remaining : R → Option (List ℕ)) (held : V → Option (List ℕ)) (left : S → Option (List ℕ))
-    (contents : W → Option (List ℕ)) → CreatedWordsRecover → (form : SecretForm) (plan secret passphrase : Text) (creating recovering : List Text)
-    (random random_left : R)
-    (empty filled : V) (backup backup_left : S) (output written : W) (status : ℕ) (text : List ℕ) → AreCreateWords plan secret passphrase creating
-    → AreRecoverWords form passphrase recovering → EndsAs told remaining held Elsewhere creating random empty 0 random_left filled
-    → EndsAs told left contents Elsewhere recovering backup output status backup_left written → held empty ≡ Some [] → held filled ≡ Some text
-    → left backup ≡ Some text
-    → status ≢ 3 → (line : List ℕ) × GivesSecret form secret line status × Appends (contents output) (contents written) line
-created_recovers told remaining held left contents law form plan secret passphrase creating recovering random random_left empty filled backup backup_left output
-    written status text are also created recovered is_empty is_filled is_left other =
-    let creation = done told remaining held Elsewhere creating random empty 0 random_left filled created
-    (create_words_are_taken plan secret passphrase creating are) (create_plain plan secret passphrase creating are) refl in
-    let recovery_is = recovery told left contents Elsewhere recovering backup output status backup_left written recovered
-    (recover_words_are_taken form passphrase recovering also) (recover_words_plain form passphrase recovering also) form passphrase also in
-    let w = creation.done (λ three. not_zero 0 2 refl three) in
-    let same : Appends (Some []) (Some text) w.2.0 = subst (λ (a : Option (List ℕ)). Appends a (Some text) w.2.0) is_empty
-    (subst (λ (b : Option (List ℕ)). Appends (held empty) b w.2.0) is_filled w.2.2) in
-    let got = recovery_is.done other in
-    let given : got.0 ≡ text = subst (λ (l : Option (List ℕ)). AreAllOf l got.0) is_left got.1 in
-    let reads = subst (λ (t : List ℕ). WordsWrite recovering (whole t) got.2.0 status) given got.2.1 in
-    let wrote = subst (λ (t : List ℕ). WordsWrite creating (whole w.0) t 0) (sym same) w.2.1 in
-    (got.2.0, law form plan secret passphrase creating recovering (whole w.0) text got.2.0 status are also wrote reads, got.2.2)
+  pub reissue : (plan listed : Text) → AreReissueWords plan listed words → GivesPlan plan → WritesNames listed → (ended : Ended R W)
+      → Ends told remaining contents source words reader writer ended → OnEnd ended (Delivers remaining contents (WordsWrite words) reader writer)
+  reissue plan listed are is_plan written =
+      begins (reissue_words_are_taken plan listed words are) (reissue_plain plan listed words are)
+      (λ j gives. reissue_ready source plan listed gives.0 gives.1 (reissue_found plan listed words are gives.0 gives.1 gives.2) is_plan written j gives.3)
 
--- a creation that is done, and the program with the words of a recovery, which reads what that wrote
-pub created_then_recovers : {R V W : Type 0} (told : Told) (remaining : R → Option (List ℕ)) (held : V → Option (List ℕ)) (contents : W → Option (List ℕ))
-    → CreatedWordsRecover → (creating recovering : List Text) (random random_left : R) (empty filled : V) (output : W) (status : ℕ) (text : List ℕ)
-    → EndsAs told remaining held Elsewhere creating random empty status random_left filled → status ≡ 0 → held empty ≡ Some [] → held filled ≡ Some text
-    → (recovery : Ended V W) → Ends told held contents Elsewhere recovering filled output recovery → (form : SecretForm) (plan secret passphrase : Text)
-    → AreCreateWords plan secret passphrase creating → AreRecoverWords form passphrase recovering
-    → OnEnd recovery (λ ended read_to written_to. ended ≢ 3
-    → (line : List ℕ) × GivesSecret form secret line ended × Appends (contents output) (contents written_to) line)
-created_then_recovers told remaining held contents law creating recovering random random_left empty filled output status text created none is_empty is_filled
-    NoMemory recovered form plan secret passphrase are also = tt
-created_then_recovers told remaining held contents law creating recovering random random_left empty filled output status text created none is_empty is_filled
-    (With ended read_to written_to) recovered form plan secret passphrase are also =
-    created_recovers told remaining held held contents law form plan secret passphrase creating recovering random random_left empty filled filled read_to output
-    written_to ended text are also
-    (subst (λ (n : ℕ). EndsAs told remaining held Elsewhere creating random empty n random_left filled) none created) recovered is_empty
-    is_filled is_filled
+-- what words write, and what is known of it
+pub with_known : {R W : Type 0} (remaining : R → Option (List ℕ)) (contents : W → Option (List ℕ)) (words : List Text) (reader : R) (writer : W)
+    (Known : Input → List ℕ → ℕ → Type 0) → ((input : Input) (text : List ℕ) (status : ℕ) → WordsWrite words input text status → Known input text status)
+    → (ended : Ended R W) → OnEnd ended (Delivers remaining contents (WordsWrite words) reader writer)
+    → OnEnd ended (Delivers remaining contents (λ input text status. WordsWrite words input text status × Known input text status) reader writer)
+with_known remaining contents words reader writer Known known NoMemory delivers = tt
+with_known remaining contents words reader writer Known known (With status read_to written_to) delivers =
+    Delivers-map remaining contents (WordsWrite words) (λ input text ended. WordsWrite words input text ended × Known input text ended)
+    reader writer status read_to written_to delivers (λ input text full writes. (writes, known input text full writes))
+
+-- a creation that is done, and what is known of the outcome of other words, whose input is what the creation wrote
+pub created_then : {R V W : Type 0} (told : Told) (remaining : R → Option (List ℕ)) (held : V → Option (List ℕ)) (contents : W → Option (List ℕ))
+    (creating other : List Text) (random random_left : R) (empty filled : V) (output : W) (status : ℕ) (text : List ℕ) (Known : List ℕ → ℕ → Type 0)
+    → ((bytes line : List ℕ) (number : ℕ) → WordsWrite creating (whole bytes) text 0 → WordsWrite other (whole text) line number → Known line number)
+    → takes shamir_app creating ≡ true → ArePlain creating → EndsAs told remaining held Elsewhere creating random empty status random_left filled
+    → status ≡ 0 → held empty ≡ Some [] → held filled ≡ Some text → (ended : Ended V W)
+    → OnEnd ended (Delivers held contents (WordsWrite other) filled output)
+    → OnEnd ended (λ number read_to written_to. number ≢ 3
+    → (line : List ℕ) × Known line number × Appends (contents output) (contents written_to) line)
+created_then told remaining held contents creating other random random_left empty filled output status text Known known taken plain created none is_empty
+    is_filled NoMemory delivers = tt
+created_then told remaining held contents creating other random random_left empty filled output status text Known known taken plain created none is_empty
+    is_filled (With number read_to written_to) delivers = λ no_device. (
+    let done_is = subst (λ (n : ℕ). EndsAs told remaining held Elsewhere creating random empty n random_left filled) none created in
+    let wrote = (done told remaining held Elsewhere creating random empty 0 random_left filled done_is taken plain refl).done
+    (λ three. not_zero 0 2 refl three) in
+    let same : Appends (Some []) (Some text) wrote.2.0 = subst (λ (a : Option (List ℕ)). Appends a (Some text) wrote.2.0) is_empty
+    (subst (λ (b : Option (List ℕ)). Appends (held empty) b wrote.2.0) is_filled wrote.2.2) in
+    let got = delivers.done no_device in
+    let given : got.0 ≡ text = subst (λ (l : Option (List ℕ)). AreAllOf l got.0) is_filled got.1 in
+    let reads = subst (λ (t : List ℕ). WordsWrite other (whole t) got.2.0 number) given got.2.1 in
+    let writes = subst (λ (t : List ℕ). WordsWrite creating (whole wrote.0) t 0) (sym same) wrote.2.1 in
+    (got.2.0, known wrote.0 got.2.0 number writes reads, got.2.2))

@@ -19,10 +19,12 @@ use Rattle.s39_input.specs.Input.{Input, ended_line}
 use Rattle.s39_reading.specs.Recover.{IsRecoverOutput, IsSecretOrCause, RecoversCreated}
 use Rattle.s39_drilling.specs.Drill.{DrillsCreated, IsDrillOutput, ListsSecret, ListsSecretOrCause, quorum_line, last_line}
 use Rattle.s39_command.specs.Words.{limit_of}
-use Rattle.s39_command.proofs.ExpectingWords.{expecting_drill_found, expecting_recover_found}
+use Rattle.s39_command.proofs.DrillWords.{expecting_is_drill}
+use Rattle.s39_command.proofs.RecoverWords.{expecting_is_recovery}
 use Rattle.s39_cli.specs.Expecting.{ComparesOrRefuses, ExpectingDrillWordsCompare, ExpectingRecoverWordsGive, GivesExpected, ListsText}
 use Rattle.s39_cli.specs.Outcome.{IsNoted, judged, status_of, told_in, where_done}
-use Rattle.s39_cli.proofs.Headlines.{drill_of, drill_status, not_drilled, recovery_of}
+use Rattle.s39_cli.proofs.Drills.{drill_status, drill_written, undrilled_status}
+use Rattle.s39_cli.proofs.Recoveries.{recovery_written}
 
 -- a secret has the fingerprint or not
 is_of : (noted : NotedFingerprint) (secret : List ℕ) → fingerprint_of secret ≡ noted.bytes → has_fingerprint noted secret ≡ true
@@ -86,7 +88,7 @@ compares noted set secret names limit text (Ok done) status so is =
       },
     )
 compares noted set secret names limit text (Err fault) status so is =
-    inr (not_drilled (Expected noted) set secret names limit text fault status so is)
+    inr ((so.1.0, so.1.1), so.0, is ∙ ap (λ (f : Fault). drill_status (Err f)) so.1.2 ∙ undrilled_status so.1.0)
 
 -- the fingerprint that is expected is the one that the text writes
 one_written : (text : Text) (noted read : NotedFingerprint) → noted_in text ≡ Ok noted → noted_in text ≡ Ok read → read ≡ noted
@@ -99,19 +101,16 @@ expected_is text noted given is reads = reads.1 ∙ ap (λ (n : NotedFingerprint
 pub expecting_drill_words_compare : ((form : SecretForm) (passphrase : List ℕ) (after : Option Names) (limit : ℕ) (input : Input) (text : List ℕ)
     (answer : Result Done Fault) → IsDrillOutput form passphrase after limit input text answer
     → DrillsCreated form passphrase after limit input text answer) → ExpectingDrillWordsCompare
-expecting_drill_words_compare created expected passphrase after limit noted words input text status are is writes secret holds =
-    let found = expecting_drill_found expected passphrase after limit words writes.1.0 writes.1.1 are writes.1.2 in
-    let drill = drill_of Digits (Some expected) passphrase after limit input text status writes.1.0 writes.1.1 writes.0 found writes.1.3 writes.2.0
-    writes.2.1 writes.2.2 in
+expecting_drill_words_compare created e p q n noted words input text status are is writes secret holds =
+    let drill = drill_written Digits (Some e) (Some p) (Some q) (Some n) words (expecting_is_drill e p q n words are) input text status writes in
+    let after = drill.1 in
     let done = drill.2.2.0 in
-    let output : IsDrillOutput (Expected noted) passphrase (Some drill.0) (limit_of limit) input text done =
-    subst (λ (n : Option NotedFingerprint). IsDrillOutput (told_in Digits n) passphrase (Some drill.0) (limit_of limit) input text done)
-    (expected_is expected noted drill.2.0 is drill.2.1) drill.2.2.1 in
-    let so = created (Expected noted) passphrase (Some drill.0) (limit_of limit) input text done output secret holds in (
-      so.0,
-      so.1,
-      (drill.0, drill.1, compares noted so.0 secret drill.0 (limit_of limit) text done status so.2 drill.2.2.2),
-    )
+    let output : IsDrillOutput (Expected noted) p (Some after.0) (limit_of n) input text done =
+    subst (λ (names : Option Names). IsDrillOutput (Expected noted) p names (limit_of n) input text done) after.1
+    (subst (λ (o : Option NotedFingerprint). IsDrillOutput (told_in Digits o) p drill.0 (limit_of n) input text done)
+    (expected_is e noted drill.2.0 is drill.2.1) drill.2.2.1) in
+    let so = created (Expected noted) p (Some after.0) (limit_of n) input text done output secret holds in
+    (so.0, so.1, (after.0, after.2, compares noted so.0 secret after.0 (limit_of n) text done status so.2 drill.2.2.2))
 
 -- ---- a recovery
 
@@ -138,12 +137,9 @@ gives_expected form noted set secret text (Err fault) status (none, inr (some, o
 pub expecting_recover_words_give : ((form : SecretForm) (expected : Option NotedFingerprint) (passphrase : List ℕ) (input : Input) (text : List ℕ)
     (answer : Result (Unit {0}) Fault) → IsRecoverOutput form expected passphrase input text answer
     → RecoversCreated form expected passphrase input text answer) → ExpectingRecoverWordsGive
-expecting_recover_words_give created form expected passphrase noted words input text status are is writes secret holds =
-    let found = expecting_recover_found form expected passphrase words writes.1.0 writes.1.1 are writes.1.2 in
-    let recovery = recovery_of form (Some expected) passphrase input text status writes.1.0 writes.1.1 writes.0 found writes.1.3 writes.2.0
-    writes.2.1 writes.2.2 in
-    let output : IsRecoverOutput form (Some noted) passphrase input text recovery.2.0 =
-    subst (λ (n : Option NotedFingerprint). IsRecoverOutput form n passphrase input text recovery.2.0) (expected_is expected noted recovery.0 is recovery.1)
-    recovery.2.1 in
-    let so = created form (Some noted) passphrase input text recovery.2.0 output secret holds in
+expecting_recover_words_give created form e p noted words input text status are is writes secret holds =
+    let recovery = recovery_written form (Some e) (Some p) words (expecting_is_recovery form e p words are) input text status writes in
+    let output : IsRecoverOutput form (Some noted) p input text recovery.2.0 =
+    subst (λ (n : Option NotedFingerprint). IsRecoverOutput form n p input text recovery.2.0) (expected_is e noted recovery.0 is recovery.1) recovery.2.1 in
+    let so = created form (Some noted) p input text recovery.2.0 output secret holds in
     (so.0, so.1, gives_expected form noted so.0 secret text recovery.2.0 status so.2 recovery.2.2)

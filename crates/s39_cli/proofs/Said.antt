@@ -1,6 +1,6 @@
 -- What is said on standard error, from what the parts say.
 use Rattle.std.proofs.Common.{◌≡◌, ◌⊎◌, ◌≤◌, ◌∙◌, ◌++◌, ⊎_elim, ℕ, All, Bool, Bor, IsFalse, true, false, List, [], Option, Result, Ok, Err, ap, arith, inl, inr, length, refl, subst, sym, true≢false}
-use Rattle.std.proofs.KnownBytes.{Appends-nil, Appends-trans}
+use Rattle.std.proofs.KnownBytes.{Appends-trans}
 use Rattle.clap.specs.Words.{Text, fault_of, takes}
 use Rattle.s39_kdf.specs.Limits.{IsPrintable}
 use Rattle.s39_words.specs.declared.ShareFields.{ShareFields}
@@ -104,9 +104,6 @@ unfilled_ready from secret passphrase job.Repair filled is types ready = tt
 -- ---- texts one after another
 
 module _ {E : Type 0} (contents : E → Option (List ℕ)) where
-  pub says_nothing : (m : Messages E) → Says contents m m []
-  says_nothing m whole = (whole, Appends-nil (contents m.device))
-
   pub says_both : (a b c : Messages E) (first second : Text) → Says contents a b first → Says contents b c second → Says contents a c (first ++ second)
   says_both a b c first second one other whole =
       let more = other whole in

@@ -13,10 +13,8 @@ use Rattle.s39_command.specs.Command.{GivesCall, HaveSameValues}
 use Rattle.s39_command.proofs.OneCall.{one_call}
 use Rattle.s39_cli.specs.declared.runner.Ended.{Ended}
 use Rattle.s39_cli.specs.declared.runner.Ended.TheVariants.{With, NoMemory}
-use Rattle.s39_cli.specs.declared.work.Unready.{Unready}
-use Rattle.s39_cli.specs.declared.work.Unready.TheVariants as unready
 use Rattle.s39_cli.specs.declared.work.Work.{Work}
-use Rattle.s39_cli.specs.Ending.{EndsUnbegun, EndsUnread, EndsWithoutJob, OnEnd}
+use Rattle.s39_cli.specs.Ending.{EndsUnread, EndsWithoutJob, OnEnd}
 use Rattle.s39_cli.specs.Outcome.{status_of, status_of_refusal}
 use Rattle.s39_cli.specs.Untouched.{IsAtItsEnd, IsUntouchedBy, IsUntouchedIfRefused, WritesAtItsEnd}
 use Rattle.s39_cli.specs.Values.{IsFilledBy}
@@ -98,29 +96,6 @@ module _ {R W : Type 0} (writer : W) where
   jobless_untouched contents reader (Values bad) words NoMemory ends = tt
   jobless_untouched contents reader (Values bad) words (With status read_to written_to) ends =
       unwritten words (With status read_to written_to) ends.2
-
-  -- a job that isn't begun
-  unbegun_written : (reader : R) (unready : Unready) (ended : Ended R W) → EndsUnbegun unready reader writer ended
-      → OnEnd ended (λ status read_to written_to. written_to ≡ writer)
-  unbegun_written reader unready.Memory ended none = subst (λ e. OnEnd e (λ status read_to written_to. written_to ≡ writer)) (sym none) tt
-  unbegun_written reader unready.Secret NoMemory ends = tt
-  unbegun_written reader unready.Secret (With status read_to written_to) ends = ends.2
-  unbegun_written reader (unready.Plan error) NoMemory ends = tt
-  unbegun_written reader (unready.Plan error) (With status read_to written_to) ends = ends.2
-  unbegun_written reader (unready.Cursor error) NoMemory ends = tt
-  unbegun_written reader (unready.Cursor error) (With status read_to written_to) ends = ends.2
-  unbegun_written reader (unready.Fingerprint error) NoMemory ends = tt
-  unbegun_written reader (unready.Fingerprint error) (With status read_to written_to) ends = ends.2
-  unbegun_written reader (unready.Names error) NoMemory ends = tt
-  unbegun_written reader (unready.Names error) (With status read_to written_to) ends = ends.2
-
-  pub unbegun_untouched : (reader : R) (unready : Unready) (j : Job) (ended : Ended R W) → EndsUnbegun unready reader writer ended
-      → IsUntouchedBy j ended writer
-  unbegun_untouched reader unready j ended ends = by ended (unbegun_written reader unready ended ends)
-    where
-      by : (e : Ended R W) → OnEnd e (λ status read_to written_to. written_to ≡ writer) → IsUntouchedBy j e writer
-      by NoMemory same = tt
-      by (With status read_to written_to) same = (λ two. same, λ at one. same)
 
   -- a job that is run
   pub run_untouched : (j : Job) (answer : Result Bool Fault) (read_to : R) (written_to : W) (ended : Ended R W)

@@ -90,7 +90,7 @@ cursor_written (Some text) names is = (is.0, is.2)
 -- a job that a work is of can be begun
 pub ready_of_work : (j : Job) (w : Work) → IsWorkOf j w → IsReady j
 ready_of_work (job.Create plan secret passphrase exponent extendable) w is = (
-  (is.0.secret.items, is.2.read.secret_is),
+  (is.0.secret.bytes.items, is.2.read.secret_is),
   (is.0.plan.group_threshold, is.0.plan.groups.items, is.2.read.plan_is),
 )
 ready_of_work (job.Drill passphrase after limit form expected) w is =
@@ -162,14 +162,14 @@ output_of_job (job.Create plan secret passphrase exponent extendable) w is input
     let written = subst (λ (x : Work). IsWorkOutput x input text answer) is.1 output in (
       written.0,
       record {
-        secret = creation.secret.items;
+        secret = creation.secret.bytes.items;
         group_threshold = creation.plan.group_threshold;
         groups = creation.plan.groups.items;
         options = creation.options;
         read = is.2.read;
         given = is.2.given;
         output = subst (λ (given : List ℕ). IsCreateOutput (record {
-          secret = creation.secret.items;
+          secret = creation.secret.bytes.items;
           passphrase = given;
           group_threshold = creation.plan.group_threshold;
           groups = creation.plan.groups.items;

@@ -31,7 +31,7 @@ use Rattle.s39_cli.specs.Outcome.{AreRead, AreOptions, IsCursor, IsNoted, judged
 
 -- the creation has what these texts, the exponent and the flag give
 pub record IsCreationOf (plan_text secret_text given_passphrase : Text) (exponent : ℕ) (extendable : Bool) (creation : Creation) : Type 0 where
-  pub read : AreRead plan_text secret_text creation.secret.items creation.plan.group_threshold creation.plan.groups.items
+  pub read : AreRead plan_text secret_text creation.secret.bytes.items creation.plan.group_threshold creation.plan.groups.items
   pub passphrase_is : creation.passphrase.now ≡ given_passphrase
   pub given : AreOptions exponent extendable creation.options
 
@@ -75,7 +75,7 @@ IsWorkOutput work.Show input text answer =
     (plain : Result (Unit {0}) Fault) × IsShowOutput input text plain × (answer ≡ judged where_done plain)
 IsWorkOutput (work.Create creation) input text answer =
     (plain : Result (Unit {0}) Fault) × IsCreateOutput (record {
-      secret = creation.secret.items;
+      secret = creation.secret.bytes.items;
       passphrase = creation.passphrase.now;
       group_threshold = creation.plan.group_threshold;
       groups = creation.plan.groups.items;

@@ -10,6 +10,7 @@ ghost use Rattle.s39_cli.specs.Work.{IsWorkOutput};
 
 use crate::patient::Patient;
 use crate::work::Work;
+use s39_clearing::Cleared;
 use s39_input::{Counting, DeviceFailure, Fault, Refusal};
 use std::alloc::Global;
 use std::io::{BufWriter, Read, Write};
@@ -62,7 +63,8 @@ fn handed_on<W: Write + Drop>(
     let mut output = output;
     let is_whole = hand_on(&answer, &mut output);
     // A drop of the buffer would write again what a failed write left in it.
-    let (output, _kept) = output.into_parts();
+    let (output, bytes) = output.into_parts();
+    let _kept = Cleared { bytes };
     if is_whole {
         (answer, output)
     } else {

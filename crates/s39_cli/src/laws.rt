@@ -1,7 +1,9 @@
 //! Facts about the definitions. Each is the contract of a function that does nothing, or only calls other laws.
-ghost use Rattle.std.specs.Prelude.{◌≡◌, ◌++◌, ℕ, List, [], ◌∷◌, Some, codes};
+ghost use Rattle.std.specs.Prelude.{◌≡◌, ◌++◌, ℕ, List, [], ◌∷◌, Some, codes, false};
 ghost use Rattle.s39_set.specs.Written.{IsWrittenForm};
+ghost use Rattle.s39_command.specs.declared.command.Call.{Call};
 ghost use Rattle.s39_command.specs.declared.command.Job.{Job};
+ghost use Rattle.s39_cli.specs.Said.{IsSilentAtNone, said_of};
 ghost use Rattle.s39_cli.specs.Ending.{AreAllOf, HoldsBeginning};
 ghost use Rattle.s39_cli.specs.Outcome.{HasNoCause, IsReady};
 ghost use Rattle.s39_cli.specs.Fewer.{FewCreatedWordsRecover, FewDrillWordsList, FewRecoverWordsRecover, ReissueWordsReissue};
@@ -9,6 +11,7 @@ ghost use Rattle.s39_cli.specs.Headline.{CreatedWordsRecover, DrillWordsList, On
 ghost use Rattle.s39_cli.specs.Expecting.{ExpectingDrillWordsCompare, ExpectingRecoverWordsGive};
 ghost use Rattle.s39_cli.specs.Headline.{RepairsTellOfTwo, SameValuesWriteTheSame, SomeOutcome};
 
+use crate::runner::{Destination, Ended, Source};
 use s39_backup::laws::one_plan_reading;
 use s39_creating::laws::{created_backups_reissue, one_create_output, one_reissue_output};
 use s39_drilling::laws::{created_backups_drill, one_drill_output, some_drill_output};
@@ -28,6 +31,13 @@ pub fn told_bytes_are_exact()
     ensures beginning { (old new text : List ℕ) → HoldsBeginning (Some old) (Some new) text
         → (lost : List ℕ) × (new ++ lost ≡ old ++ text) }
     ensures all { (all bytes : List ℕ) → AreAllOf (Some all) bytes → bytes ≡ all }
+{}
+
+/// If no person looks on, there is nothing to say with status 0, and the writer of messages then stays as it was.
+pub fn nothing_is_said_to_nobody<R, W, E>()
+    ensures unsaid { (call : Call) → said_of Source.Elsewhere Destination.Elsewhere call ≡ [] }
+    ensures silent { (input : R) (output : W) (old new : E)
+        → IsSilentAtNone false (Ended.With 0 input output) old new → new ≡ old }
 {}
 
 /// There is a text that writes names.

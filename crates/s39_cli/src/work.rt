@@ -10,6 +10,7 @@ ghost use Rattle.s39_cli.specs.Unready.{IsNoReissue, IsUnready};
 use crate::runner::Destination;
 use crate::secret_text::secret_of;
 use s39_backup::{Options, Plan, PlanError};
+use s39_clearing::Cleared;
 use s39_command::Job;
 use s39_creating::{run_create, run_reissue};
 use s39_drilling::{Done, run_drill};
@@ -24,7 +25,7 @@ use std::io::{Read, Write};
 #[derive(Drop)]
 pub(crate) struct Creation<'a> {
     plan: Plan,
-    secret: Vec<u8>,
+    secret: Cleared,
     passphrase: &'a [u8],
     options: Options,
 }
@@ -276,7 +277,7 @@ impl<'a> Work<'a> {
             Work::Show => where_done(run_show(input, output)),
             Work::Create(creation) => where_done(run_create(
                 &creation.plan,
-                creation.secret.as_slice(),
+                creation.secret.bytes.as_slice(),
                 creation.passphrase,
                 creation.options,
                 input,

@@ -2,7 +2,7 @@ pub mod Jobs
 pub mod Literals
 pub mod OneCall
 pub mod Words
-pub mod ExpectingWords
+pub mod DrillWords
+pub mod RecoverWords
 pub mod CreateWords
-pub mod FewerDrill
-pub mod FewerWords
+pub mod ReissueWords

@@ -143,6 +143,46 @@ impl Read for Halting<'_> {
     }
 }
 
+/// A reader for which the system interrupts a number of calls before each byte of the first line. It then gives the rest.
+#[derive(Drop)]
+pub struct SlowLine<'a> {
+    bytes: &'a [u8],
+    before_each: usize,
+    left: usize,
+    pub calls: usize,
+}
+
+impl<'a> SlowLine<'a> {
+    pub fn new(bytes: &'a [u8], before_each: usize) -> SlowLine<'a> {
+        SlowLine {
+            bytes,
+            before_each,
+            left: before_each,
+            calls: 0,
+        }
+    }
+}
+
+impl Read for SlowLine<'_> {
+    fn read(&mut self, buf: &mut [u8]) -> io::Result<usize> {
+        self.calls = self.calls.saturating_add(1);
+        if self.left > 0 {
+            self.left -= 1;
+            return Err(io::Error::from(ErrorKind::Interrupted));
+        }
+        let piece = if self.before_each > 0 { 1 } else { buf.len() };
+        let count = piece.min(self.bytes.len()).min(buf.len());
+        let (now, rest) = self.bytes.split_at(count);
+        buf[..count].copy_from_slice(now);
+        if now.ends_with(b"\n") {
+            self.before_each = 0;
+        }
+        self.left = self.before_each;
+        self.bytes = rest;
+        Ok(count)
+    }
+}
+
 /// A writer that takes a limited number of bytes at each call, and fails once there is no room.
 #[derive(Drop)]
 pub struct Filling {

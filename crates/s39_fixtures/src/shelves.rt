@@ -37,11 +37,13 @@ impl<'a> Shelf for Held<'a> {
     }
 }
 
-/// A shelf on which every name is that of the same file, whose first read fails for an error of this kind.
+/// A shelf on which every name is that of the same file, whose first reads, as many as `failures`, fail for an error of this
+/// kind.
 #[derive(Drop)]
 pub struct Halted<'a> {
     pub alloc: Global,
     pub kind: ErrorKind,
+    pub failures: usize,
     pub bytes: &'a [u8],
 }
 
@@ -49,6 +51,6 @@ impl<'a> Shelf for Halted<'a> {
     type File = FailingAtFirst<'a>;
 
     fn open(&self, _name: &str) -> io::Result<FailingAtFirst<'a>> {
-        Ok(FailingAtFirst::new(self.alloc, self.kind, 1, self.bytes))
+        Ok(FailingAtFirst::new(self.alloc, self.kind, self.failures, self.bytes))
     }
 }

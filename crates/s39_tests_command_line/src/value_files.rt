@@ -422,16 +422,18 @@ fn reads_values_of_create(rt: HostRuntime) -> Result<(), Fail> {
 fn tries_only_an_interrupted_read_of_a_file_again(rt: HostRuntime) {
     let alloc = rt.alloc();
     let cases = [
-        (ErrorKind::Interrupted, 0, ONE_OF_ONE_SECRET),
-        (ErrorKind::WouldBlock, 3, ""),
-        (ErrorKind::TimedOut, 3, ""),
-        (ErrorKind::BrokenPipe, 3, ""),
-        (ErrorKind::Other, 3, ""),
+        (ErrorKind::Interrupted, 1, 0, ONE_OF_ONE_SECRET),
+        (ErrorKind::Interrupted, 1000, 0, ONE_OF_ONE_SECRET),
+        (ErrorKind::WouldBlock, 1, 3, ""),
+        (ErrorKind::TimedOut, 1, 3, ""),
+        (ErrorKind::BrokenPipe, 1, 3, ""),
+        (ErrorKind::Other, 1, 3, ""),
     ];
-    for (kind, wanted, output) in cases {
+    for (kind, failures, wanted, output) in cases {
         let shelf = Halted {
             alloc,
             kind,
+            failures,
             bytes: b"TREZOR\n",
         };
         let mut written = Vec::new(alloc);

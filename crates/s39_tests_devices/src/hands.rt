@@ -2,7 +2,9 @@
 //! asked for before the line is taken.
 
 use s39_cli::Destination;
-use s39_fixtures::devices::{FailingAtFirst, Filling, Flushing, Full, Interrupted, Source};
+use s39_fixtures::devices::{
+    FailingAtFirst, Filling, Flushing, Full, Interrupted, SlowLine, Source,
+};
 use s39_fixtures::{
     DRILL, FIVE, ONE_OF_ONE, ONE_OF_ONE_SECRET, ONE_OF_ONE_TWO_WORDS_LOST, RANDOM, RECOVER, REPAIR,
     SECRET, SHOW, SHOWN, WRITE_FAILED_LINE, create, drilled, expect_flushed, expect_told, lines,
@@ -100,7 +102,24 @@ fn expect_pieces(
 
 #[test]
 fn writes_again_after_each_interruption(rt: HostRuntime) -> Result<(), Fail> {
-    expect_pieces(&rt, rt.alloc(), 3, [4, 8, 4, 8, 32])
+    expect_pieces(&rt, rt.alloc(), 3, [4, 8, 4, 8, 32])?;
+    expect_pieces(&rt, rt.alloc(), 1000, [1001, 2002, 1001, 2002, 8008])
+}
+
+#[test]
+fn reads_a_value_after_each_interruption(rt: HostRuntime) -> Result<(), Fail> {
+    let alloc = rt.alloc();
+    let typed = lines(alloc, &["TREZOR", ONE_OF_ONE])?;
+    let words = ["shamir", "recover", "--passphrase-file", "-"];
+    for interruptions in [0, 1, 1000] {
+        let mut device = SlowLine::new(typed.as_bytes(), interruptions);
+        let mut written = Vec::new(alloc);
+        expect_told(&words, &mut device, &mut written, alloc, ("", 0))?;
+        assert_eq!(rt; written.as_slice(), ONE_OF_ONE_SECRET.as_bytes());
+        // Seven bytes of the value, the mnemonic in one piece, and the end.
+        assert_eq!(rt; device.calls, 7 * (interruptions + 1) + 2);
+    }
+    Ok(())
 }
 
 #[test]
@@ -185,16 +204,25 @@ fn tries_only_an_interrupted_write_again(rt: HostRuntime) -> Result<(), Fail> {
 fn flushes_the_lines_before_a_refusal(rt: HostRuntime) -> Result<(), Fail> {
     let alloc = rt.alloc();
     let two = lines(alloc, &[ONE_OF_ONE, "ducklin"])?;
-    let mut device = Flushing::new(alloc, false);
-    let mut told = Vec::new(alloc);
-    let status = program_at_terminal(alloc, &SHOW, two.as_bytes(), &mut device, &mut told);
-    assert_eq!(rt; (status, device.flushes), (1, 1));
-    assert_eq!(rt; device.bytes.as_slice(), SHOWN.as_bytes());
-    assert_eq!(rt;
-        told.as_slice(),
-        b"shamir: type a mnemonic on each line, then press Ctrl-D on an empty line
-shamir: line 2: 11 unknown word 1\n"
-            .as_slice()
-    );
+    let typing = "shamir: type a mnemonic on each line, then press Ctrl-D on an empty line\n";
+    let refused = "shamir: line 2: 11 unknown word 1\n";
+    // If the flush fails, the answer is that the write failed.
+    for (fails, message, wanted) in [(false, refused, 1), (true, WRITE_FAILED_LINE, 3)] {
+        let mut device = Flushing::new(alloc, fails);
+        let mut told = Vec::new(alloc);
+        let status = program_at_terminal(alloc, &SHOW, two.as_bytes(), &mut device, &mut told);
+        assert_eq!(rt; (status, device.flushes), (wanted, 1));
+        assert_eq!(rt; device.bytes.as_slice(), SHOWN.as_bytes());
+        assert_eq!(rt;
+            told.as_slice().strip_prefix(typing.as_bytes()),
+            Some(message.as_bytes())
+        );
+        let mut piped = Flushing::new(alloc, fails);
+        expect_told(&SHOW, two.as_bytes(), &mut piped, alloc, (message, wanted))?;
+        assert_eq!(rt;
+            (piped.flushes, piped.bytes.as_slice()),
+            (1, SHOWN.as_bytes())
+        );
+    }
     Ok(())
 }

@@ -244,6 +244,20 @@ fn keeps_its_answer_where_nothing_can_be_said(rt: HostRuntime) -> Result<(), Fai
 }
 
 #[test]
+fn says_a_name_up_to_the_longest_of_a_path(rt: HostRuntime) -> Result<(), Fail> {
+    let alloc = rt.alloc();
+    // The system takes paths of at most 4,095 bytes. A longer name is cut to as many, of which the last three are dots.
+    for (length, told, dots) in [(4095, 4095, ""), (4096, 4092, "...")] {
+        let name = "n".repeat(alloc, length)?;
+        let words = ["shamir", "recover", "--passphrase-file", &name];
+        let cut = &name[..told];
+        let message = format!(in alloc; "shamir: {cut}{dots}: entity not found\n")?;
+        expect_said(&rt, alloc, (&words, "", PIPED), &[message.as_str()], 3)?;
+    }
+    Ok(())
+}
+
+#[test]
 fn says_a_refusal_in_one_write(rt: HostRuntime) -> Result<(), Fail> {
     let alloc = rt.alloc();
     let bad = lines(alloc, &[ONE_OF_ONE_BAD_CHECKSUM])?;

@@ -99,6 +99,11 @@ def end_by(number: int) -> NoReturn:
     os._exit(130)
 
 
+def said_end(written: str) -> str:
+    """Says what became of the papers if the program ends before the task does. `written` says what they are that were written."""
+    return " ".join([say(f"ended.{written}") if written else say("ended"), say("ended.close")])
+
+
 def told(terminal: Terminal, text: str) -> None:
     """Says how the program ended, where the terminal shows what was there before."""
     rows = wrapped(text, max(1, terminal.size.columns - 1))
@@ -134,10 +139,11 @@ def main() -> None:
     finally:
         terminal.close()
         desk.clear()
+    if is_failed:
+        told(terminal, say("failed"))
+    told(terminal, say("closed") if ended is None and not is_failed else said_end(desk.written))
     if ended is not None:
-        told(terminal, say("ended.unfinished" if desk.is_unfinished else "ended"))
         end_by(ended)
-    told(terminal, say("failed" if is_failed else "closed"))
     # A thread that was stopped may still wait for the library.
     os._exit(1 if is_failed else 0)
 

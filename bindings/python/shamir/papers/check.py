@@ -1,14 +1,17 @@
 """The task 'check': papers are typed, and every quorum among them is tried."""
 from __future__ import annotations
 
-from shamir.papers.collect import ask_for_more, collect
+from shamir.papers.collect import ask_for_more, collect, tell_damaged
 from shamir.papers.desk import Desk
 from shamir.papers.drill import Verdict, run_drill
-from shamir.papers.questions import ask_noted, ask_passphrase
+from shamir.papers.questions import ask_passphrase
 from shamir.papers.screen import Screen
 from shamir.papers.texts import say
 
 NEXT = {"good": "good", "same": "unnoted", "stopped": "again", "other": "again", "none": "again", "some": "papers", "several": "papers"}
+
+# With these results, the words that were found in a damaged paper may be wrong, so it isn't the time to write them down.
+FAULTY = ("other", "none", "some", "several")
 
 
 def check_papers(screen: Screen, desk: Desk) -> None:
@@ -32,19 +35,18 @@ def drill_with_passphrase(screen: Screen, desk: Desk, title: str) -> str:
     'e' to end."""
     while True:
         screen.clear(title)
-        desk.set_passphrase(ask_passphrase(screen))
-        noted = ask_noted(screen)
+        noted = ask_passphrase(screen, desk)
         screen.gap()
         try:
             verdict = run_drill(screen, desk, noted)
         finally:
             desk.forget_passphrase()
-        answer = _tell(screen, verdict, noted)
+        answer = _tell(screen, desk, verdict, noted)
         if answer != "t":
             return answer
 
 
-def _tell(screen: Screen, verdict: Verdict, noted: str) -> str:
+def _tell(screen: Screen, desk: Desk, verdict: Verdict, noted: str) -> str:
     """Says what a drill found, and what to do. Returns what the owner wants then."""
     # Without a noted fingerprint, no result is known to be good.
     result = "same" if verdict.result == "good" and not noted else verdict.result
@@ -55,6 +57,11 @@ def _tell(screen: Screen, verdict: Verdict, noted: str) -> str:
         screen.tell(say("noted.first"))
     elif result != "good":
         screen.tell(say("check.none" if result == "other" else f"check.{result}"))
+    if result not in FAULTY:
+        tell_damaged(screen, desk)
+    if result == "good":
+        screen.hold("")
+        desk.written = desk.written and "replaced"
     return ask_next(screen, NEXT[result])
 
 

@@ -5,15 +5,16 @@ from typing import Iterator
 
 import shamir
 from shamir.papers.desk import Desk, Paper
-from shamir.papers.entry import Entry, ask_paper
+from shamir.papers.entry import Entry
 from shamir.papers.refusals import said_refusal
 from shamir.papers.screen import Screen
 from shamir.papers.spelling import DROP
 from shamir.papers.texts import counted, say
 
 
-def collect(screen: Screen, desk: Desk, title: str, intro: str) -> None:
-    """Lets the owner type papers, beside those that are here already, until Enter alone is typed."""
+def collect(screen: Screen, desk: Desk, title: str, intro: str, task: str = "") -> None:
+    """Lets the owner type papers, beside those that are here already, until Enter alone is typed. `task` has its own words for what is
+    complete."""
     screen.clear(title)
     screen.tell(intro)
     entry = Entry(screen, len(desk.papers[0].words) if desk.papers else None)
@@ -22,18 +23,18 @@ def collect(screen: Screen, desk: Desk, title: str, intro: str) -> None:
         for here in desk.papers:
             screen.item(say("collect.row.repaired" if here.is_repaired else "collect.row", name=here.name, words=len(here.words)))
         screen.tell(say("entry.drop", sign=DROP, name=desk.papers[0].name))
-        show_status(screen, desk)
+        show_status(screen, desk, task)
     else:
         screen.tell(say("entry.how"))
     while True:
         number = len(desk.papers) + 1
         marks = entry.read(say("entry.paper" if desk.papers else "entry.paper.first", number=number))
         if marks and marks[0].startswith(DROP):
-            _drop(screen, desk, marks[0][len(DROP) :])
+            _drop(screen, desk, marks[0][len(DROP) :], task)
         elif marks:
-            paper = ask_paper(screen, marks)
+            paper = entry.paper(marks)
             if paper is not None:
-                _take(screen, desk, title, paper)
+                _take(screen, desk, title, paper, task)
         elif desk.papers:
             return
         else:
@@ -41,7 +42,7 @@ def collect(screen: Screen, desk: Desk, title: str, intro: str) -> None:
         entry.wanted = len(desk.papers[0].words) if desk.papers else None
 
 
-def _take(screen: Screen, desk: Desk, title: str, paper: Paper) -> None:
+def _take(screen: Screen, desk: Desk, title: str, paper: Paper, task: str) -> None:
     """Takes a paper, clears its words, and says what is complete; or says why it doesn't belong to the others."""
     try:
         is_new = desk.add(paper)
@@ -53,22 +54,22 @@ def _take(screen: Screen, desk: Desk, title: str, paper: Paper) -> None:
     screen.clear(title)
     key = "collect.repeated" if not is_new else "collect.row.repaired" if paper.is_repaired else "collect.taken"
     screen.tell(say(key, name=paper.name, words=len(paper.words)), "good" if key == "collect.taken" else "bad")
-    show_status(screen, desk)
+    show_status(screen, desk, task)
 
 
-def _drop(screen: Screen, desk: Desk, name: str) -> None:
+def _drop(screen: Screen, desk: Desk, name: str, task: str) -> None:
     is_dropped = desk.drop(name)
     screen.tell(say("collect.dropped" if is_dropped else "entry.drop.none", name=name), "" if is_dropped else "bad")
     if desk.papers:
-        show_status(screen, desk)
+        show_status(screen, desk, task)
 
 
-def show_status(screen: Screen, desk: Desk) -> None:
+def show_status(screen: Screen, desk: Desk, task: str = "") -> None:
     """Shows what is complete and what is missing, group by group."""
     status, count = desk.status(), desk.papers[0].group_count
     for row in _rows(status, count):
         screen.item(row)
-    screen.tell(said_whole(status, count), "good" if status.enough else "")
+    screen.tell(said_whole(status, count, task), "good" if status.enough else "")
 
 
 def _rows(status: shamir.Status, count: int) -> Iterator[str]:
@@ -85,17 +86,28 @@ def _group(group: shamir.GroupStatus, is_only: bool) -> str:
     return f"{say('status.here', names=', '.join(group.names))} {more}"
 
 
-def said_whole(status: shamir.Status, count: int) -> str:
+def said_whole(status: shamir.Status, count: int, task: str = "") -> str:
     """Says whether the papers are enough. An owner whose backup has one group needn't know of groups."""
-    if status.enough:
-        return say("status.enough")
-    if count > 1:
-        return say("status.not_enough", needed=counted(status.required, "whole"), here=status.complete)
-    [group] = status.groups
-    return say("status.not_enough", needed=counted(group.threshold, "paper"), here=len(group.names))
+    if count == 1 and task == "replace" and status.groups[0].threshold > 1:
+        return _said_only(status, "replace.enough", "replace.not_enough")
+    if status.enough or count == 1:
+        return _said_only(status, "status.enough", "status.not_enough")
+    return say("status.not_enough", needed=counted(status.required, "whole"), here=status.complete)
 
 
-def ask_for_more(screen: Screen, desk: Desk, title: str, told: str, is_fault: bool) -> bool:
+def _said_only(status: shamir.Status, enough: str, not_enough: str) -> str:
+    group = status.groups[0]
+    return say(enough if status.enough else not_enough, needed=counted(group.threshold, "paper"), here=len(group.names))
+
+
+def tell_damaged(screen: Screen, desk: Desk) -> None:
+    """Reminds the owner of the papers that are still to be written anew."""
+    names = desk.damaged
+    if names:
+        screen.tell(say(f"damaged.anew.{'one' if len(names) == 1 else 'many'}", names=", ".join(names)), "strong")
+
+
+def ask_for_more(screen: Screen, desk: Desk, title: str, told: str, is_fault: bool, task: str = "") -> bool:
     """Says that the papers aren't enough, and what is missing. Returns whether the owner wants to type more."""
     screen.clear(title)
     sound = [paper.name for paper in desk.papers if not paper.is_repaired]
@@ -105,5 +117,6 @@ def ask_for_more(screen: Screen, desk: Desk, title: str, told: str, is_fault: bo
         if paper.is_repaired:
             screen.tell(say("collect.row.repaired", name=paper.name, words=len(paper.words)), "bad")
     screen.tell(told, "bad" if is_fault else "")
-    show_status(screen, desk)
+    show_status(screen, desk, task)
+    tell_damaged(screen, desk)
     return screen.choose(say("more.papers"), {"": True, "e": False}, "")

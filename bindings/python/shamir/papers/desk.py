@@ -13,7 +13,7 @@ from shamir.papers.quorums import Tried
 @dataclass(frozen=True)
 class Paper:
     """A paper that the library found sound: its words, and what they say of the backup. `is_repaired` says that the library found some
-    of the words."""
+    of the words, and `is_rewritten` that the owner has written the paper anew since then."""
 
     line: str = field(repr=False)
     name: str
@@ -24,6 +24,7 @@ class Paper:
     group_threshold: int
     member_threshold: int
     is_repaired: bool = False
+    is_rewritten: bool = False
 
     @property
     def words(self) -> List[str]:
@@ -64,8 +65,8 @@ class Desk:
     def __init__(self) -> None:
         self.papers: List[Paper] = []
         self.passphrase = bytearray()
-        # Whether papers of a new backup are shown that isn't made yet.
-        self.is_unfinished = False
+        # What the papers are that were shown to be written: 'unfinished' (of a new backup), 'made', 'replaced' or 'repaired'.
+        self.written = ""
 
     def clear(self) -> None:
         """Drops the papers, and overwrites the passphrase."""
@@ -98,6 +99,11 @@ class Desk:
         is_dropped = len(kept) < len(self.papers)
         self.papers = kept
         return is_dropped
+
+    @property
+    def damaged(self) -> List[str]:
+        """Returns the names of the papers that can't be read in full, and aren't written anew yet."""
+        return [paper.name for paper in self.papers if paper.is_repaired and not paper.is_rewritten]
 
     def status(self) -> shamir.Status:
         return shamir.status(self.lines)

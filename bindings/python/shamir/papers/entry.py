@@ -1,25 +1,24 @@
 """The entry of a paper: words that are typed or pasted in one line or several, until the library answers.
 
 A word that isn't in the list is asked for again, and so is the word that the library says is wrong. Nothing is corrected unless it
-is typed.
+is typed, and what was typed stays: what has no place stands again behind the question.
 """
 from __future__ import annotations
 
-import dataclasses
-from typing import List, Optional, Sequence
+from typing import Callable, List, Optional, Sequence
 
 import shamir
 from shamir.papers.desk import Paper, find_fault, paper_of
+from shamir.papers.found import ask_paper
 from shamir.papers.refusals import said_refusal, wrong_word
 from shamir.papers.screen import Screen
-from shamir.papers.spelling import DROP, Misplaced, Part, beginning, marks_of, nearest, parts_of, placed, read, said_empty, seems_bip39, taken_out
+from shamir.papers.spelling import DROP, Part, beginning, continued, nearest, numbers_of, parts_of, placed, read, said_empty, seems_bip39, taken_out, without
 from shamir.papers.texts import counted, say
 
 # Most papers have one of these numbers of words.
 FEW, MANY = 20, 33
 # If more words than this part of them aren't in the list, they are asked for all again.
 UNKNOWN_PART = 3
-OPEN_MAX = 3
 
 
 class Begun(Exception):
@@ -27,12 +26,14 @@ class Begun(Exception):
 
 
 class Entry:
-    """Reads papers. `wanted` is how many words each has, if that is known. `task` has its own words for some refusals. `takes_open`
-    says whether a question mark may stand for letters."""
+    """Reads papers. `wanted` is how many words each has, if that is known. `task` has its own words for some refusals. `show` shows the
+    paper again that is typed back, if it is one: then no question mark may stand for letters."""
 
-    def __init__(self, screen: Screen, wanted: Optional[int] = None, task: str = "", takes_open: bool = True):
-        self._screen, self.wanted, self._task, self._takes_open = screen, wanted, task, takes_open
+    def __init__(self, screen: Screen, wanted: Optional[int] = None, task: str = "", show: Optional[Callable[[], None]] = None):
+        self._screen, self.wanted, self._task, self._show = screen, wanted, task, show
         self._list = shamir.words("")
+        # Whether the owner was asked for words that follow, and typed some.
+        self._is_continued = False
 
     def read(self, prompt: str) -> List[str]:
         """Returns the marks of a paper that the library found sound or can repair, or nothing if Enter alone is typed.
@@ -44,31 +45,75 @@ class Entry:
             name = taken_out(text)
             if name is not None:
                 return [DROP + name]
-            parts = parts_of(text)
-            if not parts:
+            parts, self._is_continued = parts_of(text), False
+            if not parts and not text.strip():
                 return []
             try:
-                return self._whole(self._placed([], parts))
+                if parts:
+                    return self._whole(self._placed([], parts))
+                self._fault(say("entry.wordless"))
             except Begun:
                 self._screen.drop_typed()
 
-    def _ask(self, prompt: str) -> str:
-        return self._screen.ask(prompt, lambda letters: beginning(self._list, letters))
+    def paper(self, marks: List[str]) -> Optional[Paper]:
+        """Returns the paper of marks. If the owner doesn't take the words that were found, marks are changed. Returns None if the owner
+        begins the paper again."""
+        while marks:
+            paper = ask_paper(self._screen, marks)
+            if paper is not None:
+                return paper
+            marks = self.changed(marks)
+        return None
 
-    def _asked(self, prompt: str) -> str:
+    def changed(self, marks: List[str]) -> List[str]:
+        """Returns marks of which the owner has typed some again, or nothing if the owner begins the paper again."""
+        self._tell_typed(marks)
+        self._screen.tell(say("entry.kept"))
+        try:
+            return self._whole(self._again(marks, None))
+        except Begun:
+            self._screen.drop_typed()
+            return []
+
+    def _ask(self, prompt: str, begun: str = "") -> str:
+        return self._screen.ask(prompt, lambda letters: beginning(self._list, letters), begun=begun)
+
+    def _asked(self, prompt: str, begun: str = "") -> str:
         """Asks for a part of a paper. The owner may begin the paper again instead."""
-        text = self._ask(prompt)
+        text = self._ask(prompt, begun)
         if text.strip() == DROP:
             raise Begun
         return text
 
+    def _until_placed(self, prompt: str, change: Callable[[List[Part]], Optional[List[str]]], fault: str) -> List[str]:
+        """Asks until what is typed has a place. What has none stands again behind the question. A paper that is typed back may be shown
+        again."""
+        begun = ""
+        while True:
+            text = self._asked(prompt, begun)
+            begun = f"{text.rstrip()} " if text.strip() else ""
+            if not begun and self._show is not None:
+                self._show()
+                continue
+            changed = change([(number, self._read(mark) or mark) for number, mark in parts_of(text)])
+            if changed is not None:
+                return changed
+            self._fault(fault)
+
+    def _prompt(self, number: Optional[int] = None) -> str:
+        """Returns the question for the word with this number, or for words that the owner names by their numbers."""
+        if number is None:
+            return say("entry.numbered" if self._show is None else "entry.numbered.back", sign=DROP)
+        return say("entry.word" if self._show is None else "entry.word.back", number=number, sign=DROP)
+
     def _placed(self, marks: List[str], parts: Sequence[Part]) -> List[str]:
-        """Returns marks with further ones in their places. If the numbers contradict one another, the paper is typed again."""
-        try:
-            return placed(marks, parts)
-        except Misplaced as fault:
-            self._fault(say("entry.twice" if fault.is_twice else "entry.beyond", number=fault.number))
-            raise Begun from None
+        """Returns marks with further ones in their places. If there are two for a place, it stays empty."""
+        found, misplaced = placed(marks, parts)
+        if misplaced:
+            self._screen.drop_typed()
+        for it in misplaced:
+            self._screen.tell(say("entry.twice" if it.is_twice else "entry.beyond", number=it.number, words=", ".join(it.words)), "bad")
+        return found
 
     def _whole(self, marks: List[str]) -> List[str]:
         """Asks for what is missing or wrong, until the library finds the whole sound or can repair it."""
@@ -81,7 +126,8 @@ class Entry:
             if refusal is None:
                 return marks
             is_whole = self.wanted in (None, len(marks)) and refusal.code != shamir.Code.WORD_COUNT
-            marks = self._corrected(marks, refusal) if is_whole else self._more(marks)
+            is_over = self.wanted is not None and len(marks) > self.wanted
+            marks = self._corrected(marks, refusal) if is_whole else self._shortened(marks) if is_over else self._more(marks)
 
     def _refused(self, marks: Sequence[str]) -> Optional[shamir.Refusal]:
         """Returns why the library refuses these marks, or None."""
@@ -111,16 +157,32 @@ class Entry:
         return self._placed(marks, parts_of(text))
 
     def _more(self, marks: List[str]) -> List[str]:
-        """Asks for the words that follow. If there are none, the owner sees what was typed."""
-        said, count = said_count(len(marks), self.wanted), len(marks)
-        if self.wanted and count > self.wanted:
-            self._fault(said)
-            raise Begun
-        parts = parts_of(self._asked(say("entry.on", typed=said, number=count + 1, sign=DROP)))
+        """Asks for the words that follow. If there are none, the owner sees what was typed. If there may be too many, a number alone takes
+        that word out."""
+        key = "entry.on.many" if not self.wanted and len(marks) > FEW else "entry.on"
+        text = self._asked(say(key, typed=said_count(len(marks), self.wanted), number=len(marks) + 1, sign=DROP))
+        parts, numbers = parts_of(text), numbers_of(text)
+        if numbers and key == "entry.on.many":
+            return without(marks, numbers)
         if not parts:
             self._tell_typed(marks)
             self._screen.tell(say("entry.compare", sign=DROP))
+        self._is_continued = True
         return self._placed(marks, parts)
+
+    def _shortened(self, marks: List[str]) -> List[str]:
+        """Asks which words are too many. As many words as a paper has take the place of all."""
+        self._tell_typed(marks)
+        self._fault(said_count(len(marks), self.wanted))
+        while True:
+            text = self._asked(say("entry.over", sign=DROP))
+            parts = parts_of(text)
+            if len(parts) == self.wanted:
+                return self._placed([], parts)
+            shorter = without(marks, numbers_of(text))
+            if len(shorter) < len(marks):
+                return shorter
+            self._fault(say("entry.over.numbers", count=len(marks)))
 
     def _tell_typed(self, marks: List[str]) -> None:
         self._screen.tell(say("entry.typed"))
@@ -128,35 +190,31 @@ class Entry:
 
     def _spelled(self, marks: List[str]) -> List[str]:
         """Returns the words that marks stand for. Each that stands for none is asked for again, and nothing else."""
-        found = [self._read(mark) for mark in marks]
         if "" not in marks and seems_bip39(self._list, marks):
             self._fault(say("entry.bip39", count=len(marks)))
-            if found.count(None) * UNKNOWN_PART > len(marks):
+            if [self._read(mark) for mark in marks].count(None) * UNKNOWN_PART > len(marks):
                 raise Begun
-        return [self._word(number, mark) if word is None else word for number, (mark, word) in enumerate(zip(marks, found), 1)]
+        while True:
+            found = [self._read(mark) for mark in marks]
+            marks = [mark if word is None else word for mark, word in zip(marks, found)]
+            if None not in found:
+                return marks
+            marks = self._mended(marks, found.index(None) + 1)
 
     def _read(self, mark: str) -> Optional[str]:
         """Returns the word of a mark, or None if it stands for none. A place that is still empty stays so."""
         if not mark:
             return mark
-        return None if "?" in mark and not self._takes_open else read(self._list, mark)
+        return None if "?" in mark and self._show is not None else read(self._list, mark)
 
-    def _word(self, number: int, mark: str) -> str:
-        """Asks for one word again, until it is one."""
-        self._fault(self._unknown(number, mark))
-        while True:
-            typed = marks_of(self._asked(say("entry.word", number=number, sign=DROP)))
-            if len(typed) != 1:
-                self._fault(say("entry.one"))
-                continue
-            word = self._read(typed[0])
-            if word is not None:
-                return word
-            self._fault(self._unknown(number, typed[0]))
+    def _mended(self, marks: List[str], number: int) -> List[str]:
+        """Asks for a word again that isn't one. Words that follow are taken too if they contradict none that was typed."""
+        self._fault(self._unknown(number, marks[number - 1]))
+        return self._until_placed(self._prompt(number), lambda parts: continued(marks, number, parts), say("entry.one", number=number))
 
     def _unknown(self, number: int, mark: str) -> str:
         if "?" in mark:
-            return say("entry.mark" if self._takes_open else "entry.mark.none", number=number, word=mark)
+            return say("entry.mark" if self._show is None else "entry.mark.none", number=number, word=mark)
         several = beginning(self._list, mark)
         if several:
             return say("entry.several", number=number, word=mark, nearest=", ".join(several[:8]))
@@ -169,19 +227,21 @@ class Entry:
         self._fault(said_refusal(refusal, self._task))
         if refusal.code in (shamir.Code.BAD_PADDING, shamir.Code.GROUP_THRESHOLD):
             raise Begun
-        if refusal.code == shamir.Code.BAD_CHECKSUM and len(marks) != self.wanted:
+        if refusal.code == shamir.Code.BAD_CHECKSUM:
             count = len(marks)
-            self._screen.tell(say("entry.longer", count=count) if count in (FEW, MANY) else said_count(count, None))
-        place = wrong_word(refusal)
-        prompt = say("entry.word", number=place, sign=DROP) if place else say("entry.numbered", sign=DROP)
-        while True:
-            changed = self._changed(marks, parts_of(self._asked(prompt)), place)
-            if changed is not None:
-                return changed
+            if count != self.wanted:
+                self._screen.tell(say("entry.longer", count=count) if count in (FEW, MANY) else said_count(count, None))
+            if self._is_continued:
+                self._screen.tell(say("entry.left_out", sign=DROP))
+        return self._again(marks, wrong_word(refusal))
+
+    def _again(self, marks: List[str], place: Optional[int]) -> List[str]:
+        """Asks for words again that are wrong: for the one at a place, or for those that the owner names by their numbers."""
+        return self._until_placed(self._prompt(place), lambda parts: self._changed(marks, parts, place), say("entry.numbers", count=len(marks)))
 
     def _changed(self, marks: List[str], parts: List[Part], place: Optional[int]) -> Optional[List[str]]:
-        """Returns the marks with what was typed in its place, or None if it has no place, and says so. As many words as there are take
-        the place of all."""
+        """Returns the marks with what was typed in its place, or None if it has no place. As many words as there are take the place of
+        all."""
         if place and len(parts) == 1:
             parts = [(parts[0][0] or place, parts[0][1])]
         numbers, count = [number for number, _ in parts], len(marks)
@@ -192,30 +252,12 @@ class Entry:
             return self._placed([], parts)
         if parts and count != self.wanted and numbers[0] in (None, count + 1):
             return self._placed(marks, parts)
-        self._fault(say("entry.numbers", count=count))
         return None
 
     def _fault(self, text: str) -> None:
         """Says what is wrong. What was typed ahead is dropped, so that it answers no question that the owner hasn't seen."""
         self._screen.drop_typed()
         self._screen.tell(text, "bad")
-
-
-def ask_paper(screen: Screen, marks: List[str]) -> Optional[Paper]:
-    """Returns the paper of marks. If words were left open, the owner says whether those that were found are right; if not, None."""
-    line = " ".join(marks)
-    if "?" not in line:
-        return paper_of(line)
-    fits = [repaired(fit) for fit in shamir.repair(line)]
-    screen.tell(say("entry.fits"))
-    for number, fit in enumerate(fits, 1):
-        if len(fits) > 1:
-            screen.tell(say("damaged.which", number=number, name=fit.name))
-        show_found(screen, fit, marks)
-    screen.tell(said_limits(marks))
-    if len(fits) == 1:
-        return fits[0] if screen.agree(say("entry.take")) else None
-    return screen.choose(say("entry.take.which"), {"0": None, "1": fits[0], "2": fits[1]})
 
 
 def said_count(count: int, wanted: Optional[int]) -> str:
@@ -232,22 +274,3 @@ def said_count(count: int, wanted: Optional[int]) -> str:
     if count < MANY:
         return say("entry.count.between", count=typed, few=FEW, many=MANY, excess=counted(count - FEW, "excess"), missing=counted(MANY - count, "missing"))
     return say("entry.count.beyond", count=typed, few=FEW, many=MANY, excess=counted(count - MANY, "excess"))
-
-
-def repaired(fit: str) -> Paper:
-    """Reads a paper that the library repaired."""
-    return dataclasses.replace(paper_of(fit), is_repaired=True)
-
-
-def said_limits(marks: Sequence[str]) -> str:
-    """Says what isn't noticed if so many words are open. A fourth mark stands behind the four letters that make a word."""
-    opened = min(OPEN_MAX, sum(mark.endswith("?") for mark in marks))
-    return say("damaged.limits", case=say(f"damaged.limits.{opened}"))
-
-
-def show_found(screen: Screen, fit: Paper, marks: Sequence[str]) -> None:
-    """Shows the words of a paper where they differ from what was typed."""
-    found = [(number, word) for number, (word, mark) in enumerate(zip(fit.words, marks), 1) if word != mark]
-    for number, word in found:
-        screen.item(f"{say('entry.place', number=number)}: {word}")
-    screen.gap()

@@ -53,10 +53,13 @@ class Line:
         self._terminal, self._prompt = terminal, prompt
         self._complete, self._is_hidden = complete, is_hidden
         self._typed = bytearray(begun)
+        self._is_asked = False
 
     def read(self) -> bytearray:
-        """Returns what is typed, without its end."""
-        self._terminal.write(self._prompt + ("" if self._is_hidden else _shown(self._typed)))
+        """Returns what is typed, without its end. After Ended, it may be called again, and goes on."""
+        if not self._is_asked:
+            self._is_asked = True
+            self._terminal.write(self._prompt + ("" if self._is_hidden else _shown(self._typed)))
         while True:
             key = self._terminal.key()
             if key in ENTER:

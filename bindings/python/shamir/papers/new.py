@@ -1,42 +1,47 @@
 """The task 'new': a plan, a secret, a passphrase, the papers one by one, typed back, drilled, and the fingerprint."""
 from __future__ import annotations
 
+import re
 from typing import List, Optional, Tuple
 
 import shamir
 from shamir.papers.desk import Desk, Paper, derivation_seconds
 from shamir.papers.drill import LONG_EXPONENT, measured, run_drill
 from shamir.papers.line import wipe
-from shamir.papers.plan import Plan, plan_of, said_plan, said_takes
+from shamir.papers.plan import Plan, plan_of, said_plan, said_risks, said_takes
 from shamir.papers.questions import ask_new_passphrase
 from shamir.papers.refusals import said_refusal
 from shamir.papers.screen import Back, Screen, Stopped
 from shamir.papers.secret import Choices, ask_secret
-from shamir.papers.shown import show_paper, type_back
+from shamir.papers.shown import Shown, show_paper, type_back
 from shamir.papers.texts import said_time, say
 
 PROPOSALS = {"1": ("two", "2of3"), "2": ("three", "3of5"), "3": ("home", "2/2of3,1of1,1of1")}
+
+GROUPS = re.compile(r"\d+of\d+(,\d+of\d+)+")
 
 
 def make_backup(screen: Screen, desk: Desk, given: Optional[str]) -> None:
     """Makes a backup. `given` is the plan that the command named, if it did. The owner may go back to the tasks."""
     choices = Choices()
     plan, papers, fingerprint = _plan_and_papers(screen, desk, given, choices)
-    count, desk.is_unfinished = len(papers), True
-    places = [say("paper.place", number=number, count=count) for number in range(1, count + 1)]
-    for paper, place in zip(papers, places):
-        show_paper(screen, paper, said_takes(plan, paper.name), place)
+    count, desk.written = len(papers), "unfinished"
+    screen.hold(say("end.unfinished"))
+    shown = [Shown(paper, said_takes(plan, paper.name), say("paper.place", number=number, count=count)) for number, paper in enumerate(papers, 1)]
+    for it in shown:
+        show_paper(screen, it)
     screen.clear(say("back.begin.title"))
     screen.tell(say("back.begin"))
     screen.pause(say("screen.next"))
-    for paper, place in zip(papers, places):
-        while not type_back(screen, desk, paper, place):
-            show_paper(screen, paper, said_takes(plan, paper.name), place)
+    for it in shown:
+        type_back(screen, desk, it)
     is_done = _drill_until_done(screen, desk, fingerprint)
     papers.clear()
+    shown.clear()
     desk.clear()
-    desk.is_unfinished = not is_done
+    screen.hold("")
     if is_done:
+        desk.written = "made"
         _tell_done(screen, plan, choices, fingerprint)
 
 
@@ -56,7 +61,10 @@ def _fault_of(text: str) -> str:
         shamir.random_needed(text, 16)
         return ""
     except shamir.Refusal as refusal:
-        return said_refusal(refusal)
+        # In a plan of groups, what comes before them is easily forgotten.
+        whole = f"{text.count(',') + 1}/{text}"
+        hint = say("new.plan.groups", plan=whole) if GROUPS.fullmatch(text) and not _fault_of(whole) else ""
+        return " ".join(filter(None, [said_refusal(refusal), hint]))
 
 
 def _ask_plan(screen: Screen, given: Optional[str]) -> Plan:
@@ -91,9 +99,13 @@ def _create(screen: Screen, desk: Desk, plan: Plan, choices: Choices) -> Tuple[L
     while True:
         screen.clear(say("make.secret"))
         screen.tell(said_plan(plan))
+        risks = said_risks(plan)
+        if risks:
+            screen.tell(risks, "strong")
         secret = ask_secret(screen, choices)
         try:
-            desk.set_passphrase(ask_new_passphrase(screen))
+            # The digits that were typed would be lost on the way back.
+            desk.set_passphrase(ask_new_passphrase(screen, has_back=not choices.is_own))
             return _made(screen, desk, plan, secret, choices)
         except Stopped:
             screen.tell_next(say("make.stopped"))
@@ -136,7 +148,9 @@ def _tell_done(screen: Screen, plan: Plan, choices: Choices, fingerprint: str) -
     screen.tell(say("noted.new"))
     screen.tell(say("noted.own" if choices.is_own else "noted.drawn"))
     screen.tell(say("noted.apart"))
+    screen.hold(say("end.made"))
     screen.pause(say("noted.done.own" if choices.is_own else "noted.done"))
+    screen.hold("")
     screen.clear(say("make.done"))
     screen.tell(said_plan(plan), "good")
     screen.tell(say("make.keep"))

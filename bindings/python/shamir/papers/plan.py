@@ -6,7 +6,7 @@ from __future__ import annotations
 
 import re
 from dataclasses import dataclass
-from typing import Iterator, List, Tuple
+from typing import Iterator, List, Sequence, Tuple
 
 from shamir.papers.desk import Paper
 from shamir.papers.texts import counted, say
@@ -64,6 +64,38 @@ def _groups(plan: Plan) -> Iterator[str]:
     if len(plan.groups) > 1:
         said = (say("plan.group", group=at, members=_members(*group)) for at, group in enumerate(plan.groups))
         yield "; ".join(said) + "."
+
+
+def said_risks(plan: Plan) -> str:
+    """Says which papers may not be lost, and which are enough alone. If there are none, says nothing."""
+    return " ".join([*_losses(plan), *_thefts(plan)])
+
+
+def _losses(plan: Plan) -> Iterator[str]:
+    """Says without which papers nothing recovers the secret: each of a group that needs all of its papers, if each group is needed."""
+    if plan.needed < len(plan.groups):
+        return
+    alone = [f"{at}.0" for at, (_, members) in enumerate(plan.groups) if members == 1]
+    if alone:
+        yield say(f"plan.lost.{_form(alone)}", names=", ".join(alone))
+    for at, (needed, members) in enumerate(plan.groups):
+        if needed == members > 1:
+            yield say("plan.lost.any" if len(plan.groups) == 1 else "plan.lost.group", group=at)
+
+
+def _thefts(plan: Plan) -> Iterator[str]:
+    """Says where one paper is enough."""
+    groups = [at for at, (needed, _) in enumerate(plan.groups) if needed == 1]
+    if not groups:
+        return
+    if plan.needed == 1:
+        yield say(f"plan.found.{_form(groups)}", names=", ".join(f"{at}.0" for at in groups))
+    else:
+        yield say(f"plan.found.group.{_form(groups)}", groups=", ".join(map(str, groups)))
+
+
+def _form(names: Sequence[object]) -> str:
+    return "one" if len(names) == 1 else "many"
 
 
 def said_takes(plan: Plan, name: str) -> str:

@@ -4,6 +4,7 @@ from __future__ import annotations
 import re
 
 import shamir
+from shamir.papers.desk import Desk
 from shamir.papers.line import wipe
 from shamir.papers.refusals import said_refusal
 from shamir.papers.screen import Screen
@@ -25,33 +26,57 @@ def _ask_right(screen: Screen, prompt: str) -> bytearray:
     while True:
         typed = screen.ask_hidden(prompt)
         fault = _fault_of(typed)
-        if not fault:
+        if not fault and _is_meant(screen, typed):
             return typed
         wipe(typed)
-        screen.tell(fault, "bad")
+        if fault:
+            screen.tell(fault, "bad")
 
 
-def ask_passphrase(screen: Screen) -> bytearray:
-    """Asks for the passphrase of a backup. It may be empty."""
+def _is_meant(screen: Screen, typed: bytearray) -> bool:
+    """Whether a passphrase is as the owner wants it. A space at its end isn't seen, and makes it another one."""
+    for key, edge in [("passphrase.space.first", typed[:1]), ("passphrase.space.last", typed[-1:])]:
+        if edge == b" " and not screen.agree(say(key)):
+            return False
+    return True
+
+
+def ask_passphrase(screen: Screen, desk: Desk) -> str:
+    """Asks for the passphrase of a backup, which may be empty, and for the fingerprint that was noted. Returns the fingerprint, or an
+    empty text if there is none. Nothing else shows then whether the passphrase is mistyped, so it is typed twice."""
     screen.tell(say("passphrase.why"))
-    return _ask_right(screen, say("passphrase.ask"))
+    while True:
+        desk.set_passphrase(_ask_right(screen, say("passphrase.ask")))
+        noted = ask_noted(screen)
+        if noted or not desk.passphrase:
+            return noted
+        screen.tell(say("passphrase.twice"))
+        if _is_typed_again(screen, desk.passphrase):
+            return noted
+        screen.tell(say("passphrase.differ"), "bad")
 
 
-def ask_new_passphrase(screen: Screen) -> bytearray:
-    """Asks for a passphrase twice, until both are the same, or until there is to be none. Before that, the owner may go back."""
+def _is_typed_again(screen: Screen, passphrase: bytearray) -> bool:
+    """Whether the owner types a passphrase the same once more."""
+    again = screen.ask_hidden(say("new.passphrase.again"))
+    is_same = passphrase == again
+    wipe(again)
+    return is_same
+
+
+def ask_new_passphrase(screen: Screen, has_back: bool) -> bytearray:
+    """Asks for a passphrase twice, until both are the same, or until there is to be none. `has_back` says that the owner may go back
+    before that."""
     screen.clear(say("make.passphrase"))
     screen.tell(say("passphrase.new"))
     screen.tell(say("passphrase.hint"))
     while True:
         first = _ask_right(screen, say("new.passphrase"))
         if not first:
-            if screen.agree(say("new.passphrase.none"), has_back=True):
+            if screen.agree(say("new.passphrase.none"), has_back):
                 return first
             continue
-        again = screen.ask_hidden(say("new.passphrase.again"))
-        is_same = first == again
-        wipe(again)
-        if is_same:
+        if _is_typed_again(screen, first):
             return first
         wipe(first)
         screen.tell(say("passphrase.differ"), "bad")

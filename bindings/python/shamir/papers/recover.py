@@ -5,11 +5,11 @@ from typing import Union
 
 import shamir
 from shamir.papers.check import ask_next
-from shamir.papers.collect import ask_for_more, collect
+from shamir.papers.collect import ask_for_more, collect, tell_damaged
 from shamir.papers.desk import Desk
 from shamir.papers.drill import warned_time
 from shamir.papers.line import wipe
-from shamir.papers.questions import ask_noted, ask_passphrase
+from shamir.papers.questions import ask_passphrase
 from shamir.papers.quorums import Tried, gives
 from shamir.papers.refusals import said_refusal
 from shamir.papers.screen import Screen, Stopped
@@ -33,12 +33,11 @@ def _recover(screen: Screen, desk: Desk) -> str:
     """Asks for the passphrase, and recovers the secret. Returns what the owner wants then."""
     while True:
         screen.clear(say("recover.passphrase"))
-        desk.set_passphrase(ask_passphrase(screen))
-        noted = ask_noted(screen)
+        noted = ask_passphrase(screen, desk)
         screen.gap()
         warned_time(screen, desk.papers[0])
         found = _recovered(screen, desk)
-        answer = _tell(screen, found, noted) if isinstance(found, bytearray) else _tell_failed(screen, found)
+        answer = _tell(screen, desk, found, noted) if isinstance(found, bytearray) else _tell_failed(screen, found)
         if answer != "t":
             return answer
 
@@ -63,7 +62,7 @@ def _tell_failed(screen: Screen, error: Union[Stopped, shamir.Refusal]) -> str:
     return ask_next(screen, "papers")
 
 
-def _tell(screen: Screen, secret: bytearray, noted: str) -> str:
+def _tell(screen: Screen, desk: Desk, secret: bytearray, noted: str) -> str:
     """Says which secret was recovered. Its digits are offered unless it is known to be another one than the owner's."""
     try:
         fingerprint = shamir.fingerprint(secret)
@@ -77,6 +76,7 @@ def _tell(screen: Screen, secret: bytearray, noted: str) -> str:
             _show(screen, secret)
     finally:
         wipe(secret)
+    tell_damaged(screen, desk)
     return ask_next(screen, "good" if which == "same" else "unnoted")
 
 

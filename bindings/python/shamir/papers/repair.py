@@ -1,12 +1,13 @@
 """The task 'repair': the library finds the words of a damaged paper that can't be read, or says where words may be wrong."""
 from __future__ import annotations
 
-from typing import List, Optional
+from typing import List, Optional, Tuple
 
 import shamir
 from shamir.papers.check import collect_and_check
 from shamir.papers.desk import Desk, Paper, paper_of
-from shamir.papers.entry import Entry, repaired, said_limits, show_found
+from shamir.papers.entry import Entry
+from shamir.papers.found import repaired, said_limits, show_found
 from shamir.papers.plan import said_takes_alone
 from shamir.papers.screen import Screen
 from shamir.papers.shown import write_and_type_back
@@ -19,6 +20,8 @@ def read_damaged(screen: Screen, desk: Desk) -> None:
     paper = _ask_damaged(screen)
     if paper is None:
         return
+    desk.written = "repaired"
+    screen.hold(say("end.repaired"))
     write_and_type_back(screen, desk, paper, said_takes_alone(paper))
     collect_and_check(screen, desk, say("damaged.check.title"), say("damaged.check.intro"), say("damaged.too_few"))
 
@@ -32,18 +35,27 @@ def _ask_damaged(screen: Screen) -> Optional[Paper]:
         screen.item(say("damaged.nothing"))
         screen.gap()
         screen.tell(say("damaged.first"))
-        marks = Entry(screen, task="damaged").read(say("damaged.ask"))
-        if not marks or marks[0].startswith(DROP):
-            continue
-        line = " ".join(marks)
-        fits = [repaired(fit) for fit in shamir.repair(line)] if "?" in line else [paper_of(line)]
-        chosen = _tell(screen, fits, marks)
+        entry = Entry(screen, task="damaged")
+        marks = entry.read(say("damaged.ask"))
+        chosen, fits = _choose(screen, entry, [] if marks and marks[0].startswith(DROP) else marks)
         if chosen != "again":
             return None if chosen == "end" else fits[int(chosen)]
 
 
+def _choose(screen: Screen, entry: Entry, marks: List[str]) -> Tuple[str, List[Paper]]:
+    """Shows the papers that fit marks, until the owner changes no more words. Returns what the owner chose, and these papers."""
+    while marks:
+        line = " ".join(marks)
+        fits = [repaired(fit) for fit in shamir.repair(line)] if "?" in line else [paper_of(line)]
+        chosen = _tell(screen, fits, marks)
+        if chosen != "change":
+            return chosen, fits
+        marks = entry.changed(marks)
+    return "again", []
+
+
 def _tell(screen: Screen, fits: List[Paper], marks: List[str]) -> str:
-    """Shows the papers that fit. Returns the place of the one to be written anew, or 'again' or 'end'."""
+    """Shows the papers that fit. Returns the place of the one to be written anew, or 'change', 'again' or 'end'."""
     is_two = len(fits) > 1
     screen.tell(say("damaged.two") if is_two else say("damaged.one", name=fits[0].name), "good")
     if is_two:
@@ -60,5 +72,5 @@ def _tell(screen: Screen, fits: List[Paper], marks: List[str]) -> str:
         screen.tell(say("damaged.whole"))
     screen.tell(say("damaged.next"))
     # Enter alone is no answer, so that nothing that was found is lost by it.
-    answers = {**({"1": "0", "2": "1"} if is_two else {"w": "0"}), "t": "again", "e": "end"}
+    answers = {**({"1": "0", "2": "1"} if is_two else {"w": "0"}), "c": "change", "t": "again", "e": "end"}
     return screen.choose(say("damaged.menu.two" if is_two else "damaged.menu"), answers)

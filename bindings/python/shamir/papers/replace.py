@@ -20,9 +20,11 @@ GROUP = re.compile(r"(\d+)(\.\d+)?")
 
 
 class Missing:
-    """The papers that are missing: those that can be written, and for each other one what it takes."""
+    """The papers that are missing: those that can be written, and for each other one what it takes. `said` says which numbers of papers
+    this rests on."""
 
-    def __init__(self) -> None:
+    def __init__(self, said: List[str]) -> None:
+        self.said = said
         self.found: Dict[str, Paper] = {}
         self.untold: Dict[str, List[str]] = {}
 
@@ -38,18 +40,30 @@ def replace_paper(screen: Screen, desk: Desk) -> None:
         _advise(screen)
         return
     while True:
-        collect(screen, desk, say("replace.title"), say("replace.intro"))
+        collect(screen, desk, say("replace.title"), say("replace.intro"), "replace")
         if not _may_determine(desk.status()):
             told = say("replace.none_yet.only" if desk.papers[0].group_count == 1 else "replace.none_yet")
-            if not ask_for_more(screen, desk, say("replace.few"), told, False):
+            if not ask_for_more(screen, desk, say("replace.few"), told, False, "replace"):
                 return
             continue
+        if not _plan_and_write(screen, desk) and not _drill(screen, desk):
+            return
+
+
+def _plan_and_write(screen: Screen, desk: Desk) -> bool:
+    """Asks for the plan, and lets the owner write missing papers. Returns whether the owner wants to go back to the papers. From what is
+    missing, the owner may go back to the plan."""
+    while True:
         try:
             plan, missing = _plan_and_missing(screen, desk)
         except Back:
-            continue
-        if not _write(screen, desk, plan, missing) and not _drill(screen, desk):
-            return
+            return True
+        try:
+            return _write(screen, desk, plan, missing)
+        except Back:
+            if not missing.said and len(plan.groups) == 1:
+                # Nothing was asked.
+                return True
 
 
 def _may_determine(status: shamir.Status) -> bool:
@@ -155,7 +169,7 @@ def _missing(desk: Desk, plan: Plan, wanted: Set[int]) -> Missing:
     then says whether the plan fits the papers."""
     here = [paper.name for paper in desk.papers]
     names = [name for name in plan.names if name not in here and int(name.split(".")[0]) in wanted]
-    missing = Missing()
+    missing = Missing(_said_numbers(desk, plan, wanted))
     for name in names or here[:1]:
         try:
             found = desk.reissue(plan.text, name)
@@ -170,8 +184,17 @@ def _missing(desk: Desk, plan: Plan, wanted: Set[int]) -> Missing:
     return missing
 
 
+def _said_numbers(desk: Desk, plan: Plan, wanted: Set[int]) -> List[str]:
+    """Says for each group how many papers the owner gave it, and which these are."""
+    asked = [it.group for it in desk.status().groups if it.group in wanted and it.threshold > 1]
+    key = "replace.said.only" if len(plan.groups) == 1 else "replace.said"
+    numbers = [(group, plan.groups[group][1]) for group in asked]
+    return [say(key, group=group, papers=counted(count, "paper"), first=f"{group}.0", last=f"{group}.{count - 1}") for group, count in numbers]
+
+
 def _write(screen: Screen, desk: Desk, plan: Plan, missing: Missing) -> bool:
-    """Lets the owner write missing papers, as many as are wanted. Returns whether the owner wants to go back to the papers."""
+    """Lets the owner write missing papers, as many as are wanted. Returns whether the owner wants to go back to the papers. The owner may
+    also go back to the plan."""
     while True:
         chosen = _ask_which(screen, missing)
         if chosen == "papers":
@@ -179,12 +202,16 @@ def _write(screen: Screen, desk: Desk, plan: Plan, missing: Missing) -> bool:
         paper = missing.found.pop(chosen, None)
         if paper is None:
             return False
+        desk.written = "replaced"
+        screen.hold(say("end.replaced"))
         write_and_type_back(screen, desk, paper, said_takes(plan, paper.name))
 
 
 def _ask_which(screen: Screen, missing: Missing) -> str:
     """Lists the missing papers. Returns the name of the one to write down, or 'papers' or 'drill'."""
     screen.clear(say("replace.which"))
+    for text in missing.said:
+        screen.tell(text)
     if missing.found:
         screen.tell(say("replace.found", names=", ".join(missing.found)))
     else:
@@ -193,6 +220,8 @@ def _ask_which(screen: Screen, missing: Missing) -> str:
         screen.item(f"{', '.join(names)}: {text}")
     if missing.untold:
         screen.gap()
+    if missing.said:
+        screen.tell(say("replace.had" if missing.found or missing.untold else "replace.had.all"))
     answers = [(name, say("replace.menu.write", name=name)) for name in missing.found]
     answers += [("papers", say("replace.menu.papers"))] if missing.untold else []
     answers += [("drill", say("replace.menu.drill"))]
@@ -200,7 +229,7 @@ def _ask_which(screen: Screen, missing: Missing) -> str:
         screen.item(label, f"{number:>2}  ")
     screen.gap()
     chosen = {**{str(number): key for number, (key, _) in enumerate(answers, 1)}, **{name: name for name in missing.found}}
-    return screen.choose(say("replace.choose"), chosen, _likely(answers))
+    return screen.choose(say("replace.choose"), chosen, _likely(answers), has_back=True)
 
 
 def _likely(answers: List[Tuple[str, str]]) -> Optional[str]:

@@ -5,13 +5,14 @@ If more is shown than fits, the screen waits for Enter before the first lines le
 from __future__ import annotations
 
 import os
+import signal
 import textwrap
 import threading
 import time
 from typing import Callable, Dict, Generic, Iterable, List, Optional, Sequence, TypeVar
 
 from shamir.papers.line import Completer, Line, first_key, wipe
-from shamir.papers.terminal import Terminal
+from shamir.papers.terminal import Ended, Terminal
 from shamir.papers.texts import said_time, say
 
 T = TypeVar("T")
@@ -47,6 +48,8 @@ class Screen:
         self._notice = ""
         # What was typed where the screen was full: the begin of the next answer.
         self._begun = bytearray()
+        # What would be lost if the owner ended now.
+        self._held = ""
 
     @property
     def _width(self) -> int:
@@ -60,6 +63,35 @@ class Screen:
         if title and self._notice:
             self.tell(self._notice, "good")
             self._notice = ""
+
+    def hold(self, text: str) -> None:
+        """From now on, Ctrl-C and Ctrl-D say this, and ask before they end. An empty text lets them end at once."""
+        self._held, self._terminal.is_held = text, bool(text)
+
+    def _stay(self, by: Ended) -> None:
+        """Asks whether to end, if something would be lost. If the owner stays, the screen is again as it was."""
+        if by.number != signal.SIGINT or not self._held:
+            raise by
+        held, rows, begun = self._held, self._rows, self._begun
+        # At this question, Ctrl-C ends at once.
+        self.hold("")
+        with self._terminal.aside():
+            self._rows, self._begun = 0, bytearray()
+            self.tell(say("end.title"), "title")
+            self.tell(held)
+            self.drop_typed()
+            if self.agree(say("end.ask")):
+                raise by
+        self._rows, self._begun = rows, begun
+        self.hold(held)
+
+    def _held_on(self, call: Callable[[], T]) -> T:
+        """Returns what a call gives that waits for keys. If the owner wants to end, but stays, it is called again."""
+        while True:
+            try:
+                return call()
+            except Ended as by:
+                self._stay(by)
 
     def tell_next(self, text: str) -> None:
         """Shows a paragraph on the next screen, after its title."""
@@ -108,8 +140,9 @@ class Screen:
         self.rows(" ".join(parts[at : at + columns]) for at in range(0, len(parts), columns))
         self.gap()
 
-    def ask(self, prompt: str, complete: Optional[Completer] = None, has_back: bool = False) -> str:
-        """Asks, and returns what is typed. `has_back` says that the owner may go back instead."""
+    def ask(self, prompt: str, complete: Optional[Completer] = None, has_back: bool = False, begun: str = "") -> str:
+        """Asks, and returns what is typed. `has_back` says that the owner may go back instead. `begun` stands in the line already."""
+        self._begun = bytearray(begun.encode()) + self._begun
         typed = self._read(prompt, complete, False).decode("utf-8", "replace")
         if has_back and typed.strip().lower() == BACK:
             raise Back
@@ -126,7 +159,7 @@ class Screen:
         *above, last = wrapped(prompt, self._width - 1) or [""]
         self.rows(above)
         begun, self._begun = self._begun, bytearray()
-        typed = Line(self._terminal, last + " ", complete, is_hidden, begun).read()
+        typed = self._held_on(Line(self._terminal, last + " ", complete, is_hidden, begun).read)
         self._rows = 0
         return typed
 
@@ -144,17 +177,20 @@ class Screen:
         how = say("screen.yes.back" if has_back else "screen.yes")
         return self.choose(f"{prompt} {how}", {"y": True, "yes": True, "n": False, "no": False}, has_back=has_back)
 
-    def pause(self, prompt: str) -> None:
-        """Waits for Enter. What was typed before doesn't count."""
+    def pause(self, prompt: str) -> bool:
+        """Waits for Enter, and returns whether it came alone. What was typed before doesn't count."""
         self.drop_typed()
-        self._read(prompt, None, True)
+        typed = self._read(prompt, None, True)
+        is_alone = not typed.strip()
+        wipe(typed)
+        return is_alone
 
     def _more(self) -> None:
         """Waits until the owner has read what is shown, and takes the question for that away. A key other than Enter goes on too, and
         is the first one of the answer to the question that follows."""
         self._terminal.drop_typed()
         self._terminal.write(say("screen.more") + " ")
-        self._begun += first_key(self._terminal)
+        self._begun += self._held_on(lambda: first_key(self._terminal))
         self._terminal.write("\n" if self._terminal.is_plain else "\r\x1b[J")
         self._rows = 0
 
@@ -173,6 +209,7 @@ class Screen:
         begun, told = time.monotonic(), 0
         self.drop_typed()
         while not work.ended.wait(0.05):
+            self._held_on(self._terminal.heed_interrupt)
             passed = time.monotonic() - begun
             if is_stoppable and self._terminal.is_typed(0) and self._terminal.key() in b"\r\n":
                 raise Stopped

@@ -106,8 +106,9 @@ def _fault_of(typed: bytearray) -> str:
     try:
         if not digits:
             return say("secret.missing")
-        if any(digit not in HEXADECIMAL for digit in digits):
-            return say("secret.not_hex")
+        wrong = next((at for at, digit in enumerate(digits, 1) if digit not in HEXADECIMAL), 0)
+        if wrong:
+            return say("secret.not_hex", place=wrong)
         if len(digits) % 2:
             return say("secret.odd", digits=len(digits))
         shamir.random_needed("1of1", len(digits) // 2)

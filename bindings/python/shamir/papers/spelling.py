@@ -3,7 +3,8 @@ from __future__ import annotations
 
 import difflib
 import re
-from typing import Iterator, List, Optional, Sequence, Tuple
+from dataclasses import dataclass, field
+from typing import Dict, Iterator, List, Optional, Sequence, Tuple
 
 # A BIP-39 backup most often has one of these numbers of words.
 BIP39_COUNTS = (12, 24)
@@ -14,19 +15,23 @@ DROP = "-"
 TAKEN_OUT = re.compile(r"-\s*(\d+\.\d+)")
 # What stands above the words of a paper. 'paper' is a word of the list too.
 HEADING = re.compile(r"slip-?0*39|paper\s+\d+\.\d+")
-# No paper has more words.
-MOST = 110
+# No paper has more words, and none has fewer.
+MOST, LEAST = 110, 20
 
 # The number that stands before a word, or None, and the word, or a mark with a question mark.
 Part = Tuple[Optional[int], str]
 
 
-class Misplaced(Exception):
-    """A number before a word can't be obeyed: two words have it, or no word of a paper."""
+@dataclass(frozen=True)
+class Misplaced:
+    """Words that have no place: several have one number, or no word of a paper has that number."""
 
-    def __init__(self, number: int):
-        super().__init__(number)
-        self.number, self.is_twice = number, 1 <= number <= MOST
+    number: int
+    words: Tuple[str, ...] = field(repr=False)
+
+    @property
+    def is_twice(self) -> bool:
+        return 1 <= self.number <= MOST
 
 
 def parts_of(text: str) -> List[Part]:
@@ -46,22 +51,51 @@ def _parts(pieces: Sequence[str]) -> Iterator[Part]:
             number = None
 
 
-def marks_of(text: str) -> List[str]:
-    """Returns the words and marks of a text, without the numbers before them."""
-    return [mark for _, mark in parts_of(text)]
-
-
-def placed(marks: Sequence[str], parts: Sequence[Part]) -> List[str]:
-    """Returns marks with further ones at the places that their numbers name. An empty text stands at a place that is still empty. A
-    mark without a number comes after the one before it, and the first of all to the first empty place."""
+def placed(marks: Sequence[str], parts: Sequence[Part]) -> Tuple[List[str], List[Misplaced]]:
+    """Returns marks with further ones at the places that their numbers name, and those that have no place. An empty text stands at a place
+    that is still empty, or for which there is more than one. A mark without a number comes after the one before it, and the first of all
+    to the first empty place."""
     found = {number: mark for number, mark in enumerate(marks, 1) if mark}
+    misplaced: Dict[int, List[str]] = {}
     number = next(at for at in range(len(found) + 1) if at + 1 not in found)
     for given, mark in parts:
         number = number + 1 if given is None else given
-        if number in found or (given is not None and not 1 <= given <= MOST):
-            raise Misplaced(number)
-        found[number] = mark
+        is_beyond = not 1 <= number <= MOST and (given is not None or number - 1 in misplaced)
+        if is_beyond or number in misplaced:
+            misplaced.setdefault(number, []).append(mark)
+        elif found.setdefault(number, mark) != mark:
+            misplaced[number] = [found.pop(number), mark]
+    return _row(found), [Misplaced(number, tuple(words)) for number, words in misplaced.items()]
+
+
+def continued(marks: Sequence[str], number: int, parts: Sequence[Part]) -> Optional[List[str]]:
+    """Returns marks with what was typed where one is asked for: the word with that number, and perhaps words that follow, at places that
+    are empty or have the same word. If nothing was typed, or it contradicts another word, returns None. As many words as a whole paper has
+    take the place of all."""
+    if len(parts) == len(marks) >= LEAST:
+        return placed([], parts)[0]
+    found = {at: mark for at, mark in enumerate(marks, 1) if mark and at != number}
+    at = number - 1
+    for given, mark in parts:
+        at = at + 1 if given is None else given
+        if not 1 <= at <= MOST or found.setdefault(at, mark) != mark:
+            return None
+    return _row(found) if parts else None
+
+
+def without(marks: Sequence[str], numbers: Sequence[int]) -> List[str]:
+    """Returns marks without those that have these numbers."""
+    return [mark for number, mark in enumerate(marks, 1) if number not in numbers]
+
+
+def _row(found: Dict[int, str]) -> List[str]:
     return [found.get(at, "") for at in range(1, max(found, default=0) + 1)]
+
+
+def numbers_of(text: str) -> List[int]:
+    """Returns the numbers of a text that has nothing else, and else none."""
+    pieces = [piece for piece in re.split(r"[\s,.]+", text) if piece]
+    return [int(piece) for piece in pieces] if all(piece.isdecimal() and piece.isascii() for piece in pieces) else []
 
 
 def said_empty(marks: Sequence[str]) -> str:

@@ -5,12 +5,13 @@ line editor shows what may be shown.
 """
 from __future__ import annotations
 
+import contextlib
 import os
 import select
 import signal
 import termios
 from types import FrameType
-from typing import List, Optional
+from typing import Iterator, List, Optional
 
 ENDING = (signal.SIGINT, signal.SIGTERM, signal.SIGHUP, signal.SIGQUIT)
 SIZE_UNKNOWN = os.terminal_size((80, 24))
@@ -45,6 +46,9 @@ class Terminal:
         self._woken, self._waking = os.pipe2(os.O_NONBLOCK | os.O_CLOEXEC)
         # What was written since the screen was cleared, to be written again after a stop.
         self._written: List[str] = []
+        # Whether Ctrl-C ends only a wait for a key or for a work, so that the owner can be asked.
+        self.is_held = False
+        self._is_interrupted = False
 
     def open(self) -> None:
         """Shows the alternate screen, and takes over the signals."""
@@ -88,7 +92,25 @@ class Terminal:
                 pass
 
     def _end(self, number: int, frame: Optional[FrameType]) -> None:
-        raise Ended(number)
+        if number != signal.SIGINT or not self.is_held:
+            raise Ended(number)
+        self._is_interrupted = True
+
+    def heed_interrupt(self) -> None:
+        """Raises Ended if the owner pressed Ctrl-C while that is held back."""
+        if self._is_interrupted:
+            self._is_interrupted = False
+            raise Ended(signal.SIGINT)
+
+    @contextlib.contextmanager
+    def aside(self) -> Iterator[None]:
+        """Clears the screen for something else, and then shows again what was there."""
+        written, self._written = self._written, []
+        self.clear()
+        yield
+        self.clear()
+        for text in written:
+            self.write(text)
 
     def _stop(self, number: int, frame: Optional[FrameType]) -> None:
         """Hides the screen, stops as the signal asks, and shows the screen again when the program goes on."""
@@ -130,6 +152,7 @@ class Terminal:
         """Returns the next byte that is typed."""
         while self._source not in select.select([self._source, self._woken], [], [])[0]:
             os.read(self._woken, 64)
+            self.heed_interrupt()
         try:
             typed = os.read(self._source, 1)
         except OSError:

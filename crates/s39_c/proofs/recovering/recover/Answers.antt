@@ -1,4 +1,4 @@
-use Rattle.std.proofs.Common.{◌≡◌, ◌≢◌, ◌∙◌, [], ap, false, true, inl, inr, length, None, Some, arith, sym, true≢false}
+use Rattle.std.proofs.Common.{◌≡◌, [], inr, length, None, arith}
 use Rattle.std.proofs.lemmas.List.{nil_from_length}
 use Rattle.s39_backup.proofs.Combined.{none_from_test}
 use Rattle.s39_c.proofs.recovering.recover.Goals as goal

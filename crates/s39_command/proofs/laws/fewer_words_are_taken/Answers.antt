@@ -1,5 +1,7 @@
-use Rattle.s39_command.proofs.FewerDrill.{few_drill_words_are_taken}
-use Rattle.s39_command.proofs.FewerWords.{few_create_words_are_taken, few_recover_words_are_taken, reissue_words_are_taken}
+use Rattle.s39_command.proofs.CreateWords.{few_create_words_are_taken}
+use Rattle.s39_command.proofs.DrillWords.{few_drill_words_are_taken}
+use Rattle.s39_command.proofs.RecoverWords.{few_recover_words_are_taken}
+use Rattle.s39_command.proofs.ReissueWords.{reissue_words_are_taken}
 use Rattle.s39_command.proofs.laws.fewer_words_are_taken.Goals as goal
 
 pub returns : goal.returns

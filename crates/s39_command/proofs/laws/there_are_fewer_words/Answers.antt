@@ -1,7 +1,9 @@
 use Rattle.std.proofs.Common.{[], ◌∷◌, codes, false, inl, inr, pos, refl}
 use Rattle.clap.specs.declared.builder.value_parser.ValueParser.TheVariants as vp
 use Rattle.clap.proofs.ValueTestLemmas.{accepts-Accepts}
-use Rattle.s39_command.proofs.FewerWords.{create_words_are_few, drill_words_are_few, recover_words_are_few}
+use Rattle.s39_command.proofs.CreateWords.{create_words_are_few}
+use Rattle.s39_command.proofs.DrillWords.{drill_words_are_few}
+use Rattle.s39_command.proofs.RecoverWords.{recover_words_are_few}
 use Rattle.s39_command.proofs.Literals.{no_dash}
 use Rattle.s39_command.proofs.laws.there_are_fewer_words.Goals as goal
 

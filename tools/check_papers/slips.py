@@ -1,0 +1,253 @@
+"""What an owner forgets, mistypes or writes down wrongly, and what the program says and keeps then."""
+from hands import Failed, counted, say
+from refusals import NUMBERED, back_prompt, end_by_keys, started
+from tasks import FINGERPRINT, PASSPHRASE, SIGN, THREE_GROUPS, name_of, paper_prompt, short
+
+import plain
+from shamir.papers.entry import said_count
+
+TAKE = f"{say('entry.take')} (y/n)"
+
+
+def type_damaged(owner, number, line):
+    """Types a paper of which one word can't be read, and takes the word that is found."""
+    words = short(line).split()
+    owner.answer(paper_prompt(number), " ".join([*words[:6], "?", *words[7:]]))
+    owner.answer(TAKE, "y")
+
+
+def check_damaged():
+    """Papers that can't be read in full are named at the end of a check and of a recovery, and not once they are written anew."""
+    names = [name_of(line) for line in THREE_GROUPS]
+    with started("check") as owner:
+        type_damaged(owner, 1, THREE_GROUPS[0])
+        owner.answer(paper_prompt(2), "")
+        owner.wait(say("more.papers"))
+        owner.expect(say("damaged.anew.one", names=names[0]))
+        owner.answer(say("more.papers"), "")
+        type_damaged(owner, 2, THREE_GROUPS[1])
+        owner.type_paper(paper_prompt(3), THREE_GROUPS[3])
+        owner.forget()
+        owner.answer(paper_prompt(4), "")
+        owner.passphrase(PASSPHRASE, FINGERPRINT)
+        owner.wait(say("next.good"))
+        owner.expect(say("damaged.anew.many", names=", ".join(names[:2])))
+        end_by_keys(owner)
+    with started("recover") as owner:
+        owner.type_paper(paper_prompt(1), THREE_GROUPS[3])
+        type_damaged(owner, 2, THREE_GROUPS[4])
+        owner.answer(paper_prompt(3), "")
+        owner.passphrase(PASSPHRASE, FINGERPRINT)
+        owner.answer(f"{say('recover.show')} (y/n)", "n")
+        owner.wait(say("next.good"))
+        owner.expect(say("damaged.anew.one", names=names[4]))
+        end_by_keys(owner)
+    with started("repair") as owner:
+        words = THREE_GROUPS[0].split()
+        owner.answer(say("damaged.ask"), " ".join(["?" if at == 7 else word for at, word in enumerate(words)]))
+        owner.answer(say("damaged.menu"), "w")
+        owner.answer(say("new.write"), "")
+        owner.type_paper(say("back.ask", name=names[0]), THREE_GROUPS[0])
+        for number, line in enumerate(THREE_GROUPS[1:4], 2):
+            owner.type_paper(paper_prompt(number), line)
+        owner.answer(paper_prompt(5), "")
+        owner.passphrase(PASSPHRASE, FINGERPRINT)
+        owner.wait(say("next.good"))
+        if "can't be read in full" in owner.emulator.all_seen():
+            raise Failed("a paper that was written anew is still to be written anew")
+        end_by_keys(owner)
+
+
+def papers_of(plan):
+    """Returns the papers of a backup without a passphrase, by the plain reading."""
+    plan = plain.parse_plan(plan)
+    shares = plain.create(plan, bytes(range(16)), b"", 0, False, bytes(range(plain.random_needed(plan, 16))))
+    return [plain.mnemonic(share) for share in shares]
+
+
+def check_number():
+    """A number of papers that is too small, one that is too large, and the right one: each can be given again."""
+    papers, choose = papers_of("2of3"), say("replace.choose")
+    ask = say("replace.ask", needed=2)
+    with started("replace") as owner:
+        owner.answer(say("replace.how"), "1")
+        owner.type_paper(paper_prompt(1), papers[0])
+        owner.wait(paper_prompt(2))
+        owner.expect(say("replace.not_enough", needed=counted(2, "paper"), here=1))
+        owner.type_paper(paper_prompt(2), papers[1])
+        owner.wait(paper_prompt(3))
+        owner.expect(say("replace.enough"))
+        owner.answer(paper_prompt(3), "")
+        for number, texts in [
+            ("2", [say("replace.none"), say("replace.had.all")]),
+            ("5", [say("replace.found", names="0.2, 0.3, 0.4"), say("replace.had")]),
+            ("3", [say("replace.found", names="0.2"), say("replace.had")]),
+        ]:
+            owner.forget()
+            owner.answer(ask, number)
+            owner.wait(choose)
+            for text in [say("replace.said.only", papers=counted(int(number), "paper"), first="0.0", last=f"0.{int(number) - 1}"), *texts]:
+                owner.expect(text)
+            owner.answer(choose, "b" if number != "3" else "1")
+        owner.wait(say("new.write"))
+        if owner.words() != papers[2]:
+            raise Failed("the paper that is written again has other words")
+        end_by_keys(owner)
+    with started("replace") as owner:
+        owner.answer(say("replace.how"), "1")
+        owner.collect(papers_of("1of1"))
+        owner.answer(choose, "b")
+        owner.wait(paper_prompt(2))
+        end_by_keys(owner)
+
+
+def check_twice():
+    """Without a noted fingerprint, a passphrase is typed twice, and the fingerprint isn't to be noted yet."""
+    ask, again = say("passphrase.ask"), say("new.passphrase.again")
+    with started("check") as owner:
+        owner.collect(THREE_GROUPS[3:])
+        owner.answer(ask, "TREZER")
+        owner.answer(say("noted.ask"), "")
+        owner.answer(again, PASSPHRASE)
+        owner.wait(ask)
+        owner.expect(say("passphrase.twice"))
+        owner.expect(say("passphrase.differ"))
+        owner.passphrase(PASSPHRASE, "")
+        owner.wait(say("next.unnoted"))
+        owner.expect(say("noted.first"))
+        owner.answer(say("next.unnoted"), "t")
+        owner.passphrase("", "")
+        owner.wait(say("next.unnoted"))
+        end_by_keys(owner)
+
+
+def made(owner):
+    """Makes a backup of one paper, up to its words, and returns them."""
+    owner.answer(say("new.secret"), "")
+    owner.answer(say("new.passphrase"), "")
+    owner.answer(f"{say('new.passphrase.none')} {say('screen.yes.back')}", "y")
+    owner.wait(say("new.write"))
+    return owner.words().split()
+
+
+def see_again(owner, prompt, words):
+    """Lets a paper be shown again from a question, which then comes again."""
+    owner.answer(prompt, "")
+    owner.wait(say("new.write"))
+    if owner.words().split() != words:
+        raise Failed("another paper is shown again")
+    owner.answer(say("new.write"), "")
+    owner.wait(prompt)
+
+
+def check_written_wrongly():
+    """A paper that was written down wrongly: it is shown again from each question for a word, and what was typed stays. Words that are
+    typed while a paper is shown clear nothing."""
+    back, numbered = say("back.ask", name="0.0"), say("entry.numbered.back", sign=SIGN)
+    with started("new", "1of1") as owner:
+        words = made(owner)
+        owner.answer(say("new.write"), " ".join(words))
+        owner.wait(say("new.write"))
+        owner.expect(say("new.write.alone"))
+        if owner.words().split() != words:
+            raise Failed("words that are typed too early clear the paper")
+        owner.answer(say("new.write"), "")
+        owner.answer(say("screen.next"), "")
+        at = next(it for it in range(2, 19) if words[it] != words[it + 1])
+        wrong = [*words[:at], words[at + 1], words[at], *words[at + 2 :]]
+        owner.answer(back, " ".join(wrong))
+        owner.wait(numbered)
+        owner.expect(say("back.refused.13"))
+        see_again(owner, numbered, words)
+        owner.answer(numbered, f"{at + 1} {words[at]}")
+        last = back_prompt(at + 2)
+        owner.wait(last)
+        owner.expect(say("back.refused.18", first=at + 2))
+        see_again(owner, last, words)
+        owner.answer(last, "emrald")
+        owner.wait(last)
+        owner.expect("isn't in the word list (emerald")
+        see_again(owner, last, words)
+        owner.answer(last, words[at + 1])
+        owner.wait(say("noted.done"))
+        if "type ?" in owner.emulator.all_seen():
+            raise Failed("a question mark is offered where none is taken")
+        end_by_keys(owner)
+
+
+def check_sign():
+    """A sign alone, or a number, is no end of the papers."""
+    with started("check") as owner:
+        owner.type_paper(paper_prompt(1), THREE_GROUPS[0])
+        for typed in (SIGN, "12."):
+            owner.forget()
+            owner.answer(paper_prompt(2), typed)
+            owner.wait(paper_prompt(2))
+            owner.expect(say("entry.wordless"))
+        end_by_keys(owner)
+
+
+def check_left_out():
+    """A word that was left out, and typed at the end: its place can't be told, so the program says what may be."""
+    words = THREE_GROUPS[0].split()
+    with started("check") as owner:
+        owner.answer(paper_prompt(1), " ".join([*words[:6], *words[7:]]))
+        owner.answer(say("entry.on", typed=said_count(19, None), number=20, sign=SIGN), words[6])
+        owner.wait(NUMBERED)
+        owner.expect(say("refused.13"))
+        owner.expect(say("entry.left_out", sign=SIGN))
+        owner.answer(NUMBERED, THREE_GROUPS[0])
+        owner.wait(paper_prompt(2))
+        end_by_keys(owner)
+
+
+def check_plans():
+    """A plan of groups without what comes before them, and plans in which one paper matters more than the owner may think."""
+    plan = say("new.plan.choose")
+    with started("new", "3of5,1of1") as owner:
+        owner.wait(plan)
+        owner.expect(say("new.plan.groups", plan="2/3of5,1of1"))
+        owner.forget()
+        owner.answer(plan, "1of2,1of1")
+        owner.wait(plan)
+        owner.expect(say("refused.31"))
+        if "2/1of2" in owner.emulator.all_seen():
+            raise Failed("a plan is named that the program refuses")
+        for typed, texts in [
+            ("2/3of5, 1of1", [say("plan.lost.one", names="1.0"), say("plan.found.group.one", groups="1")]),
+            ("2of2", [say("plan.lost.any")]),
+            ("1/1of1,2of3", [say("plan.found.one", names="0.0")]),
+        ]:
+            owner.answer(plan, typed)
+            owner.wait(say("new.secret"))
+            for text in texts:
+                owner.expect(text)
+            owner.answer(say("new.secret"), "b")
+        owner.answer(plan, "2of3")
+        owner.forget()
+        owner.wait(say("new.secret"))
+        if "is lost, the secret is lost" in owner.emulator.all_seen():
+            raise Failed("one paper of 2of3 is said to be needed")
+        end_by_keys(owner)
+
+
+def check_spaces():
+    """A space at the beginning or the end of a passphrase is asked about."""
+    first, last = (f"{say(f'passphrase.space.{edge}')} (y/n)" for edge in ("first", "last"))
+    with started("new", "2of3") as owner:
+        owner.answer(say("new.secret"), "")
+        owner.answer(say("new.passphrase"), "TREZOR ")
+        owner.answer(last, "n")
+        owner.answer(say("new.passphrase"), " TREZOR")
+        owner.answer(first, "y")
+        owner.answer(say("new.passphrase.again"), " TREZOR")
+        owner.wait(say("new.write"))
+        end_by_keys(owner)
+
+
+CHECKS = [check_damaged, check_number, check_twice, check_written_wrongly, check_sign, check_left_out, check_plans, check_spaces]
+
+
+def check(see):
+    for one in CHECKS:
+        one()

@@ -1,0 +1,121 @@
+"""The runs of the program: each command, with good ends, with each kind of refusal, and with devices that fail."""
+from dataclasses import dataclass
+from typing import Dict, Iterator, List, Tuple
+
+import cases
+from backups import PASSPHRASE, Backup
+
+# These numbers are of the library alone: a buffer, a limit or an exponent.
+OF_A_CALL = [1, 2, 3]
+READ_FAILED, WRITE_FAILED = 72, 73
+MOST = 1024
+# A word that begins so stands for a file with the rest as its text.
+IN_FILE = "FILE:"
+
+
+@dataclass(frozen=True)
+class Run:
+    """A run of the program, the number of its refusal, or 0, and its status. Where that is 0, a command may also find that not all is
+    well, and end with 1."""
+
+    words: List[str]
+    given: bytes
+    code: int = 0
+    status: int = 0
+    is_cut: bool = False
+    is_full: bool = False
+
+    @property
+    def name(self) -> str:
+        return f"shamir {self.words[0]} with the code {self.code} and the status {self.status}"
+
+
+def placed(option: str, value: bytes, is_line: bool) -> Tuple[List[str], bytes]:
+    """Returns the words for a value in a file or in a line of the input, and this line."""
+    if is_line:
+        return [f"--{option}-file", "-"], value + b"\n"
+    return [f"--{option}-file", IN_FILE + value.decode("latin-1")], b""
+
+
+def creation(plan: str, secret: bytes, passphrase: bytes, drawn: bytes, is_line: bool, code: int, status: int) -> Run:
+    """Returns a creation. `secret` is its digits."""
+    first, line = placed("master-secret", secret, is_line)
+    second, line_after = placed("passphrase", passphrase, is_line)
+    return Run(["create", plan, *first, *second], line + line_after + drawn, code, status)
+
+
+def text(given: cases.Argument) -> str:
+    return given.decode() if isinstance(given, bytes) else str(given)
+
+
+def raw(given: cases.Argument) -> bytes:
+    return given if isinstance(given, bytes) else str(given).encode()
+
+
+def like(case: cases.Case, is_line: bool) -> Iterator[Run]:
+    """Yields the run that does what a call of the library does, if there is one."""
+    it = case.arguments
+    if case.code in OF_A_CALL:
+        return
+    status = 1 if case.code else 0
+    if case.call == "create":
+        yield creation(text(it[0]), raw(it[1]).hex().encode(), raw(it[2]), raw(it[5]), is_line, case.code, status)
+    elif case.call == "recover":
+        words, line = placed("passphrase", raw(it[1]), is_line)
+        expected = [f"--expect={text(it[3])}"] if it[3] else []
+        yield Run(["recover", *words, *expected], line + raw(it[0]), case.code, status)
+    elif case.call == "drill":
+        words, line = placed("passphrase", raw(it[1]), is_line)
+        after = [f"--after={text(it[3])}"] if it[3] else []
+        forms: Dict[cases.Argument, List[str]] = {0: [], 1: ["--fingerprint"], 2: [f"--expect={text(it[6])}"]}
+        yield Run(["drill", *words, *after, f"--limit={text(it[4])}", *forms[it[5]]], line + raw(it[0]), case.code, status)
+    elif is_line:
+        return
+    elif case.call == "reissue":
+        yield Run(["reissue", text(it[0]), text(it[1])], raw(it[2]), case.code, status)
+    elif case.call in ("status", "repair", "parse"):
+        yield Run([{"parse": "show"}.get(case.call, case.call)], raw(it[0]), case.code, status)
+
+
+def failures(backup: Backup, is_line: bool) -> Iterator[Run]:
+    """Yields runs whose values can't be taken, and runs whose devices fail."""
+    digits, drawn, lines = backup.secret.hex().encode(), backup.random, backup.lines()
+    for secret, passphrase in [
+        (digits[:-1] + b"g", PASSPHRASE),
+        (digits[:-1], PASSPHRASE),
+        (digits + MOST * b"0", PASSPHRASE),
+        (digits, PASSPHRASE + MOST * b"x"),
+    ]:
+        yield creation(backup.plan, secret, passphrase, drawn, is_line, 0, 2)
+    words, line = placed("passphrase", PASSPHRASE, is_line)
+    first, line_before = placed("master-secret", digits, is_line)
+    create = ["create", backup.plan, *first, *words]
+    yield Run(["create", backup.plan, *first, "--passphrase-file", "none"], line_before + drawn, status=3)
+    yield Run(create, line_before + line + drawn[:-1], READ_FAILED, 3, is_cut=True)
+    yield Run(create, line_before + line + drawn, WRITE_FAILED, 3, is_full=True)
+    for command in ("recover", "drill"):
+        yield Run([command, *words], line + lines, READ_FAILED, 3, is_cut=True)
+        yield Run([command, *words], line + lines, WRITE_FAILED, 3, is_full=True)
+    for plain in (["show"], ["status"], ["repair"], ["reissue", backup.plan, "0.1"]):
+        if not is_line:
+            yield Run(plain, lines, READ_FAILED, 3, is_cut=True)
+            yield Run(plain, lines, WRITE_FAILED, 3, is_full=True)
+    for refused in (["--help"], ["recover", *words, "--help"], ["recover", *words, "--limit=1"], ["no"]):
+        yield Run(refused, line + lines, status=0 if "--help" in refused else 2)
+
+
+def greatest(backup: Backup) -> Iterator[Run]:
+    """Yields the runs with the most groups and members."""
+    for case in cases.greatest(backup):
+        yield from like(case, False)
+    yield Run(["show"], backup.lines())
+    yield Run(["repair"], backup.lines())
+
+
+def all_runs() -> Iterator[Tuple[Backup, List[Run]]]:
+    for backup, made in cases.all_cases():
+        if backup.plan == cases.PLAN:
+            runs = [run for case in made for is_line in (False, True) for run in like(case, is_line)]
+            yield backup, runs + [run for is_line in (False, True) for run in failures(backup, is_line)]
+        else:
+            yield backup, list(greatest(backup))

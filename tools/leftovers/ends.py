@@ -1,0 +1,76 @@
+"""Looks for what the program leaves in memory at its end."""
+import multiprocessing
+import pathlib
+import re
+import tempfile
+from dataclasses import dataclass
+from typing import List, Tuple
+
+import backups
+import commands
+import exits
+
+REFUSAL = re.compile(rb"shamir: (?:line \d+: )?(\d\d) ")
+# Below the words of the command, this many bytes of the stack may be other than 0: the frames of `main` and of those that call
+# it, and what ends the process.
+FRAMES = 2048
+
+
+@dataclass(frozen=True)
+class Search:
+    """A search in the memory of the program at its end."""
+
+    program: str
+    needles: backups.Needles
+
+    def __call__(self, run: commands.Run) -> Tuple[List[str], int]:
+        """Runs the program. Returns what is left, and how many bytes below the words of the command the lowest is that isn't 0."""
+        end = ended(self.program, run)
+        found = REFUSAL.match(end.errors)
+        code = int(found[1]) if found else 0
+        if code != run.code or end.status != run.status and (code, run.status, end.status) != (0, 0, 1):
+            return [f"{run.name} ends with the code {code} and the status {end.status}"], 0
+        told = {f"{run.name} leaves {what} in {area.name}" for area in end.areas for _, what in self.needles.within(area.memory)}
+        lowest = max(end.lowest(area) for area in end.areas)
+        if lowest > FRAMES:
+            told.add(f"{run.name} leaves bytes other than 0 on the stack, {lowest} bytes below the words of the command")
+        return sorted(told), lowest
+
+
+def ended(program: str, run: commands.Run) -> exits.End:
+    """Runs the program, with its values in files."""
+    with tempfile.TemporaryDirectory() as folder:
+        words = [program]
+        for word in run.words:
+            if word.startswith(commands.IN_FILE):
+                path = pathlib.Path(folder, f"value{len(words)}")
+                path.write_bytes(word[len(commands.IN_FILE) :].encode("latin-1") + b"\n")
+                word = path.name
+            words.append(word)
+        return exits.ended(words, run.given, folder, run.is_cut, run.is_full)
+
+
+SEARCHES: List[Search] = []
+
+
+def begin(search: Search) -> None:
+    """Begins a process that makes runs. It gets the search as it starts, which is quicker than with each run."""
+    SEARCHES[:] = [search]
+
+
+def searched(run: commands.Run) -> Tuple[List[str], int]:
+    return SEARCHES[0](run)
+
+
+def all_leftovers(program: pathlib.Path) -> Tuple[List[str], int, int]:
+    """Makes all runs. Returns what they leave, how many they are, and the lowest byte of the stack that one leaves other than 0."""
+    told: List[str] = []
+    count = deepest = 0
+    for backup, runs in commands.all_runs():
+        search = Search(str(program.resolve()), backups.Needles(backup))
+        # Each process traces its own runs, since only the thread that started a program may trace it.
+        with multiprocessing.get_context("fork").Pool(initializer=begin, initargs=(search,)) as pool:
+            for found, lowest in pool.imap(searched, runs, chunksize=4):
+                told += [f"{len(backup.secret)} bytes: {it}" for it in found]
+                count, deepest = count + 1, max(deepest, lowest)
+    return told, count, deepest
