@@ -1,1 +1,2 @@
 //! Lemmas about lists, which the proofs of the crates above cite. There is no code.
+#![tactic(auto)]
