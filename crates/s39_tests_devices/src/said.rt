@@ -250,7 +250,7 @@ fn says_a_name_up_to_the_longest_of_a_path(rt: HostRuntime) -> Result<(), Fail> 
     for (length, told, dots) in [(4095, 4095, ""), (4096, 4092, "...")] {
         let name = "n".repeat(alloc, length)?;
         let words = ["shamir", "recover", "--passphrase-file", &name];
-        let cut = &name[..told];
+        let cut = "n".repeat(alloc, told)?;
         let message = format!(in alloc; "shamir: {cut}{dots}: entity not found\n")?;
         expect_said(&rt, alloc, (&words, "", PIPED), &[message.as_str()], 3)?;
     }
