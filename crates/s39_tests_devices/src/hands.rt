@@ -200,29 +200,39 @@ fn tries_only_an_interrupted_write_again(rt: HostRuntime) -> Result<(), Fail> {
     Ok(())
 }
 
+/// The line before a refused one is written and flushed once, at a terminal and in a pipe. The answer is this message and status.
+fn expect_flushed_line(
+    rt: &impl Abort,
+    alloc: Global,
+    fails: bool,
+    answer: (&str, u8),
+) -> Result<(), Fail> {
+    let two = lines(alloc, &[ONE_OF_ONE, "ducklin"])?;
+    let mut piped = Flushing::new(alloc, fails);
+    expect_told(&SHOW, two.as_bytes(), &mut piped, alloc, answer)?;
+    assert_eq!(rt;
+        (piped.flushes, piped.bytes.as_slice()),
+        (1, SHOWN.as_bytes())
+    );
+    let mut device = Flushing::new(alloc, fails);
+    let mut told = Vec::new(alloc);
+    let status = program_at_terminal(alloc, &SHOW, two.as_bytes(), &mut device, &mut told);
+    let (message, wanted) = answer;
+    assert_eq!(rt; (status, device.flushes), (wanted, 1));
+    assert_eq!(rt; device.bytes.as_slice(), SHOWN.as_bytes());
+    let typing = "shamir: type a mnemonic on each line, then press Ctrl-D on an empty line\n";
+    assert_eq!(rt;
+        told.as_slice().strip_prefix(typing.as_bytes()),
+        Some(message.as_bytes())
+    );
+    Ok(())
+}
+
 #[test]
 fn flushes_the_lines_before_a_refusal(rt: HostRuntime) -> Result<(), Fail> {
     let alloc = rt.alloc();
-    let two = lines(alloc, &[ONE_OF_ONE, "ducklin"])?;
-    let typing = "shamir: type a mnemonic on each line, then press Ctrl-D on an empty line\n";
     let refused = "shamir: line 2: 11 unknown word 1\n";
+    expect_flushed_line(&rt, alloc, false, (refused, 1))?;
     // If the flush fails, the answer is that the write failed.
-    for (fails, message, wanted) in [(false, refused, 1), (true, WRITE_FAILED_LINE, 3)] {
-        let mut device = Flushing::new(alloc, fails);
-        let mut told = Vec::new(alloc);
-        let status = program_at_terminal(alloc, &SHOW, two.as_bytes(), &mut device, &mut told);
-        assert_eq!(rt; (status, device.flushes), (wanted, 1));
-        assert_eq!(rt; device.bytes.as_slice(), SHOWN.as_bytes());
-        assert_eq!(rt;
-            told.as_slice().strip_prefix(typing.as_bytes()),
-            Some(message.as_bytes())
-        );
-        let mut piped = Flushing::new(alloc, fails);
-        expect_told(&SHOW, two.as_bytes(), &mut piped, alloc, (message, wanted))?;
-        assert_eq!(rt;
-            (piped.flushes, piped.bytes.as_slice()),
-            (1, SHOWN.as_bytes())
-        );
-    }
-    Ok(())
+    expect_flushed_line(&rt, alloc, true, (WRITE_FAILED_LINE, 3))
 }
