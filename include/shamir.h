@@ -2,8 +2,8 @@
  * shamir.h: SLIP-0039 backups of a master secret, for C and C++.
  *
  * The library creates backups, reads mnemonics, recovers secrets and runs drills. It also reports whether mnemonics are enough
- * for a recovery, computes lost mnemonics and fingerprints of secrets, and lists words of the word list. docs/LIBRARY.md
- * introduces it with examples, and the manual page shamir(3) is a reference.
+ * for a recovery, computes lost mnemonics and fingerprints of secrets, finds words that can't be read, and lists words of the
+ * word list. docs/LIBRARY.md introduces it with examples, and the manual page shamir(3) is a reference.
  *
  * A backup consists of mnemonics, which are lines of words. A mnemonic spells a share, which has fields and a value: the bytes
  * that a recovery combines. shamir_parse gives both. Each mnemonic is a member of a group. Groups and members are numbered from
@@ -28,9 +28,9 @@
  * terminating NUL; an embedded NUL is part of the text. No call writes a terminating NUL. Texts have the type char, and
  * secrets, values and random bytes have the type uint8_t. So a compiler can warn if a text and bytes are exchanged.
  *
- * Each call but shamir_wipe returns a shamir_answer. If its code is SHAMIR_DONE, the call succeeded. The output is at the start of the output
- * buffer, and the bytes after it are unchanged. The answer's field "written" is the length of the output. Any other code is a
- * refusal. On refusal the output buffer and the output struct are unchanged, and "written" is 0.
+ * Each call but shamir_wipe returns a shamir_answer. If its code is SHAMIR_DONE, the call succeeded. The output is at the start
+ * of the output buffer, and the bytes after it are unchanged. The answer's field "written" is the length of the output. Any
+ * other code is a refusal. On refusal the output buffer and the output struct are unchanged, and "written" is 0.
  *
  * Before a call that gets a secret, a passphrase or a mnemonic returns, it clears the stack that it used. This is tested, not
  * proved. It clears no registers. The caller clears its own buffers, with shamir_wipe. examples/c/cleared.c keeps them out of swap
@@ -108,7 +108,7 @@ extern "C" {
 /*
  * These attributes let a compiler warn if an answer is ignored, or if a pointer to a struct is NULL. GCC warns of an ignored
  * answer even if the call is cast to void. If you mean to ignore an answer, assign it to a variable, and cast that variable to
- * void. The answer of shamir_text can be ignored without a warning, also with a cast to void (SHAMIR_CALL_IGNORABLE).
+ * void. The answer of shamir_text can be ignored without a warning (SHAMIR_CALL_IGNORABLE).
  */
 #if defined(__GNUC__)
 #define SHAMIR_CALL __attribute__((visibility("default"), warn_unused_result))
