@@ -31,7 +31,7 @@
 #   make check-packages  installs, runs and uninstalls what `make install`, `make wheel` and `make deb` make, and unpacks an
 #                    archive of the sources, such as `make dist` makes
 #   make dist        packs the committed sources, builds the page, and writes the sha256 of both and what they were made with.
-#                    The same commit gives the same bytes each time
+#                    The same commit and tools give the same bytes
 #   make clean       removes what these targets build, and what checks kept in crates/*/out
 RT ?= rt
 PYTHON ?= python3

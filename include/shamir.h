@@ -174,7 +174,7 @@ typedef enum shamir_code {
  * line is the number of the refused line, counted from 1, for the codes 11 to 28 and 71 of calls that take lines. Otherwise
  * it is 0. Only shamir_drill sets the field "mismatches"; in answers of other calls this field is 0. first and second are the
  * details of a refusal. After success, first is a result of shamir_random_needed, shamir_create, shamir_drill, shamir_status and
- * shamir_repair, and second is one of shamir_drill and shamir_status. Otherwise they are 0.
+ * shamir_repair, and second of shamir_drill and shamir_status. Otherwise they are 0.
  */
 typedef struct shamir_answer {
     uint32_t code;       /* a shamir_code: SHAMIR_DONE, or the cause of the refusal */
