@@ -90,7 +90,9 @@ module _ (bytes : ℕ) (shares : List (ℕ × List ℕ)) (level : AreOfOneLevel 
 pub share_is : (group : ℕ) (outcome : Option (List ℕ)) (share : ℕ × List ℕ) → share_or_mismatch group outcome ≡ Ok share
     → (share.0 ≡ group) × (outcome ≡ Some share.1)
 share_is group None share is = absurd (cc)
-share_is group (Some value) share is = let same : (group, value) ≡ share = cc in subst (λ (s : ℕ × List ℕ). (s.0 ≡ group) × (Some value ≡ Some s.1)) same (refl, refl)
+share_is group (Some value) share is =
+    let same : (group, value) ≡ share = cc in
+    subst (λ (s : ℕ × List ℕ). (s.0 ≡ group) × (Some value ≡ Some s.1)) same (refl, refl)
 
 pub mismatch_is : (group : ℕ) (outcome : Option (List ℕ)) (mismatch : Mismatch) → share_or_mismatch group outcome ≡ Err mismatch
     → (mismatch ≡ InGroup group) × (outcome ≡ None)

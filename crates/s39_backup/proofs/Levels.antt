@@ -31,7 +31,8 @@ use Rattle.s39_lists.proofs.Pairs.{All-from_map, AllPairs-from_map, AllPairs-map
 use Rattle.s39_lists.proofs.Images.{filter_alike}
 use Rattle.s39_lists.proofs.Ranges.{range-below, filter-range_more_yes, filter-range_more_no, range-distinct, filter-range_parts}
 use Rattle.s39_backup.proofs.Combining.{IsLike, combined_is, combined_like, share_is}
-use Rattle.s39_backup.proofs.Values.{has_share, values_agree, value_bytes-long, bytes-value_of, length-value_of, member_threshold-positive, group_threshold-positive}
+use Rattle.s39_backup.proofs.Values.{has_share, values_agree, value_bytes-long, bytes-value_of, length-value_of}
+use Rattle.s39_backup.proofs.Values.{member_threshold-positive, group_threshold-positive}
 
 -- a set with a group threshold has a share
 pub some_share : (set : List ShareFields) (threshold : ℕ) → group_threshold_of set ≡ Some threshold → (share : ShareFields) × Contains set share

@@ -1,6 +1,6 @@
 -- The points that determine a member that isn't at hand, and its value.
-use Rattle.std.proofs.Common.{◌≡◌, ◌≢◌, ◌⊎◌, ℕ, ◌+◌, ◌<◌, ◌≤◌, ◌==◌, nat_le, false, List, [], ◌∷◌, length, take, All, Contains, Some, Result, Ok, Err, inl, inr, refl, sym, ap}
-use Rattle.std.proofs.Common.{subst, ◌∙◌, arith}
+use Rattle.std.proofs.Common.{◌≡◌, ◌≢◌, ◌⊎◌, ℕ, ◌+◌, ◌<◌, ◌≤◌, ◌==◌, nat_le, false, List, [], ◌∷◌, length, take, All, Contains}
+use Rattle.std.proofs.Common.{Some, Result, Ok, Err, inl, inr, refl, sym, ap, subst, ◌∙◌, arith}
 use Rattle.std.specs.Prelude.{IsSomeAnd}
 use Rattle.std.specs.List.{slice_get}
 use Rattle.std.specs.Result.{result_map_both}
@@ -179,7 +179,9 @@ module _ (set : List ShareFields) (is_set : IsShareSet set) (group_threshold : �
           All-cons (λ p. AreBytes p.1) point at_hand like.0.1 (members-bytes set is_set name.0),
           omega arith,
         )
-    | inr (inr few) ↦ (let clash : Err (Undetermined (counts_for set group_threshold groups name members)) ≡ Ok points = sym few.points_are ∙ are in absurd (cc))
+    | inr (inr few) ↦
+        let clash : Err (Undetermined (counts_for set group_threshold groups name members)) ≡ Ok points = sym few.points_are ∙ are in
+        absurd (cc)
   ]
 
   -- and give a value like the others

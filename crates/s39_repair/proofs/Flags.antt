@@ -82,7 +82,8 @@ module _ (Fit : List ℕ → ShareFields → Type 0) where
       else record { first = second; second = Some share })) [
         | true ↦ λ low. two_fit words last share second false true fits fits' only only' plain_or_not (less o low)
         | false ↦ λ high.
-            let other : o ≢ Equal = λ e. apart words last share second (spells words share fits) (spells last second fits') plain extendable (same_from_equal words last e) in
+            let other : o ≢ Equal = λ e.
+            apart words last share second (spells words share fits) (spells last second fits') plain extendable (same_from_equal words last e) in
             two_fit last words second share true false fits' fits only' only extendable_or_not
             (nat_list_cmp_total.antisymm last words ∙ reversed o high other)
       ]) refl

@@ -223,7 +223,8 @@ pub few_or_none : (n : ℕ) → (n ≡ 0) ⊎ (1 ≤ n)
 few_or_none zero = inl refl
 few_or_none (suc n) = inr (omega arith)
 
-pub fit_alike : (line vs ws : List ℕ) (f g : ShareFields) → open_count line ≤ most_open → Fits line vs f → Fits line ws g → f.extendable ≡ g.extendable → vs ≡ ws
+pub fit_alike : (line vs ws : List ℕ) (f g : ShareFields) → open_count line ≤ most_open → Fits line vs f → Fits line ws g
+    → f.extendable ≡ g.extendable → vs ≡ ws
 fit_alike line vs ws f g few p q flags =
     let all = chosen_below (words_of line) vs p.words in
     let all' = chosen_below (words_of line) ws q.words in

@@ -139,7 +139,8 @@ pub fn one_wrong_word_is_named()
 /// If one word is wrong and the checksum is bad, the answer names the position of this word. The flag may be another
 /// one, if the second word is wrong.
 pub fn one_wrong_word_is_found()
-    ensures { (line words mnemonic : List ℕ) (share : ShareFields) (place : ℕ) (answer : Result Repaired RepairError)
+    ensures { (line words mnemonic : List ℕ) (share : ShareFields) (place : ℕ)
+        (answer : Result Repaired RepairError)
         → HasWrongWords line words mnemonic share place place → Repairs line answer
         → Reads (spelling words) (Err Cause.BadChecksum)
         → (first : ℕ) × (second : Option ℕ) × (answer ≡ Err (RepairError.WrongWord first second))
@@ -159,7 +160,8 @@ pub fn one_replaced_word()
 
 /// If two words are replaced by others and the flag stays the same, the answer names no position but 2.
 pub fn two_replaced_words()
-    ensures { (line words mnemonic : List ℕ) (share : ShareFields) (place other : ℕ) (answer : Result Repaired RepairError)
+    ensures { (line words mnemonic : List ℕ) (share : ShareFields) (place other : ℕ)
+        (answer : Result Repaired RepairError)
         → HasWrongWords line words mnemonic share place other → place ≢ other
         → slice_index words place ≢ slice_index mnemonic place
         → slice_index words other ≢ slice_index mnemonic other → flag_of words ≡ flag_of mnemonic

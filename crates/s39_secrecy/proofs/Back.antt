@@ -204,7 +204,8 @@ module _ (takes : SplitsTakeTheBytesNeeded) (as_long : SharesAreAsLong) (split_o
         let held = held_groups names groups in
         let shortest = is_length.1 in
         let long : digest_length ≤ n = omega (arith, shortest) in
-        let consumed : there.high ∷ there.low ∷ (there.fitted_piece ++ concat there.fitted_pieces) ≡ home.high ∷ home.low ∷ (home.group_piece ++ concat home.pieces) =
+        let consumed : there.high ∷ there.low ∷ (there.fitted_piece ++ concat there.fitted_pieces)
+        ≡ home.high ∷ home.low ∷ (home.group_piece ++ concat home.pieces) =
         sym there.fitted_consumed ∙ home.consumed in
         let high : there.high ≡ home.high = cc in
         let low : there.low ≡ home.low = cc in
@@ -222,7 +223,8 @@ module _ (takes : SplitsTakeTheBytesNeeded) (as_long : SharesAreAsLong) (split_o
         let encrypted_long : length there.encrypted ≡ n = (keeps passphrase there.params secret there.encrypted there.encryption).0 in
         let other_long : length there.other_encrypted ≡ n =
         (keeps passphrase there.params other there.other_encrypted there.other_encryption).0 ∙ one_length in
-        let level = subst (λ e. CorrespondAtLevel group_threshold count e there.encrypted held home.group_piece home.fitted_piece home.group_shares home.other_shares)
+        let level = subst
+        (λ e. CorrespondAtLevel group_threshold count e there.encrypted held home.group_piece home.fitted_piece home.group_shares home.other_shares)
         (sym other_encrypted)
         (subst (λ e. CorrespondAtLevel group_threshold count home.encrypted e held home.group_piece home.fitted_piece home.group_shares home.other_shares)
         (sym encrypted) home.levels) in

@@ -239,7 +239,8 @@ module _ (asked : Asked) (other : List ℕ) (names : Names) (setting : AreTwoSho
       (All-drop (λ byte. byte < 256) k levels levels_bytes) left of_groups
       (held_same names groups level.shares level.others (kept_stay level.levels.stay)) in
       let fitted_long : length level.fitted ≡ k =
-      splits_take_the_bytes_needed threshold (length groups) other_encrypted level.fitted level.others refitted ∙ ap (level_random_needed threshold) other_long in
+      splits_take_the_bytes_needed threshold (length groups) other_encrypted level.fitted level.others refitted
+      ∙ ap (level_random_needed threshold) other_long in
       let same_length : length other ≡ n = setting.one_length in
       record {
         fitted = high ∷ low ∷ (level.fitted ++ concat each.fitted);

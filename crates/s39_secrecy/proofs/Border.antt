@@ -134,7 +134,8 @@ no_bytes_give asked members other encrypted params some threshold one ascending 
     let whole : length other ≡ length encryption.h0 + length encryption.h1 = ap length encryption.halves ∙ length-append encryption.h0 encryption.h1 in
     let even : length other % 2 ≡ 0 = omega (arith, whole, encryption.same_length) in
     let once : encrypted ≡ created.encrypted =
-    encrypted_once secrets_have_one_encryption other asked.passphrase params created.params encrypted created.encrypted even same encryption created.encryption in
+    encrypted_once secrets_have_one_encryption other asked.passphrase params created.params encrypted created.encrypted even same
+    encryption created.encryption in
     let copies = (created.groups_split.one_needed threshold).1 in
     let have = split_of members created.encrypted created.group_shares created.pieces created.values copies
     (subst (λ gs. AreSplitAmong gs created.group_shares created.pieces created.values) one created.members_split) in
@@ -142,6 +143,7 @@ no_bytes_give asked members other encrypted params some threshold one ascending 
     of_no_split members.threshold members.count created.encrypted have.piece have.shares (member_points some)
     ((encryption_keeps_length_and_bytes asked.passphrase created.params other created.encrypted created.encryption).1 of_other)
     (All-map (λ point. AreBytes point.1) (λ (share : ShareFields). (share.member_index, share.value.items)) some of_some)
-    (let count : length (member_points some) ≡ length some = length-map some (λ (share : ShareFields). (share.member_index, share.value.items)) in omega (arith, count, number))
+    (let count : length (member_points some) ≡ length some = length-map some (λ (share : ShareFields). (share.member_index, share.value.items)) in
+    omega (arith, count, number))
     (subst (λ e. Combines members.threshold ((secret_place, e) ∷ member_points some) None) once refused)
     have.split among

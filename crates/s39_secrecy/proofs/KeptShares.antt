@@ -98,9 +98,11 @@ module _ (params : Params) (group_threshold group_count : ℕ) where
         share = share;
         name_is = ap₂ (λ (a b : ℕ). (a, b)) (sym group_is) first;
         in_shares = Contains-append_left (created_group params group_threshold group_count start g v)
-            (created_groups params group_threshold group_count (start + 1) gs vs) share (contains_member params group_threshold group_count start g 0 v name.1 value is);
+            (created_groups params group_threshold group_count (start + 1) gs vs) share
+            (contains_member params group_threshold group_count start g 0 v name.1 value is);
         in_others = Contains-append_left (created_group params group_threshold group_count start g w)
-            (created_groups params group_threshold group_count (start + 1) gs ws) share (contains_member params group_threshold group_count start g 0 w name.1 value other);
+            (created_groups params group_threshold group_count (start + 1) gs ws) share
+            (contains_member params group_threshold group_count start g 0 w name.1 value other);
       }
   have_share names (g ∷ gs) (s ∷ ss) (o ∷ os) (p ∷ ps) (f ∷ fs) (v ∷ vs) (w ∷ ws) start (suc k) name members split refitted same among here at within =
       let later = have_share names gs ss os ps fs vs ws (start + 1) k name members split.1 refitted.1 same.1 among (omega arith) at within in

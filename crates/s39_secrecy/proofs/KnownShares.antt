@@ -18,7 +18,8 @@ use Rattle.s39_secrecy.specs.Fitting.{Fits}
 use Rattle.s39_split.proofs.Interpolations.{none, interpolates_itself, interpolates_by_others}
 use Rattle.s39_split.proofs.BasePoints.{length-base_points}
 use Rattle.s39_split.proofs.SplitPoints.{base_of, split_base}
-use Rattle.s39_split.proofs.SplitLaws.{ArePoints, value_at_place, value_interpolated, length-digest_share, polynomial_split, AreBytes-interpolated, AreBytes-digest_share}
+use Rattle.s39_split.proofs.SplitLaws.{ArePoints, value_at_place, value_interpolated, length-digest_share, polynomial_split}
+use Rattle.s39_split.proofs.SplitLaws.{AreBytes-interpolated, AreBytes-digest_share}
 
 -- shares two fewer than the threshold, and the key of a digest
 pub record AreKnown (threshold : ℕ) (secret key : List ℕ) (known : List (ℕ × List ℕ)) : Type 0 where

@@ -182,7 +182,8 @@ give_or_not asked some can random = elim (random_or_not asked random) [
         | inl all ↦ inl (record { are = are; shares = shares; created = created; belong = all })
         | inr not ↦ inr (λ given.
             not (subst (λ xs. All (Contains xs) some)
-            (backup_once splits_take_the_bytes_needed length-shares have_one_split secrets_have_one_encryption asked random given.shares shares given.created created)
+            (backup_once splits_take_the_bytes_needed length-shares have_one_split secrets_have_one_encryption
+            asked random given.shares shares given.created created)
             given.belong))
       ]
 ]

@@ -15,7 +15,8 @@ use Rattle.s39_words.specs.Share.{IsValue, IsShare, flag_bit, header_number, val
 use Rattle.s39_words.specs.Reading.{IsWordCount, padding_length, number_at, flag_of, padding_of, stored_group_threshold, stored_group_count}
 use Rattle.s39_words.specs.Written.{Bits, bits_with}
 use Rattle.s39_words.specs.Reading.{byte_count, share_value_at, fields_at}
-use Rattle.s39_words.proofs.Digits.{length-digits, digits-below, number-below, number-digits, digits-number, digit_at, low_field, number_at-part, number_at-inner, number-append}
+use Rattle.s39_words.proofs.Digits.{length-digits, digits-below, number-below, number-digits, digits-number, digit_at, low_field}
+use Rattle.s39_words.proofs.Digits.{number_at-part, number_at-inner, number-append}
 
 pub data_words-below : (f : ShareFields) → All IsIndex (data_words f)
 data_words-below f = digits-below 10 (4 + value_words (length f.value.items)) (share_number f)
@@ -251,7 +252,8 @@ module _ (ws : List ℕ) (count : IsWordCount (length ws)) where
           let back = drop (length ws - 3) ws in
           let length-front : length front ≡ length ws - 3 = length-take-le (length ws - 3) ws (omega arith) in
           let three : 10 * length back ≡ 30 = omega (arith, length-drop (length ws - 3) ws) in
-          let below : number_of 10 back < 2 ^ 30 = subst (λ k. number_of 10 back < 2 ^ k) three (number-below 10 back (All-drop IsIndex (length ws - 3) ws all)) in
+          let below : number_of 10 back < 2 ^ 30 =
+          subst (λ k. number_of 10 back < 2 ^ k) three (number-below 10 back (All-drop IsIndex (length ws - 3) ws all)) in
           let size : 4 + value_words (length (share_value_at ws)) ≡ length front = omega (arith, value_words-is, length-front) in
           let bits : 10 * value_words (length (share_value_at ws)) ≡ 10 * (length ws - 7) = ap (λ k. 10 * k) value_words-is in
           let end : 10 * length ws - (40 + 10 * (length ws - 7)) ≡ 30 = omega arith in

@@ -35,7 +35,10 @@ indices_below (w ∷ ws) (i ∷ is) h =
     All-cons IsIndex i is (index_below w i head) (indices_below ws is tails)
 
 pub word_count_test : (n : ℕ) → (has_word_count n ≡ true) ↔ IsWordCount n
-word_count_test n = (λ t. record { padding = grind (arith, nat_tests); at_least = grind (arith, nat_tests); at_most = grind (arith, nat_tests) }, λ h. grind (arith, nat_tests))
+word_count_test n = (
+  λ t. record { padding = grind (arith, nat_tests); at_least = grind (arith, nat_tests); at_most = grind (arith, nat_tests) },
+  λ h. grind (arith, nat_tests),
+)
 
 -- ---- the reading of indices, from the first word on
 

@@ -181,7 +181,8 @@ range_is given small a b small_is fits from to index lt =
             (to index lt).1 (ap is_ge equal),
           ),
       λ inside.
-          let equal : compared small start ≡ Equal = neither (compared small start) (λ before. let below = (from index lt).1 before in omega arith) ((to index lt).0 inside.1) in
+          let equal : compared small start ≡ Equal = neither (compared small start)
+          (λ before. let below = (from index lt).1 before in omega arith) ((to index lt).0 inside.1) in
           let begins : take (length small) word ≡ small =
           begins_in_row small word (8 - length word) fits.letters (sym (same_from_equal small start equal)) in
           decides.1 (sym (sym (ap (λ l. take (length l) word) small_is) ∙ begins ∙ small_is)),
@@ -233,7 +234,10 @@ filter_between p (x ∷ xs) d zero zero low high h =
     rw first (filter_between p xs d zero zero (omega arith) (omega arith) (λ i below. shifted i below))
   where
     shifted : (i : ℕ) → i < length xs → IsTrue (p (get_or xs i d)) ↔ ((0 ≤ i) × (i < 0))
-    shifted i below = (λ passes. let in_range = (h (suc i) (omega arith)).0 passes in (omega arith, omega (arith, in_range.1)), λ in_range. absurd (omega (arith, in_range.1)))
+    shifted i below = (
+      λ passes. let in_range = (h (suc i) (omega arith)).0 passes in (omega arith, omega (arith, in_range.1)),
+      λ in_range. absurd (omega (arith, in_range.1)),
+    )
 filter_between p (x ∷ xs) d zero (suc b) low high h =
     let first : p x ≡ true = (h 0 (omega arith)).1 (omega arith, omega arith) in
     let rest = filter_between p xs d zero b (omega arith) (omega arith) (λ i below. shifted i below) in

@@ -166,7 +166,8 @@ module _ {W : Type 0} {contents : W → Option (List ℕ)} {old : Counted W} {fo
         → IsDrill form set passphrase after limit ((d.text ++ line) ++ rest) more ((mismatches + mismatch_in form outcome) + m)
     joins after first rest more m later =
         let (reached, from, then) = d.goes_on after first in
-        let whole = then (line ++ rest) more (mismatch_in form outcome + m) (drill_step laws set passphrase reached left quorum outcome rest more m from is later) in
+        let whole = then (line ++ rest) more (mismatch_in form outcome + m)
+        (drill_step laws set passphrase reached left quorum outcome rest more m from is later) in
         let same : mismatches + (mismatch_in form outcome + m) ≡ (mismatches + mismatch_in form outcome) + m = omega arith in
         subst (λ n. IsDrill form set passphrase after limit ((d.text ++ line) ++ rest) more n) same
         (subst (λ t. IsDrill form set passphrase after limit t more (mismatches + (mismatch_in form outcome + m))) (sym (append_assoc d.text line rest)) whole)

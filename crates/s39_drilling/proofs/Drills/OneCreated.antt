@@ -10,7 +10,8 @@ use Rattle.s39_input.specs.declared.fault.Fault.{Fault}
 use Rattle.s39_drilling.specs.declared.drill.Done.{Done}
 use Rattle.s39_input.specs.Input.{Input}
 use Rattle.s39_input.specs.OfBackup.{HoldsMnemonicsOf}
-use Rattle.s39_drilling.specs.Drill.{quorum_line, last_line, last_reached, GoesOn, fault_of_undrilled, unexpected_in, ListsSecret, ListsSecretOrCause, DrillsCreated}
+use Rattle.s39_drilling.specs.Drill.{quorum_line, last_line, last_reached, GoesOn, fault_of_undrilled, unexpected_in}
+use Rattle.s39_drilling.specs.Drill.{ListsSecret, ListsSecretOrCause, DrillsCreated}
 use Rattle.s39_drilling.proofs.Drills.OneDrill.{goes_on_once}
 use Rattle.s39_drilling.proofs.Drills.Outputs.{undrilled_once, drilled_or_not}
 use Rattle.s39_input.proofs.Sets.OneSet.{InputsAreReadOnce, same_set}

@@ -32,7 +32,8 @@ returns-in-Ok-clause-wrong c = λ _.
     wrong_from_spelled words c.args.place (changed words c.args.place c.from-by.result) c.in-Ok.share c.requires.in_list c.requires.place
     (changed-in_range words c.args.place c.from-by.result c.requires.in_list c.from-by.ensures.1)
     (subst (λ t. Spells t c.in-Ok.share)
-    (c.deref-2.ensures.0 ∙ c.text_of.ensures ∙ ap spelling (c.deref.ensures.0 ∙ c.changed-mended.ensures)) (spelled_from_read c.deref-2.result.now c.in-Ok.share c.in-Ok.ensures.reading))
+    (c.deref-2.ensures.0 ∙ c.text_of.ensures ∙ ap spelling (c.deref.ensures.0 ∙ c.changed-mended.ensures))
+    (spelled_from_read c.deref-2.result.now c.in-Ok.share c.in-Ok.ensures.reading))
 
 pub returns-in-Ok-clause-only : goal.returns-in-Ok-clause-only
 returns-in-Ok-clause-only c = λ wrong flag.
