@@ -1,7 +1,7 @@
 //! Facts about the definitions. Each is the contract of a function that has no effect.
 //!
 //! The arguments of a call, with what its buffers held before, determine its answer and what its buffers hold
-//! afterwards. A `max_exponent` of 15 or more refuses nothing.
+//! afterwards. A `max_exponent` of 15 or more refuses nothing. `lengths.rt` has the laws about the lengths that the header names.
 ghost use Rattle.std.specs.Prelude.{◌≡◌, ℕ, ◌≤◌, List};
 ghost use Rattle.s39_kdf.specs.Bytes.{AreBytes};
 ghost use Rattle.s39_kdf.specs.declared.secret_form.SecretForm.TheVariants.{Digits};

@@ -15,7 +15,7 @@ impl Rule for Zero {
     ghost invariant = { λ word. word ≡ 0 };
 }
 
-/// Fills this many words of the stack, below the frame of the caller, with zeros.
+/// Fills this many words of the stack, at most 65,536, below the frame of the caller, with zeros.
 ///
 /// The first call of `memset` in a program may keep registers on the stack, below the words that it fills. So the first one
 /// fills few words, and the second one fills what the first one left.

@@ -2,7 +2,7 @@
 ghost use Rattle.std.specs.Prelude.{◌≡◌, [], ◌∷◌, codes, Some, None};
 ghost use Rattle.s39_kdf.specs.declared.secret_form.SecretForm.TheVariants.{Digits, Fingerprint};
 ghost use Rattle.s39_command.specs.Words.{ApartDrill, AreCreateWords, AreDrillWords, AreExpectingDrillWords, AreExpectingRecoverWords, AreRecoverWords};
-ghost use Rattle.s39_command.specs.FewerWords.{AreFewCreateWords, AreFewDrillWords, AreFewRecoverWords, AreReissueWords};
+ghost use Rattle.s39_command.specs.FewerWords.{AreFewCreateWords, AreFewDrillWords, AreFewRecoverWords, AreReissueWords, IsExponent};
 ghost use Rattle.s39_command.specs.FewerWords.{CreateWordsAreFew, DrillWordsAreFew, FewCreateWordsAreTaken, FewDrillWordsAreTaken};
 ghost use Rattle.s39_command.specs.FewerWords.{FewRecoverWordsAreTaken, RecoverWordsAreFew, ReissueWordsAreTaken};
 ghost use Rattle.s39_command.specs.Words.{IsLimit, JoinedDrill, drill_apart, limit_of};
@@ -79,6 +79,8 @@ pub fn there_are_fewer_words()
     ensures reissue { AreReissueWords (codes "2of3") (codes "0.2")
         (codes "shamir" ∷ codes "reissue" ∷ codes "2of3" ∷ codes "0.2" ∷ []) }
     ensures limit { IsLimit (codes "1000") }
+    ensures least_exponent { IsExponent (codes "0") }
+    ensures greatest_exponent { IsExponent (codes "15") }
 {}
 
 /// Words give one call: any two calls that they give have the same values and the same files of values.

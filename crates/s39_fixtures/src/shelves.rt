@@ -1,4 +1,5 @@
 //! Files to read values from.
+ghost use Rattle.std.specs.Prelude.{◌≡◌, bytes_eq, find};
 
 use crate::devices::FailingAtFirst;
 use s39_cli::Shelf;
@@ -24,16 +25,25 @@ pub struct Held<'a> {
     pub files: &'a [(&'a str, &'a [u8])],
 }
 
+/// The first file of this name.
+fn file_of<'a>(files: &'a [(&'a str, &'a [u8])], name: &str) -> Option<(&'a str, &'a [u8])>
+    ensures { result ≡ find (λ file. bytes_eq file.0.now name.now) files.entry.now }
+{
+    files.iter().copied().find(|file| file.0 == name)
+}
+
 impl<'a> Shelf for Held<'a> {
+    ghost use Rattle.std.specs.Prelude.{bytes_eq, find, option_map};
+
     type File = &'a [u8];
 
+    ghost told = { λ shelf name. option_map (λ file. file.1.now) (find (λ file. bytes_eq file.0.now name) shelf.files.now) };
+
     fn open(&self, name: &str) -> io::Result<&'a [u8]> {
-        for (held, bytes) in self.files {
-            if *held == name {
-                return Ok(*bytes);
-            }
+        match file_of(self.files, name) {
+            Some((_, bytes)) => Ok(bytes),
+            None => Err(io::Error::from(ErrorKind::NotFound)),
         }
-        Err(io::Error::from(ErrorKind::NotFound))
     }
 }
 

@@ -13,9 +13,7 @@ ghost use Rattle.s39_input.specs.declared.fault.RefusedLine.{RefusedLine};
 ghost use Rattle.s39_input.specs.declared.fault.Stop.{Stop};
 ghost use Rattle.s39_input.specs.declared.fault.Stop.TheVariants.{AtLine, ReadFailed};
 ghost use Rattle.s39_input.specs.declared.lines.TheConstants.{MAX_LINE_BYTES};
-ghost use Rattle.s39_input.specs.Device.{Counted};
 ghost use Rattle.s39_input.specs.declared.fault.Fault.{Fault};
-ghost use Rattle.s39_input.specs.Runs.{Runs, Writes};
 ghost use Rattle.s39_input.specs.Show.{IsShowOutput};
 ghost use Rattle.s39_input.specs.Repair.{IsRepairOutput, TwoFit};
 ghost use Rattle.s39_input.specs.Input.{Input, is_skipped, longest_line, whole, lines_of};
@@ -31,7 +29,6 @@ use s39_backup::laws::shares_of_a_backup_agree;
 use s39_kdf::laws::passphrases_are_printable_or_not;
 use s39_repair::laws::{one_answer, some_answer};
 use s39_words::laws::{every_share_has_a_printed_form, one_printed_form, printed_forms};
-use std::io::{Read, Write};
 
 /// The limit of the code is that of the definitions.
 pub fn numbers()
@@ -129,21 +126,6 @@ pub fn written_mnemonics_are_of_the_backup()
 {
     printed_forms();
 }
-
-/// If a run of `show` or `repair` answers without a read, its answer is right for every input. This holds for all
-/// devices.
-pub fn unread_inputs_decide_nothing<R: Read, W: Write>()
-    ensures show { (reader read_to : Counted R) (writer written_to : Counted W)
-        (answer : Result (Unit {0}) Fault)
-        → Runs R.remaining W.contents IsShowOutput reader read_to writer written_to answer
-        → read_to.reads ≡ reader.reads → read_to.failures ≡ reader.failures → (input : Input)
-        → Writes W.contents (IsShowOutput input) writer written_to answer }
-    ensures repair { (reader read_to : Counted R) (writer written_to : Counted W)
-        (answer : Result Bool Fault)
-        → Runs R.remaining W.contents IsRepairOutput reader read_to writer written_to answer
-        → read_to.reads ≡ reader.reads → read_to.failures ≡ reader.failures → (input : Input)
-        → Writes W.contents (IsRepairOutput input) writer written_to answer }
-{}
 
 /// Every input has an output of `show`.
 pub fn some_show_output()

@@ -77,3 +77,9 @@ returns-clause-reissue c = record {
 
 pub returns-clause-limit : goal.returns-clause-limit
 returns-clause-limit c = accepts-Accepts false (vp.Signed (pos 1) (pos 4294967295)) (codes "1000") refl
+
+pub returns-clause-least_exponent : goal.returns-clause-least_exponent
+returns-clause-least_exponent c = accepts-Accepts false (vp.Signed (pos 0) (pos 15)) (codes "0") refl
+
+pub returns-clause-greatest_exponent : goal.returns-clause-greatest_exponent
+returns-clause-greatest_exponent c = accepts-Accepts false (vp.Signed (pos 0) (pos 15)) (codes "15") refl

@@ -1,8 +1,0 @@
-use Rattle.s39_input.proofs.Runs.Devices.{of_unread}
-use Rattle.s39_input.proofs.laws.unread_inputs_decide_nothing.Goals as goal
-
-pub returns : goal.returns
-returns g c = record {
-  show = λ reader read_to writer written_to answer runs. of_unread g.R.Read.remaining reader read_to _ runs.output;
-  repair = λ reader read_to writer written_to answer runs. of_unread g.R.Read.remaining reader read_to _ runs.output;
-}
