@@ -344,7 +344,7 @@ shamir_answer shamir_recover(
  * feed. SHAMIR_LISTING_BYTES_ENOUGH bytes are always enough.
  *
  * The mnemonics of a quorum combine to an encrypted secret. Decrypting it takes the iterations of shamir_recover. The quorums
- * of a sound backup all combine to the same encrypted secret. A call keeps the results of its last four decryptions, so it
+ * of one backup all combine to the same encrypted secret. A call keeps the results of its last four decryptions, so it
  * decrypts this encrypted secret only once. The next call decrypts it anew. So use an output buffer of about 65536 bytes: a
  * drill of a large backup takes many times as long if each call lists only one quorum. If text is too short for one quorum, the
  * call refuses with 1 only after the iterations.
