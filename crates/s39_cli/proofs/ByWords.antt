@@ -12,13 +12,13 @@ use Rattle.s39_cli.specs.declared.runner.Ended.{Ended}
 use Rattle.s39_cli.specs.declared.runner.Ended.TheVariants.{With, NoMemory}
 use Rattle.s39_cli.specs.declared.runner.Source.{Source}
 use Rattle.s39_cli.specs.declared.runner.Source.TheVariants.{Elsewhere}
-use Rattle.s39_command.specs.Command.{Gives, GivesBadValues, GivesCall, HasTwoForms, IsGiven, LacksSecret, NamesFiles, flag_text, gives_passphrase, shamir_app}
+use Rattle.s39_command.specs.Command.{AreFound, Gives, GivesBadValues, GivesCall, HasTwoForms, IsGiven, LacksSecret, flag_text, shamir_app}
 use Rattle.s39_cli.specs.Ending.{AreAllOf, Delivers, DoesJob, Ends, EndsAs, EndsAtOnce, IsOutcome, IsTyped, OnEnd, TakesCall}
-use Rattle.s39_cli.specs.Values.{IsFilledBy, Told}
+use Rattle.s39_cli.specs.Values.{Told, text_of}
 use Rattle.s39_command.specs.declared.command.BadValues.{BadValues}
 use Rattle.s39_command.specs.declared.command.BadValues.TheVariants.{NoSecret, TwoSecrets, TwoPassphrases, TwoForms}
 use Rattle.s39_command.specs.declared.command.Call.{Call}
-use Rattle.s39_command.specs.declared.command.ValueFiles.{ValueFiles}
+use Rattle.s39_command.specs.declared.command.Texts.{Texts}
 use Rattle.s39_command.specs.FewerWords.{AreFewCreateWords, AreReissueWords, or_default}
 use Rattle.s39_command.specs.Words.{IsLimit}
 use Rattle.s39_command.proofs.CreateWords.{creation_found}
@@ -29,11 +29,15 @@ use Rattle.s39_command.proofs.ReissueWords.{reissue_found, reissue_values, reiss
 use Rattle.s39_command.proofs.Words.{Found, found_in, is_fingerprint}
 use Rattle.s39_cli.specs.Fewer.{GoesAfter}
 use Rattle.s39_cli.specs.Headline.{GivesJob, WordsWrite}
-use Rattle.s39_cli.specs.Outcome.{GivesPlan, IsReady, WritesFingerprint, WritesNames}
+use Rattle.s39_cli.specs.Outcome.{GivesPlan, HasNoCause, IsReady, WritesFingerprint, WritesNames}
 use Rattle.s39_cli.proofs.Deliveries.{Delivers-map}
 use Rattle.s39_cli.proofs.Works.{no_cause}
 
--- ---- jobs that can be begun
+-- ---- jobs that can be begun, whatever the text of a secret is
+
+-- the job can be begun, and it isn't one whose random bytes would be typed
+abbrev pub Begins : Source → Job → Type 0
+Begins source j = ((secret : Text) → IsReady j secret) × (IsTyped source j → ⊥)
 
 -- what is expected is nothing, or a text that writes a fingerprint
 abbrev pub IsSound : Option Text → Type 0
@@ -45,27 +49,27 @@ names_written (Some text) names goes = (goes.0, goes.2)
 
 drill_ready : (source : Source) (form : SecretForm) (e p q n : Option Text) (name : Text) (rows : List Row) (names : Option Names)
     → found_in (name, rows) ≡ drill_values form e p q n → IsSound e → GoesAfter q names → (j : Job) → Gives name rows j
-    → IsReady j × (IsTyped source j → ⊥)
-drill_ready source form e p q n name rows names found sound goes (job.Drill t after k f expected) gives =
-    let read = subst (λ (o : Option Text). IfSome o WritesNames) (sym (gives.2 ∙ ap (λ (f : Found). f.after) found)) (names_written q names goes) in
-    let noted = subst (λ (o : Option Text). IfSome o WritesFingerprint) (sym (gives.5 ∙ ap (λ (f : Found). f.expected) found)) sound in
-    ((read, noted), λ b. b)
+    → Begins source j
+drill_ready source form e p q n name rows names found sound goes (job.Drill after k f expected) gives =
+    let read = subst (λ (o : Option Text). IfSome o WritesNames) (sym (gives.1 ∙ ap (λ (f : Found). f.after) found)) (names_written q names goes) in
+    let noted = subst (λ (o : Option Text). IfSome o WritesFingerprint) (sym (gives.4 ∙ ap (λ (f : Found). f.expected) found)) sound in
+    ((λ s. (read, noted)), λ b. b)
 drill_ready source form e p q n name rows names found sound goes j gives =
     absurd (other_job (codes "drill") name rows j refl (ap (λ (f : Found). f.name) found) gives)
 
 recover_ready : (source : Source) (form : SecretForm) (e p : Option Text) (name : Text) (rows : List Row)
-    → found_in (name, rows) ≡ recover_values form e p → IsSound e → (j : Job) → Gives name rows j → IsReady j × (IsTyped source j → ⊥)
-recover_ready source form e p name rows found sound (job.Recover t f expected) gives =
-    (subst (λ (o : Option Text). IfSome o WritesFingerprint) (sym (gives.3 ∙ ap (λ (f : Found). f.expected) found)) sound, λ b. b)
+    → found_in (name, rows) ≡ recover_values form e p → IsSound e → (j : Job) → Gives name rows j → Begins source j
+recover_ready source form e p name rows found sound (job.Recover f expected) gives =
+    ((λ s. subst (λ (o : Option Text). IfSome o WritesFingerprint) (sym (gives.2 ∙ ap (λ (f : Found). f.expected) found)) sound), λ b. b)
 recover_ready source form e p name rows found sound j gives =
     absurd (other_job (codes "recover") name rows j refl (ap (λ (f : Found). f.name) found) gives)
 
 reissue_ready : (source : Source) (plan listed name : Text) (rows : List Row) → found_in (name, rows) ≡ reissue_values plan listed → GivesPlan plan
-    → WritesNames listed → (j : Job) → Gives name rows j → IsReady j × (IsTyped source j → ⊥)
+    → WritesNames listed → (j : Job) → Gives name rows j → Begins source j
 reissue_ready source plan listed name rows found is_plan written (job.Reissue p l) gives =
     let same : plan ≡ p.now = said_same (sym (ap (λ (f : Found). f.plan) found) ∙ gives.1) in
     let same_names : listed ≡ l.now = said_same (sym (ap (λ (f : Found). f.names) found) ∙ gives.2) in
-    ((subst GivesPlan same is_plan, subst WritesNames same_names written), λ b. b)
+    ((λ s. (subst GivesPlan same is_plan, subst WritesNames same_names written)), λ b. b)
 reissue_ready source plan listed name rows found is_plan written j gives =
     absurd (other_job (codes "reissue") name rows j refl (ap (λ (f : Found). f.name) found) gives)
 
@@ -92,28 +96,19 @@ never_bad words plain TwoPassphrases gives =
     none_given (codes "passphrase-file") gives.1 (plain gives.0 gives.1 gives.2).no_passphrase_file gives.3.2.1
 never_bad words plain TwoForms gives = (plain gives.0 gives.1 gives.2).one_form gives.3.3
 
-abbrev no_files : ValueFiles
+abbrev no_files : Texts
 no_files = record { secret = None; passphrase = None }
 
 none_named : (file : Option (Bor Text)) → option_map (λ name. name.now) file ≡ None → file ≡ None
 none_named None same = refl
 none_named (Some name) same = cc
 
-names_none : (name : Text) (rows : List Row) (files : ValueFiles) → IsPlain name rows → NamesFiles rows files → files ≡ no_files
+names_none : (name : Text) (rows : List Row) (files : Texts) → IsPlain name rows → AreFound (codes "master-secret-file") (codes "passphrase-file") rows files
+    → files ≡ no_files
 names_none name rows files plain names =
     let s = none_named files.secret (names.secret_is ∙ plain.no_secret_file) in
     let p = none_named files.passphrase (names.passphrase_is ∙ plain.no_passphrase_file) in
     (λ i. record { secret = s i; passphrase = p i })
-
--- no value is put in the place of the job's
-unfilled : (j filled : Job) → IsFilledBy None None j filled → filled ≡ j
-unfilled job.Show filled is = is
-unfilled (job.Create plan own_secret own e x) filled is = is.2 ∙ (λ i. job.Create plan (is.3 i) (is.4 i) e x)
-unfilled (job.Recover own form expected) filled is = is.1 ∙ ap (λ p. job.Recover p form expected) is.2
-unfilled (job.Drill own after limit form expected) filled is = is.1 ∙ ap (λ p. job.Drill p after limit form expected) is.2
-unfilled job.Status filled is = is
-unfilled (job.Reissue plan names) filled is = is
-unfilled job.Repair filled is = is
 
 -- words are plain if what is found in them is
 plain_by : (name : Text) (rows : List Row) (f : Found) → found_in (name, rows) ≡ f → f.secret_file ≡ None → f.passphrase_file ≡ None
@@ -165,92 +160,95 @@ not_zero s m none some = omega arith
 module _ {R W : Type 0} (told : Told) (remaining : R → Option (List ℕ)) (contents : W → Option (List ℕ)) (source : Source) (words : List Text) (reader : R)
     (writer : W) where
   -- a creation whose random bytes would be typed is refused, or else the job is done
-  abbrev TakesJob : Job → ℕ → R → W → Type 0
-  TakesJob j status read_to written_to = (IsTyped source j × EndsAtOnce 2 reader writer status read_to written_to)
-      ⊎ ((IsTyped source j → ⊥) × DoesJob remaining contents j reader writer status read_to written_to)
+  abbrev TakesJob : Job → Texts → ℕ → R → W → Type 0
+  TakesJob j given status read_to written_to = (IsTyped source j × EndsAtOnce 2 reader writer status read_to written_to)
+      ⊎ ((IsTyped source j → ⊥)
+      × DoesJob remaining contents j (text_of None given.secret) (text_of None given.passphrase) reader writer status read_to written_to)
 
-  job_of_plain : (j : Job) (status : ℕ) (read_to : R) (written_to : W)
-      → TakesCall told remaining contents source (record { job = j; files = no_files; has_passphrase = gives_passphrase words }) reader writer status read_to written_to
-      → TakesJob j status read_to written_to
-  job_of_plain j status read_to written_to (inl typed) = inl typed
-  job_of_plain j status read_to written_to (inr (inl lacks)) = absurd (lacks.1.0.0 (refl, refl))
-  job_of_plain j status read_to written_to (inr (inr (untyped, (filled, behind, (secret, passphrase, (between, first, second), is), does)))) =
-      let same = unfilled j filled (subst (λ s. IsFilledBy s None j filled) first.0 (subst (λ p. IsFilledBy secret p j filled) second.0 is)) in
-      inr (
-        untyped,
-        subst (λ k. DoesJob remaining contents k reader writer status read_to written_to) same
-            (subst (λ r. DoesJob remaining contents filled r writer status read_to written_to) (second.1 ∙ first.1) does),
-      )
+  job_of_plain : (j : Job) (given : Texts) (status : ℕ) (read_to : R) (written_to : W)
+      → TakesCall told remaining contents source (record { job = j; given = given; files = no_files }) reader writer status read_to written_to
+      → TakesJob j given status read_to written_to
+  job_of_plain j given status read_to written_to (inl typed) = inl typed
+  job_of_plain j given status read_to written_to (inr (inl lacks)) = absurd (lacks.1.0.0 (refl, refl))
+  job_of_plain j given status read_to written_to (inr (inr (untyped, (secret, passphrase, behind, (between, first, second), does)))) = inr (
+    untyped,
+    subst (λ s. DoesJob remaining contents j (text_of s given.secret) (text_of None given.passphrase) reader writer status read_to written_to) first.0
+        (subst (λ p. DoesJob remaining contents j (text_of secret given.secret) (text_of p given.passphrase) reader writer status read_to written_to) second.0
+        (subst (λ r. DoesJob remaining contents j (text_of secret given.secret) (text_of passphrase given.passphrase) r writer status read_to written_to)
+        (second.1 ∙ first.1) does)),
+  )
 
   -- what words give whose values stand in them
   job_of : ArePlain words → (status : ℕ) (read_to : R) (written_to : W) → EndsAs told remaining contents source words reader writer status read_to written_to
-      → takes shamir_app words ≡ true → (j : Job) × GivesJob words j × TakesJob j status read_to written_to
+      → takes shamir_app words ≡ true → (j : Job) × (given : Texts) × GivesJob words j given × TakesJob j given status read_to written_to
   job_of plain status read_to written_to ends taken = go (ends.taken taken)
     where
-      of_call : (j : Job) (files : ValueFiles) → files ≡ no_files
-          → GivesCall words (record { job = j; files = files; has_passphrase = gives_passphrase words })
-          → TakesCall told remaining contents source (record { job = j; files = files; has_passphrase = gives_passphrase words })
-          reader writer status read_to written_to
-          → (k : Job) × GivesJob words k × TakesJob k status read_to written_to
-      of_call j files none gives does = (
+      of_call : (j : Job) (given files : Texts) → files ≡ no_files → GivesCall words (record { job = j; given = given; files = files })
+          → TakesCall told remaining contents source (record { job = j; given = given; files = files }) reader writer status read_to written_to
+          → (k : Job) × (g : Texts) × GivesJob words k g × TakesJob k g status read_to written_to
+      of_call j given files none gives does = (
         j,
-        subst (λ f. GivesCall words (record { job = j; files = f; has_passphrase = gives_passphrase words })) none gives,
-        job_of_plain j status read_to written_to
-            (subst (λ f. TakesCall told remaining contents source (record { job = j; files = f; has_passphrase = gives_passphrase words })
-            reader writer status read_to written_to) none does),
+        given,
+        subst (λ f. GivesCall words (record { job = j; given = given; files = f })) none gives,
+        job_of_plain j given status read_to written_to
+            (subst (λ f. TakesCall told remaining contents source (record { job = j; given = given; files = f }) reader writer status read_to written_to)
+            none does),
       )
 
       go : (((bad : BadValues) × GivesBadValues words bad) × EndsAtOnce 2 reader writer status read_to written_to)
           ⊎ ((call : Call) × GivesCall words call × TakesCall told remaining contents source call reader writer status read_to written_to)
-          → (k : Job) × GivesJob words k × TakesJob k status read_to written_to
+          → (k : Job) × (g : Texts) × GivesJob words k g × TakesJob k g status read_to written_to
       go (inl bad) = absurd (never_bad words plain bad.0.0 bad.0.1)
       go (inr (call, gives, does)) =
-          of_call call.job call.files (names_none gives.0 gives.1 call.files (plain gives.0 gives.1 gives.2) gives.4)
-          (gives.0, gives.1, gives.2, gives.3, gives.4, gives.5, refl) does
+          of_call call.job call.given call.files (names_none gives.0 gives.1 call.files (plain gives.0 gives.1 gives.2) gives.5) gives does
 
   module _ (status : ℕ) (read_to : R) (written_to : W) (ends : EndsAs told remaining contents source words reader writer status read_to written_to)
       (taken : takes shamir_app words ≡ true) (plain : ArePlain words) where
-    by_job : (j : Job) → GivesJob words j → Delivers remaining contents (IsOutcome j) reader writer status read_to written_to
+    by_job : (j : Job) (given : Texts) → GivesJob words j given
+        → Delivers remaining contents (IsOutcome j (text_of None given.secret) (text_of None given.passphrase)) reader writer status read_to written_to
         → Delivers remaining contents (WordsWrite words) reader writer status read_to written_to
-    by_job j gives delivers =
-        Delivers-map remaining contents (IsOutcome j) (WordsWrite words) reader writer status read_to written_to delivers
-        (λ input text full out. (j, gives, out))
+    by_job j given gives delivers =
+        Delivers-map remaining contents _ (WordsWrite words) reader writer status read_to written_to delivers
+        (λ input text full out. (j, given, gives, out))
 
     -- words of a job that can be begun
-    pub ready : ((j : Job) → GivesJob words j → IsReady j × (IsTyped source j → ⊥))
+    pub ready : ((j : Job) (given : Texts) → GivesJob words j given → Begins source j)
         → Delivers remaining contents (WordsWrite words) reader writer status read_to written_to
     ready is_ready =
         let found = job_of plain status read_to written_to ends taken in
-        go found.0 found.1 found.2
+        go found.0 found.1 found.2 found.3
       where
-        go : (j : Job) → GivesJob words j → TakesJob j status read_to written_to
+        causeless : (j : Job) (given : Texts) → GivesJob words j given → HasNoCause j (text_of None given.secret)
+        causeless j given gives = let s = text_of None given.secret in no_cause j s ((is_ready j given gives).0 s)
+
+        go : (j : Job) (given : Texts) → GivesJob words j given → TakesJob j given status read_to written_to
             → Delivers remaining contents (WordsWrite words) reader writer status read_to written_to
-        go j gives (inl typed) = absurd ((is_ready j gives).1 typed.0)
-        go j gives (inr (untyped, inl bad)) = absurd ((no_cause j (is_ready j gives).0).no_bad_secret bad.0)
-        go j gives (inr (untyped, inr (inl bad))) = absurd ((no_cause j (is_ready j gives).0).no_bad_plan bad.0.0 bad.0.1)
-        go j gives (inr (untyped, inr (inr (inl bad)))) = absurd ((no_cause j (is_ready j gives).0).no_bad_cursor bad.0)
-        go j gives (inr (untyped, inr (inr (inr (inl bad))))) = absurd ((no_cause j (is_ready j gives).0).no_bad_fingerprint bad.0)
-        go j gives (inr (untyped, inr (inr (inr (inr (inl bad)))))) = absurd ((no_cause j (is_ready j gives).0).no_bad_names bad.0)
-        go j gives (inr (untyped, inr (inr (inr (inr (inr does)))))) = by_job j gives does.1
+        go j given gives (inl typed) = absurd ((is_ready j given gives).1 typed.0)
+        go j given gives (inr (untyped, inl bad)) = absurd ((causeless j given gives).no_bad_secret bad.0)
+        go j given gives (inr (untyped, inr (inl bad))) = absurd ((causeless j given gives).no_bad_plan bad.0.0 bad.0.1)
+        go j given gives (inr (untyped, inr (inr (inl bad)))) = absurd ((causeless j given gives).no_bad_cursor bad.0)
+        go j given gives (inr (untyped, inr (inr (inr (inl bad))))) = absurd ((causeless j given gives).no_bad_fingerprint bad.0)
+        go j given gives (inr (untyped, inr (inr (inr (inr (inl bad)))))) = absurd ((causeless j given gives).no_bad_names bad.0)
+        go j given gives (inr (untyped, inr (inr (inr (inr (inr does)))))) = by_job j given gives does.1
 
     -- words of a job that is done
     pub done : status ≡ 0 → Delivers remaining contents (WordsWrite words) reader writer status read_to written_to
     done none =
         let found = job_of plain status read_to written_to ends taken in
-        go found.0 found.1 found.2
+        go found.0 found.1 found.2 found.3
       where
-        go : (j : Job) → GivesJob words j → TakesJob j status read_to written_to
+        go : (j : Job) (given : Texts) → GivesJob words j given → TakesJob j given status read_to written_to
             → Delivers remaining contents (WordsWrite words) reader writer status read_to written_to
-        go j gives (inl typed) = absurd (not_zero status 1 none typed.1.0)
-        go j gives (inr (untyped, inl bad)) = absurd (not_zero status 1 none bad.1.0)
-        go j gives (inr (untyped, inr (inl bad))) = absurd (not_zero status 0 none bad.1.0)
-        go j gives (inr (untyped, inr (inr (inl bad)))) = absurd (not_zero status 0 none bad.1.0)
-        go j gives (inr (untyped, inr (inr (inr (inl bad))))) = absurd (not_zero status 0 none bad.1.0)
-        go j gives (inr (untyped, inr (inr (inr (inr (inl bad)))))) = absurd (not_zero status 0 none bad.1.0)
-        go j gives (inr (untyped, inr (inr (inr (inr (inr does)))))) = by_job j gives does.1
+        go j given gives (inl typed) = absurd (not_zero status 1 none typed.1.0)
+        go j given gives (inr (untyped, inl bad)) = absurd (not_zero status 1 none bad.1.0)
+        go j given gives (inr (untyped, inr (inl bad))) = absurd (not_zero status 0 none bad.1.0)
+        go j given gives (inr (untyped, inr (inr (inl bad)))) = absurd (not_zero status 0 none bad.1.0)
+        go j given gives (inr (untyped, inr (inr (inr (inl bad))))) = absurd (not_zero status 0 none bad.1.0)
+        go j given gives (inr (untyped, inr (inr (inr (inr (inl bad)))))) = absurd (not_zero status 0 none bad.1.0)
+        go j given gives (inr (untyped, inr (inr (inr (inr (inr does)))))) = by_job j given gives does.1
 
   -- what words write that can be begun
-  begins : takes shamir_app words ≡ true → ArePlain words → ((j : Job) → GivesJob words j → IsReady j × (IsTyped source j → ⊥)) → (ended : Ended R W)
+  begins : takes shamir_app words ≡ true → ArePlain words → ((j : Job) (given : Texts) → GivesJob words j given → Begins source j) → (ended : Ended R W)
       → Ends told remaining contents source words reader writer ended → OnEnd ended (Delivers remaining contents (WordsWrite words) reader writer)
   begins taken plain is_ready NoMemory ends = tt
   begins taken plain is_ready (With status read_to written_to) ends = ready status read_to written_to ends taken plain is_ready
@@ -260,19 +258,19 @@ module _ {R W : Type 0} (told : Told) (remaining : R → Option (List ℕ)) (con
       → OnEnd ended (Delivers remaining contents (WordsWrite words) reader writer)
   drill form e p q n names is sound goes limit =
       begins (drill_taken form e p q n words is limit) (drill_plain form e p q n words is)
-      (λ j gives. drill_ready source form e p q n gives.0 gives.1 names (drill_found form e p q n words is gives.0 gives.1 gives.2) sound goes j gives.3)
+      (λ j given gives. drill_ready source form e p q n gives.0 gives.1 names (drill_found form e p q n words is gives.0 gives.1 gives.2) sound goes j gives.3)
 
   pub recovery : (form : SecretForm) (e p : Option Text) → IsRecovery form e p words → IsSound e → (ended : Ended R W)
       → Ends told remaining contents source words reader writer ended → OnEnd ended (Delivers remaining contents (WordsWrite words) reader writer)
   recovery form e p is sound =
       begins (recovery_taken form e p words is) (recover_plain form e p words is)
-      (λ j gives. recover_ready source form e p gives.0 gives.1 (recovery_found form e p words is gives.0 gives.1 gives.2) sound j gives.3)
+      (λ j given gives. recover_ready source form e p gives.0 gives.1 (recovery_found form e p words is gives.0 gives.1 gives.2) sound j gives.3)
 
   pub reissue : (plan listed : Text) → AreReissueWords plan listed words → GivesPlan plan → WritesNames listed → (ended : Ended R W)
       → Ends told remaining contents source words reader writer ended → OnEnd ended (Delivers remaining contents (WordsWrite words) reader writer)
   reissue plan listed are is_plan written =
       begins (reissue_words_are_taken plan listed words are) (reissue_plain plan listed words are)
-      (λ j gives. reissue_ready source plan listed gives.0 gives.1 (reissue_found plan listed words are gives.0 gives.1 gives.2) is_plan written j gives.3)
+      (λ j given gives. reissue_ready source plan listed gives.0 gives.1 (reissue_found plan listed words are gives.0 gives.1 gives.2) is_plan written j gives.3)
 
 -- what words write, and what is known of it
 pub with_known : {R W : Type 0} (remaining : R → Option (List ℕ)) (contents : W → Option (List ℕ)) (words : List Text) (reader : R) (writer : W)

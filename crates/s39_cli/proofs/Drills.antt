@@ -52,30 +52,30 @@ WritesDrill form e p q n input text status = (names : Option Names) × GoesAfter
     × IsDrillOutput (told_in form noted) (or_empty p) names (limit_of (or_default n)) input text done × (status ≡ drill_status done)))
 
 drill_of : (form : SecretForm) (words : List Text) → AskFor form words → (e p q n : Option Text) (input : Input) (text : List ℕ) (status : ℕ) (name : Text)
-    (rows : List Row) (j : Job) → found_in (name, rows) ≡ drill_values form e p q n → Gives name rows j → (answer : Result Bool Fault)
-    → IsJobOutput j input text answer → status ≡ status_of answer → WritesDrill form e p q n input text status
-drill_of form words asks e p q n input text status name rows (job.Drill w a m k expected) found gives answer output is =
-    let same : w.now ≡ or_empty p = gives.1 ∙ ap (λ (f : Found). or_empty f.passphrase) found in
-    let cursor = goes_after a q output.0 (gives.2 ∙ ap (λ (f : Found). f.after) found) output.1 in
+    (rows : List Row) (j : Job) (s w : Text) → found_in (name, rows) ≡ drill_values form e p q n → Gives name rows j → w ≡ or_empty p
+    → (answer : Result Bool Fault) → IsJobOutput j s w input text answer → status ≡ status_of answer → WritesDrill form e p q n input text status
+drill_of form words asks e p q n input text status name rows (job.Drill a m k expected) s w found gives same answer output is =
+    let cursor = goes_after a q output.0 (gives.1 ∙ ap (λ (f : Found). f.after) found) output.1 in
     let counted : Some (limit_of (or_default n)) ≡ Some m =
-    sym (ap (λ (f : Found). option_map (λ (t : Text). digits_value 10 (without_leading_plus t)) f.limit) found) ∙ gives.3 in
+    sym (ap (λ (f : Found). option_map (λ (t : Text). digits_value 10 (without_leading_plus t)) f.limit) found) ∙ gives.2 in
     let number : m ≡ limit_of (or_default n) = cc in
-    let told : k ≡ form = one_form rows form k (form_said form words rows asks (ap (λ (f : Found). f.form) found)) gives.4 in
+    let told : k ≡ form = one_form rows form k (form_said form words rows asks (ap (λ (f : Found). f.form) found)) gives.3 in
     let noted = output.2.0 in
     let done = output.2.2.0 in
     let asked = subst (λ (f : SecretForm). IsDrillOutput (told_in f noted) (or_empty p) output.0 (limit_of (or_default n)) input text done) told
     (subst (λ (l : ℕ). IsDrillOutput (told_in k noted) (or_empty p) output.0 l input text done) number
     (subst (λ (t : Text). IsDrillOutput (told_in k noted) t output.0 m input text done) same output.2.2.1)) in
-    let expects = subst (λ (t : Option Text). IsNoted t noted) (gives.5 ∙ ap (λ (f : Found). f.expected) found) output.2.1 in
+    let expects = subst (λ (t : Option Text). IsNoted t noted) (gives.4 ∙ ap (λ (f : Found). f.expected) found) output.2.1 in
     (output.0, cursor, (noted, expects, (done, asked, is ∙ ap status_of output.2.2.2)))
-drill_of form words asks e p q n input text status name rows j found gives answer output is =
+drill_of form words asks e p q n input text status name rows j s w found gives same answer output is =
     absurd (other_job (codes "drill") name rows j refl (ap (λ (f : Found). f.name) found) gives)
 
 pub drill_written : (form : SecretForm) (e p q n : Option Text) (words : List Text) → IsDrill form e p q n words → (input : Input) (text : List ℕ) (status : ℕ)
     → WordsWrite words input text status → WritesDrill form e p q n input text status
-drill_written form e p q n words words_are input text status (j, gives, (answer, output, is)) =
-    drill_of form words_are.form_words words_are.form_asked e p q n input text status gives.0 gives.1 j
-    (drill_found form e p q n words words_are gives.0 gives.1 gives.2) gives.3 answer output is
+drill_written form e p q n words words_are input text status (j, given, gives, (answer, output, is)) =
+    let found = drill_found form e p q n words words_are gives.0 gives.1 gives.2 in
+    drill_of form words_are.form_words words_are.form_asked e p q n input text status gives.0 gives.1 j _ _ found gives.3
+    (ap or_empty (gives.4.passphrase_is ∙ ap (λ (f : Found). f.passphrase) found)) answer output is
 
 drilled : (form : SecretForm) (words : List Text) → AskFor form words → (set : List ShareFields) (secret : List ℕ) (after : Option Names) (limit : ℕ)
     (text : List ℕ) (answer : Result Done Fault) (status : ℕ)

@@ -12,22 +12,23 @@ use Rattle.s39_cli.specs.declared.runner.Source.{Source}
 use Rattle.s39_cli.specs.declared.work.Work.{Work}
 use Rattle.s39_command.specs.Command.{AnswersWords, GivesCall, shamir_app}
 use Rattle.s39_cli.specs.Ending.{Delivers, DoesJob, Ends, EndsAs, EndsUnread, EndsWithoutJob, HasStatus, IsTyped, OnEnd, TakesCall}
-use Rattle.s39_cli.specs.Values.{FillsJob, HasLong, LacksValue, Told}
+use Rattle.s39_cli.specs.Values.{HasLong, LacksValue, TakesValues, Told, text_of}
 use Rattle.s39_cli.specs.Work.{IsWorkOf, IsWorkOutput}
 use Rattle.s39_cli.proofs.Deliveries.{Delivers-map}
 use Rattle.s39_command.proofs.Jobs.{asks_none}
 use Rattle.s39_cli.proofs.Works.{output_of_job, ready_of_work}
 
-module _ {R W : Type 0} (remaining : R → Option (List ℕ)) (contents : W → Option (List ℕ)) (job : Job) (reader : R) (writer : W) where
-  pub does_work : (w : Work) (status : ℕ) (read_to : R) (written_to : W) (ended : Ended R W) → IsWorkOf job w
+module _ {R W : Type 0} (remaining : R → Option (List ℕ)) (contents : W → Option (List ℕ)) (job : Job) (secret passphrase : Text) (reader : R)
+    (writer : W) where
+  pub does_work : (w : Work) (status : ℕ) (read_to : R) (written_to : W) (ended : Ended R W) → IsWorkOf job secret passphrase w
       → Delivers remaining contents (HasStatus (IsWorkOutput w)) reader writer status read_to written_to → ended ≡ With status read_to written_to
-      → OnEnd ended (DoesJob remaining contents job reader writer)
+      → OnEnd ended (DoesJob remaining contents job secret passphrase reader writer)
   does_work w status read_to written_to ended is delivers same =
-      subst (λ e. OnEnd e (DoesJob remaining contents job reader writer)) (sym same)
+      subst (λ e. OnEnd e (DoesJob remaining contents job secret passphrase reader writer)) (sym same)
       (inr (inr (inr (inr (inr (
-        ready_of_work job w is,
+        ready_of_work job secret passphrase w is,
         Delivers-map remaining contents _ _ reader writer status read_to written_to delivers
-            (λ input text full out. (out.0, output_of_job job w is input text out.0 out.1, out.2)),
+            (λ input text full out. (out.0, output_of_job job secret passphrase w is input text out.0 out.1, out.2)),
       ))))))
 
 module _ {R W : Type 0} (told : Told) (remaining : R → Option (List ℕ)) (contents : W → Option (List ℕ)) (source : Source) (words : List Text)
@@ -80,8 +81,20 @@ module _ {R W : Type 0} (told : Told) (remaining : R → Option (List ℕ)) (con
           ),
         )))
 
-    pub ends_by_job : (job : Job) (behind : R) (ended : Ended R W) → (IsTyped source call.job → ⊥) → FillsJob told remaining call job reader behind
-        → OnEnd ended (DoesJob remaining contents job behind writer) → Ends told remaining contents source words reader writer ended
-    ends_by_job job behind NoMemory untyped fills does = tt
-    ends_by_job job behind (With status read_to written_to) untyped fills does =
-        ends_by_call status read_to written_to (inr (inr (untyped, (job, behind, fills, does))))
+    pub ends_by_job : (secret passphrase : Option (List ℕ)) (s p : Text) (behind : R) (ended : Ended R W) → (IsTyped source call.job → ⊥)
+        → TakesValues told remaining call.files secret passphrase reader behind → s ≡ text_of secret call.given.secret
+        → p ≡ text_of passphrase call.given.passphrase → OnEnd ended (DoesJob remaining contents call.job s p behind writer)
+        → Ends told remaining contents source words reader writer ended
+    ends_by_job secret passphrase s p behind NoMemory untyped takes same_s same_p does = tt
+    ends_by_job secret passphrase s p behind (With status read_to written_to) untyped takes same_s same_p does =
+        ends_by_call status read_to written_to (inr (inr (
+          untyped,
+          (
+            secret,
+            passphrase,
+            behind,
+            takes,
+            subst (λ t. DoesJob remaining contents call.job t (text_of passphrase call.given.passphrase) behind writer status read_to written_to) same_s
+                (subst (λ t. DoesJob remaining contents call.job s t behind writer status read_to written_to) same_p does),
+          ),
+        )))

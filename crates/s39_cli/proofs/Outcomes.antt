@@ -88,28 +88,28 @@ module _ (shows : IsOnce IsShowOutput) (creates : (asked : Asked) → IsOnce (Is
       (subst (λ (p : ℕ × List Members). IsCreateOutput (asked_for b.secret passphrase p.0 p.1 a.options) input text answer) plans
       (subst (λ (s : List ℕ). IsCreateOutput (asked_for s passphrase a.group_threshold a.groups a.options) input text answer) secrets a.output))) b.output
 
-  recover_once : (passphrase : Bor (List ℕ)) (form : SecretForm) (expected : Option (Bor (List ℕ)))
-      → IsOnce (IsJobOutput (job.Recover passphrase form expected))
-  recover_once passphrase form expected input text other answer another a b =
+  recover_once : (secret passphrase : List ℕ) (form : SecretForm) (expected : Option (Bor (List ℕ)))
+      → IsOnce (IsJobOutput (job.Recover form expected) secret passphrase)
+  recover_once secret passphrase form expected input text other answer another a b =
       let noted = one_noted (text_in expected) a.0 b.0 a.1 b.1 in
-      judged_once where_done (IsRecoverOutput form b.0 passphrase.now) (recovers form b.0 passphrase.now) input text other answer another
-      (a.2.0, subst (λ (n : Option NotedFingerprint). IsRecoverOutput form n passphrase.now input text a.2.0) noted a.2.1, a.2.2) b.2
+      judged_once where_done (IsRecoverOutput form b.0 passphrase) (recovers form b.0 passphrase) input text other answer another
+      (a.2.0, subst (λ (n : Option NotedFingerprint). IsRecoverOutput form n passphrase input text a.2.0) noted a.2.1, a.2.2) b.2
 
-  drill_once : (passphrase : Bor (List ℕ)) (after : Option (Bor (List ℕ))) (limit : ℕ) (form : SecretForm) (expected : Option (Bor (List ℕ)))
-      → IsOnce (IsJobOutput (job.Drill passphrase after limit form expected))
-  drill_once passphrase after limit form expected input text other answer another a b =
+  drill_once : (secret passphrase : List ℕ) (after : Option (Bor (List ℕ))) (limit : ℕ) (form : SecretForm) (expected : Option (Bor (List ℕ)))
+      → IsOnce (IsJobOutput (job.Drill after limit form expected) secret passphrase)
+  drill_once secret passphrase after limit form expected input text other answer another a b =
       let cursor = one_cursor names_once after a.0 b.0 a.1 b.1 in
       let noted = one_noted (text_in expected) a.2.0 b.2.0 a.2.1 b.2.1 in
       let told = told_in form b.2.0 in
-      judged_once without_mismatches (IsDrillOutput told passphrase.now b.0 limit) (drills told passphrase.now b.0 limit) input text other answer another (
+      judged_once without_mismatches (IsDrillOutput told passphrase b.0 limit) (drills told passphrase b.0 limit) input text other answer another (
         a.2.2.0,
-        subst (λ (n : Option NotedFingerprint). IsDrillOutput (told_in form n) passphrase.now b.0 limit input text a.2.2.0) noted
-            (subst (λ (o : Option Names). IsDrillOutput (told_in form a.2.0) passphrase.now o limit input text a.2.2.0) cursor a.2.2.1),
+        subst (λ (n : Option NotedFingerprint). IsDrillOutput (told_in form n) passphrase b.0 limit input text a.2.2.0) noted
+            (subst (λ (o : Option Names). IsDrillOutput (told_in form a.2.0) passphrase o limit input text a.2.2.0) cursor a.2.2.1),
         a.2.2.2,
       ) b.2.2
 
-  reissue_once : (plan names : Bor (List ℕ)) → IsOnce (IsJobOutput (job.Reissue plan names))
-  reissue_once plan names input text other answer another a b =
+  reissue_once : (secret passphrase : List ℕ) (plan names : Bor (List ℕ)) → IsOnce (IsJobOutput (job.Reissue plan names) secret passphrase)
+  reissue_once secret passphrase plan names input text other answer another a b =
       let x = a.1 in
       let y = b.1 in
       let plans : (x.group_threshold, x.groups) ≡ (y.group_threshold, y.groups) =
@@ -120,17 +120,16 @@ module _ (shows : IsOnce IsShowOutput) (creates : (asked : Asked) → IsOnce (Is
       (subst (λ (n : Names). IsReissueOutput x.group_threshold x.groups n input text a.0) listed x.output)) y.output in
       (same.0, a.2 ∙ ap (judged where_done) same.1 ∙ sym b.2)
 
-  output_once : (j : Job) → IsOnce (IsJobOutput j)
-  output_once job.Show = judged_once where_done IsShowOutput shows
-  output_once (job.Create plan secret passphrase e x) =
-      judged_once where_done (CreatesFrom plan.now secret.now passphrase.now e x) (creates_once plan.now secret.now passphrase.now e x)
-  output_once (job.Recover passphrase form expected) = recover_once passphrase form expected
-  output_once (job.Drill passphrase after limit form expected) = drill_once passphrase after limit form expected
-  output_once job.Status = judged_once is_enough IsStatusOutput statuses
-  output_once (job.Reissue plan names) = reissue_once plan names
-  output_once job.Repair = repairs
+  output_once : (j : Job) (secret passphrase : List ℕ) → IsOnce (IsJobOutput j secret passphrase)
+  output_once job.Show s p = judged_once where_done IsShowOutput shows
+  output_once (job.Create plan e x) s p = judged_once where_done (CreatesFrom plan.now s p e x) (creates_once plan.now s p e x)
+  output_once (job.Recover form expected) s p = recover_once s p form expected
+  output_once (job.Drill after limit form expected) s p = drill_once s p after limit form expected
+  output_once job.Status s p = judged_once is_enough IsStatusOutput statuses
+  output_once (job.Reissue plan names) s p = reissue_once s p plan names
+  output_once job.Repair s p = repairs
 
   pub one_outcome : OneOutcome
-  one_outcome j input text other status another a b =
-      let same = output_once j input text other a.0 b.0 a.1 b.1 in
+  one_outcome j s p input text other status another a b =
+      let same = output_once j s p input text other a.0 b.0 a.1 b.1 in
       (same.0, a.2 ∙ ap status_of same.1 ∙ sym b.2)

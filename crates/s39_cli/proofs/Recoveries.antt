@@ -49,13 +49,12 @@ WritesRecovery form e p input text status =
     × IsRecoverOutput form noted (or_empty p) input text plain × (status ≡ status_of (judged where_done plain)))
 
 recovery_of : (form : SecretForm) (words : List Text) → AskFor form words → (e p : Option Text) (input : Input) (text : List ℕ) (status : ℕ) (name : Text)
-    (rows : List Row) (j : Job) → found_in (name, rows) ≡ recover_values form e p → Gives name rows j → (answer : Result Bool Fault)
-    → IsJobOutput j input text answer → status ≡ status_of answer → WritesRecovery form e p input text status
-recovery_of form words asks e p input text status name rows (job.Recover w k expected) found gives answer output is =
-    let same : w.now ≡ or_empty p = gives.1 ∙ ap (λ (f : Found). or_empty f.passphrase) found in
-    let told : k ≡ form = one_form rows form k (form_said form words rows asks (ap (λ (f : Found). f.form) found)) gives.2 in
+    (rows : List Row) (j : Job) (s w : Text) → found_in (name, rows) ≡ recover_values form e p → Gives name rows j → w ≡ or_empty p
+    → (answer : Result Bool Fault) → IsJobOutput j s w input text answer → status ≡ status_of answer → WritesRecovery form e p input text status
+recovery_of form words asks e p input text status name rows (job.Recover k expected) s w found gives same answer output is =
+    let told : k ≡ form = one_form rows form k (form_said form words rows asks (ap (λ (f : Found). f.form) found)) gives.1 in
     let noted = output.0 in
-    let expects = subst (λ (t : Option Text). IsNoted t noted) (gives.3 ∙ ap (λ (f : Found). f.expected) found) output.1 in (
+    let expects = subst (λ (t : Option Text). IsNoted t noted) (gives.2 ∙ ap (λ (f : Found). f.expected) found) output.1 in (
       noted,
       expects,
       (
@@ -65,14 +64,15 @@ recovery_of form words asks e p input text status name rows (job.Recover w k exp
         is ∙ ap status_of output.2.2,
       ),
     )
-recovery_of form words asks e p input text status name rows j found gives answer output is =
+recovery_of form words asks e p input text status name rows j s w found gives same answer output is =
     absurd (other_job (codes "recover") name rows j refl (ap (λ (f : Found). f.name) found) gives)
 
 pub recovery_written : (form : SecretForm) (e p : Option Text) (words : List Text) → IsRecovery form e p words → (input : Input) (text : List ℕ) (status : ℕ)
     → WordsWrite words input text status → WritesRecovery form e p input text status
-recovery_written form e p words words_are input text status (j, gives, (answer, output, is)) =
-    recovery_of form words_are.form_words words_are.form_asked e p input text status gives.0 gives.1 j
-    (recovery_found form e p words words_are gives.0 gives.1 gives.2) gives.3 answer output is
+recovery_written form e p words words_are input text status (j, given, gives, (answer, output, is)) =
+    let found = recovery_found form e p words words_are gives.0 gives.1 gives.2 in
+    recovery_of form words_are.form_words words_are.form_asked e p input text status gives.0 gives.1 j _ _ found gives.3
+    (ap or_empty (gives.4.passphrase_is ∙ ap (λ (f : Found). f.passphrase) found)) answer output is
 
 -- without a fingerprint that is expected
 plain_recovery : (form : SecretForm) (p : Option Text) (words : List Text) → AreFewRecoverWords form p words → (input : Input) (text : List ℕ) (status : ℕ)
@@ -130,14 +130,12 @@ creation_done secret passphrase random text p s w e x (Ok unit) same_secret same
   output = (creates.output.0, refl, creates.output.2, creates.output.3);
 }
 
-creation_of : (plan secret : Text) (p : Option Text) (random : Input) (text : List ℕ) (name : Text) (rows : List Row) (j : Job)
-    → found_in (name, rows) ≡ create_values plan secret p → Gives name rows j → (answer : Result Bool Fault) → IsJobOutput j random text answer
-    → 0 ≡ status_of answer → IsDone secret (or_empty p) random text
-creation_of plan secret p random text name rows (job.Create t s w e x) found gives answer output done =
-    let same_secret : s.now ≡ secret = gives.1.secret_or_empty ∙ ap (λ (f : Found). or_empty f.secret) found in
-    let same_passphrase : w.now ≡ or_empty p = gives.1.passphrase_or_empty ∙ ap (λ (f : Found). or_empty f.passphrase) found in
-    creation_done secret (or_empty p) random text t.now s.now w.now e x output.0 same_secret same_passphrase output.1 (done ∙ ap status_of output.2)
-creation_of plan secret p random text name rows j found gives answer output done =
+creation_of : (plan secret : Text) (p : Option Text) (random : Input) (text : List ℕ) (name : Text) (rows : List Row) (j : Job) (s w : Text)
+    → found_in (name, rows) ≡ create_values plan secret p → Gives name rows j → s ≡ secret → w ≡ or_empty p → (answer : Result Bool Fault)
+    → IsJobOutput j s w random text answer → 0 ≡ status_of answer → IsDone secret (or_empty p) random text
+creation_of plan secret p random text name rows (job.Create t e x) s w found gives same_secret same_passphrase answer output done =
+    creation_done secret (or_empty p) random text t.now s w e x output.0 same_secret same_passphrase output.1 (done ∙ ap status_of output.2)
+creation_of plan secret p random text name rows j s w found gives same_secret same_passphrase answer output done =
     absurd (other_job (codes "create") name rows j refl (ap (λ (f : Found). f.name) found) gives)
 
 module _ (written : (form : SecretForm) (asked : Asked) (random text : List ℕ) → IsPlan asked.group_threshold asked.groups
@@ -147,9 +145,11 @@ module _ (written : (form : SecretForm) (asked : Asked) (random text : List ℕ)
     → IsRecoverOutput form None passphrase input text answer → IsRecoverOutput form None passphrase input other another
     → (text ≡ other) × (answer ≡ another)) where
   pub few_created_words_recover : FewCreatedWordsRecover
-  few_created_words_recover form plan secret p e again creating recovering random text output status are also alike (j, gives, (answer, created, is)) recovers =
-      let done = creation_of plan secret p random text gives.0 gives.1 j (creation_found plan secret p e creating are gives.0 gives.1 gives.2) gives.3
-      answer created is in
+  few_created_words_recover form plan secret p e again creating recovering random text output status are also alike (j, given, gives, (answer, created, is)) recovers =
+      let found = creation_found plan secret p e creating are gives.0 gives.1 gives.2 in
+      let done = creation_of plan secret p random text gives.0 gives.1 j _ _ found gives.3
+      (ap or_empty (gives.4.secret_is ∙ ap (λ (f : Found). f.secret) found))
+      (ap or_empty (gives.4.passphrase_is ∙ ap (λ (f : Found). f.passphrase) found)) answer created is in
       let recovery = plain_recovery form again recovering also (whole text) output status recovers in
       let right = subst (λ (t : Text). IsRecoverOutput form None t (whole text) (secret_line form done.asked.secret) (Ok tt)) (done.passphrase_is ∙ sym alike)
       (written form done.asked random.bytes text done.plan_is done.output) in

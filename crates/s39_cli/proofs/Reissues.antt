@@ -23,10 +23,10 @@ abbrev WritesReissue : Text → Text → Input → List ℕ → ℕ → Type 0
 WritesReissue plan listed input text status =
     (plain : Result (Unit {0}) Fault) × Reissues plan listed input text plain × (status ≡ status_of (judged where_done plain))
 
-reissue_of : (plan listed : Text) (input : Input) (text : List ℕ) (status : ℕ) (name : Text) (rows : List Row) (j : Job)
-    → found_in (name, rows) ≡ reissue_values plan listed → Gives name rows j → (answer : Result Bool Fault) → IsJobOutput j input text answer
+reissue_of : (plan listed : Text) (input : Input) (text : List ℕ) (status : ℕ) (name : Text) (rows : List Row) (j : Job) (s w : Text)
+    → found_in (name, rows) ≡ reissue_values plan listed → Gives name rows j → (answer : Result Bool Fault) → IsJobOutput j s w input text answer
     → status ≡ status_of answer → WritesReissue plan listed input text status
-reissue_of plan listed input text status name rows (job.Reissue p n) found gives answer output is =
+reissue_of plan listed input text status name rows (job.Reissue p n) s w found gives answer output is =
     let same : p.now ≡ plan = said_same (sym gives.1 ∙ ap (λ (f : Found). f.plan) found) in
     let same_names : n.now ≡ listed = said_same (sym gives.2 ∙ ap (λ (f : Found). f.names) found) in (
       output.0,
@@ -34,7 +34,7 @@ reissue_of plan listed input text status name rows (job.Reissue p n) found gives
           (subst (λ (t : Text). Reissues t n.now input text output.0) same output.1),
       is ∙ ap status_of output.2,
     )
-reissue_of plan listed input text status name rows j found gives answer output is = absurd (other_job (codes "reissue") name rows j refl (ap (λ (f : Found). f.name) found) gives)
+reissue_of plan listed input text status name rows j s w found gives answer output is = absurd (other_job (codes "reissue") name rows j refl (ap (λ (f : Found). f.name) found) gives)
 
 reissued : (set : List ShareFields) (group_threshold : ℕ) (groups : List Members) (backup : List ShareFields) (names : Names) (text : List ℕ)
     (plain : Result (Unit {0}) Fault) (status : ℕ) → WritesThoseOrCause set group_threshold groups backup names text plain
@@ -51,8 +51,9 @@ pub reissue_words_reissue : ((text : List ℕ) (reading other : Result (ℕ × L
     → IsReissueOutput group_threshold groups names input text answer → ReissuesCreated group_threshold groups names input text answer)
     → ReissueWordsReissue
 reissue_words_reissue one_reading created plan listed words input text status are writes passphrase secret mnemonics reads =
-    let found = reissue_found plan listed words are writes.1.0 writes.1.1 writes.1.2 in
-    let reissue = reissue_of plan listed input text status writes.1.0 writes.1.1 writes.0 found writes.1.3 writes.2.0 writes.2.1 writes.2.2 in
+    let gives = writes.2 in
+    let found = reissue_found plan listed words are gives.0 gives.1 gives.2 in
+    let reissue = reissue_of plan listed input text status gives.0 gives.1 writes.0 _ _ found gives.3 writes.3.0 writes.3.1 writes.3.2 in
     let by = reissue.1 in
     let both : Ok (mnemonics.group_threshold, mnemonics.groups) ≡ Ok (by.group_threshold, by.groups) =
     one_reading plan (Ok (mnemonics.group_threshold, mnemonics.groups)) (Ok (by.group_threshold, by.groups)) reads by.plan_is in

@@ -18,4 +18,4 @@ module _ (told : (input : Input) (text line : List ℕ) (one_each : Bool) → Is
   of_answer input text (Err fault) status output is = (λ two done. refusal_not_done fault.refusal (sym done ∙ is), λ one. inr (fault, output))
 
   pub repairs_tell_of_two : RepairsTellOfTwo
-  repairs_tell_of_two input text status outcome = of_answer input text outcome.0 status outcome.1 outcome.2
+  repairs_tell_of_two s p input text status outcome = of_answer input text outcome.0 status outcome.1 outcome.2

@@ -14,7 +14,6 @@ use Rattle.s39_input.proofs.Sets.Checked.{printable_of_checked}
 use Rattle.s39_command.specs.declared.command.BadValues.{BadValues}
 use Rattle.s39_command.specs.declared.command.Call.{Call}
 use Rattle.s39_command.specs.declared.command.Job.{Job}
-use Rattle.s39_command.specs.declared.command.Job.TheVariants as job
 use Rattle.s39_command.specs.declared.command.NoJob.{NoJob}
 use Rattle.s39_command.specs.declared.command.NoJob.TheVariants.{Help, Refused, Values, Memory}
 use Rattle.s39_command.specs.Command.{AnswersWords, GivesCall, shamir_app}
@@ -32,7 +31,6 @@ use Rattle.s39_cli.specs.declared.work.Work.TheVariants as work
 use Rattle.s39_reading.specs.Recover.{WritesSecret}
 use Rattle.s39_drilling.specs.Drill.{WritesDrillOf}
 use Rattle.s39_cli.specs.Ending.{Delivers, HasStatus, IsTyped}
-use Rattle.s39_cli.specs.Values.{IsFilledBy}
 use Rattle.s39_cli.specs.Outcome.{IsReady, judged, status_of, status_of_refusal, where_done, without_mismatches}
 use Rattle.s39_cli.specs.Said.{IsSaid, IsSaidAs, IsSaidBy, IsSaidOfCall, IsSaidOfJob, IsSaidUnbegun, IsSaidWithoutJob, IsSilentAtNone, IsWithin, OnStatus}
 use Rattle.s39_cli.specs.Said.{Says, SaysAnswer, SaysMessage, longest_message, memory_line}
@@ -89,18 +87,6 @@ typed_mnemonics : (from : Source) (j : Job) → types_mnemonics from j ≡ true 
 typed_mnemonics read_at.Terminal j types = refl
 typed_mnemonics read_at.Elsewhere j types = types
 
--- of a job that reads mnemonics, the texts that have to be right are those of the words
-unfilled_ready : (from : Source) (secret passphrase : Option (List ℕ)) (j filled : Job) → IsFilledBy secret passphrase j filled
-    → types_mnemonics from j ≡ true → IsReady filled → IsReady j
-unfilled_ready from secret passphrase job.Show filled is types ready = tt
-unfilled_ready read_at.Terminal secret passphrase (job.Create plan s p e x) filled is types ready = absurd (true≢false (sym types))
-unfilled_ready read_at.Elsewhere secret passphrase (job.Create plan s p e x) filled is types ready = absurd (true≢false (sym types))
-unfilled_ready from secret passphrase (job.Recover own form expected) filled is types ready = subst IsReady is.1 ready
-unfilled_ready from secret passphrase (job.Drill own after limit form expected) filled is types ready = subst IsReady is.1 ready
-unfilled_ready from secret passphrase job.Status filled is types ready = tt
-unfilled_ready from secret passphrase (job.Reissue plan names) filled is types ready = subst IsReady is ready
-unfilled_ready from secret passphrase job.Repair filled is types ready = tt
-
 -- ---- texts one after another
 
 module _ {E : Type 0} (contents : E → Option (List ℕ)) where
@@ -125,17 +111,17 @@ module _ {E : Type 0} (contents : E → Option (List ℕ)) where
   says_shortly (Err fault) tells old new says = says
 
   -- a run that gave this answer
-  pub said_by_run : (j : Job) (types tells asks : Bool) (w : Work) (answer : Result Bool Fault) (old mid new : Messages E)
-      → IsReady j → (asks ≡ types) ⊎ ((asks ≡ false) × HasBadPassphrase w)
+  pub said_by_run : (j : Job) (secret : Text) (types tells asks : Bool) (w : Work) (answer : Result Bool Fault) (old mid new : Messages E)
+      → IsReady j secret → (asks ≡ types) ⊎ ((asks ≡ false) × HasBadPassphrase w)
       → (status_of answer ≡ 0 → (input : Input) × (text : List ℕ) × HasStatus (IsWorkOutput w) input text (status_of answer))
       → Says contents old mid (line_if asks typing_line) → SaysAnswer contents answer tells mid new
       → IsSaidBy contents j types tells old new (status_of answer)
-  said_by_run j types tells asks w answer old mid new ready asked output first second = record {
+  said_by_run j secret types tells asks w answer old mid new ready asked output first second = record {
     done = λ none. says_both old mid new (line_if types typing_line) (line_if tells bare_line)
         (subst (λ (b : Bool). Says contents old mid (line_if b typing_line)) (asks_all asked none) first) (says_well answer tells mid new none second);
     refused = λ one.
         let short = says_shortly answer tells mid new second in
-        (asks, short.0, within asked, short.1, (λ comes. ready), says_both old mid new (line_if asks typing_line) short.0 first short.2);
+        (asks, short.0, within asked, short.1, (λ comes. (secret, ready)), says_both old mid new (line_if asks typing_line) short.0 first short.2);
   }
     where
       within : (asks ≡ types) ⊎ ((asks ≡ false) × HasBadPassphrase w) → IsWithin asks types
@@ -149,14 +135,14 @@ module _ {E : Type 0} (contents : E → Option (List ℕ)) where
           absurd (work_sound w is.0 is.1 is.2.0 is.2.1 (sym is.2.2 ∙ none) bad.1)
 
   -- a run whose devices are known
-  pub said_by_work : {R W : Type 0} (remaining : R → Option (List ℕ)) (held : W → Option (List ℕ)) (j : Job) (types tells asks : Bool) (w : Work)
+  pub said_by_work : {R W : Type 0} (remaining : R → Option (List ℕ)) (held : W → Option (List ℕ)) (j : Job) (secret : Text) (types tells asks : Bool) (w : Work)
       (answer : Result Bool Fault) (reader read_to : R) (writer written_to : W) (ended : Ended R W) (old mid new : Messages E)
-      → IsReady j → (asks ≡ types) ⊎ ((asks ≡ false) × HasBadPassphrase w)
+      → IsReady j secret → (asks ≡ types) ⊎ ((asks ≡ false) × HasBadPassphrase w)
       → Delivers remaining held (HasStatus (IsWorkOutput w)) reader writer (status_of answer) read_to written_to
       → Says contents old mid (line_if asks typing_line) → SaysAnswer contents answer tells mid new
       → ended ≡ With (status_of answer) read_to written_to → IsSaidOfJob contents j types tells old new ended
-  said_by_work remaining held j types tells asks w answer reader read_to writer written_to ended old mid new ready asked delivers first second same =
-      subst (IsSaidOfJob contents j types tells old new) (sym same) (said_by_run j types tells asks w answer old mid new ready asked output first second)
+  said_by_work remaining held j secret types tells asks w answer reader read_to writer written_to ended old mid new ready asked delivers first second same =
+      subst (IsSaidOfJob contents j types tells old new) (sym same) (said_by_run j secret types tells asks w answer old mid new ready asked output first second)
     where
       output : status_of answer ≡ 0 → (input : Input) × (text : List ℕ) × HasStatus (IsWorkOutput w) input text (status_of answer)
       output none =
@@ -257,20 +243,19 @@ module _ {E : Type 0} (contents : E → Option (List ℕ)) where
         refused = λ one. absurd (omega (arith, one, other));
       })
 
-      pub said_of_job : (secret passphrase : Option (List ℕ)) (filled : Job) → IsFilledBy secret passphrase call.job filled
-          → (shown types tells : Bool) (mid : Messages E) (ended : Ended R W) → (IsTyped source call.job → ⊥)
+      pub said_of_job : (shown types tells : Bool) (mid : Messages E) (ended : Ended R W) → (IsTyped source call.job → ⊥)
           → shown ≡ types_passphrase source call.files.passphrase → types ≡ types_mnemonics source call.job
           → tells ≡ tells_of_none source destination call
-          → Says contents old mid (line_if shown shown_line) → IsSaidOfJob contents filled types tells mid new ended
+          → Says contents old mid (line_if shown shown_line) → IsSaidOfJob contents call.job types tells mid new ended
           → IsSaid contents source destination words old new ended
-      said_of_job secret passphrase filled fills shown types tells mid NoMemory untyped shown_is types_is tells_is first (begun, within, says) = (
+      said_of_job shown types tells mid NoMemory untyped shown_is types_is tells_is first (begun, within, says) = (
         shown,
         begun,
         (λ comes. typed_passphrase source call.files.passphrase (sym shown_is ∙ comes)),
         (λ comes. typed_mnemonics source call.job (sym types_is ∙ within comes)),
         says_both old mid new (line_if shown shown_line) (line_if begun typing_line ++ memory_line) first says,
       )
-      said_of_job secret passphrase filled fills shown types tells mid (With status read_to written_to) untyped shown_is types_is tells_is first says =
+      said_of_job shown types tells mid (With status read_to written_to) untyped shown_is types_is tells_is first says =
           by_call source destination words old new call found faultless status (record {
             done = λ none. subst (λ (b : Bool). Says contents old new (line_if b shown_line
                 ++ (line_if (types_mnemonics source call.job) typing_line ++ line_if (tells_of_none source destination call) bare_line))) shown_is
@@ -285,7 +270,7 @@ module _ {E : Type 0} (contents : E → Option (List ℕ)) where
                   r.1,
                   (λ comes. sym types_is ∙ r.2 comes),
                   r.3,
-                  (λ comes. unfilled_ready source secret passphrase call.job filled fills (sym types_is ∙ r.2 comes) (r.4 comes)),
+                  r.4,
                   subst (λ (b : Bool). Says contents old new (line_if b shown_line ++ (line_if r.0 typing_line ++ r.1))) shown_is
                       (says_both old mid new (line_if shown shown_line) (line_if r.0 typing_line ++ r.1) first r.5),
                 );

@@ -5,14 +5,12 @@ use Rattle.s39_set.specs.Names.{Names}
 use Rattle.s39_set.specs.Written.{IsWrittenForm}
 use Rattle.s39_input.specs.declared.fault.Fault.{Fault}
 use Rattle.s39_input.specs.Input.{Input}
-use Rattle.s39_reading.specs.Recover.{IsRecoverOutput}
-use Rattle.s39_drilling.specs.Drill.{IsDrillOutput}
 use Rattle.s39_command.specs.declared.command.Job.{Job}
 use Rattle.s39_command.specs.declared.command.Job.TheVariants as job
 use Rattle.s39_command.specs.Command.{HaveSameValues, text_in}
 use Rattle.s39_command.proofs.OneCall.{said_same}
 use Rattle.s39_cli.specs.Headline.{SameValuesWriteTheSame}
-use Rattle.s39_cli.specs.Outcome.{CreatesFrom, IsCursor, IsJobOutput, IsNoted, Reissues, told_in}
+use Rattle.s39_cli.specs.Outcome.{CreatesFrom, IsCursor, IsJobOutput, IsNoted, Reissues}
 
 same_cursor : (a b : Option (Bor Text)) → text_in a ≡ text_in b → (names : Option Names) → IsCursor a names → IsCursor b names
 same_cursor None None same names is = is
@@ -21,41 +19,26 @@ same_cursor (Some a) None same names is = cc same
 same_cursor (Some a) (Some b) same names is = (is.0, is.1, subst (λ (t : Text). IsWrittenForm t is.0) (said_same same) is.2)
 
 -- a job with the same values writes the same
-same_output : (j k : Job) → HaveSameValues j k → (input : Input) (text : List ℕ) (answer : Result Bool Fault) → IsJobOutput j input text answer
-    → IsJobOutput k input text answer
-same_output job.Show k same input text answer is = subst (λ (other : Job). IsJobOutput other input text answer) (sym same) is
-same_output (job.Create t s p e x) k (t', s', p', same, plans, secrets, phrases) input text answer is =
-    subst (λ (other : Job). IsJobOutput other input text answer) (sym same) (
+same_output : (j k : Job) → HaveSameValues j k → (secret passphrase : Text) (input : Input) (text : List ℕ) (answer : Result Bool Fault)
+    → IsJobOutput j secret passphrase input text answer → IsJobOutput k secret passphrase input text answer
+same_output job.Show k same s w input text answer is = subst (λ (other : Job). IsJobOutput other s w input text answer) (sym same) is
+same_output (job.Create t e x) k (t', same, plans) s w input text answer is =
+    subst (λ (other : Job). IsJobOutput other s w input text answer) (sym same)
+    (is.0, subst (λ (p : Text). CreatesFrom p s w e x input text is.0) plans is.1, is.2)
+same_output (job.Recover f e) k (e', same, noted) s w input text answer is =
+    subst (λ (other : Job). IsJobOutput other s w input text answer) (sym same)
+    (is.0, subst (λ (t : Option Text). IsNoted t is.0) noted is.1, is.2)
+same_output (job.Drill a l f e) k (a', e', same, cursors, noted) s w input text answer is =
+    subst (λ (other : Job). IsJobOutput other s w input text answer) (sym same)
+    (is.0, same_cursor a a' cursors is.0 is.1, (is.2.0, subst (λ (t : Option Text). IsNoted t is.2.0) noted is.2.1, is.2.2))
+same_output job.Status k same s w input text answer is = subst (λ (other : Job). IsJobOutput other s w input text answer) (sym same) is
+same_output (job.Reissue t n) k (t', n', same, plans, names) s w input text answer is =
+    subst (λ (other : Job). IsJobOutput other s w input text answer) (sym same) (
       is.0,
-      subst (λ (w : Text). CreatesFrom t'.now s'.now w e x input text is.0) phrases
-          (subst (λ (w : Text). CreatesFrom t'.now w p.now e x input text is.0) secrets
-          (subst (λ (w : Text). CreatesFrom w s.now p.now e x input text is.0) plans is.1)),
+      subst (λ (l : Text). Reissues t'.now l input text is.0) names (subst (λ (p : Text). Reissues p n.now input text is.0) plans is.1),
       is.2,
     )
-same_output (job.Recover p f e) k (p', e', same, phrases, noted) input text answer is =
-    subst (λ (other : Job). IsJobOutput other input text answer) (sym same) (
-      is.0,
-      subst (λ (t : Option Text). IsNoted t is.0) noted is.1,
-      (is.2.0, subst (λ (w : Text). IsRecoverOutput f is.0 w input text is.2.0) phrases is.2.1, is.2.2),
-    )
-same_output (job.Drill p a l f e) k (p', a', e', same, phrases, cursors, noted) input text answer is =
-    subst (λ (other : Job). IsJobOutput other input text answer) (sym same) (
-      is.0,
-      same_cursor a a' cursors is.0 is.1,
-      (
-        is.2.0,
-        subst (λ (t : Option Text). IsNoted t is.2.0) noted is.2.1,
-        (is.2.2.0, subst (λ (w : Text). IsDrillOutput (told_in f is.2.0) w is.0 l input text is.2.2.0) phrases is.2.2.1, is.2.2.2),
-      ),
-    )
-same_output job.Status k same input text answer is = subst (λ (other : Job). IsJobOutput other input text answer) (sym same) is
-same_output (job.Reissue t n) k (t', n', same, plans, names) input text answer is =
-    subst (λ (other : Job). IsJobOutput other input text answer) (sym same) (
-      is.0,
-      subst (λ (w : Text). Reissues t'.now w input text is.0) names (subst (λ (w : Text). Reissues w n.now input text is.0) plans is.1),
-      is.2,
-    )
-same_output job.Repair k same input text answer is = subst (λ (other : Job). IsJobOutput other input text answer) (sym same) is
+same_output job.Repair k same s w input text answer is = subst (λ (other : Job). IsJobOutput other s w input text answer) (sym same) is
 
 pub same_values_write_the_same : SameValuesWriteTheSame
-same_values_write_the_same j k same input text status is = (is.0, same_output j k same input text is.0 is.1, is.2)
+same_values_write_the_same j k same s w input text status is = (is.0, same_output j k same s w input text is.0 is.1, is.2)

@@ -72,12 +72,12 @@ module _ (shows : (input : Input) → Some_of (IsShowOutput input))
   some_drill form passphrase after zero input low = absurd (omega arith)
   some_drill form passphrase after (suc limit) input low = drills form passphrase after limit input
 
-  some_output : (j : Job) (input : Input) → IsReady j → IsInRange j → AreBytes input.bytes → Some_of (IsJobOutput j input)
-  some_output job.Show input ready low bytes = judged_some where_done (IsShowOutput input) (shows input)
-  some_output (job.Create plan secret passphrase e x) input ready low bytes =
+  some_output : (j : Job) (s p : Text) (input : Input) → IsReady j s → IsInRange j → AreBytes input.bytes → Some_of (IsJobOutput j s p input)
+  some_output job.Show s p input ready low bytes = judged_some where_done (IsShowOutput input) (shows input)
+  some_output (job.Create plan e x) s p input ready low bytes =
       let options = options_of e x low in
-      let asked = asked_for ready.0.0 passphrase.now ready.1.0 ready.1.1 options in
-      let some = creates asked input ready.1.2.1 (decoded_bytes secret.now ready.0) bytes in (
+      let asked = asked_for ready.0.0 p ready.1.0 ready.1.1 options in
+      let some = creates asked input ready.1.2.1 (decoded_bytes s ready.0) bytes in (
         some.0,
         judged where_done some.1,
         (
@@ -94,19 +94,19 @@ module _ (shows : (input : Input) → Some_of (IsShowOutput input))
           refl,
         ),
       )
-  some_output (job.Recover passphrase form expected) input ready low bytes =
+  some_output (job.Recover form expected) s p input ready low bytes =
       let noted = some_noted (text_in expected) ready in
-      let some = judged_some where_done (IsRecoverOutput form noted.0 passphrase.now input) (recovers form noted.0 passphrase.now input) in
+      let some = judged_some where_done (IsRecoverOutput form noted.0 p input) (recovers form noted.0 p input) in
       (some.0, some.1, (noted.0, noted.1, some.2))
-  some_output (job.Drill passphrase after limit form expected) input ready low bytes =
+  some_output (job.Drill after limit form expected) s p input ready low bytes =
       let from = some_cursor after ready.0 in
       let noted = some_noted (text_in expected) ready.1 in
       let told = told_in form noted.0 in
-      let some = judged_some without_mismatches (IsDrillOutput told passphrase.now from.0 limit input)
-      (some_drill told passphrase.now from.0 limit input low) in
+      let some = judged_some without_mismatches (IsDrillOutput told p from.0 limit input)
+      (some_drill told p from.0 limit input low) in
       (some.0, some.1, (from.0, from.1, (noted.0, noted.1, some.2)))
-  some_output job.Status input ready low bytes = judged_some is_enough (IsStatusOutput input) (statuses input)
-  some_output (job.Reissue plan names) input ready low bytes =
+  some_output job.Status s p input ready low bytes = judged_some is_enough (IsStatusOutput input) (statuses input)
+  some_output (job.Reissue plan names) s p input ready low bytes =
       let some = reissues ready.0.0 ready.0.1 ready.1.0 input ready.0.2.1 in (
         some.0,
         judged where_done some.1,
@@ -123,9 +123,9 @@ module _ (shows : (input : Input) → Some_of (IsShowOutput input))
           refl,
         ),
       )
-  some_output job.Repair input ready low bytes = repairs input
+  some_output job.Repair s p input ready low bytes = repairs input
 
   pub some_outcome : SomeOutcome
-  some_outcome j input ready low bytes =
-      let some = some_output j input ready low bytes in
+  some_outcome j s p input ready low bytes =
+      let some = some_output j s p input ready low bytes in
       (some.0, status_of some.1, (some.1, some.2, refl))

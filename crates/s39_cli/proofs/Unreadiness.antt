@@ -8,15 +8,15 @@ use Rattle.s39_command.specs.Command.{text_in}
 use Rattle.s39_cli.specs.Outcome.{HasBadCursor, HasBadFingerprint, IsCursor, WritesNoFingerprint, WritesNoNames}
 
 -- a drill whose cursor is none isn't begun
-pub bad_cursor : (job : Job) (passphrase : Bor (List ℕ)) (after : Option (Bor (List ℕ))) (limit : ℕ) (form : SecretForm) (expected : Option (Bor (List ℕ)))
-    → job ≡ Drill passphrase after limit form expected → IsSomeAnd after (λ text. WritesNoNames text.now) → HasBadCursor job
-bad_cursor job passphrase None limit form expected is none = absurd none
-bad_cursor job passphrase (Some text) limit form expected is none = subst HasBadCursor (sym is) none
+pub bad_cursor : (job : Job) (after : Option (Bor (List ℕ))) (limit : ℕ) (form : SecretForm) (expected : Option (Bor (List ℕ)))
+    → job ≡ Drill after limit form expected → IsSomeAnd after (λ text. WritesNoNames text.now) → HasBadCursor job
+bad_cursor job None limit form expected is none = absurd none
+bad_cursor job (Some text) limit form expected is none = subst HasBadCursor (sym is) none
 
 -- nor is one whose fingerprint is none
-pub bad_fingerprint : (job : Job) (passphrase : Bor (List ℕ)) (after : Option (Bor (List ℕ))) (limit : ℕ) (form : SecretForm)
-    (expected : Option (Bor (List ℕ))) (names : Option Names) → job ≡ Drill passphrase after limit form expected → IsCursor after names
+pub bad_fingerprint : (job : Job) (after : Option (Bor (List ℕ))) (limit : ℕ) (form : SecretForm)
+    (expected : Option (Bor (List ℕ))) (names : Option Names) → job ≡ Drill after limit form expected → IsCursor after names
     → IsSomeAnd (text_in expected) WritesNoFingerprint → HasBadFingerprint job
-bad_fingerprint job passphrase None limit form expected names is cursor none = subst HasBadFingerprint (sym is) (tt, none)
-bad_fingerprint job passphrase (Some text) limit form expected names is cursor none =
+bad_fingerprint job None limit form expected names is cursor none = subst HasBadFingerprint (sym is) (tt, none)
+bad_fingerprint job (Some text) limit form expected names is cursor none =
     subst HasBadFingerprint (sym is) ((cursor.0, cursor.2), none)

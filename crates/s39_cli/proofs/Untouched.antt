@@ -17,7 +17,6 @@ use Rattle.s39_cli.specs.declared.work.Work.{Work}
 use Rattle.s39_cli.specs.Ending.{EndsUnread, EndsWithoutJob, OnEnd}
 use Rattle.s39_cli.specs.Outcome.{status_of, status_of_refusal}
 use Rattle.s39_cli.specs.Untouched.{IsAtItsEnd, IsUntouchedBy, IsUntouchedIfRefused, WritesAtItsEnd}
-use Rattle.s39_cli.specs.Values.{IsFilledBy}
 use Rattle.s39_cli.specs.Work.{IsWorkOf}
 
 -- ---- exit statuses
@@ -34,35 +33,25 @@ never_two (Err fault) two = of_refusal fault.refusal two
 
 -- ---- jobs
 
--- a job with other values is of the same kind
-pub filled_alike : (secret passphrase : Option (List ℕ)) (j filled : Job) → IsFilledBy secret passphrase j filled → WritesAtItsEnd j
-    → WritesAtItsEnd filled
-filled_alike secret passphrase job.Show filled is at = absurd at
-filled_alike secret passphrase (job.Create plan s w e x) filled is at = subst WritesAtItsEnd (sym is.2) tt
-filled_alike secret passphrase (job.Recover w form expected) filled is at = subst WritesAtItsEnd (sym is.1) tt
-filled_alike secret passphrase (job.Drill w after limit form expected) filled is at = absurd at
-filled_alike secret passphrase job.Status filled is at = absurd at
-filled_alike secret passphrase (job.Reissue plan names) filled is at = subst WritesAtItsEnd (sym is) tt
-filled_alike secret passphrase job.Repair filled is at = absurd at
-
+-- a job with the same values is of the same kind
 same_alike : (j other : Job) → HaveSameValues j other → WritesAtItsEnd j → WritesAtItsEnd other
 same_alike job.Show other same at = absurd at
-same_alike (job.Create plan s w e x) other same at = subst WritesAtItsEnd (sym same.3) tt
-same_alike (job.Recover w form expected) other same at = subst WritesAtItsEnd (sym same.2) tt
-same_alike (job.Drill w after limit form expected) other same at = absurd at
+same_alike (job.Create plan e x) other same at = subst WritesAtItsEnd (sym same.1) tt
+same_alike (job.Recover form expected) other same at = subst WritesAtItsEnd (sym same.1) tt
+same_alike (job.Drill after limit form expected) other same at = absurd at
 same_alike job.Status other same at = absurd at
 same_alike (job.Reissue plan names) other same at = subst WritesAtItsEnd (sym same.2) tt
 same_alike job.Repair other same at = absurd at
 
 -- so is its work
-pub work_alike : (j : Job) (w : Work) → IsWorkOf j w → WritesAtItsEnd j → IsAtItsEnd w
-work_alike job.Show w is at = absurd at
-work_alike (job.Create plan s p e x) w is at = subst IsAtItsEnd (sym is.1) tt
-work_alike (job.Recover p form expected) w is at = subst IsAtItsEnd (sym is.2) tt
-work_alike (job.Drill p after limit form expected) w is at = absurd at
-work_alike job.Status w is at = absurd at
-work_alike (job.Reissue plan names) w is at = subst IsAtItsEnd (sym is.1) tt
-work_alike job.Repair w is at = absurd at
+pub work_alike : (j : Job) (secret passphrase : Text) (w : Work) → IsWorkOf j secret passphrase w → WritesAtItsEnd j → IsAtItsEnd w
+work_alike job.Show s p w is at = absurd at
+work_alike (job.Create plan e x) s p w is at = subst IsAtItsEnd (sym is.1) tt
+work_alike (job.Recover form expected) s p w is at = subst IsAtItsEnd (sym is.2) tt
+work_alike (job.Drill after limit form expected) s p w is at = absurd at
+work_alike job.Status s p w is at = absurd at
+work_alike (job.Reissue plan names) s p w is at = subst IsAtItsEnd (sym is.1) tt
+work_alike job.Repair s p w is at = absurd at
 
 -- ---- how the program ends
 
@@ -105,11 +94,8 @@ module _ {R W : Type 0} (writer : W) where
       subst (λ e. IsUntouchedBy j e writer) (sym is) (λ two. absurd (never_two answer two), untouched)
 
   -- a call of whose job this is known
-  pub job_untouched : (words : List Text) (call : Call) → GivesCall words call → (secret passphrase : Option (List ℕ)) (filled : Job)
-      → IsFilledBy secret passphrase call.job filled → (ended : Ended R W) → IsUntouchedBy filled ended writer → IsUntouchedIfRefused words ended writer
-  job_untouched words call gives secret passphrase filled is NoMemory untouched = tt
-  job_untouched words call gives secret passphrase filled is (With status read_to written_to) untouched = (
-    untouched.0,
-    λ other given at one. untouched.1 (filled_alike secret passphrase call.job filled is
-        (same_alike other.job call.job (one_call words other call given gives).values at)) one,
-  )
+  pub job_untouched : (words : List Text) (call : Call) → GivesCall words call → (ended : Ended R W) → IsUntouchedBy call.job ended writer
+      → IsUntouchedIfRefused words ended writer
+  job_untouched words call gives NoMemory untouched = tt
+  job_untouched words call gives (With status read_to written_to) untouched =
+      (untouched.0, λ other given at one. untouched.1 (same_alike other.job call.job (one_call words other call given gives).values at) one)

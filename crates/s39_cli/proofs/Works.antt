@@ -88,64 +88,64 @@ cursor_written None names is = tt
 cursor_written (Some text) names is = (is.0, is.2)
 
 -- a job that a work is of can be begun
-pub ready_of_work : (j : Job) (w : Work) → IsWorkOf j w → IsReady j
-ready_of_work (job.Create plan secret passphrase exponent extendable) w is = (
+pub ready_of_work : (j : Job) (secret passphrase : Text) (w : Work) → IsWorkOf j secret passphrase w → IsReady j secret
+ready_of_work (job.Create plan exponent extendable) s p w is = (
   (is.0.secret.bytes.items, is.2.read.secret_is),
   (is.0.plan.group_threshold, is.0.plan.groups.items, is.2.read.plan_is),
 )
-ready_of_work (job.Drill passphrase after limit form expected) w is =
+ready_of_work (job.Drill after limit form expected) s p w is =
     (cursor_written after is.0.after is.2.cursor, noted_written (text_in expected) is.2.noted is.2.noted_is)
-ready_of_work (job.Reissue plan names) w is = ((is.0.plan.group_threshold, is.0.plan.groups.items, is.2.plan_is), (is.0.names, is.2.names_are))
-ready_of_work (job.Recover passphrase form expected) w is = noted_written (text_in expected) is.1 is.4
-ready_of_work job.Show w is = tt
-ready_of_work job.Status w is = tt
-ready_of_work job.Repair w is = tt
+ready_of_work (job.Reissue plan names) s p w is = ((is.0.plan.group_threshold, is.0.plan.groups.items, is.2.plan_is), (is.0.names, is.2.names_are))
+ready_of_work (job.Recover form expected) s p w is = noted_written (text_in expected) is.1 is.4
+ready_of_work job.Show s p w is = tt
+ready_of_work job.Status s p w is = tt
+ready_of_work job.Repair s p w is = tt
 
 -- and has no cause for which it isn't begun
-pub no_cause : (j : Job) → IsReady j → HasNoCause j
-no_cause (job.Create plan secret passphrase exponent extendable) ready = record {
-  no_bad_secret = λ bad. ok_or_err (decode_of secret.now) ready.0.0 bad.0 ready.0.1 bad.1;
+pub no_cause : (j : Job) (secret : Text) → IsReady j secret → HasNoCause j secret
+no_cause (job.Create plan exponent extendable) s ready = record {
+  no_bad_secret = λ bad. ok_or_err (decode_of s) ready.0.0 bad.0 ready.0.1 bad.1;
   no_bad_plan = λ error bad. plan_or_error plan.now error ready.1 bad.1;
   no_bad_cursor = λ bad. bad;
   no_bad_fingerprint = λ bad. bad;
   no_bad_names = λ bad. bad;
 }
-no_cause (job.Recover passphrase form expected) ready = record {
+no_cause (job.Recover form expected) s ready = record {
   no_bad_secret = λ bad. bad;
   no_bad_plan = λ error bad. bad;
   no_bad_cursor = λ bad. bad;
   no_bad_fingerprint = noted_or_not (text_in expected) ready;
   no_bad_names = λ bad. bad;
 }
-no_cause (job.Drill passphrase after limit form expected) ready = record {
+no_cause (job.Drill after limit form expected) s ready = record {
   no_bad_secret = λ bad. bad;
   no_bad_plan = λ error bad. bad;
   no_bad_cursor = cursor_or_not (text_in after) ready.0;
   no_bad_fingerprint = λ bad. noted_or_not (text_in expected) ready.1 bad.1;
   no_bad_names = λ bad. bad;
 }
-no_cause (job.Reissue plan names) ready = record {
+no_cause (job.Reissue plan names) s ready = record {
   no_bad_secret = λ bad. bad;
   no_bad_plan = λ error bad. plan_or_error plan.now error ready.0 bad;
   no_bad_cursor = λ bad. bad;
   no_bad_fingerprint = λ bad. bad;
   no_bad_names = λ bad. bad.1 ready.1.0 ready.1.1;
 }
-no_cause job.Show ready = record {
+no_cause job.Show s ready = record {
   no_bad_secret = λ bad. bad;
   no_bad_plan = λ error bad. bad;
   no_bad_cursor = λ bad. bad;
   no_bad_fingerprint = λ bad. bad;
   no_bad_names = λ bad. bad;
 }
-no_cause job.Status ready = record {
+no_cause job.Status s ready = record {
   no_bad_secret = λ bad. bad;
   no_bad_plan = λ error bad. bad;
   no_bad_cursor = λ bad. bad;
   no_bad_fingerprint = λ bad. bad;
   no_bad_names = λ bad. bad;
 }
-no_cause job.Repair ready = record {
+no_cause job.Repair s ready = record {
   no_bad_secret = λ bad. bad;
   no_bad_plan = λ error bad. bad;
   no_bad_cursor = λ bad. bad;
@@ -154,10 +154,10 @@ no_cause job.Repair ready = record {
 }
 
 -- what a work writes is what its job writes
-pub output_of_job : (j : Job) (w : Work) → IsWorkOf j w → (input : Input) (text : List ℕ) (answer : Result Bool Fault) → IsWorkOutput w input text answer
-    → IsJobOutput j input text answer
-output_of_job job.Show w is input text answer output = subst (λ (x : Work). IsWorkOutput x input text answer) is output
-output_of_job (job.Create plan secret passphrase exponent extendable) w is input text answer output =
+pub output_of_job : (j : Job) (secret passphrase : Text) (w : Work) → IsWorkOf j secret passphrase w → (input : Input) (text : List ℕ)
+    (answer : Result Bool Fault) → IsWorkOutput w input text answer → IsJobOutput j secret passphrase input text answer
+output_of_job job.Show s p w is input text answer output = subst (λ (x : Work). IsWorkOutput x input text answer) is output
+output_of_job (job.Create plan exponent extendable) s p w is input text answer output =
     let creation = is.0 in
     let written = subst (λ (x : Work). IsWorkOutput x input text answer) is.1 output in (
       written.0,
@@ -178,10 +178,10 @@ output_of_job (job.Create plan secret passphrase exponent extendable) w is input
       },
       written.2,
     )
-output_of_job (job.Recover passphrase form expected) w is input text answer output =
+output_of_job (job.Recover form expected) s p w is input text answer output =
     let written = subst (λ (x : Work). IsWorkOutput x input text answer) is.2 output in
     (is.1, is.4, (written.0, subst (λ (given : List ℕ). IsRecoverOutput form is.1 given input text written.0) is.3 written.1, written.2))
-output_of_job (job.Drill passphrase after limit form expected) w is input text answer output =
+output_of_job (job.Drill after limit form expected) s p w is input text answer output =
     let drill = is.0 in
     let written = subst (λ (x : Work). IsWorkOutput x input text answer) is.1 output in (
       drill.after,
@@ -191,16 +191,16 @@ output_of_job (job.Drill passphrase after limit form expected) w is input text a
         is.2.noted_is,
         (
           written.0,
-          subst (λ (f : SecretForm). IsDrillOutput f passphrase.now drill.after limit input text written.0) is.2.form_is
-              (subst (λ (n : ℕ). IsDrillOutput drill.form passphrase.now drill.after n input text written.0) is.2.limit_is
+          subst (λ (f : SecretForm). IsDrillOutput f p drill.after limit input text written.0) is.2.form_is
+              (subst (λ (n : ℕ). IsDrillOutput drill.form p drill.after n input text written.0) is.2.limit_is
               (subst (λ (given : List ℕ). IsDrillOutput drill.form given drill.after drill.limit input text written.0) is.2.passphrase_is written.1)),
           written.2,
         ),
       ),
     )
-output_of_job job.Status w is input text answer output = subst (λ (x : Work). IsWorkOutput x input text answer) is output
-output_of_job job.Repair w is input text answer output = subst (λ (x : Work). IsWorkOutput x input text answer) is output
-output_of_job (job.Reissue plan names) w is input text answer output =
+output_of_job job.Status s p w is input text answer output = subst (λ (x : Work). IsWorkOutput x input text answer) is output
+output_of_job job.Repair s p w is input text answer output = subst (λ (x : Work). IsWorkOutput x input text answer) is output
+output_of_job (job.Reissue plan names) s p w is input text answer output =
     let reissue = is.0 in
     let written = subst (λ (x : Work). IsWorkOutput x input text answer) is.1 output in (
       written.0,

@@ -21,20 +21,20 @@ use Rattle.s39_cli.specs.declared.work.Unready.TheVariants as unready
 use Rattle.s39_command.specs.Command.{AsksForText, GivesBadValues, GivesCall, shamir_app}
 use Rattle.s39_command.specs.declared.command.BadValues.{BadValues}
 use Rattle.s39_command.specs.declared.command.Call.{Call}
-use Rattle.s39_cli.specs.Values.{FillsJob, HasLong, LacksValue, Told}
+use Rattle.s39_cli.specs.Values.{HasLong, LacksValue, TakesValues, Told, text_of}
 use Rattle.s39_cli.specs.Outcome.{HasBadSecret, HasBadPlan, HasBadCursor, HasBadFingerprint, HasBadNames, IsJobOutput, IsReady, status_of}
 
 -- the text is written for the input by an answer with this exit status
 abbrev pub HasStatus : (Input → List ℕ → Result Bool Fault → Type 0) → Input → List ℕ → ℕ → Type 0
 HasStatus IsOutput input text status = (answer : Result Bool Fault) × IsOutput input text answer × (status ≡ status_of answer)
 
--- what the job writes for the input, and the exit status
-abbrev pub IsOutcome : Job → Input → List ℕ → ℕ → Type 0
-IsOutcome job = HasStatus (IsJobOutput job)
+-- what the job with this text of its secret and this passphrase writes for the input, and the exit status
+abbrev pub IsOutcome : Job → Text → Text → Input → List ℕ → ℕ → Type 0
+IsOutcome job secret passphrase = HasStatus (IsJobOutput job secret passphrase)
 
 -- the job creates a backup, and its random bytes would be typed at a terminal
 abbrev pub IsTyped : Source → Job → Type 0
-IsTyped source (Create plan secret passphrase exponent extendable) = source ≡ Terminal
+IsTyped source (Create plan exponent extendable) = source ≡ Terminal
 IsTyped source _ = ⊥
 
 -- these are all bytes of a reader, if it tells them
@@ -87,16 +87,16 @@ module _ {R W : Type 0} (remaining : R → Option (List ℕ)) (contents : W → 
     pub failed : status ≡ 3 → (input : Input) × IsFrom (remaining reader) (remaining read_to) input
         × ((text : List ℕ) × ((full : ℕ) × IsOutput input text full) × HoldsBeginning (contents writer) (contents written_to) text)
 
-  -- The job is done. In this order: a secret that isn't hexadecimal is 2, and a plan, a cursor, a fingerprint or a list of names that
-  -- is none is 1, with nothing read or written; else the job's output goes out.
-  abbrev pub DoesJob : Job → R → W → ℕ → R → W → Type 0
-  DoesJob job reader writer status read_to written_to =
-      (HasBadSecret job × EndsAtOnce 2 reader writer status read_to written_to)
-      ⊎ (((error : PlanError) × HasBadPlan job error) × EndsAtOnce 1 reader writer status read_to written_to)
+  -- The job is done, with this text of its secret and this passphrase. In this order: a secret that isn't hexadecimal is 2, and a plan,
+  -- a cursor, a fingerprint or a list of names that is none is 1, with nothing read or written; else the job's output goes out.
+  abbrev pub DoesJob : Job → Text → Text → R → W → ℕ → R → W → Type 0
+  DoesJob job secret passphrase reader writer status read_to written_to =
+      (HasBadSecret job secret × EndsAtOnce 2 reader writer status read_to written_to)
+      ⊎ (((error : PlanError) × HasBadPlan job secret error) × EndsAtOnce 1 reader writer status read_to written_to)
       ⊎ (HasBadCursor job × EndsAtOnce 1 reader writer status read_to written_to)
       ⊎ (HasBadFingerprint job × EndsAtOnce 1 reader writer status read_to written_to)
       ⊎ (HasBadNames job × EndsAtOnce 1 reader writer status read_to written_to)
-      ⊎ (IsReady job × Delivers (IsOutcome job) reader writer status read_to written_to)
+      ⊎ (IsReady job secret × Delivers (IsOutcome job secret passphrase) reader writer status read_to written_to)
 
 module _ {R W : Type 0} (told : Told) (remaining : R → Option (List ℕ)) (contents : W → Option (List ℕ)) where
   -- The call is done. In this order: a creation whose random bytes would be typed ends with 2, and nothing is read or written; if a
@@ -106,8 +106,9 @@ module _ {R W : Type 0} (told : Told) (remaining : R → Option (List ℕ)) (con
       (IsTyped source call.job × EndsAtOnce 2 reader writer status read_to written_to)
       ⊎ ((IsTyped source call.job → ⊥) × (LacksValue call.files reader read_to
       × EndsUnwritten (HasLong told remaining call.files reader) writer status written_to))
-      ⊎ ((IsTyped source call.job → ⊥) × ((job : Job) × (behind : R) × FillsJob told remaining call job reader behind
-      × DoesJob remaining contents job behind writer status read_to written_to))
+      ⊎ ((IsTyped source call.job → ⊥) × ((secret passphrase : Option (List ℕ)) × (behind : R)
+      × TakesValues told remaining call.files secret passphrase reader behind × DoesJob remaining contents call.job
+      (text_of secret call.given.secret) (text_of passphrase call.given.passphrase) behind writer status read_to written_to))
 
   -- How the program ends with these words and this source of its input: with help or the version if they ask for it; with 2 if they
   -- are no command, or a value of it is missing or given twice; and otherwise as the call that they give does.

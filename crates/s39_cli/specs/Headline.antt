@@ -20,32 +20,35 @@ use Rattle.s39_reading.specs.Recover.{secret_line}
 use Rattle.s39_drilling.specs.Drill.{IsUndrilled, ListsSecret}
 use Rattle.s39_command.specs.declared.command.Job.{Job}
 use Rattle.s39_command.specs.declared.command.Job.TheVariants.{Repair}
-use Rattle.s39_command.specs.Command.{GivesCall, HaveSameValues, IsInRange, gives_passphrase}
+use Rattle.s39_command.specs.declared.command.Texts.{Texts}
+use Rattle.s39_command.specs.Command.{GivesCall, HaveSameValues, IsInRange}
 use Rattle.s39_command.specs.Words.{AreCreateWords, AreDrillWords, AreRecoverWords, limit_of}
 use Rattle.s39_cli.specs.Ending.{IsOutcome}
 use Rattle.s39_cli.specs.Outcome.{IsReady}
+use Rattle.s39_cli.specs.Values.{text_of}
 
--- the words give this job, and name no file of a value
-abbrev pub GivesJob : List Text → Job → Type 0
-GivesJob words job = GivesCall words (record {
+-- the words give this job and these texts of values, and name no file of a value
+abbrev pub GivesJob : List Text → Job → Texts → Type 0
+GivesJob words job given = GivesCall words (record {
   job = job;
+  given = given;
   files = record { secret = None; passphrase = None };
-  has_passphrase = gives_passphrase words;
 })
 
 -- the job of these words, all of whose values stand in them, writes this text for the input, with this exit status
 abbrev pub WordsWrite : List Text → Input → List ℕ → ℕ → Type 0
-WordsWrite words input text status = (job : Job) × GivesJob words job × IsOutcome job input text status
+WordsWrite words input text status = (job : Job) × (given : Texts) × GivesJob words job given
+    × IsOutcome job (text_of None given.secret) (text_of None given.passphrase) input text status
 
 -- a job writes one text for an input, with one exit status
 abbrev pub OneOutcome : Type 0
-OneOutcome = (job : Job) (input : Input) (text other : List ℕ) (status another : ℕ) → IsOutcome job input text status
-    → IsOutcome job input other another → (text ≡ other) × (status ≡ another)
+OneOutcome = (job : Job) (secret passphrase : Text) (input : Input) (text other : List ℕ) (status another : ℕ)
+    → IsOutcome job secret passphrase input text status → IsOutcome job secret passphrase input other another → (text ≡ other) × (status ≡ another)
 
 -- jobs with the same values write the same, with the same exit status
 abbrev pub SameValuesWriteTheSame : Type 0
-SameValuesWriteTheSame = (job other : Job) → HaveSameValues job other → (input : Input) (text : List ℕ) (status : ℕ)
-    → IsOutcome job input text status → IsOutcome other input text status
+SameValuesWriteTheSame = (job other : Job) → HaveSameValues job other → (secret passphrase : Text) (input : Input) (text : List ℕ) (status : ℕ)
+    → IsOutcome job secret passphrase input text status → IsOutcome other secret passphrase input text status
 
 -- two mnemonics fit some line of the input
 abbrev pub TwoFitSome : Input → Type 0
@@ -53,14 +56,14 @@ TwoFitSome input = (line : List ℕ) × Contains (lines_of input) line × TwoFit
 
 -- If two mnemonics fit some line, the exit status of a repair isn't 0. If it is 1, two fit some line, or the repair is refused.
 abbrev pub RepairsTellOfTwo : Type 0
-RepairsTellOfTwo = (input : Input) (text : List ℕ) (status : ℕ) → IsOutcome Repair input text status
+RepairsTellOfTwo = (secret passphrase : Text) (input : Input) (text : List ℕ) (status : ℕ) → IsOutcome Repair secret passphrase input text status
     → (TwoFitSome input → status ≢ 0)
     × (status ≡ 1 → TwoFitSome input ⊎ ((fault : Fault) × IsRepairOutput input text (Err fault)))
 
 -- a job that can be begun, with its numbers in their ranges, writes some text for each input of bytes, with some exit status
 abbrev pub SomeOutcome : Type 0
-SomeOutcome = (job : Job) (input : Input) → IsReady job → IsInRange job → AreBytes input.bytes
-    → (text : List ℕ) × (status : ℕ) × IsOutcome job input text status
+SomeOutcome = (job : Job) (secret passphrase : Text) (input : Input) → IsReady job secret → IsInRange job → AreBytes input.bytes
+    → (text : List ℕ) × (status : ℕ) × IsOutcome job secret passphrase input text status
 
 -- Either exactly the quorums after these are listed, each with the secret, and the exit status is 0. Or nothing is written, and it
 -- is 1, because the set has no quorum, or because these names aren't one.

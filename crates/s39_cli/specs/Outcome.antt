@@ -63,26 +63,26 @@ WritesFingerprint text = (noted : NotedFingerprint) × (noted_in text ≡ Ok not
 abbrev pub WritesNoFingerprint : Text → Type 0
 WritesNoFingerprint text = (bad : BadFingerprint) × (noted_in text ≡ Err bad)
 
--- the text of the job's secret isn't hexadecimal
-abbrev pub HasBadSecret : Job → Type 0
-HasBadSecret (Create plan secret passphrase exponent extendable) = IsNotHexadecimal secret.now
-HasBadSecret _ = ⊥
+-- the job has a secret, and this text of it isn't hexadecimal
+abbrev pub HasBadSecret : Job → Text → Type 0
+HasBadSecret (Create plan exponent extendable) secret = IsNotHexadecimal secret
+HasBadSecret _ secret = ⊥
 
--- the text of the job's secret is hexadecimal, if it has one, and that of its plan gives none for this cause
-abbrev pub HasBadPlan : Job → PlanError → Type 0
-HasBadPlan (Create plan secret passphrase exponent extendable) error = IsHexadecimal secret.now × IsPlanReading plan.now (Err error)
-HasBadPlan (Reissue plan names) error = IsPlanReading plan.now (Err error)
-HasBadPlan _ error = ⊥
+-- this text of the job's secret is hexadecimal, if it has one, and that of its plan gives none for this cause
+abbrev pub HasBadPlan : Job → Text → PlanError → Type 0
+HasBadPlan (Create plan exponent extendable) secret error = IsHexadecimal secret × IsPlanReading plan.now (Err error)
+HasBadPlan (Reissue plan names) secret error = IsPlanReading plan.now (Err error)
+HasBadPlan _ secret error = ⊥
 
 -- the text after whose quorum the job goes on is the written form of no names
 abbrev pub HasBadCursor : Job → Type 0
-HasBadCursor (Drill passphrase after limit form expected) = IsSomeAnd (text_in after) WritesNoNames
+HasBadCursor (Drill after limit form expected) = IsSomeAnd (text_in after) WritesNoNames
 HasBadCursor _ = ⊥
 
 -- the text after whose quorum the job goes on writes names, if there is one, and that of the fingerprint writes none
 abbrev pub HasBadFingerprint : Job → Type 0
-HasBadFingerprint (Recover passphrase form expected) = IsSomeAnd (text_in expected) WritesNoFingerprint
-HasBadFingerprint (Drill passphrase after limit form expected) =
+HasBadFingerprint (Recover form expected) = IsSomeAnd (text_in expected) WritesNoFingerprint
+HasBadFingerprint (Drill after limit form expected) =
     IfSome (text_in after) WritesNames × IsSomeAnd (text_in expected) WritesNoFingerprint
 HasBadFingerprint _ = ⊥
 
@@ -91,19 +91,20 @@ abbrev pub HasBadNames : Job → Type 0
 HasBadNames (Reissue plan names) = GivesPlan plan.now × WritesNoNames names.now
 HasBadNames _ = ⊥
 
--- the job can be begun: each of its texts gives its value, the secret, the plan, the cursor, the fingerprint and the names
-abbrev pub IsReady : Job → Type 0
-IsReady (Create plan secret passphrase exponent extendable) = IsHexadecimal secret.now × GivesPlan plan.now
-IsReady (Recover passphrase form expected) = IfSome (text_in expected) WritesFingerprint
-IsReady (Drill passphrase after limit form expected) =
+-- the job can be begun with this text of its secret: each text gives its value, the secret, the plan, the cursor, the fingerprint and
+-- the names
+abbrev pub IsReady : Job → Text → Type 0
+IsReady (Create plan exponent extendable) secret = IsHexadecimal secret × GivesPlan plan.now
+IsReady (Recover form expected) secret = IfSome (text_in expected) WritesFingerprint
+IsReady (Drill after limit form expected) secret =
     IfSome (text_in after) WritesNames × IfSome (text_in expected) WritesFingerprint
-IsReady (Reissue plan names) = GivesPlan plan.now × WritesNames names.now
-IsReady _ = Unit {0}
+IsReady (Reissue plan names) secret = GivesPlan plan.now × WritesNames names.now
+IsReady _ secret = Unit {0}
 
 -- the job has no cause for which it isn't begun
-pub record HasNoCause (job : Job) : Type 0 where
-  pub no_bad_secret : HasBadSecret job → ⊥
-  pub no_bad_plan : (error : PlanError) → HasBadPlan job error → ⊥
+pub record HasNoCause (job : Job) (secret : Text) : Type 0 where
+  pub no_bad_secret : HasBadSecret job secret → ⊥
+  pub no_bad_plan : (error : PlanError) → HasBadPlan job secret error → ⊥
   pub no_bad_cursor : HasBadCursor job → ⊥
   pub no_bad_fingerprint : HasBadFingerprint job → ⊥
   pub no_bad_names : HasBadNames job → ⊥
@@ -174,26 +175,26 @@ where_done _ = true
 abbrev pub without_mismatches : Done → Bool
 without_mismatches done = done.mismatches == 0
 
--- The job writes this text for the input, and answers so, whether all is well: each value is the job's, and its texts are
--- read as above.
-abbrev pub IsJobOutput : Job → Input → List ℕ → Result Bool Fault → Type 0
-IsJobOutput Show input text answer =
+-- With this text of its secret and this passphrase, the job writes this text for the input, and answers so, whether all is well: each
+-- other value is the job's, and its texts are read as above.
+abbrev pub IsJobOutput : Job → Text → Text → Input → List ℕ → Result Bool Fault → Type 0
+IsJobOutput Show secret passphrase input text answer =
     (plain : Result (Unit {0}) Fault) × IsShowOutput input text plain × (answer ≡ judged where_done plain)
-IsJobOutput (Create plan secret passphrase exponent extendable) input text answer =
-    (plain : Result (Unit {0}) Fault) × CreatesFrom plan.now secret.now passphrase.now exponent extendable input text plain
+IsJobOutput (Create plan exponent extendable) secret passphrase input text answer =
+    (plain : Result (Unit {0}) Fault) × CreatesFrom plan.now secret passphrase exponent extendable input text plain
     × (answer ≡ judged where_done plain)
-IsJobOutput (Recover passphrase form expected) input text answer =
+IsJobOutput (Recover form expected) secret passphrase input text answer =
     (noted : Option NotedFingerprint) × IsNoted (text_in expected) noted
-    × ((plain : Result (Unit {0}) Fault) × IsRecoverOutput form noted passphrase.now input text plain × (answer ≡ judged where_done plain))
-IsJobOutput (Drill passphrase after limit form expected) input text answer =
+    × ((plain : Result (Unit {0}) Fault) × IsRecoverOutput form noted passphrase input text plain × (answer ≡ judged where_done plain))
+IsJobOutput (Drill after limit form expected) secret passphrase input text answer =
     (names : Option Names) × IsCursor after names × ((noted : Option NotedFingerprint) × IsNoted (text_in expected) noted
-    × ((found : Result Done Fault) × IsDrillOutput (told_in form noted) passphrase.now names limit input text found
+    × ((found : Result Done Fault) × IsDrillOutput (told_in form noted) passphrase names limit input text found
     × (answer ≡ judged without_mismatches found)))
-IsJobOutput Status input text answer =
+IsJobOutput Status secret passphrase input text answer =
     (found : Result SetStatus Fault) × IsStatusOutput input text found × (answer ≡ judged is_enough found)
-IsJobOutput (Reissue plan names) input text answer =
+IsJobOutput (Reissue plan names) secret passphrase input text answer =
     (plain : Result (Unit {0}) Fault) × Reissues plan.now names.now input text plain × (answer ≡ judged where_done plain)
-IsJobOutput Repair input text answer = IsRepairOutput input text answer
+IsJobOutput Repair secret passphrase input text answer = IsRepairOutput input text answer
 
 -- the exit status of a refusal: 3 if a device failed, and otherwise 1
 abbrev pub status_of_refusal : Refusal → ℕ

@@ -79,7 +79,7 @@ types_passphrase _ _ = false
 -- mnemonics are typed: the input is a terminal, and the command reads mnemonics
 abbrev pub types_mnemonics : Source → Job → Bool
 types_mnemonics read_at.Elsewhere job = false
-types_mnemonics read_at.Terminal (Create plan secret passphrase exponent extendable) = false
+types_mnemonics read_at.Terminal (Create plan exponent extendable) = false
 types_mnemonics read_at.Terminal _ = true
 
 -- a person types the input, or sees the output
@@ -89,13 +89,13 @@ is_attended _ _ = true
 
 -- the command recovers secrets, and no fingerprint is expected
 abbrev pub recovers_any : Job → Bool
-recovers_any (Recover passphrase form expected) = is_none expected
-recovers_any (Drill passphrase after limit form expected) = is_none expected
+recovers_any (Recover form expected) = is_none expected
+recovers_any (Drill after limit form expected) = is_none expected
 recovers_any _ = false
 
 -- no passphrase is given, neither in the words nor in a file, and the command recovers secrets without a fingerprint to tell
 abbrev pub is_bare : Call → Bool
-is_bare call = if call.has_passphrase then false else if is_some call.files.passphrase then false else recovers_any call.job
+is_bare call = if is_some call.given.passphrase then false else if is_some call.files.passphrase then false else recovers_any call.job
 
 -- a person is told that no passphrase was used
 abbrev pub tells_of_none : Source → Destination → Call → Bool
@@ -133,7 +133,7 @@ module _ {E : Type 0} (contents : E → Option (List ℕ)) where
     pub done : status ≡ 0 → Says contents old new (said_of source destination call)
     pub typed : IsTyped source call.job → Says contents old new typed_line
     pub refused : status ≡ 1 → (begun : Bool) × (text : Text) × IsWithin begun (types_mnemonics source call.job) × (length text ≤ longest_message)
-        × (begun ≡ true → IsReady call.job)
+        × (begun ≡ true → (secret : Text) × IsReady call.job secret)
         × Says contents old new (line_if (types_passphrase source call.files.passphrase) shown_line ++ (line_if begun typing_line ++ text))
 
   -- Nothing is said beside help or the version. Values that are missing or given twice have their text. What is said of a call is as
@@ -177,7 +177,7 @@ module _ {E : Type 0} (contents : E → Option (List ℕ)) where
   pub record IsSaidBy (job : Job) (types_mnemonics tells_of_none : Bool) (old new : Messages E) (status : ℕ) : Type 0 where
     pub done : status ≡ 0 → Says contents old new (line_if types_mnemonics typing_line ++ line_if tells_of_none bare_line)
     pub refused : status ≡ 1 → (begun : Bool) × (text : Text) × IsWithin begun types_mnemonics × (length text ≤ longest_message)
-        × (begun ≡ true → IsReady job) × Says contents old new (line_if begun typing_line ++ text)
+        × (begun ≡ true → (secret : Text) × IsReady job secret) × Says contents old new (line_if begun typing_line ++ text)
 
   -- the same for how it ends
   abbrev pub IsSaidOfJob : {R W : Type 0} → Job → Bool → Bool → Messages E → Messages E → Ended R W → Type 0

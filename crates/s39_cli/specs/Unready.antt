@@ -7,14 +7,14 @@ use Rattle.s39_cli.specs.declared.work.Unready.{Unready}
 use Rattle.s39_cli.specs.declared.work.Unready.TheVariants.{Secret, Plan, Cursor, Fingerprint, Names, Memory}
 use Rattle.s39_cli.specs.Outcome.{IsNotHexadecimal, HasBadSecret, HasBadPlan, HasBadCursor, HasBadFingerprint, HasBadNames, GivesPlan, WritesNoNames}
 
--- the cause applies to the job
-abbrev pub IsUnready : Job → Unready → Type 0
-IsUnready job Secret = HasBadSecret job
-IsUnready job (Plan error) = HasBadPlan job error
-IsUnready job (Cursor bad) = HasBadCursor job
-IsUnready job (Fingerprint bad) = HasBadFingerprint job
-IsUnready job (Names bad) = HasBadNames job
-IsUnready job Memory = Unit {0}
+-- the cause applies to the job with this text of its secret
+abbrev pub IsUnready : Job → Text → Unready → Type 0
+IsUnready job secret Secret = HasBadSecret job secret
+IsUnready job secret (Plan error) = HasBadPlan job secret error
+IsUnready job secret (Cursor bad) = HasBadCursor job
+IsUnready job secret (Fingerprint bad) = HasBadFingerprint job
+IsUnready job secret (Names bad) = HasBadNames job
+IsUnready job secret Memory = Unit {0}
 
 -- the cause applies to the text of a secret
 abbrev pub IsNoSecret : Text → Unready → Type 0

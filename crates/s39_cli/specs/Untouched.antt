@@ -12,8 +12,8 @@ use Rattle.s39_cli.specs.Ending.{OnEnd}
 
 -- what the job writes goes out at its end, and nothing before that: it creates, recovers or reissues
 abbrev pub WritesAtItsEnd : Job → Type 0
-WritesAtItsEnd (Create plan secret passphrase exponent extendable) = Unit {0}
-WritesAtItsEnd (Recover passphrase form expected) = Unit {0}
+WritesAtItsEnd (Create plan exponent extendable) = Unit {0}
+WritesAtItsEnd (Recover form expected) = Unit {0}
 WritesAtItsEnd (Reissue plan names) = Unit {0}
 WritesAtItsEnd _ = ⊥
 

@@ -1,13 +1,12 @@
 -- Values of a command that stand in files, or in the first lines of the input.
-use Rattle.std.specs.Prelude.{◌≡◌, ◌≢◌, ◌⊎◌, ◌<◌, ◌≤◌, ℕ, List, [], ◌∷◌, All, Option, Some, None, IfSome, codes, if◌then◌else◌, length, take}
+use Rattle.std.specs.Prelude.{◌≡◌, ◌≢◌, ◌⊎◌, ◌<◌, ◌≤◌, ℕ, List, [], ◌∷◌, All, Option, Some, None, IfSome, codes, if◌then◌else◌, length, take, unwrap_or}
 use Rattle.std.specs.Borrow.{Bor}
 use Rattle.std.specs.Io.BufRead.{ends_with_byte, strip_last, take_through}
 use Rattle.std.specs.Io.KnownBytes.{Consumes, IsAtEnd, Keeps}
 use Rattle.clap.specs.Words.{Text}
-use Rattle.s39_command.specs.declared.command.Call.{Call}
-use Rattle.s39_command.specs.declared.command.ValueFiles.{ValueFiles}
-use Rattle.s39_command.specs.declared.command.Job.{Job}
-use Rattle.s39_command.specs.declared.command.Job.TheVariants.{Create, Recover, Drill}
+use Rattle.s39_command.specs.Command.{text_in}
+use Rattle.s39_command.specs.FewerWords.{or_empty}
+use Rattle.s39_command.specs.declared.command.Texts.{Texts}
 use Rattle.s39_cli.specs.declared.values.Until.{Until}
 use Rattle.s39_cli.specs.declared.values.Until.TheVariants.{End, LineEnd}
 
@@ -59,30 +58,13 @@ module _ {R : Type 0} (told : Told) (remaining : R → Option (List ℕ)) where
       ⊎ ((file.now ≢ input_name) × (new ≡ old) × IsValueOf (told file.now) read))
 
   -- what is read for both files: first for the secret's, and then for that of the passphrase
-  abbrev pub TakesValues : ValueFiles → Option (List ℕ) → Option (List ℕ) → R → R → Type 0
+  abbrev pub TakesValues : Texts → Option (List ℕ) → Option (List ℕ) → R → R → Type 0
   TakesValues files secret passphrase old new =
       (between : R) × TakesValue files.secret secret old between × TakesValue files.passphrase passphrase between new
 
--- the text is what was read, or the given one, if nothing was
-abbrev pub IsText : Option (List ℕ) → Bor (List ℕ) → Bor (List ℕ) → Type 0
-IsText None given text = text ≡ given
-IsText (Some read) given text = text.now ≡ read
-
--- the job has these values in the place of its own
-abbrev pub IsFilledBy : Option (List ℕ) → Option (List ℕ) → Job → Job → Type 0
-IsFilledBy secret passphrase (Create plan own_secret own exponent extendable) filled = (s p : Bor (List ℕ))
-    × (filled ≡ Create plan s p exponent extendable) × IsText secret own_secret s × IsText passphrase own p
-IsFilledBy secret passphrase (Recover own form expected) filled = (p : Bor (List ℕ))
-    × (filled ≡ Recover p form expected) × IsText passphrase own p
-IsFilledBy secret passphrase (Drill own after limit form expected) filled = (p : Bor (List ℕ))
-    × (filled ≡ Drill p after limit form expected) × IsText passphrase own p
-IsFilledBy secret passphrase job filled = filled ≡ job
-
-module _ {R : Type 0} (told : Told) (remaining : R → Option (List ℕ)) where
-  -- the job is that of the call, with the values that are read between these two states of the input's reader
-  abbrev pub FillsJob : Call → Job → R → R → Type 0
-  FillsJob call job old new = (secret passphrase : Option (List ℕ)) × TakesValues told remaining call.files secret passphrase old new
-      × IsFilledBy secret passphrase call.job job
+-- the text of a value: what was read, or else the given text, or the empty one if there is none
+abbrev pub text_of : Option (List ℕ) → Option (Bor Text) → Text
+text_of read given = unwrap_or read (or_empty (text_in given))
 
 -- the name is that of the input
 abbrev pub IsInput : Option (Bor Text) → Type 0
@@ -90,7 +72,7 @@ IsInput None = ⊥
 IsInput (Some file) = file.now ≡ input_name
 
 -- some file is named, and not all of them are read; the input is read only if it is one of them
-abbrev pub LacksValue : {R : Type 0} → ValueFiles → R → R → Type 0
+abbrev pub LacksValue : {R : Type 0} → Texts → R → R → Type 0
 LacksValue files old new = (((files.secret ≡ None) × (files.passphrase ≡ None)) → ⊥)
     × ((new ≡ old) ⊎ (IsInput files.secret ⊎ IsInput files.passphrase))
 
@@ -105,7 +87,7 @@ module _ {R : Type 0} (told : Told) (remaining : R → Option (List ℕ)) where
   IsLongLine file reader = IsInput file × HasLongValue LineEnd (remaining reader)
 
   -- one of the values is too long: that of a file, that of the input's first line, or that of the line behind the secret
-  abbrev pub HasLong : ValueFiles → R → Type 0
+  abbrev pub HasLong : Texts → R → Type 0
   HasLong files old = (IsLongFile told files.secret ⊎ IsLongFile told files.passphrase)
       ⊎ (IsLongLine files.secret old
       ⊎ ((between : R) × ((secret : Option (List ℕ)) × TakesValue told remaining files.secret secret old between) × IsLongLine files.passphrase between))

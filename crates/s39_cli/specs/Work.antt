@@ -50,18 +50,18 @@ pub record IsReissueOf (plan_text names_text : Text) (reissue : Reissue) : Type 
   pub plan_is : IsPlanReading plan_text (Ok (reissue.plan.group_threshold, reissue.plan.groups.items))
   pub names_are : IsWrittenForm names_text reissue.names
 
--- the work is the job's
-abbrev pub IsWorkOf : Job → Work → Type 0
-IsWorkOf job.Show w = w ≡ work.Show
-IsWorkOf (job.Create plan secret passphrase exponent extendable) w =
-    (creation : Creation) × (w ≡ work.Create creation) × IsCreationOf plan.now secret.now passphrase.now exponent extendable creation
-IsWorkOf (job.Recover passphrase form expected) w = (given : Bor Text) × (noted : Option NotedFingerprint)
-    × (w ≡ work.Recover given form noted) × (given.now ≡ passphrase.now) × IsNoted (text_in expected) noted
-IsWorkOf (job.Drill passphrase after limit form expected) w =
-    (drill : Drill) × (w ≡ work.Drill drill) × IsDrillOf passphrase.now after limit form expected drill
-IsWorkOf job.Status w = w ≡ work.Status
-IsWorkOf (job.Reissue plan names) w = (reissue : Reissue) × (w ≡ work.Reissue reissue) × IsReissueOf plan.now names.now reissue
-IsWorkOf job.Repair w = w ≡ work.Repair
+-- the work is the job's, with this text of its secret and this passphrase
+abbrev pub IsWorkOf : Job → Text → Text → Work → Type 0
+IsWorkOf job.Show secret passphrase w = w ≡ work.Show
+IsWorkOf (job.Create plan exponent extendable) secret passphrase w =
+    (creation : Creation) × (w ≡ work.Create creation) × IsCreationOf plan.now secret passphrase exponent extendable creation
+IsWorkOf (job.Recover form expected) secret passphrase w = (given : Bor Text) × (noted : Option NotedFingerprint)
+    × (w ≡ work.Recover given form noted) × (given.now ≡ passphrase) × IsNoted (text_in expected) noted
+IsWorkOf (job.Drill after limit form expected) secret passphrase w =
+    (drill : Drill) × (w ≡ work.Drill drill) × IsDrillOf passphrase after limit form expected drill
+IsWorkOf job.Status secret passphrase w = w ≡ work.Status
+IsWorkOf (job.Reissue plan names) secret passphrase w = (reissue : Reissue) × (w ≡ work.Reissue reissue) × IsReissueOf plan.now names.now reissue
+IsWorkOf job.Repair secret passphrase w = w ≡ work.Repair
 
 -- a byte of the work's passphrase isn't printable
 abbrev pub HasBadPassphrase : Work → Type 0

@@ -52,7 +52,7 @@ pub fn same_values_write_the_same()
 
 /// A job that can be begun has none of the causes for which a job isn't begun.
 pub fn ready_jobs_have_no_cause()
-    ensures { (job : Job) → IsReady job → HasNoCause job }
+    ensures { (job : Job) (secret : List ℕ) → IsReady job secret → HasNoCause job secret }
 {}
 
 /// A job that can be begun writes a text for each input of bytes, and ends with an exit status.

@@ -76,7 +76,7 @@ fn is_attended(source: Source, destination: Destination) -> bool
 fn is_bare(call: &Call) -> bool
     ensures { result ≡ is_bare call.now }
 {
-    !call.has_passphrase && call.files.passphrase.is_none() && recovers_any(&call.job)
+    call.given.passphrase.is_none() && call.files.passphrase.is_none() && recovers_any(&call.job)
 }
 
 /// Whether the command recovers secrets, and no fingerprint is expected.

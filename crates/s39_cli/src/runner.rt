@@ -10,7 +10,7 @@ use crate::delivery::{by_buffer, by_lines, show, write_failed};
 use crate::messages::Messages;
 use crate::notes::{Notes, SHOWN, TYPING};
 use crate::telling::{answered, no_memory_left, report, say_of_file, unbegun};
-use crate::values::{NoValue, Shelf, Unread, Values};
+use crate::values::{NoValue, Secrets, Shelf, Unread, Values};
 use crate::work::Work;
 use s39_command::{Job, NoJob, read_words};
 use std::alloc::Global;
@@ -116,7 +116,8 @@ pub fn program<S: Shelf, R: Read + Drop, W: Write + Drop, E: Write>(
     };
     by_job(
         alloc,
-        values.fill(call.job),
+        call.job,
+        values.texts(call.given),
         input,
         output,
         errors,
@@ -125,10 +126,11 @@ pub fn program<S: Shelf, R: Read + Drop, W: Write + Drop, E: Write>(
     )
 }
 
-/// Does the job.
+/// Does the job with these texts.
 fn by_job<R: Read + Drop, W: Write + Drop, E: Write>(
     alloc: Global,
     job: Job,
+    texts: Secrets,
     input: R,
     output: W,
     errors: &mut Messages<E>,
@@ -136,14 +138,15 @@ fn by_job<R: Read + Drop, W: Write + Drop, E: Write>(
     destination: Destination,
 ) -> Ended<R, W>
     requires { IsInRange job }
-    ensures ends { OnEnd result (DoesJob R.remaining W.contents job.entry input output) }
+    ensures ends { OnEnd result (DoesJob R.remaining W.contents job.entry texts.entry.secret.now
+        texts.entry.passphrase.now input output) }
     ensures untouched { IsUntouchedBy job.entry result output }
     ensures said { IsSaidOfJob E.contents job.entry notes.types_mnemonics notes.tells_of_none
         errors.old errors.new result }
     ensures silent { IsFalse notes.types_mnemonics
         → IsSilentAtNone notes.tells_of_none result errors.old errors.new }
 {
-    let work = match Work::of(alloc, job) {
+    let work = match Work::of(alloc, job, texts) {
         Ok(work) => work,
         Err(unready) => return unbegun(unready, input, output, errors),
     };

@@ -1,10 +1,10 @@
 //! Values of a command that stand in files or in the first lines of the input.
 ghost use Rattle.std.specs.Prelude.{◌≡◌, ◌≢◌, Err, None, IfErr, IfOk, OnErr, option_map};
-ghost use Rattle.s39_cli.specs.Values.{HasLong, HasLongValue, IsFilledBy, IsInFile, IsInput, IsLongFile, IsPart, IsText, IsValueIn, IsValueOf};
-ghost use Rattle.s39_cli.specs.Values.{LacksValue, TakesByte, TakesValue, TakesValues, without_line_end};
+ghost use Rattle.s39_cli.specs.Values.{HasLong, HasLongValue, IsInFile, IsInput, IsLongFile, IsPart, IsValueIn, IsValueOf};
+ghost use Rattle.s39_cli.specs.Values.{LacksValue, TakesByte, TakesValue, TakesValues, text_of, without_line_end};
 
 use arrayvec::ArrayVec;
-use s39_command::{Job, ValueFiles};
+use s39_command::Texts;
 use std::io::{ErrorKind, Read};
 use std::rt::Files;
 use std::{fs, io};
@@ -208,14 +208,22 @@ fn in_line<'a, S: Shelf, R: Read>(
     }
 }
 
-/// The text that was read, or the given one, if nothing was.
-fn text_of<'a>(read: &'a Option<Value>, given: &'a [u8]) -> &'a [u8]
-    ensures { IsText (option_map (λ held. held.items) read.now) given.entry result }
+/// The text that was read, or else the given one, or the empty one if there is none.
+fn text_of<'a>(read: &'a Option<Value>, given: Option<&'a str>) -> &'a [u8]
+    ensures { result.now ≡ text_of (option_map (λ held. held.items) read.now) given.entry }
 {
-    match read {
-        Some(value) => value.as_slice(),
-        None => given,
+    match (read, given) {
+        (Some(value), _) => value.as_slice(),
+        (None, Some(text)) => text.as_bytes(),
+        (None, None) => b"",
     }
+}
+
+/// The secret and the passphrase of a command, as texts.
+#[derive(Clone, Copy)]
+pub(crate) struct Secrets<'a> {
+    pub(crate) secret: &'a [u8],
+    pub(crate) passphrase: &'a [u8],
 }
 
 /// The values of a command that aren't in its words.
@@ -229,7 +237,7 @@ impl Values {
     /// Reads them: those in files first, and then those in the first lines of the input, the secret before the passphrase.
     pub(crate) fn read<'a, S: Shelf, R: Read>(
         shelf: &S,
-        files: ValueFiles<'a>,
+        files: Texts<'a>,
         input: &mut R,
     ) -> Result<Values, Unread<'a>>
         ensures values { IfOk result (λ values. TakesValues (S.told shelf.now) R.remaining files.entry
@@ -247,48 +255,16 @@ impl Values {
         })
     }
 
-    /// The job with these values instead of its own.
-    pub(crate) fn fill<'a>(&'a self, job: Job<'a>) -> Job<'a>
-        ensures filled { IsFilledBy (option_map (λ held. held.items) self.now.secret)
-            (option_map (λ held. held.items) self.now.passphrase) job.entry result }
+    /// The texts of the values that were read, and else those that are given.
+    pub(crate) fn texts<'a>(&'a self, given: Texts<'a>) -> Secrets<'a>
+        ensures secret { result.secret.now ≡ text_of (option_map (λ held. held.items) self.now.secret)
+            given.entry.secret }
+        ensures passphrase { result.passphrase.now
+            ≡ text_of (option_map (λ held. held.items) self.now.passphrase) given.entry.passphrase }
     {
-        match job {
-            Job::Create {
-                plan,
-                secret,
-                passphrase,
-                exponent,
-                extendable,
-            } => Job::Create {
-                plan,
-                secret: text_of(&self.secret, secret),
-                passphrase: text_of(&self.passphrase, passphrase),
-                exponent,
-                extendable,
-            },
-            Job::Recover {
-                passphrase,
-                form,
-                expected,
-            } => Job::Recover {
-                passphrase: text_of(&self.passphrase, passphrase),
-                form,
-                expected,
-            },
-            Job::Drill {
-                passphrase,
-                after,
-                limit,
-                form,
-                expected,
-            } => Job::Drill {
-                passphrase: text_of(&self.passphrase, passphrase),
-                after,
-                limit,
-                form,
-                expected,
-            },
-            job => job,
+        Secrets {
+            secret: text_of(&self.secret, given.secret),
+            passphrase: text_of(&self.passphrase, given.passphrase),
         }
     }
 }

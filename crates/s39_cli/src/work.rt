@@ -9,6 +9,7 @@ ghost use Rattle.s39_cli.specs.Unready.{IsNoReissue, IsUnready};
 
 use crate::runner::Destination;
 use crate::secret_text::secret_of;
+use crate::values::Secrets;
 use s39_backup::{Options, Plan, PlanError};
 use s39_clearing::Cleared;
 use s39_command::Job;
@@ -179,43 +180,36 @@ impl<'a> Work<'a> {
 
     /// The work of a job, whose texts are read here: those of `create` are the secret and then the plan, those of `drill`
     /// the cursor and then the fingerprint, and those of `reissue` the plan and then the names.
-    pub(crate) fn of(alloc: Global, job: Job<'a>) -> Result<Work<'a>, Unready>
+    pub(crate) fn of(alloc: Global, job: Job<'a>, texts: Secrets<'a>) -> Result<Work<'a>, Unready>
         requires { IsInRange job }
-        ensures work { IfOk result (IsWorkOf job.entry) }
-        ensures refused { IfErr result (IsUnready job.entry) }
+        ensures work { IfOk result (IsWorkOf job.entry texts.entry.secret.now texts.entry.passphrase.now) }
+        ensures refused { IfErr result (IsUnready job.entry texts.entry.secret.now) }
     {
         match job {
             Job::Show => Ok(Work::Show),
             Job::Create {
                 plan,
-                secret,
-                passphrase,
                 exponent,
                 extendable,
             } => {
-                let secret = secret_of(alloc, secret)?;
+                let secret = secret_of(alloc, texts.secret)?;
                 let plan = Plan::parse(plan)?;
                 Ok(Work::Create(Creation {
                     plan,
                     secret,
-                    passphrase,
+                    passphrase: texts.passphrase,
                     options: Options {
                         exponent,
                         extendable,
                     },
                 }))
             }
-            Job::Recover {
-                passphrase,
-                form,
-                expected,
-            } => Ok(Work::Recover {
-                passphrase,
+            Job::Recover { form, expected } => Ok(Work::Recover {
+                passphrase: texts.passphrase,
                 form,
                 expected: expected_of(expected)?,
             }),
             Job::Drill {
-                passphrase,
                 after,
                 limit,
                 form,
@@ -224,7 +218,7 @@ impl<'a> Work<'a> {
                 let after = cursor_of(after)?;
                 let noted = expected_of(expected)?;
                 Ok(Work::Drill(Drill {
-                    passphrase,
+                    passphrase: texts.passphrase,
                     after,
                     limit,
                     form: told_in(form, noted),

@@ -9,7 +9,7 @@ use Rattle.clap.proofs.ValueTestLemmas.{Accepts-accepts, accepts-Accepts}
 use Rattle.s39_clap.proofs.Commands.{Completes, HasCommand, reading_taken}
 use Rattle.s39_clap.proofs.Options.{IsOption}
 use Rattle.s39_clap.proofs.Readings.{IsPositional, MayHave, Reads, reads_none, reads_option, reads_positional}
-use Rattle.s39_command.specs.Command.{flag_text, shamir_app}
+use Rattle.s39_command.specs.Command.{shamir_app}
 use Rattle.s39_command.specs.FewerWords.{AreFewCreateWords, CreateWordsAreFew, FewCreateWordsAreTaken, IsExponent}
 use Rattle.s39_command.specs.Words.{CreateWordsAreTaken}
 use Rattle.s39_command.proofs.Words.{Found, GivenFits, found_by, found_in, given_rows, option_in, reads_given, shape_at}

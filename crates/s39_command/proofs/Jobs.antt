@@ -1,7 +1,7 @@
 -- What the words of a command line give.
 use Rattle.std.proofs.Common.{◌≡◌, ◌⊎◌, ◌∙◌, ◌<◌, ◌≤◌, ⊎_elim, ℕ, arith, codes, Bool, inl, inr, refl, sym, ap, subst, true, false, true≢false, List}
 use Rattle.std.proofs.Common.{[], ◌∷◌, Option, Some, None, is_some, Bor, Global}
-use Rattle.std.specs.Prelude.{Box, option_map, slice_get, unwrap_or}
+use Rattle.std.specs.Prelude.{Box, option_map, slice_get}
 use Rattle.std.specs.Option.{option_map_or}
 use Rattle.std.specs.Str.Parse.{ParsesUnsigned, ExplainsUnsignedError, HasUnsignedDigitsIfOk}
 use Rattle.std.specs.Str.{bytes_eq}
@@ -29,16 +29,11 @@ use Rattle.s39_clap.proofs.Values.{flag_said, has_value, number_read}
 use Rattle.s39_command.specs.Command.{AnswersKind, AnswersWords, AsksForText, IsFormSaid, commands, exponent_rule, extendable_rule, fingerprint_rule, flag_text}
 use Rattle.s39_command.specs.Command.{limit_rule, names_rule}
 use Rattle.s39_command.specs.Command.{plan_rule}
-use Rattle.s39_command.specs.Command.{IsGiven, IsHelp, SaysHelp, shamir_app, text_or_empty}
+use Rattle.s39_command.specs.Command.{IsGiven, IsHelp, SaysHelp, shamir_app}
 use Rattle.s39_kdf.specs.declared.secret_form.SecretForm.{SecretForm}
 use Rattle.s39_kdf.specs.declared.secret_form.SecretForm.TheVariants.{Digits, Fingerprint}
 use Rattle.s39_command.specs.declared.command.NoJob.{NoJob}
 use Rattle.s39_command.specs.declared.command.NoJob.TheVariants.{Help, Refused, Values, Memory}
-
--- the text of an option, or another text in place of none
-text_or : (found : Option (Bor Text)) (other : Bor Text) → (unwrap_or found other).now ≡ unwrap_or (option_map (λ text. text.now) found) other.now
-text_or None other = refl
-text_or (Some text) other = refl
 
 settled_app : is_settled_app shamir_app ≡ true
 unfolding shamir_app
@@ -243,13 +238,6 @@ pub found_of_rows : (f : Found) (id : Text) (got : Option (Bor Text)) (text : Bo
     → first_of id (rows_of f) ≡ Some text.now
 found_of_rows f id got text given some = sym (first_value-rows f id) ∙ sym given ∙ ap (option_map (λ (t : Bor Text). t.now)) some
 
--- and the empty text is in place of none
-pub or_empty_of_rows : (f : Found) (id : Text) (got : Option (Bor Text)) (text other : Bor Text) → option_map (λ t. t.now) got ≡ first_value f id
-    → text ≡ unwrap_or got other → other.now ≡ [] → text.now ≡ text_or_empty id (rows_of f)
-or_empty_of_rows f id got text other given is empty =
-    ap (λ (t : Bor Text). t.now) is ∙ text_or got other ∙ ap (unwrap_or (option_map (λ (t : Bor Text). t.now) got)) empty
-    ∙ ap (λ (o : Option Text). unwrap_or o []) (given ∙ first_value-rows f id)
-
 -- a text is found where a getter has one
 pub given_of_rows : (f : Found) (id : Text) (got : Option (Bor Text)) → option_map (λ t. t.now) got ≡ first_value f id → is_some got ≡ true
     → IsGiven id (rows_of f)
@@ -261,12 +249,6 @@ pub missing_of_rows : (f : Found) (id : Text) (got : Option (Bor Text)) → opti
     → first_of id (rows_of f) ≡ None
 missing_of_rows f id None given none = sym (first_value-rows f id) ∙ sym given
 missing_of_rows f id (Some text) given none = absurd (true≢false none)
-
--- a getter has one exactly where one is found
-pub is_found : (f : Found) (id : Text) (got : Option (Bor Text)) → option_map (λ t. t.now) got ≡ first_value f id
-    → is_some got ≡ is_some (first_of id (rows_of f))
-is_found f id None given = ap (λ (o : Option Text). is_some o) (given ∙ first_value-rows f id)
-is_found f id (Some text) given = ap (λ (o : Option Text). is_some o) (given ∙ first_value-rows f id)
 
 -- a text is found, and it is this one, where a getter has it
 pub said_of_rows : (f : Found) (id wanted : Text) (got : Option (Bor Text)) (text : Bor Text) → option_map (λ t. t.now) got ≡ first_value f id → got ≡ Some text

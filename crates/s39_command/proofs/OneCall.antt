@@ -1,15 +1,15 @@
 -- The words of a command line give one call, up to how its texts are lent.
-use Rattle.std.proofs.Common.{◌≡◌, ◌∙◌, ℕ, Bool, true, false, Bor, List, codes, Option, Some, ap, ap₂, refl, subst, sym, true≢false}
+use Rattle.std.proofs.Common.{◌≡◌, ◌∙◌, ℕ, Bool, true, false, List, codes, Option, Some, ap, ap₂, refl, subst, sym, true≢false}
 use Rattle.std.specs.Str.{bytes_eq}
 use Rattle.std.proofs.lemmas.Slice.Eq.{bytes_eq-Decides}
-use Rattle.clap.specs.Words.{Row, Text, first_of, one_of, subcommand_of}
+use Rattle.clap.specs.Words.{Row, Text, one_of, subcommand_of}
 use Rattle.s39_clap.specs.Found.{HasNumber}
 use Rattle.s39_kdf.specs.declared.secret_form.SecretForm.{SecretForm}
 use Rattle.s39_kdf.specs.declared.secret_form.SecretForm.TheVariants.{Digits, Fingerprint, Expected}
-use Rattle.s39_command.specs.declared.command.Call.{Call}
 use Rattle.s39_command.specs.declared.command.Job.{Job}
 use Rattle.s39_command.specs.declared.command.Job.TheVariants as job
-use Rattle.s39_command.specs.Command.{Gives, GivesCall, HaveSameValues, IsFormSaid, flag_text, shamir_app}
+use Rattle.s39_command.specs.declared.command.Texts.{Texts}
+use Rattle.s39_command.specs.Command.{AreFound, AreSameTexts, Gives, HaveSameValues, IsFormSaid, flag_text, shamir_app}
 use Rattle.s39_command.specs.Words.{OneCall}
 
 pub other_text : (a b : Text) → bytes_eq a b ≡ false → a ≡ b → ⊥
@@ -31,18 +31,18 @@ one_form rows Fingerprint (Expected noted) is also = absurd also
 -- the name of a job's command
 abbrev pub name_of : Job → Text
 name_of job.Show = codes "show"
-name_of (job.Create t s p e x) = codes "create"
-name_of (job.Recover p f e) = codes "recover"
-name_of (job.Drill p a l f e) = codes "drill"
+name_of (job.Create t e x) = codes "create"
+name_of (job.Recover f e) = codes "recover"
+name_of (job.Drill a l f e) = codes "drill"
 name_of job.Status = codes "status"
 name_of (job.Reissue t n) = codes "reissue"
 name_of job.Repair = codes "repair"
 
 name_given : (name : Text) (rows : List Row) (j : Job) → Gives name rows j → name ≡ name_of j
 name_given name rows job.Show is = is
-name_given name rows (job.Create t s p e x) is = is.0
-name_given name rows (job.Recover p f e) is = is.0
-name_given name rows (job.Drill p a l f e) is = is.0
+name_given name rows (job.Create t e x) is = is.0
+name_given name rows (job.Recover f e) is = is.0
+name_given name rows (job.Drill a l f e) is = is.0
 name_given name rows job.Status is = is
 name_given name rows (job.Reissue t n) is = is.0
 name_given name rows job.Repair is = is
@@ -63,30 +63,16 @@ same_number id rows m n is also = cc
 module _ (name : Text) (rows : List Row) where
   same_values : (j k : Job) → bytes_eq (name_of j) (name_of k) ≡ true → Gives name rows j → Gives name rows k → HaveSameValues j k
   same_values job.Show job.Show same is also = refl
-  same_values (job.Create t s p e x) (job.Create t' s' p' e' x') same is also =
-      let exponents = same_number (codes "exponent") rows e' e also.1.exponent_number is.1.exponent_number in
-      let flags = same_flag (one_of (codes "extendable") rows) x' x also.1.extendable_said is.1.extendable_said in (
-        t',
-        s',
-        p',
-        ap₂ (λ (n : ℕ) (f : Bool). job.Create t' s' p' n f) exponents flags,
-        said_same (sym is.1.plan_given ∙ also.1.plan_given),
-        is.1.secret_or_empty ∙ sym also.1.secret_or_empty,
-        is.1.passphrase_or_empty ∙ sym also.1.passphrase_or_empty,
-      )
-  same_values (job.Recover p f e) (job.Recover p' f' e') same is also =
-      (p', e', ap (λ (g : SecretForm). job.Recover p' g e') (one_form rows f f' is.2 also.2), is.1 ∙ sym also.1, is.3 ∙ sym also.3)
-  same_values (job.Drill p a l f e) (job.Drill p' a' l' f' e') same is also =
-      let limits = same_number (codes "limit") rows l' l also.3 is.3 in
-      let forms = one_form rows f f' is.4 also.4 in (
-        p',
-        a',
-        e',
-        ap₂ (λ (n : ℕ) (g : SecretForm). job.Drill p' a' n g e') limits forms,
-        is.1 ∙ sym also.1,
-        is.2 ∙ sym also.2,
-        is.5 ∙ sym also.5,
-      )
+  same_values (job.Create t e x) (job.Create t' e' x') same is also =
+      let exponents = same_number (codes "exponent") rows e' e also.2 is.2 in
+      let flags = same_flag (one_of (codes "extendable") rows) x' x also.3 is.3 in
+      (t', ap₂ (λ (n : ℕ) (f : Bool). job.Create t' n f) exponents flags, said_same (sym is.1 ∙ also.1))
+  same_values (job.Recover f e) (job.Recover f' e') same is also =
+      (e', ap (λ (g : SecretForm). job.Recover g e') (one_form rows f f' is.1 also.1), is.2 ∙ sym also.2)
+  same_values (job.Drill a l f e) (job.Drill a' l' f' e') same is also =
+      let limits = same_number (codes "limit") rows l' l also.2 is.2 in
+      let forms = one_form rows f f' is.3 also.3 in
+      (a', e', ap₂ (λ (n : ℕ) (g : SecretForm). job.Drill a' n g e') limits forms, is.1 ∙ sym also.1, is.4 ∙ sym also.4)
   same_values job.Status job.Status same is also = refl
   same_values (job.Reissue t n) (job.Reissue t' n') same is also =
       (t', n', refl, said_same (sym is.1 ∙ also.1), said_same (sym is.2 ∙ also.2))
@@ -96,16 +82,20 @@ module _ (name : Text) (rows : List Row) where
 one_found : (o : Option (Text × List Row)) (x y : Text × List Row) → o ≡ Some x → o ≡ Some y → x ≡ y
 one_found o x y is also = cc
 
+same_texts : (secret passphrase : Text) (rows : List Row) (texts other : Texts) → AreFound secret passphrase rows texts
+    → AreFound secret passphrase rows other → AreSameTexts texts other
+same_texts secret passphrase rows texts other is also =
+    record { secret = is.secret_is ∙ sym also.secret_is; passphrase = is.passphrase_is ∙ sym also.passphrase_is }
+
 pub one_call : OneCall
 one_call words call other is also =
     let found : (is.0, is.1) ≡ (also.0, also.1) = one_found (subcommand_of shamir_app words) (is.0, is.1) (also.0, also.1) is.2 also.2 in
     let gives : Gives also.0 also.1 call.job = subst (λ (p : Text × List Row). Gives p.0 p.1 call.job) found is.3 in
-    let files = subst (λ (p : Text × List Row). first_of (codes "master-secret-file") is.1 ≡ first_of (codes "master-secret-file") p.1) found refl in
-    let phrases = subst (λ (p : Text × List Row). first_of (codes "passphrase-file") is.1 ≡ first_of (codes "passphrase-file") p.1) found refl in
+    let rows : is.1 ≡ also.1 = ap (λ (p : Text × List Row). p.1) found in
     let names = sym (name_given also.0 also.1 call.job gives) ∙ name_given also.0 also.1 other.job also.3 in
     record {
       values = same_values also.0 also.1 call.job other.job ((bytes_eq-Decides (name_of call.job) (name_of other.job)).1 names) gives also.3;
-      secret_file = is.4.secret_is ∙ files ∙ sym also.4.secret_is;
-      passphrase_file = is.4.passphrase_is ∙ phrases ∙ sym also.4.passphrase_is;
-      passphrase = is.6 ∙ sym also.6;
+      given = same_texts _ _ also.1 call.given other.given (subst (λ r. AreFound (codes "master-secret") (codes "passphrase") r call.given) rows is.4) also.4;
+      files = same_texts _ _ also.1 call.files other.files
+          (subst (λ r. AreFound (codes "master-secret-file") (codes "passphrase-file") r call.files) rows is.5) also.5;
     }

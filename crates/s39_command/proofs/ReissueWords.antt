@@ -1,5 +1,5 @@
 -- The words of a reissue: they are taken, and what is found in them.
-use Rattle.std.proofs.Common.{◌≡◌, ◌∙◌, ℕ, true, List, [], ◌∷◌, codes, Some, None, ap, refl, unwrap_or}
+use Rattle.std.proofs.Common.{◌≡◌, ◌∙◌, ℕ, List, [], ◌∷◌, codes, Some, None, ap, refl, unwrap_or}
 use Rattle.std.specs.List.{fold}
 use Rattle.clap.specs.Walk.{arg_by_index, used, with_default}
 use Rattle.clap.specs.Words.{Row, Rule, Text, new_rule, subcommand_of, takes}

@@ -1,5 +1,5 @@
 -- What the words of all commands have in common: options that may be there, the flag for the form, and what is found.
-use Rattle.std.proofs.Common.{◌≡◌, ◌∙◌, ◌++◌, ℕ, Bool, true, false, List, [], ◌∷◌, codes, Option, Some, None, ap, append-nil, option_map, refl, slice_get, subst, sym, unwrap_or}
+use Rattle.std.proofs.Common.{◌≡◌, ◌∙◌, ◌++◌, ℕ, Bool, true, false, List, [], ◌∷◌, codes, Option, Some, None, ap, append-nil, option_map, slice_get, subst, sym, unwrap_or}
 use Rattle.std.specs.List.{fold}
 use Rattle.clap.specs.Walk.{Held, arg_by_long, nothing_held, reacted, used, with_default}
 use Rattle.clap.specs.Words.{Row, Rule, Shape, Text, first_of, new_rule, one_of, subcommand_of}

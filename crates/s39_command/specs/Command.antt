@@ -1,5 +1,5 @@
 -- The command line.
-use Rattle.std.specs.Prelude.{◌≡◌, ◌≢◌, ◌⊎◌, ◌++◌, ◌<◌, ◌≤◌, ◌^◌, ℕ, Bool, true, false, List, Option, [], ◌∷◌, codes, if◌then◌else◌, is_some, pos, Some, None, option_map, slice_get, unwrap_or}
+use Rattle.std.specs.Prelude.{◌≡◌, ◌≢◌, ◌⊎◌, ◌++◌, ◌<◌, ◌≤◌, ◌^◌, Bool, true, false, List, Option, [], ◌∷◌, codes, if◌then◌else◌, pos, Some, None, option_map, slice_get}
 use Rattle.std.specs.Borrow.{Bor}
 use Rattle.clap.specs.Words.{App, Row, Rule, Shape, Text, built, fault_of, first_of, new_app, new_rule, one_of}
 use Rattle.clap.specs.Words.{subcommand_of, takes, with_rule, with_subcommand}
@@ -16,7 +16,7 @@ use Rattle.s39_command.specs.declared.command.Job.TheVariants.{Show, Create, Rec
 use Rattle.s39_command.specs.declared.command.NoJob.{NoJob}
 use Rattle.s39_command.specs.declared.command.NoJob.TheVariants.{Help, Refused, Values, Memory}
 use Rattle.s39_command.specs.declared.command.Call.{Call}
-use Rattle.s39_command.specs.declared.command.ValueFiles.{ValueFiles}
+use Rattle.s39_command.specs.declared.command.Texts.{Texts}
 use Rattle.s39_command.specs.declared.command.BadValues.{BadValues}
 use Rattle.s39_command.specs.declared.command.BadValues.TheVariants.{NoSecret, TwoSecrets, TwoPassphrases, TwoForms}
 
@@ -154,34 +154,20 @@ IsFormSaid rows Digits = one_of (codes "fingerprint") rows ≡ Some (flag_text f
 IsFormSaid rows Fingerprint = one_of (codes "fingerprint") rows ≡ Some (flag_text true)
 IsFormSaid rows (Expected noted) = ⊥
 
--- the text that is found for an id, or the empty text if none is found
-abbrev pub text_or_empty : Text → List Row → Text
-text_or_empty id rows = unwrap_or (first_of id rows) []
-
 -- the text that is lent, if there is one
 abbrev pub text_in : Option (Bor Text) → Option Text
 text_in lent = option_map (λ text. text.now) lent
 
--- what is found for the arguments of `create` gives these values
-pub record GivesCreate (rows : List Row) (plan secret passphrase : Text) (exponent : ℕ)
-    (extendable : Bool) : Type 0 where
-  pub plan_given : first_of (codes "plan") rows ≡ Some plan
-  pub secret_or_empty : secret ≡ text_or_empty (codes "master-secret") rows
-  pub passphrase_or_empty : passphrase ≡ text_or_empty (codes "passphrase") rows
-  pub exponent_number : HasNumber (codes "exponent") rows exponent
-  pub extendable_said : one_of (codes "extendable") rows ≡ Some (flag_text extendable)
-
 -- the command of this name, with what is found for its arguments, gives the job
 abbrev pub Gives : Text → List Row → Job → Type 0
 Gives name rows Show = name ≡ codes "show"
-Gives name rows (Create plan secret passphrase exponent extendable) = (name ≡ codes "create")
-    × GivesCreate rows plan.now secret.now passphrase.now exponent extendable
-Gives name rows (Recover passphrase form expected) =
-    (name ≡ codes "recover") × (passphrase.now ≡ text_or_empty (codes "passphrase") rows) × IsFormSaid rows form
-    × (text_in expected ≡ first_of (codes "expect") rows)
-Gives name rows (Drill passphrase after limit form expected) =
-    (name ≡ codes "drill") × (passphrase.now ≡ text_or_empty (codes "passphrase") rows)
-    × (text_in after ≡ first_of (codes "after") rows)
+Gives name rows (Create plan exponent extendable) = (name ≡ codes "create")
+    × (first_of (codes "plan") rows ≡ Some plan.now) × HasNumber (codes "exponent") rows exponent
+    × (one_of (codes "extendable") rows ≡ Some (flag_text extendable))
+Gives name rows (Recover form expected) =
+    (name ≡ codes "recover") × IsFormSaid rows form × (text_in expected ≡ first_of (codes "expect") rows)
+Gives name rows (Drill after limit form expected) =
+    (name ≡ codes "drill") × (text_in after ≡ first_of (codes "after") rows)
     × HasNumber (codes "limit") rows limit × IsFormSaid rows form × (text_in expected ≡ first_of (codes "expect") rows)
 Gives name rows Status = name ≡ codes "status"
 Gives name rows (Reissue plan names) = (name ≡ codes "reissue")
@@ -189,10 +175,10 @@ Gives name rows (Reissue plan names) = (name ≡ codes "reissue")
     × (first_of (codes "names") rows ≡ Some names.now)
 Gives name rows Repair = name ≡ codes "repair"
 
--- what is found names these files for values
-pub record NamesFiles (rows : List Row) (files : ValueFiles) : Type 0 where
-  pub secret_is : text_in files.secret ≡ first_of (codes "master-secret-file") rows
-  pub passphrase_is : text_in files.passphrase ≡ first_of (codes "passphrase-file") rows
+-- these texts are found for the id of the secret's and for that of the passphrase's
+pub record AreFound (secret passphrase : Text) (rows : List Row) (texts : Texts) : Type 0 where
+  pub secret_is : text_in texts.secret ≡ first_of secret rows
+  pub passphrase_is : text_in texts.passphrase ≡ first_of passphrase rows
 
 -- something is found for the id
 abbrev pub IsGiven : Text → List Row → Type 0
@@ -236,21 +222,13 @@ bad_text TwoSecrets = codes "error: --master-secret <HEX> and --master-secret-fi
 bad_text TwoPassphrases = codes "error: --passphrase <TEXT> and --passphrase-file <FILE> can't be given together" ++ more_text
 bad_text TwoForms = codes "error: --expect <FINGERPRINT> and --fingerprint can't be given together" ++ more_text
 
--- whether a passphrase is among what is found for a command's arguments
-abbrev pub finds_passphrase : Option (Text × List Row) → Bool
-finds_passphrase None = false
-finds_passphrase (Some found) = is_some (first_of (codes "passphrase") found.1)
-
--- whether the words contain a passphrase, which may be the empty one
-abbrev pub gives_passphrase : List Text → Bool
-gives_passphrase words = finds_passphrase (subcommand_of shamir_app words)
-
--- the words give the command with its values and the files of such, by the definition of a simple command, and its values are sound;
--- the call says whether a passphrase is among the words
+-- the words give the command with its values and the files of such, by the definition of a simple command, and its values are sound
 abbrev pub GivesCall : List Text → Call → Type 0
 GivesCall words call = (name : Text) × (rows : List Row)
-    × (subcommand_of shamir_app words ≡ Some (name, rows)) × Gives name rows call.job × NamesFiles rows call.files
-    × (((bad : BadValues) × HasBadValues name rows bad) → ⊥) × (call.has_passphrase ≡ gives_passphrase words)
+    × (subcommand_of shamir_app words ≡ Some (name, rows)) × Gives name rows call.job
+    × AreFound (codes "master-secret") (codes "passphrase") rows call.given
+    × AreFound (codes "master-secret-file") (codes "passphrase-file") rows call.files
+    × (((bad : BadValues) × HasBadValues name rows bad) → ⊥)
 
 -- the words give a command with this fault in its values
 abbrev pub GivesBadValues : List Text → BadValues → Type 0
@@ -259,29 +237,31 @@ GivesBadValues words bad = (name : Text) × (rows : List Row)
 
 -- the numbers among a job's values are in their ranges
 abbrev pub IsInRange : Job → Type 0
-IsInRange (Create plan secret passphrase exponent extendable) = exponent < 2 ^ exponent_bits
-IsInRange (Drill passphrase after limit form expected) = 1 ≤ limit
+IsInRange (Create plan exponent extendable) = exponent < 2 ^ exponent_bits
+IsInRange (Drill after limit form expected) = 1 ≤ limit
 IsInRange job = Unit {0}
 
 -- the other job has the values of the first, whose texts may be lent from elsewhere
 abbrev pub HaveSameValues : Job → Job → Type 0
 HaveSameValues Show other = other ≡ Show
-HaveSameValues (Create plan secret passphrase exponent extendable) other = (p s w : Bor Text)
-    × (other ≡ Create p s w exponent extendable) × (plan.now ≡ p.now) × (secret.now ≡ s.now) × (passphrase.now ≡ w.now)
-HaveSameValues (Recover passphrase form expected) other = (w : Bor Text) × (e : Option (Bor Text))
-    × (other ≡ Recover w form e) × (passphrase.now ≡ w.now) × (text_in expected ≡ text_in e)
-HaveSameValues (Drill passphrase after limit form expected) other = (w : Bor Text) × (a e : Option (Bor Text))
-    × (other ≡ Drill w a limit form e) × (passphrase.now ≡ w.now) × (text_in after ≡ text_in a) × (text_in expected ≡ text_in e)
+HaveSameValues (Create plan exponent extendable) other = (p : Bor Text) × (other ≡ Create p exponent extendable) × (plan.now ≡ p.now)
+HaveSameValues (Recover form expected) other = (e : Option (Bor Text)) × (other ≡ Recover form e) × (text_in expected ≡ text_in e)
+HaveSameValues (Drill after limit form expected) other = (a e : Option (Bor Text))
+    × (other ≡ Drill a limit form e) × (text_in after ≡ text_in a) × (text_in expected ≡ text_in e)
 HaveSameValues Status other = other ≡ Status
 HaveSameValues (Reissue plan names) other = (p n : Bor Text) × (other ≡ Reissue p n) × (plan.now ≡ p.now) × (names.now ≡ n.now)
 HaveSameValues Repair other = other ≡ Repair
 
--- the calls are of one command, with the same values, name the same files, and both have a passphrase or neither has
+-- the texts are the same, which may be lent from elsewhere
+pub record AreSameTexts (texts other : Texts) : Type 0 where
+  pub secret : text_in texts.secret ≡ text_in other.secret
+  pub passphrase : text_in texts.passphrase ≡ text_in other.passphrase
+
+-- the calls are of one command, with the same values, and name the same files
 pub record AreSameCalls (call other : Call) : Type 0 where
   pub values : HaveSameValues call.job other.job
-  pub secret_file : text_in call.files.secret ≡ text_in other.files.secret
-  pub passphrase_file : text_in call.files.passphrase ≡ text_in other.files.passphrase
-  pub passphrase : call.has_passphrase ≡ other.has_passphrase
+  pub given : AreSameTexts call.given other.given
+  pub files : AreSameTexts call.files other.files
 
 -- the word after the program's name is `help`
 abbrev pub SaysHelp : List Text → Type 0

@@ -1,10 +1,10 @@
 //! The command line: which command its words give, with which values.
-ghost use Rattle.std.specs.Prelude.{◌≡◌, ◌≢◌, ◌⊎◌, [], codes, is_some, None, Some, true, map, IfOk, IfErr, IfNone, IfSome, IsFalse, IsTrue, OnOk};
+ghost use Rattle.std.specs.Prelude.{◌≡◌, ◌≢◌, ◌⊎◌, [], codes, None, Some, true, map, IfOk, IfErr, IfNone, IfSome, IsFalse, IsTrue, OnOk};
 ghost use Rattle.clap.specs.Words.{fault_of, first_of, found_of, kind_of, one_text, rows_of, takes};
 ghost use Rattle.s39_clap.specs.Found.{EntersOne};
-ghost use Rattle.s39_command.specs.Command.{bad_text, shamir_app, commands, text_or_empty};
+ghost use Rattle.s39_command.specs.Command.{bad_text, shamir_app, commands};
 ghost use Rattle.s39_command.specs.Command.{Gives, GivesCall, IsInRange, AnswersKind, AnswersWords};
-ghost use Rattle.s39_command.specs.Command.{HasBadValues, IsGiven, IsHelp, NamesFiles, SaysHelp};
+ghost use Rattle.s39_command.specs.Command.{AreFound, HasBadValues, IsGiven, IsHelp, SaysHelp};
 ghost use Rattle.s39_command.specs.declared.command.BadValues.{BadValues};
 
 use crate::definition::shamir;
@@ -13,7 +13,7 @@ use clap::{ArgMatches, Error};
 use s39_kdf::SecretForm;
 use std::alloc::{AllocError, Global};
 
-/// A command of the program, with its values.
+/// A command of the program, with its values except for the secret and the passphrase.
 #[derive(Clone, Copy, Debug, PartialEq, Eq)]
 pub enum Job<'a> {
     /// Shows the fields of the mnemonics on standard input.
@@ -22,10 +22,6 @@ pub enum Job<'a> {
     Create {
         /// The text of the plan.
         plan: &'a str,
-        /// The text of the secret in hexadecimal. It is empty if a file holds the secret.
-        secret: &'a [u8],
-        /// The passphrase as it was given. It is empty if none was given, or if a file holds it.
-        passphrase: &'a [u8],
         /// The iteration exponent, 0 to 15. It is 0 if none was given.
         exponent: u8,
         /// Whether the extendable flag was given.
@@ -33,8 +29,6 @@ pub enum Job<'a> {
     },
     /// Recovers the secret from the mnemonics on standard input.
     Recover {
-        /// The passphrase as it was given. It is empty if none was given, or if a file holds it.
-        passphrase: &'a [u8],
         /// The form in which the secret is written: its fingerprint if `--fingerprint` was given, and otherwise its digits.
         form: SecretForm,
         /// The text of the fingerprint that the secret is expected to have, if one was given.
@@ -42,8 +36,6 @@ pub enum Job<'a> {
     },
     /// Tries the quorums of the mnemonics on standard input.
     Drill {
-        /// The passphrase as it was given. It is empty if none was given, or if a file holds it.
-        passphrase: &'a [u8],
         /// The text of the quorum after which the drill starts, if one was given.
         after: Option<&'a str>,
         /// How many quorums are tried at most, 1 or more. It is 1000 if no number was given.
@@ -67,25 +59,24 @@ pub enum Job<'a> {
     Repair,
 }
 
-/// The names of the files that hold those values of a command that its words don't contain. The name `-` stands for the first
-/// line of the input.
+/// A text for the secret and one for the passphrase, each if it was given.
 #[derive(Clone, Copy, Debug, PartialEq, Eq)]
-pub struct ValueFiles<'a> {
-    /// The file of the secret's digits, if one was named.
+pub struct Texts<'a> {
+    /// The text for the secret's digits.
     pub secret: Option<&'a str>,
-    /// The file of the passphrase, if one was named.
+    /// The text for the passphrase, which may be the empty one.
     pub passphrase: Option<&'a str>,
 }
 
 /// What the words of a command line ask for.
 #[derive(Clone, Copy, Debug, PartialEq, Eq)]
 pub struct Call<'a> {
-    /// The command, with the values that the words contain.
+    /// The command.
     pub job: Job<'a>,
-    /// The files that hold the other values.
-    pub files: ValueFiles<'a>,
-    /// Whether the words contain a passphrase, which may be the empty one.
-    pub has_passphrase: bool,
+    /// The secret and the passphrase that stand in the words.
+    pub given: Texts<'a>,
+    /// The names of the files that hold them. The name `-` stands for the first line of the input.
+    pub files: Texts<'a>,
 }
 
 /// What is wrong with the values of a command.
@@ -168,18 +159,10 @@ fn no_job(alloc: Global, error: &Error) -> NoJob
     }
 }
 
-/// The text that was found for this id, and the empty text if none was.
-fn text_of<'a>(options: &ArgMatches<'a>, id: &str) -> &'a [u8]
-    ensures { result.now ≡ text_or_empty id.now (rows_of (found_of options.now)) }
-{
-    options.get_str(id).unwrap_or("").as_bytes()
-}
-
 /// Whether a text was found for this id.
 fn is_given(options: &ArgMatches, id: &str) -> bool
     ensures given { IsTrue result → IsGiven id.now (rows_of (found_of options.now)) }
     ensures missing { IsFalse result → first_of id.now (rows_of (found_of options.now)) ≡ None }
-    ensures exact { result ≡ is_some (first_of id.now (rows_of (found_of options.now))) }
 {
     options.get_str(id).is_some()
 }
@@ -197,13 +180,13 @@ fn asks_for_fingerprints(options: &ArgMatches) -> bool
     }
 }
 
-/// The files of values that were found.
-fn files_of<'a>(options: &ArgMatches<'a>) -> ValueFiles<'a>
-    ensures { NamesFiles (rows_of (found_of options.now)) result }
+/// The texts that were found for these ids.
+fn texts_of<'a>(options: &ArgMatches<'a>, secret: &str, passphrase: &str) -> Texts<'a>
+    ensures { AreFound secret.now passphrase.now (rows_of (found_of options.now)) result }
 {
-    ValueFiles {
-        secret: options.get_str("master-secret-file"),
-        passphrase: options.get_str("passphrase-file"),
+    Texts {
+        secret: options.get_str(secret),
+        passphrase: options.get_str(passphrase),
     }
 }
 
@@ -243,8 +226,6 @@ fn create_job<'a>(options: &ArgMatches<'a>) -> Job<'a>
 {
     Job::Create {
         plan: options.get_str("plan").unwrap(),
-        secret: text_of(options, "master-secret"),
-        passphrase: text_of(options, "passphrase"),
         exponent: options.get_one("exponent").unwrap(),
         extendable: options.get_flag("extendable"),
     }
@@ -272,7 +253,6 @@ fn recover_job<'a>(options: &ArgMatches<'a>) -> Job<'a>
     ensures range { IsInRange result }
 {
     Job::Recover {
-        passphrase: text_of(options, "passphrase"),
         form: form_of(options),
         expected: options.get_str("expect"),
     }
@@ -287,7 +267,6 @@ fn drill_job<'a>(options: &ArgMatches<'a>) -> Job<'a>
 {
     let expected = options.get_str("expect");
     Job::Drill {
-        passphrase: text_of(options, "passphrase"),
         after: options.get_str("after"),
         limit: options.get_one("limit").unwrap(),
         form: form_of(options),
@@ -387,8 +366,8 @@ pub fn read_words<'a>(alloc: Global, words: &'a [&'a str]) -> Result<Call<'a>, N
             }
             Ok(Call {
                 job: job_of(name, options),
-                files: files_of(options),
-                has_passphrase: is_given(options, "passphrase"),
+                given: texts_of(options, "master-secret", "passphrase"),
+                files: texts_of(options, "master-secret-file", "passphrase-file"),
             })
         }
         None => unreachable!(),

@@ -5,4 +5,4 @@ mod command;
 mod definition;
 pub mod laws;
 
-pub use command::{BadValues, Call, Job, NoJob, ValueFiles, read_words};
+pub use command::{BadValues, Call, Job, NoJob, Texts, read_words};

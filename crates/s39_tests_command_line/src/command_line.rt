@@ -1,6 +1,6 @@
 //! The command line.
 
-use s39_command::{Call, Job, NoJob, ValueFiles, read_words};
+use s39_command::{Call, Job, NoJob, Texts, read_words};
 use s39_fixtures::devices::Full;
 use s39_fixtures::{ONE_OF_ONE, WRITE_FAILED_LINE, expect_told, run_on};
 use s39_input::SecretForm;
@@ -8,26 +8,41 @@ use std::alloc::Global;
 use std::process::Abort;
 use std::test::Fail;
 
-/// Whether a word is the option of a passphrase.
-pub(crate) fn says_passphrase(words: &[&str]) -> bool {
-    words.iter().any(|word| *word == "--passphrase" || word.starts_with("--passphrase="))
+/// No texts.
+pub(crate) const NONE: Texts = Texts {
+    secret: None,
+    passphrase: None,
+};
+
+/// The text of a secret.
+pub(crate) fn secret(text: &str) -> Texts {
+    Texts {
+        secret: Some(text),
+        passphrase: None,
+    }
 }
 
-/// Each of the command lines gives this job, and names no file.
-fn expect_jobs(rt: &impl Abort, alloc: Global, cases: &[(&[&str], Job)]) {
-    let files = ValueFiles {
+/// The text of a passphrase.
+pub(crate) fn passphrase(text: &str) -> Texts {
+    Texts {
         secret: None,
-        passphrase: None,
-    };
-    for (words, job) in cases {
-        assert_eq!(rt;
-            read_words(alloc, words).ok(),
-            Some(Call {
-                job: *job,
-                files,
-                has_passphrase: says_passphrase(words)
-            })
-        );
+        passphrase: Some(text),
+    }
+}
+
+/// The call of this job with these texts, and with no file.
+pub(crate) fn call<'a>(job: Job<'a>, given: Texts<'a>) -> Call<'a> {
+    Call {
+        job,
+        given,
+        files: NONE,
+    }
+}
+
+/// Each of the command lines gives this call.
+pub(crate) fn expect_calls(rt: &impl Abort, alloc: Global, cases: &[(&[&str], Call)]) {
+    for (words, call) in cases {
+        assert_eq!(rt; read_words(alloc, words).ok(), Some(*call));
     }
 }
 
@@ -43,40 +58,32 @@ pub(crate) fn expect_refusals(rt: &impl Abort, alloc: Global, cases: &[&[&str]])
 
 #[test]
 fn reads_show_and_recover(rt: HostRuntime) {
-    let form = SecretForm::Digits;
-    let empty = Job::Recover {
-        passphrase: b"",
-        form,
+    let digits = Job::Recover {
+        form: SecretForm::Digits,
         expected: None,
     };
-    let trezor = Job::Recover {
-        passphrase: b"TREZOR",
-        form,
-        expected: None,
-    };
-    let dashed = Job::Recover {
-        passphrase: b"-x",
-        form,
-        expected: None,
-    };
-    let fingerprint = Job::Recover {
-        passphrase: b"TREZOR",
+    let of_fingerprint = Job::Recover {
         form: SecretForm::Fingerprint,
         expected: None,
     };
-    let expecting = Job::Recover {
-        passphrase: b"",
-        form,
+    let of_expected = Job::Recover {
+        form: SecretForm::Digits,
         expected: Some("DF41d8fe"),
     };
-    let both = Job::Recover {
-        passphrase: b"",
+    let of_both = Job::Recover {
         form: SecretForm::Fingerprint,
         expected: Some(""),
     };
-    let cases: [(&[&str], Job); 12] = [
-        (&["shamir", "show"], Job::Show),
-        (&["shamir", "recover"], empty),
+    let none = call(digits, NONE);
+    let empty = call(digits, passphrase(""));
+    let trezor = call(digits, passphrase("TREZOR"));
+    let dashed = call(digits, passphrase("-x"));
+    let fingerprint = call(of_fingerprint, passphrase("TREZOR"));
+    let expecting = call(of_expected, NONE);
+    let both = call(of_both, NONE);
+    let cases: [(&[&str], Call); 12] = [
+        (&["shamir", "show"], call(Job::Show, NONE)),
+        (&["shamir", "recover"], none),
         (&["shamir", "recover", "--passphrase", "TREZOR"], trezor),
         (&["shamir", "recover", "--passphrase=TREZOR"], trezor),
         (&["shamir", "recover", "--passphrase="], empty),
@@ -94,7 +101,7 @@ fn reads_show_and_recover(rt: HostRuntime) {
         (&["shamir", "recover", "--expect=DF41d8fe"], expecting),
         (&["shamir", "recover", "--fingerprint", "--expect="], both),
     ];
-    expect_jobs(&rt, rt.alloc(), &cases);
+    expect_calls(&rt, rt.alloc(), &cases);
     let refused: [&[&str]; 15] = [
         &["shamir", "recover", "--expect"],
         &[
@@ -142,21 +149,25 @@ const FULL: [&str; 10] = [
 
 #[test]
 fn reads_create(rt: HostRuntime) {
-    let plain = Job::Create {
+    let job = Job::Create {
         plan: "1of1",
-        secret: b"00",
-        passphrase: b"",
         exponent: 0,
         extendable: false,
     };
-    let full = Job::Create {
-        plan: "2of3",
-        secret: b"zz",
-        passphrase: b"TREZOR",
-        exponent: 15,
-        extendable: true,
+    let plain = call(job, secret("00"));
+    let full = Call {
+        job: Job::Create {
+            plan: "2of3",
+            exponent: 15,
+            extendable: true,
+        },
+        given: Texts {
+            secret: Some("zz"),
+            passphrase: Some("TREZOR"),
+        },
+        files: NONE,
     };
-    let cases: [(&[&str], Job); 3] = [
+    let cases: [(&[&str], Call); 3] = [
         (
             &["shamir", "create", "1of1", "--master-secret", "00"],
             plain,
@@ -173,7 +184,7 @@ fn reads_create(rt: HostRuntime) {
         ),
         (&FULL, full),
     ];
-    expect_jobs(&rt, rt.alloc(), &cases);
+    expect_calls(&rt, rt.alloc(), &cases);
 }
 
 #[test]
@@ -214,32 +225,29 @@ fn refuses_words_of_create(rt: HostRuntime) {
 #[test]
 fn reads_drill(rt: HostRuntime) {
     let first = Job::Drill {
-        passphrase: b"",
         after: None,
         limit: 1000,
         form: SecretForm::Digits,
         expected: None,
     };
     let rest = Job::Drill {
-        passphrase: b"TREZOR",
         after: Some("0.0+1.0"),
         limit: 4_294_967_295,
         form: SecretForm::Fingerprint,
         expected: None,
     };
     let expecting = Job::Drill {
-        passphrase: b"",
         after: Some("0.0"),
         limit: 1000,
         form: SecretForm::Digits,
         expected: Some("df41d8f"),
     };
-    let cases: [(&[&str], Job); 3] = [
+    let cases: [(&[&str], Call); 3] = [
         (
             &["shamir", "drill", "--after=0.0", "--expect", "df41d8f"],
-            expecting,
+            call(expecting, NONE),
         ),
-        (&["shamir", "drill"], first),
+        (&["shamir", "drill"], call(first, NONE)),
         (
             &[
                 "shamir",
@@ -251,10 +259,10 @@ fn reads_drill(rt: HostRuntime) {
                 "--passphrase",
                 "TREZOR",
             ],
-            rest,
+            call(rest, passphrase("TREZOR")),
         ),
     ];
-    expect_jobs(&rt, rt.alloc(), &cases);
+    expect_calls(&rt, rt.alloc(), &cases);
     let refused: [&[&str]; 3] = [
         &["shamir", "drill", "--limit", "0"],
         &["shamir", "drill", "--limit", "4294967296"],
@@ -273,13 +281,13 @@ fn reads_status_reissue_and_repair(rt: HostRuntime) {
         plan: "",
         names: "",
     };
-    let cases: [(&[&str], Job); 4] = [
-        (&["shamir", "status"], Job::Status),
-        (&["shamir", "reissue", "2of3", "0.1+0.2"], lost),
-        (&["shamir", "reissue", "", ""], empty),
-        (&["shamir", "repair"], Job::Repair),
+    let cases: [(&[&str], Call); 4] = [
+        (&["shamir", "status"], call(Job::Status, NONE)),
+        (&["shamir", "reissue", "2of3", "0.1+0.2"], call(lost, NONE)),
+        (&["shamir", "reissue", "", ""], call(empty, NONE)),
+        (&["shamir", "repair"], call(Job::Repair, NONE)),
     ];
-    expect_jobs(&rt, rt.alloc(), &cases);
+    expect_calls(&rt, rt.alloc(), &cases);
     let refused: [&[&str]; 11] = [
         &["shamir", "status", "file"],
         &["shamir", "status", "--passphrase", "TREZOR"],

@@ -1,8 +1,8 @@
 //! The files of values in the words of a command line.
 
-use crate::command_line::{expect_refusals, says_passphrase};
+use crate::command_line::{NONE, expect_calls, expect_refusals, passphrase, secret};
 use s39_cli::{Destination, Messages, Source, program};
-use s39_command::{BadValues, Call, Job, NoJob, ValueFiles, read_words};
+use s39_command::{BadValues, Call, Job, NoJob, Texts, read_words};
 use s39_fixtures::shelves::Halted;
 use s39_fixtures::{ONE_OF_ONE, ONE_OF_ONE_SECRET, expect_over, run_on};
 use s39_input::SecretForm;
@@ -11,25 +11,12 @@ use std::io::ErrorKind;
 use std::process::Abort;
 use std::test::Fail;
 
-/// Each of the command lines gives this job, with the first file of the secret, and the second of the passphrase.
-fn expect_files(
-    rt: &impl Abort,
-    alloc: Global,
-    cases: &[(&[&str], Job, Option<&str>, Option<&str>)],
-) {
-    for (words, job, secret, passphrase) in cases {
-        let files = ValueFiles {
-            secret: *secret,
-            passphrase: *passphrase,
-        };
-        assert_eq!(rt;
-            read_words(alloc, words).ok(),
-            Some(Call {
-                job: *job,
-                files,
-                has_passphrase: says_passphrase(words)
-            })
-        );
+/// The call of this job with these files, and with no text in the words.
+fn from<'a>(files: Texts<'a>, job: Job<'a>) -> Call<'a> {
+    Call {
+        job,
+        given: NONE,
+        files,
     }
 }
 
@@ -52,57 +39,45 @@ fn expect_bad_values(rt: &impl Abort, alloc: Global, cases: &[(&[&str], BadValue
 
 #[test]
 fn reads_files_of_create(rt: HostRuntime) {
-    let empty = Job::Create {
+    let job = Job::Create {
         plan: "1of1",
-        secret: b"",
-        passphrase: b"",
         exponent: 0,
         extendable: false,
     };
-    let digits = Job::Create {
-        plan: "1of1",
-        secret: b"00",
-        passphrase: b"",
-        exponent: 0,
-        extendable: false,
+    let digits = Call {
+        job,
+        given: secret("00"),
+        files: passphrase("p"),
     };
-    let phrase = Job::Create {
-        plan: "1of1",
-        secret: b"",
-        passphrase: b"-",
-        exponent: 0,
-        extendable: false,
+    let phrase = Call {
+        job,
+        given: passphrase("-"),
+        files: secret("-"),
     };
-    let cases: [(&[&str], Job, Option<&str>, Option<&str>); 8] = [
+    let both = Texts {
+        secret: Some("s"),
+        passphrase: Some("p"),
+    };
+    let cases: [(&[&str], Call); 8] = [
         (
             &["shamir", "create", "1of1", "--master-secret-file", "s.txt"],
-            empty,
-            Some("s.txt"),
-            None,
+            from(secret("s.txt"), job),
         ),
         (
             &["shamir", "create", "1of1", "--master-secret-file", "-"],
-            empty,
-            Some("-"),
-            None,
+            from(secret("-"), job),
         ),
         (
             &["shamir", "create", "1of1", "--master-secret-file=-"],
-            empty,
-            Some("-"),
-            None,
+            from(secret("-"), job),
         ),
         (
             &["shamir", "create", "1of1", "--master-secret-file=-x"],
-            empty,
-            Some("-x"),
-            None,
+            from(secret("-x"), job),
         ),
         (
             &["shamir", "create", "1of1", "--master-secret-file="],
-            empty,
-            Some(""),
-            None,
+            from(secret(""), job),
         ),
         (
             &[
@@ -114,8 +89,6 @@ fn reads_files_of_create(rt: HostRuntime) {
                 "--master-secret=00",
             ],
             digits,
-            None,
-            Some("p"),
         ),
         (
             &[
@@ -125,9 +98,7 @@ fn reads_files_of_create(rt: HostRuntime) {
                 "--master-secret-file=s",
                 "1of1",
             ],
-            empty,
-            Some("s"),
-            Some("p"),
+            from(both, job),
         ),
         (
             &[
@@ -138,44 +109,35 @@ fn reads_files_of_create(rt: HostRuntime) {
                 "--master-secret-file=-",
             ],
             phrase,
-            Some("-"),
-            None,
         ),
     ];
-    expect_files(&rt, rt.alloc(), &cases);
+    expect_calls(&rt, rt.alloc(), &cases);
 }
 
 #[test]
 fn reads_files_of_recover_and_drill(rt: HostRuntime) {
     let digits = Job::Recover {
-        passphrase: b"",
         form: SecretForm::Digits,
         expected: None,
     };
     let fingerprint = Job::Recover {
-        passphrase: b"",
         form: SecretForm::Fingerprint,
         expected: None,
     };
     let drill = Job::Drill {
-        passphrase: b"",
         after: Some("0.0"),
         limit: 2,
         form: SecretForm::Digits,
         expected: None,
     };
-    let cases: [(&[&str], Job, Option<&str>, Option<&str>); 5] = [
+    let cases: [(&[&str], Call); 5] = [
         (
             &["shamir", "recover", "--passphrase-file=x"],
-            digits,
-            None,
-            Some("x"),
+            from(passphrase("x"), digits),
         ),
         (
             &["shamir", "recover", "--passphrase-file="],
-            digits,
-            None,
-            Some(""),
+            from(passphrase(""), digits),
         ),
         (
             &[
@@ -185,15 +147,11 @@ fn reads_files_of_recover_and_drill(rt: HostRuntime) {
                 "-",
                 "--fingerprint",
             ],
-            fingerprint,
-            None,
-            Some("-"),
+            from(passphrase("-"), fingerprint),
         ),
         (
             &["shamir", "recover", "--passphrase-file=-x"],
-            digits,
-            None,
-            Some("-x"),
+            from(passphrase("-x"), digits),
         ),
         (
             &[
@@ -203,12 +161,10 @@ fn reads_files_of_recover_and_drill(rt: HostRuntime) {
                 "--passphrase-file=--",
                 "--limit=2",
             ],
-            drill,
-            None,
-            Some("--"),
+            from(passphrase("--"), drill),
         ),
     ];
-    expect_files(&rt, rt.alloc(), &cases);
+    expect_calls(&rt, rt.alloc(), &cases);
 }
 
 #[test]

@@ -29,13 +29,10 @@ pub returns-clause-ends : goal.returns-clause-ends
 returns-clause-ends g c =
     let words = map (λ (word : Bor (List ℕ)). word.now) c.args.words.now in
     ends_by_job (g.S.Shelf.told c.args.shelf.now) g.R.Read.remaining g.W.Write.contents c.args.source words c.args.input c.args.output c.in-Ok.call c.in-Ok.ensures.call
-    c.in-Ok.ensures.taken c.in-Ok.ensures.faultless c.fill.result c.read.new.input c.by_job.result
-    (c.is_typed.ensures.untyped c.if-is_typed.false) (
-      option_map (λ held. held.items) c.in-Ok-read.values.secret,
-      option_map (λ held. held.items) c.in-Ok-read.values.passphrase,
-      c.in-Ok-read.ensures.values,
-      c.fill.ensures.filled,
-    ) c.by_job.ensures.ends
+    c.in-Ok.ensures.taken c.in-Ok.ensures.faultless (option_map (λ held. held.items) c.in-Ok-read.values.secret)
+    (option_map (λ held. held.items) c.in-Ok-read.values.passphrase) c.texts.result.secret.now c.texts.result.passphrase.now c.read.new.input
+    c.by_job.result (c.is_typed.ensures.untyped c.if-is_typed.false) c.in-Ok-read.ensures.values c.texts.ensures.secret c.texts.ensures.passphrase
+    c.by_job.ensures.ends
 
 pub returns-in-Err-clause-untouched : goal.returns-in-Err-clause-untouched
 returns-in-Err-clause-untouched g c =
@@ -54,8 +51,7 @@ returns-in-Err-read-clause-untouched g c =
 pub returns-clause-untouched : goal.returns-clause-untouched
 returns-clause-untouched g c =
     job_untouched c.args.output (map (λ (word : Bor (List ℕ)). word.now) c.args.words.now) c.in-Ok.call c.in-Ok.ensures.call
-    (option_map (λ held. held.items) c.in-Ok-read.values.secret) (option_map (λ held. held.items) c.in-Ok-read.values.passphrase) c.fill.result
-    c.fill.ensures.filled c.by_job.result c.by_job.ensures.untouched
+    c.by_job.result c.by_job.ensures.untouched
 
 pub returns-in-Err-clause-said : goal.returns-in-Err-clause-said
 returns-in-Err-clause-said g c =
@@ -80,8 +76,7 @@ returns-clause-said g c =
     let words = map (λ (word : Bor (List ℕ)). word.now) c.args.words.now in
     let notes = c.of-notes.result in
     said_of_job g.E.Write.contents c.args.source c.args.destination words c.args.errors.now c.by_job.new.errors c.in-Ok.call c.in-Ok.ensures.call
-    c.in-Ok.ensures.faultless (option_map (λ held. held.items) c.in-Ok-read.values.secret)
-    (option_map (λ held. held.items) c.in-Ok-read.values.passphrase) c.fill.result c.fill.ensures.filled notes.types_passphrase notes.types_mnemonics notes.tells_of_none c.say_if.new.self c.by_job.result
+    c.in-Ok.ensures.faultless notes.types_passphrase notes.types_mnemonics notes.tells_of_none c.say_if.new.self c.by_job.result
     (c.is_typed.ensures.untyped c.if-is_typed.false) c.of-notes.ensures.passphrase c.of-notes.ensures.mnemonics c.of-notes.ensures.none
     c.say_if.ensures.said c.by_job.ensures.said
 

@@ -16,13 +16,9 @@ returns-clause-gives c =
     let exponent = exponent_there f c.get_one.result c.requires c.get_one.ensures.value in
     let same : exponent.0 ≡ c.unwrap-2.result = cc in (
       refl,
-      record {
-        plan_given = found_of_rows f (codes "plan") c.get_str.result c.unwrap.result c.get_str.ensures c.unwrap.ensures;
-        secret_or_empty = c.text_of.ensures;
-        passphrase_or_empty = c.text_of-2.ensures;
-        exponent_number = subst (HasNumber (codes "exponent") (rows_of f)) same exponent.3;
-        extendable_said = extendable_there f c.get_flag.result c.requires c.get_flag.ensures.value c.get_flag.ensures.other;
-      },
+      found_of_rows f (codes "plan") c.get_str.result c.unwrap.result c.get_str.ensures c.unwrap.ensures,
+      subst (HasNumber (codes "exponent") (rows_of f)) same exponent.3,
+      extendable_there f c.get_flag.result c.requires c.get_flag.ensures.value c.get_flag.ensures.other,
     )
 
 pub returns-clause-range : goal.returns-clause-range

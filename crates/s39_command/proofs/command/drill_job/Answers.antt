@@ -14,7 +14,6 @@ returns-clause-gives c =
     let limit = limit_there f c.get_one.result c.requires c.get_one.ensures.value in
     let same : limit.0 ≡ c.unwrap.result = cc in (
       refl,
-      c.text_of.ensures,
       c.get_str.ensures ∙ first_value-rows f (codes "after"),
       subst (HasNumber (codes "limit") (rows_of f)) same limit.3,
       drill_form_there f c.form_of.result c.requires c.form_of.ensures.said c.form_of.ensures.unsaid,

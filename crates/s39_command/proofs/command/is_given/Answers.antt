@@ -1,6 +1,6 @@
 use Rattle.std.proofs.Common.{sym, ◌∙◌}
 use Rattle.clap.specs.Words.{found_of}
-use Rattle.s39_command.proofs.Jobs.{given_of_rows, is_found, missing_of_rows}
+use Rattle.s39_command.proofs.Jobs.{given_of_rows, missing_of_rows}
 use Rattle.s39_command.proofs.command.is_given.Goals as goal
 
 pub returns-clause-given : goal.returns-clause-given
@@ -10,6 +10,3 @@ returns-clause-given c given =
 pub returns-clause-missing : goal.returns-clause-missing
 returns-clause-missing c none =
     missing_of_rows (found_of c.args.options.now) c.args.id.now c.get_str.result c.get_str.ensures (sym c.is_some.ensures ∙ none)
-
-pub returns-clause-exact : goal.returns-clause-exact
-returns-clause-exact c = c.is_some.ensures ∙ is_found (found_of c.args.options.now) c.args.id.now c.get_str.result c.get_str.ensures

@@ -1,6 +1,5 @@
 use Rattle.std.proofs.Common.{◌∙◌, ap, inl, map, List, sym, ℕ, Bor}
 use Rattle.clap.specs.Words.{App, app_of, fault_of, found_of, kind_of, rows_of, takes}
-use Rattle.s39_command.specs.Command.{finds_passphrase}
 use Rattle.s39_command.proofs.Jobs.{answer_by_kind, asks_none, help_answers, help_is_no_command, known_faults, met_enters, met_is, never_none, no_fault_taken}
 use Rattle.s39_command.proofs.command.read_words.Goals as goal
 
@@ -36,9 +35,9 @@ returns-clause-call c =
       rows,
       met,
       c.job_of.ensures.gives,
-      c.files_of.ensures,
+      c.texts_of.ensures,
+      c.texts_of-in-Some.ensures,
       c.in_default.ensures.sound,
-      c.is_given.ensures.exact ∙ sym (ap finds_passphrase met),
     )
 
 pub returns-in-Some-bad_values-clause-answer : goal.returns-in-Some-bad_values-clause-answer

@@ -7,7 +7,6 @@ use Rattle.s39_command.proofs.command.recover_job.Goals as goal
 pub returns-clause-gives : goal.returns-clause-gives
 returns-clause-gives c = (
   refl,
-  c.text_of.ensures,
   recover_form_there (found_of c.args.options.now) c.form_of.result c.requires c.form_of.ensures.said c.form_of.ensures.unsaid,
   c.get_str.ensures ∙ first_value-rows (found_of c.args.options.now) (codes "expect"),
 )

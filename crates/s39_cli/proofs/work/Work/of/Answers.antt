@@ -6,7 +6,7 @@ use Rattle.s39_cli.proofs.work.Work.of.Goals as goal
 pub returns-in_err-after-in-Drill-clause-refused : goal.returns-in_err-after-in-Drill-clause-refused
 returns-in_err-after-in-Drill-clause-refused c =
     let p = err_from_is_err_and c.from_residual-in_err-after-in-Drill.result c.from_residual-in_err-after-in-Drill.ensures.1 in
-    rw (p.1, p.2) (bad_cursor c.args.job c.in-Drill.passphrase c.in-Drill.after c.in-Drill.limit c.in-Drill.form
+    rw (p.1, p.2) (bad_cursor c.args.job c.in-Drill.after c.in-Drill.limit c.in-Drill.form
     c.in-Drill.expected c.in-Drill.is c.in_err-after-in-Drill.ensures.refused)
 
 pub returns-in_ok-plan-in-Create-clause-work : goal.returns-in_ok-plan-in-Create-clause-work
@@ -23,7 +23,7 @@ returns-in_ok-plan-in-Create-clause-work c = rw c.in-Create.is (
 pub returns-in_err-noted-in-Drill-clause-refused : goal.returns-in_err-noted-in-Drill-clause-refused
 returns-in_err-noted-in-Drill-clause-refused c =
     let p = err_from_is_err_and c.from_residual-in_err-noted-in-Drill.result c.from_residual-in_err-noted-in-Drill.ensures.1 in
-    rw (p.1, p.2) (bad_fingerprint c.args.job c.in-Drill.passphrase c.in-Drill.after c.in-Drill.limit c.in-Drill.form c.in-Drill.expected
+    rw (p.1, p.2) (bad_fingerprint c.args.job c.in-Drill.after c.in-Drill.limit c.in-Drill.form c.in-Drill.expected
     c.in_ok-after-in-Drill.after c.in-Drill.is c.in_ok-after-in-Drill.ensures.cursor c.in_err-noted-in-Drill.ensures.refused)
 
 pub returns-in_ok-noted-in-Drill-clause-work : goal.returns-in_ok-noted-in-Drill-clause-work
