@@ -5,5 +5,6 @@ pub mod AllNames
 pub mod NamesShort
 pub mod Write
 pub mod Fronts
+pub mod Emitted
 pub mod LineFeeds
 pub mod HexDigits

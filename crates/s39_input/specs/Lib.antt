@@ -6,6 +6,7 @@ pub mod Steps
 pub mod Runs
 pub mod Midway
 pub mod Output
+pub mod Emission
 pub mod Accepted
 pub mod Refused
 pub mod Collecting

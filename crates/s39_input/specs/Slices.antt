@@ -1,6 +1,7 @@
 -- Texts that are put into slices.
 use Rattle.std.specs.Prelude.{◌≡◌, ℕ, ◌<◌, ◌≤◌, List, ◌++◌, length, drop, [], Result, Ok, Err}
 use Rattle.s39_input.specs.declared.fault.Fault.{Fault}
+use Rattle.s39_input.specs.declared.slices.TooShort.{TooShort}
 use Rattle.s39_input.specs.declared.slices.Unwritten.{Unwritten}
 use Rattle.s39_input.specs.declared.slices.Unwritten.TheVariants.{Refused, TooShort as SliceTooShort}
 use Rattle.s39_input.specs.declared.slices.WrittenLines.{WrittenLines}
@@ -10,6 +11,11 @@ use Rattle.s39_input.specs.Input.{lines_in}
 pub record IsInFront (text old new : List ℕ) : Type 0 where
   pub fits : length text ≤ length old
   pub bytes : new ≡ text ++ drop (length text) old
+
+-- the text stands at the front of a slice, and the answer is its length; or it doesn't fit, and nothing changes
+abbrev pub PutsText : List ℕ → List ℕ → List ℕ → Result ℕ TooShort → Type 0
+PutsText text old new (Ok written) = IsInFront text old new × (written ≡ length text)
+PutsText text old new (Err short) = (short.needed ≡ length text) × (length old < length text) × (new ≡ old)
 
 -- The text of a command with these outputs stands at the front of a slice, and the answer is its length and the number of
 -- its lines. Or the text doesn't fit, or the command is refused, and then nothing changes.

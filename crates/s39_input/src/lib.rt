@@ -12,6 +12,7 @@
 mod collect;
 mod device;
 mod each_line;
+mod emission;
 mod fault;
 mod hexadecimal;
 pub mod laws;
@@ -24,10 +25,13 @@ mod slices;
 
 pub use collect::{checked_set, checked_set_in, read_set, set_in};
 pub use device::Counting;
+pub use emission::{put_lines, write_lines};
 pub use fault::{DeviceFailure, Fault, LineRefusal, Refusal, RefusedLine, Stop};
 pub use hexadecimal::{read_hex, write_hex};
 pub use lines::PIECE;
-pub use output::{LINE_BYTES, Line, WriteFailed, push_field, push_names, push_text, write_text};
+pub use output::{
+    LINE_BYTES, Line, WriteFailed, line_of, push_field, push_names, push_text, write_text,
+};
 pub use repair::{REPAIRED_BYTES, RepairedLines, lines_of_repaired, run_repair};
 pub use s39_kdf::SecretForm;
 pub use secret_form::{is_unexpected, push_secret};

@@ -6,6 +6,7 @@ ghost use Rattle.s39_kdf.specs.Limits.{longest_secret};
 ghost use Rattle.s39_set.specs.Names.{most_groups, most_members};
 ghost use Rattle.s39_set.specs.Written.{name_text, quorum_text};
 ghost use Rattle.s39_input.specs.declared.output.TheConstants.{LINE_BYTES, NAME_BYTES};
+ghost use Rattle.s39_input.specs.Input.{ended_line};
 ghost use Rattle.s39_input.specs.Output.{WritesText};
 
 use crate::device::Counting;
@@ -31,6 +32,17 @@ pub fn push_text(line: &mut Line, text: &[u8])
     ensures { line.new.items ≡ line.old.items ++ text.now }
 {
     line.try_extend_from_slice(text).unwrap();
+}
+
+/// The line of a text, which ends with a line feed. The caller makes sure that there is room.
+pub fn line_of(text: &[u8]) -> Line
+    requires { length text.now < LINE_BYTES }
+    ensures { result.items ≡ ended_line text.now }
+{
+    let mut line = Line::new();
+    push_text(&mut line, text);
+    line.push(b'\n');
+    line
 }
 
 /// Appends a number in decimal.

@@ -16,7 +16,7 @@ no_line_feed : (byte : ℕ) → IsLetter byte ⊎ (byte ≡ 32) → is_line_feed
 no_line_feed byte (inl letter) = grind (arith, nat_tests)
 no_line_feed byte (inr space) = grind (arith, nat_tests)
 
-as_many : (lines : List (List ℕ)) (shares : List ShareFields) → AllZip IsPrinted lines shares → length lines ≡ length shares
+pub as_many : (lines : List (List ℕ)) (shares : List ShareFields) → AllZip IsPrinted lines shares → length lines ≡ length shares
 as_many [] [] printed = refl
 as_many [] (share ∷ shares) printed = absurd printed
 as_many (line ∷ lines) [] printed = absurd printed
