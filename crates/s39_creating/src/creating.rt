@@ -1,5 +1,6 @@
 //! The command `create`: the mnemonics of a backup that is created from a secret and random bytes.
-ghost use Rattle.std.specs.Prelude.{◌≡◌, ◌≢◌, ◌+◌, ◌<◌, ◌≤◌, ◌++◌, All, ℕ, List, length, drop, Ok, Err, IfOk, IfErr};
+ghost use Rattle.std.specs.Prelude.{◌≡◌, ◌≢◌, ◌+◌, ◌<◌, ◌≤◌, All, ℕ, List, [], length, slice_index_or, Err, IfOk, IfErr};
+ghost use Rattle.std.specs.List.{AllZip};
 ghost use Rattle.s39_words.specs.Printing.{IsPrinted};
 ghost use Rattle.s39_words.specs.Share.{IsShare};
 ghost use Rattle.s39_set.specs.Names.{most_names};
@@ -7,9 +8,10 @@ ghost use Rattle.s39_backup.specs.Asking.{asked_of};
 ghost use Rattle.s39_creating.specs.declared.creating.TheConstants.{ROOM};
 ghost use Rattle.s39_input.specs.Create.{ArePrintedLines, IsCreateOutput};
 ghost use Rattle.s39_creating.specs.Reissue.{AreWritten};
-ghost use Rattle.s39_creating.specs.Writing.{HasRead, WritesPrinted};
+ghost use Rattle.s39_creating.specs.Writing.{HasRead};
 ghost use Rattle.s39_input.specs.Device.{failure_of};
 ghost use Rattle.s39_input.specs.Fault.{fault_of};
+ghost use Rattle.s39_input.specs.Output.{WritesText};
 ghost use Rattle.s39_input.specs.Slices.{IsInFront, Puts};
 ghost use Rattle.s39_input.specs.Input.{ended_line, lines_in, whole};
 ghost use Rattle.s39_kdf.specs.declared.limits.BadPassphrase.{BadPassphrase};
@@ -21,7 +23,7 @@ use arrayvec::ArrayVec;
 use s39_backup::{Created, Options, Plan, create};
 use s39_input::{
     Counting, DeviceFailure, Fault, Line, PIECE, Refusal, TooShort, Unwritten, WriteFailed,
-    WrittenLines, push_text, put, write_text,
+    WrittenLines, line_of, put_lines, write_lines,
 };
 use s39_kdf::{check_passphrase, check_secret};
 use s39_words::laws::{every_share_has_a_printed_form, one_printed_form};
@@ -186,23 +188,23 @@ pub(crate) fn write_mnemonics<W: Write>(
 ) -> Result<(), WriteFailed>
     requires writable { output.old.failures < u64.MAX }
     requires are_shares { All IsShare shares.now }
-    ensures { WritesPrinted W.contents output.old shares.now result output.new }
+    requires few { length shares.now ≤ most_names }
+    ensures { (text : List ℕ) × ArePrintedLines shares.now text
+        × WritesText W.contents output.old text result output.new }
 {
     every_share_has_a_printed_form();
-    for share in shares {
-        write_text(output, mnemonic_line(share).as_slice())?;
-    }
-    Ok(())
+    let count = shares.len() as u16;
+    write_lines(output, count, &|index| mnemonic_line(shares, index))
 }
 
-/// The line of a share's mnemonic.
-fn mnemonic_line(share: &Share) -> Line
-    ensures { (text : List ℕ) × IsPrinted text share.now × (result.items ≡ ended_line text) }
+/// The line of the mnemonic of a share.
+fn mnemonic_line(shares: &[Share], index: u16) -> Line
+    requires { index < length shares.now }
+    ensures { (lines : List (List ℕ)) → AllZip IsPrinted lines shares.now
+        → result.items ≡ ended_line (slice_index_or lines index []) }
 {
-    let mut line = Line::new();
-    push_text(&mut line, &print(share));
-    line.push(b'\n');
-    line
+    one_printed_form();
+    line_of(&print(&shares[usize::from(index)]))
 }
 
 /// Puts the mnemonics of the shares that an answer has at the front of a slice.
@@ -229,45 +231,12 @@ fn put_mnemonics(shares: &[Share], text: &mut [u8]) -> Result<WrittenLines, TooS
         × (short.needed ≡ length lines) × (length text.old < length lines)
         × (text.new ≡ text.old)) }
 {
-    one_printed_form();
+    every_share_has_a_printed_form();
     each_mnemonic_is_a_line();
-    let needed = length_of(shares);
-    if text.len() < needed {
-        return Err(TooShort { needed });
-    }
-    copy_mnemonics(shares, text);
+    let count = shares.len() as u16;
+    let written = put_lines(text, count, &|index| mnemonic_line(shares, index))?;
     Ok(WrittenLines {
-        written: needed,
+        written,
         lines: shares.len(),
     })
-}
-
-/// How many bytes the mnemonics of shares have, each followed by a line feed.
-fn length_of(shares: &[Share]) -> usize
-    requires few { length shares.now ≤ most_names }
-    ensures { (text : List ℕ) × ArePrintedLines shares.now text × (result ≡ length text) }
-{
-    let mut needed = 0;
-    for share in shares {
-        needed += mnemonic_line(share).len();
-    }
-    needed
-}
-
-/// Puts the mnemonics of shares at the front of a slice, in which they fit.
-fn copy_mnemonics(shares: &[Share], out: &mut [u8])
-    requires are_shares { All IsShare shares.now }
-    requires room { (text : List ℕ) × ArePrintedLines shares.now text
-        × (length text ≤ length out.old) }
-    ensures { (text : List ℕ) × ArePrintedLines shares.now text
-        × (out.new ≡ text ++ drop (length text) out.old) }
-{
-    every_share_has_a_printed_form();
-    one_printed_form();
-    let mut written = 0;
-    for share in shares {
-        let line = mnemonic_line(share);
-        put(out, written, line.as_slice());
-        written += line.len();
-    }
 }

@@ -1,11 +1,13 @@
 -- A run that creates a backup.
-use Rattle.std.proofs.Common.{◌≡◌, ◌≢◌, ℕ, suc, min, ◌+◌, ◌<◌, ◌≤◌, true, List, [], ◌∷◌, ◌++◌, length, take, drop, All, get_or, refl, sym, ap, ◌∙◌}
+use Rattle.std.proofs.Common.{◌≡◌, ◌≢◌, ℕ, zero, suc, min, ◌+◌, ◌<◌, ◌≤◌, true, List, [], ◌∷◌, length, map, take, All, get_or, refl, sym, ap, ◌∙◌}
 use Rattle.std.proofs.Common.{subst, inl, inr, arith, Option, Ok, Err}
 use Rattle.std.specs.Io.KnownBytes.{Consumes}
+use Rattle.std.specs.List.{AllZip, concat}
 use Rattle.std.proofs.lemmas.Bool.{cases_lt}
-use Rattle.std.proofs.lemmas.List.{length-take, take_all, take_more, take-append-drop}
-use Rattle.std.proofs.Math.Seq.{drop-cons}
-use Rattle.std.proofs.lemmas.List.Elements.{All-drop}
+use Rattle.std.proofs.lemmas.List.{length-take, length-map, take_all, get_or-map}
+use Rattle.std.proofs.lemmas.List.Concat.{concat_is}
+use Rattle.std.proofs.lemmas.List.Folds.{flat_map-map}
+use Rattle.arrayvec.specs.ArrayVec.{ArrayVec}
 use Rattle.s39_words.specs.declared.ShareFields.{ShareFields}
 use Rattle.s39_words.specs.Share.{IsShare}
 use Rattle.s39_words.specs.Printing.{IsPrinted}
@@ -14,9 +16,10 @@ use Rattle.s39_backup.specs.declared.create_error.CreateError.TheVariants.{Passp
 use Rattle.s39_input.specs.Device.{Counted}
 use Rattle.s39_input.specs.Input.{Input, ended_line}
 use Rattle.s39_input.specs.Fault.{read_failures_in, write_failures_in}
+use Rattle.s39_input.specs.Emission.{AreLines}
 use Rattle.s39_backup.specs.Created.{Asked, needed_by, IsCreation}
 use Rattle.s39_input.specs.Create.{ArePrintedLines, fault_of_creation, Applies, IsCreateOutput}
-use Rattle.s39_input.proofs.Runs.PrintedLines.{printed_both, printed_one, printed_all}
+use Rattle.s39_input.proofs.Runs.PrintedLines.{as_many, printed_all}
 
 -- between two reads: these bytes came of the first reader's
 pub record IsTaking {D : Type 0} (remaining : D → Option (List ℕ)) (first reader : Counted D) (came : List ℕ) (limit : ℕ) : Type 0 where
@@ -29,30 +32,34 @@ pub record IsTaking {D : Type 0} (remaining : D → Option (List ℕ)) (first re
 
 -- ---- mnemonics, one a line
 
-module _ (shares : List ShareFields) (k : ℕ) (share : ShareFields) (text line : List ℕ) (below : k < length shares) (here : share ≡ get_or shares k share)
-    (printed : ArePrintedLines (take k shares) text) (is : IsPrinted line share) where
-  -- one more is printed
-  pub printed_next : ArePrintedLines (take (k + 1) shares) (text ++ ended_line line)
-  printed_next =
-      let more : take (k + 1) shares ≡ take k shares ++ share ∷ [] =
-      take_more shares k share below ∙ ap (λ (x : ShareFields). take k shares ++ x ∷ []) (sym here) in
-      subst (λ l. ArePrintedLines l (text ++ ended_line line)) (sym more)
-      (printed_both (take k shares) (share ∷ []) text (ended_line line) printed (printed_one share line is))
+-- the printed form at a place is that of the share there
+pub printed_at : (lines : List (List ℕ)) (shares : List ShareFields) → AllZip IsPrinted lines shares → (k : ℕ) (share : ShareFields) → k < length shares
+    → share ≡ get_or shares k share → IsPrinted (get_or lines k []) share
+printed_at lines [] printed k share below here = absurd (omega arith)
+printed_at [] (s ∷ ss) printed k share below here = absurd printed
+printed_at (l ∷ ls) (s ∷ ss) printed zero share below here = subst (IsPrinted l) (sym here) printed.0
+printed_at (l ∷ ls) (s ∷ ss) printed (suc k) share below here = printed_at ls ss printed.1 k share (omega arith) here
 
-  -- and the others have printed forms
-  pub printed_rest : ((s : ShareFields) → IsShare s → (t : List ℕ) × IsPrinted t s) → All IsShare shares
-      → (rest : List ℕ) × ArePrintedLines shares (text ++ (ended_line line ++ rest))
-  printed_rest every each =
-      let back = drop (suc k) shares in
-      let (rest, others) = printed_all every back (All-drop IsShare (suc k) shares each) in
-      let whole : take k shares ++ share ∷ back ≡ shares =
-      ap (λ (x : ShareFields). take k shares ++ x ∷ back) here ∙ ap (λ l. take k shares ++ l) (sym (drop-cons shares k share below))
-      ∙ take-append-drop k shares in (
-        rest,
-        subst (λ l. ArePrintedLines l (text ++ (ended_line line ++ rest))) whole
-            (printed_both (take k shares) (share ∷ back) text (ended_line line ++ rest) printed
-            (printed_both (share ∷ []) back (ended_line line) rest (printed_one share line is) others)),
-      )
+-- these lines, and the text that they make
+pub printed_texts : ((share : ShareFields) → IsShare share → (text : List ℕ) × IsPrinted text share) → (shares : List ShareFields) → All IsShare shares
+    → (lines : List (List ℕ)) × AllZip IsPrinted lines shares × ArePrintedLines shares (concat (map ended_line lines))
+printed_texts every shares each =
+    let p = (printed_all every shares each).1 in (
+      p.lines,
+      p.printed,
+      record { lines = p.lines; printed = p.printed; text_is = concat_is (map ended_line p.lines) ∙ flat_map-map (λ l. l) ended_line p.lines },
+    )
+
+pub lines_are : {gives : ℕ → ArrayVec ℕ → Type 0} (lines : List (List ℕ)) (shares : List ShareFields) → AllZip IsPrinted lines shares
+    → ((index : ℕ) (line : ArrayVec ℕ) → index < length shares → gives index line → line.items ≡ ended_line (get_or lines index []))
+    → AreLines gives (length shares) (map ended_line lines)
+lines_are lines shares printed given =
+    let long = as_many lines shares printed in
+    record {
+      many = length-map lines ended_line ∙ long;
+      each = λ index line below gives.
+          given index line below gives ∙ sym (get_or-map ended_line lines index [] [] (omega (arith, below, long)));
+    }
 
 -- ---- the random bytes of an input
 
