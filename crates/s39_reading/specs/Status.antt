@@ -1,5 +1,5 @@
 -- The output of `status`.
-use Rattle.std.specs.Prelude.{◌≡◌, ℕ, List, [], ◌∷◌, ◌++◌, length, codes, Option, Some, None, Result, Ok}
+use Rattle.std.specs.Prelude.{◌≡◌, ℕ, List, [], ◌∷◌, ◌++◌, length, map, codes, Option, Some, None, Result, Ok}
 use Rattle.std.specs.Fmt.{decimal}
 use Rattle.std.specs.List.{range_with_len, flat_map}
 use Rattle.s39_words.specs.declared.ShareFields.{ShareFields}
@@ -34,6 +34,10 @@ group_text (Some status) = group_line status
 -- the first line, and the line of each group of which a share is at hand, in ascending order
 abbrev pub status_text : List ShareFields → Status → List ℕ
 status_text set status = first_line status ++ flat_map (λ group. group_text (group_status_of set group)) (range_with_len 0 most_groups)
+
+-- these lines, of which that of a group may be empty
+abbrev pub lines_of_status : List ShareFields → Status → List (List ℕ)
+lines_of_status set status = first_line status ∷ map (λ group. group_text (group_status_of set group)) (range_with_len 0 most_groups)
 
 -- what is written and answered for a set with this status; nothing is written if it has no shares
 abbrev pub status_written : List ShareFields → Option Status → List ℕ × Result Status Fault

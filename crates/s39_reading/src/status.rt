@@ -1,21 +1,22 @@
 //! The command `status`: what is at hand of each group, and whether it is enough.
-ghost use Rattle.std.specs.Prelude.{◌≡◌, ◌≢◌, ◌+◌, ◌<◌, ◌≤◌, ◌++◌, [], Ok, Err, IfOk, IfErr, length, drop};
+ghost use Rattle.std.specs.Prelude.{◌≡◌, ◌≢◌, ◌<◌, ◌≤◌, [], Ok, Err, IfOk, IfErr, slice_index_or};
 ghost use Rattle.std.specs.Fmt.{decimal};
 ghost use Rattle.s39_set.specs.Names.{most_groups};
 ghost use Rattle.s39_set.specs.Status.{group_status_of};
 ghost use Rattle.s39_input.specs.Input.{whole};
-ghost use Rattle.s39_input.specs.Output.{WritesText};
 ghost use Rattle.s39_input.specs.Runs.{Runs};
-ghost use Rattle.s39_input.specs.Slices.{IsInFront};
 ghost use Rattle.s39_reading.specs.Slices.{PutsStatus};
-ghost use Rattle.s39_reading.specs.Status.{IsStatusOutput, first_line, group_line, group_text, status_text};
+ghost use Rattle.s39_reading.specs.Status.{IsStatusOutput, first_line, group_line, group_text, lines_of_status, status_text};
 
 use s39_input::{
-    Counting, DeviceFailure, Fault, Line, Refusal, TooShort, Unwritten, WriteFailed, push_field,
-    push_names, put, read_set, set_in, write_text,
+    Counting, DeviceFailure, Fault, Line, Refusal, Unwritten, push_field, push_names, put_lines,
+    read_set, set_in, write_lines,
 };
 use s39_set::{GroupStatus, MAX_GROUPS, SetLack, ShareSet, Status, group_status_of, status_of};
 use std::io::{Read, Write};
+
+/// How many lines there are: the first one, and one for each group, which may be empty.
+const LINES: u16 = MAX_GROUPS as u16 + 1;
 
 /// Writes which members of each group are at hand, and how many groups are complete. It needs no passphrase. The first
 /// line is `groups C of R`: `C` groups have at least their member threshold of shares, and `R` is the group threshold.
@@ -64,7 +65,7 @@ pub fn run_status<R: Read, W: Write>(
     let Some(status) = status_of(&set) else {
         return Err(Fault::from(SetLack::NoShares));
     };
-    write_status(output, &set, status)?;
+    write_lines(output, LINES, &|index| line_at(&set, status, index))?;
     Ok(status)
 }
 
@@ -96,7 +97,7 @@ pub fn status_lines(lines: &[u8], text: &mut [u8]) -> Result<WrittenStatus, Unwr
     ensures { PutsStatus (IsStatusOutput (whole lines.now)) text.old text.new result }
 {
     let (set, status) = status_in(lines)?;
-    let written = put_status(&set, status, text)?;
+    let written = put_lines(text, LINES, &|index| line_at(&set, status, index))?;
     Ok(WrittenStatus { written, status })
 }
 
@@ -113,62 +114,16 @@ fn status_in(lines: &[u8]) -> Result<(ShareSet, Status), Fault>
     Ok((set, status))
 }
 
-/// Puts the first line and the lines of the groups at the front of a slice, if they fit.
-fn put_status(set: &ShareSet, status: Status, text: &mut [u8]) -> Result<usize, TooShort>
-    ensures put { IfOk result (λ written. IsInFront (status_text set.now status) text.old text.new
-        × (written ≡ length (status_text set.now status))) }
-    ensures short { IfErr result (λ short. (short.needed ≡ length (status_text set.now status))
-        × (length text.old < length (status_text set.now status)) × (text.new ≡ text.old)) }
+/// The line at an index: the first line, or what is written for a group.
+fn line_at(set: &ShareSet, status: Status, index: u16) -> Line
+    requires { index ≤ most_groups }
+    ensures { result.items ≡ slice_index_or (lines_of_status set.now status) index [] }
 {
-    let needed = length_of(set, status);
-    if text.len() < needed {
-        return Err(TooShort { needed });
+    if index == 0 {
+        first_line(status)
+    } else {
+        group_text(set, (index - 1) as u8)
     }
-    copy_status(set, status, text);
-    Ok(needed)
-}
-
-/// How many bytes the first line and the lines of the groups have.
-fn length_of(set: &ShareSet, status: Status) -> usize
-    ensures { result ≡ length (status_text set.now status) }
-{
-    let mut needed = first_line(status).len();
-    for group in 0..MAX_GROUPS {
-        needed += group_text(set, group).len();
-    }
-    needed
-}
-
-/// Puts the first line and the lines of the groups at the front of a slice, in which they fit.
-fn copy_status(set: &ShareSet, status: Status, out: &mut [u8])
-    requires { length (status_text set.now status) ≤ length out.old }
-    ensures { out.new ≡ status_text set.now status
-        ++ drop (length (status_text set.now status)) out.old }
-{
-    let line = first_line(status);
-    put(out, 0, line.as_slice());
-    let mut written = line.len();
-    for group in 0..MAX_GROUPS {
-        let line = group_text(set, group);
-        put(out, written, line.as_slice());
-        written += line.len();
-    }
-}
-
-/// Writes the first line, and the lines of the groups.
-fn write_status<W: Write>(
-    output: &mut Counting<W>,
-    set: &ShareSet,
-    status: Status,
-) -> Result<(), WriteFailed>
-    requires { output.old.failures < u64.MAX }
-    ensures { WritesText W.contents output.old (status_text set.now status) result output.new }
-{
-    write_text(output, first_line(status).as_slice())?;
-    for group in 0..MAX_GROUPS {
-        write_text(output, group_text(set, group).as_slice())?;
-    }
-    Ok(())
 }
 
 /// The first line.

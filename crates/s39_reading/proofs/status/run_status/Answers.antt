@@ -1,7 +1,7 @@
-use Rattle.std.proofs.Common.{◌∙◌, ◌+◌, refl, sym, ap, arith, Ok}
+use Rattle.std.proofs.Common.{◌≡◌, ◌∙◌, ◌+◌, [], get_or, refl, sym, ap, arith, rules, Ok}
 use Rattle.std.proofs.lemmas.Result.{err_from_is_err_and}
 use Rattle.s39_input.specs.Steps.{gives, refuses}
-use Rattle.s39_reading.specs.Status.{status_written}
+use Rattle.s39_reading.specs.Status.{lines_of_status, status_text, status_written}
 use Rattle.s39_input.proofs.Runs.Devices.{OfInput-map}
 use Rattle.s39_input.proofs.Runs.Writing.{nothing_written, run_whole, run_part}
 use Rattle.s39_input.proofs.Sets.Checked.{stop_writes}
@@ -24,17 +24,29 @@ returns-in_default-clause-runs g c =
     (OfInput-map c.in_ok-set.ensures.read (λ input read. gives set read (ap (status_written set) c.in_default.ensures)))
     c.in_ok-set.ensures.failures refl)
 
-pub returns-in_err-write_status-clause-runs : goal.returns-in_err-write_status-clause-runs
-returns-in_err-write_status-clause-runs g c =
-    let p = err_from_is_err_and c.from_residual-in_err-write_status.result c.from_residual-in_err-write_status.ensures.1 in
+pub returns-in_err-write_lines-clause-runs : goal.returns-in_err-write_lines-clause-runs
+returns-in_err-write_lines-clause-runs g c =
+    let p = err_from_is_err_and c.from_residual-in_err-write_lines.result c.from_residual-in_err-write_lines.ensures.1 in
     let set = c.in_ok-set.set in
-    rw (p.1, p.2) (run_part (Ok c.in-Some.status) c.in_err-write_status.ensures
+    let lines = lines_of_status set c.in-Some.status in
+    let written = c.in_err-write_lines.ensures lines
+    (record {
+      many = refl;
+      each = λ index line below given. (let is : line.items ≡ get_or lines index [] = search rules in is);
+    }) in
+    rw (p.1, p.2) (run_part {text = status_text set c.in-Some.status} (Ok c.in-Some.status) written
     (OfInput-map c.in_ok-set.ensures.read (λ input read. gives set read (ap (status_written set) c.in-Some.ensures)))
     (omega (arith, c.in_ok-set.ensures.failures)))
 
 pub returns-clause-runs : goal.returns-clause-runs
 returns-clause-runs g c =
     let set = c.in_ok-set.set in
-    run_whole c.in_ok-write_status.ensures
+    let lines = lines_of_status set c.in-Some.status in
+    let written = c.in_ok-write_lines.ensures lines
+    (record {
+      many = refl;
+      each = λ index line below given. (let is : line.items ≡ get_or lines index [] = search rules in is);
+    }) in
+    run_whole {text = status_text set c.in-Some.status} written
     (OfInput-map c.in_ok-set.ensures.read (λ input read. gives set read (ap (status_written set) c.in-Some.ensures)))
     c.in_ok-set.ensures.failures refl
