@@ -1,62 +1,41 @@
 -- Words of the list, one on each line.
-use Rattle.std.proofs.Common.{◌≡◌, ℕ, ◌+◌, ◌-◌, ◌<◌, ◌≤◌, Bool, true, false, cond, List, [], ◌∷◌, ◌++◌, length, take, drop, get_or, filter, refl, ap, ◌∙◌}
-use Rattle.std.proofs.Common.{append-nil, arith}
-use Rattle.std.specs.List.{flat_map}
-use Rattle.std.proofs.lemmas.List.{length-append, length-drop, take_more, take-take, take-append-drop, get_or-drop}
-use Rattle.std.proofs.lemmas.List.Concat.{flat_map-append}
-use Rattle.s39_words.specs.Layout.{IsIndex}
+use Rattle.std.proofs.Common.{◌≡◌, ℕ, ◌+◌, ◌-◌, ◌<◌, ◌≤◌, Bool, true, false, cond, List, [], ◌∷◌, length, map, take, drop, filter, refl, sym, ap, ◌∙◌, arith}
+use Rattle.std.specs.List.{concat, flat_map}
+use Rattle.std.proofs.lemmas.List.{length-append, length-drop, length-map, length-take-le, get_or-drop, get_or-map, get_or-take}
+use Rattle.std.proofs.lemmas.List.Concat.{concat_is}
+use Rattle.std.proofs.lemmas.List.Folds.{flat_map-map}
+use Rattle.arrayvec.specs.ArrayVec.{ArrayVec}
+use Rattle.s39_words.specs.Layout.{word_list_length}
 use Rattle.s39_words.specs.Prefix.{begins_with}
 use Rattle.s39_words.specs.Printing.{listed_word}
 use Rattle.s39_words.specs.WordList.{word_list}
 use Rattle.s39_words.proofs.WordTable.{length-word_list}
+use Rattle.s39_input.specs.Emission.{AreLines}
 use Rattle.s39_input.specs.Input.{ended_line}
 use Rattle.s39_c.specs.Answers.{too_short}
-use Rattle.s39_c.specs.Words.{longest_words, words_text, GivesWords, lines_between}
+use Rattle.s39_c.specs.Words.{longest_words, words_text, GivesWords}
 use Rattle.s39_c.proofs.Rooms.{gives_short}
 
-pub lines_none : (first : ℕ) → lines_between first first ≡ []
-lines_none first = let none : first - first ≡ 0 = omega arith in ap (λ n. flat_map ended_line (take n (drop first word_list))) none
-
--- one word more
-pub lines_more : (first index : ℕ) → first ≤ index → IsIndex index
-    → lines_between first (index + 1) ≡ lines_between first index ++ ended_line (listed_word index)
-lines_more first index from within =
+-- the lines of the words between two indices of the list
+pub word_lines : {gives : ℕ → ArrayVec ℕ → Type 0} (first end : ℕ) → end ≤ word_list_length
+    → ((index : ℕ) (line : ArrayVec ℕ) → index < end - first → gives index line → line.items ≡ ended_line (listed_word (first + index)))
+    → AreLines gives (end - first) (map ended_line (take (end - first) (drop first word_list)))
+word_lines first end within given =
     let rest = drop first word_list in
-    let long : index - first < length rest = omega (arith, from, within, length-drop first word_list, length-word_list) in
-    let place : first + (index - first) ≡ index = omega (arith, from) in
-    let next : (index + 1) - first ≡ (index - first) + 1 = omega (arith, from) in
-    let word : get_or rest (index - first) [] ≡ listed_word index =
-    get_or-drop first word_list (index - first) [] ∙ ap (λ k. get_or word_list k []) place in
-    ap (λ n. flat_map ended_line (take n rest)) next
-    ∙ ap (flat_map ended_line) (take_more rest (index - first) [] long)
-    ∙ flat_map-append ended_line (take (index - first) rest) (get_or rest (index - first) [] ∷ [])
-    ∙ ap (λ t. lines_between first index ++ t) (append-nil (ended_line (get_or rest (index - first) [])) ∙ ap ended_line word)
+    let words = take (end - first) rest in
+    let long : length words ≡ end - first = length-take-le (end - first) rest (omega (arith, within, length-drop first word_list, length-word_list)) in
+    record {
+      many = length-map words ended_line ∙ long;
+      each = λ index line below gives.
+          given index line below gives
+          ∙ ap ended_line (sym (get_or-take (end - first) rest index [] below ∙ get_or-drop first word_list index []))
+          ∙ sym (get_or-map ended_line words index [] [] (omega (arith, below, long)));
+    }
 
-pub length-lines_more : (first index : ℕ) → first ≤ index → IsIndex index
-    → length (lines_between first (index + 1)) ≡ length (lines_between first index) + (length (listed_word index) + 1)
-length-lines_more first index from within =
-    let whole = ap length (lines_more first index from within) in
-    omega (
-      arith,
-      whole,
-      length-append (lines_between first index) (ended_line (listed_word index)),
-      length-append (listed_word index) (10 ∷ []),
-    )
-
--- those up to an index have no more bytes than all
-pub lines_fit : (first index end : ℕ) → index ≤ end → length (lines_between first index) ≤ length (lines_between first end)
-lines_fit first index end few =
-    let rest = drop first word_list in
-    let all = take (end - first) rest in
-    let front = take (index - first) all in
-    let back = drop (index - first) all in
-    let less : index - first ≤ end - first = omega (arith, few) in
-    let whole : length (flat_map ended_line (front ++ back)) ≡ length (flat_map ended_line all) =
-    ap (λ l. length (flat_map ended_line l)) (take-append-drop (index - first) all) in
-    let parts = ap length (flat_map-append ended_line front back) in
-    let cut : length (flat_map ended_line front) ≡ length (lines_between first index) =
-    ap (λ l. length (flat_map ended_line l)) (take-take (index - first) (end - first) rest less) in
-    omega (arith, whole, parts, cut, length-append (flat_map ended_line front) (flat_map ended_line back))
+-- they are the text of the words that begin with some letters
+pub words_joined : (letters : List ℕ) (words : List (List ℕ)) → filter (begins_with letters) word_list ≡ words
+    → words_text letters ≡ concat (map ended_line words)
+words_joined letters words are = ap (flat_map ended_line) are ∙ sym (concat_is (map ended_line words) ∙ flat_map-map (λ l. l) ended_line words)
 
 -- ---- the length of all words
 

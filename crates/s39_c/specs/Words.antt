@@ -1,5 +1,5 @@
 -- What `shamir_words` gives.
-use Rattle.std.specs.Prelude.{ℕ, ◌-◌, List, filter, take, drop}
+use Rattle.std.specs.Prelude.{ℕ, List, filter}
 use Rattle.std.specs.List.{flat_map}
 use Rattle.s39_words.specs.Prefix.{begins_with}
 use Rattle.s39_words.specs.WordList.{word_list}
@@ -18,9 +18,3 @@ words_text letters = flat_map ended_line (filter (begins_with letters) word_list
 -- these words in a slice, or that they don't fit
 abbrev pub GivesWords : List ℕ → List ℕ → List ℕ → ShamirAnswer → Type 0
 GivesWords letters old new answer = Gives (words_text letters) old new answer
-
--- Within a call; no public contract cites this.
-
--- the words from one index up to another, with a line feed after each
-abbrev pub lines_between : ℕ → ℕ → List ℕ
-lines_between first end = flat_map ended_line (take (end - first) (drop first word_list))

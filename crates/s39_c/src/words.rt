@@ -1,13 +1,15 @@
 //! The call that lists words.
-ghost use Rattle.std.specs.Prelude.{◌≡◌, ◌≤◌, ◌++◌, length, drop};
-ghost use Rattle.s39_words.specs.Layout.{word_list_length};
-ghost use Rattle.s39_c.specs.Words.{GivesWords, lines_between};
+ghost use Rattle.std.specs.Prelude.{◌≡◌};
+ghost use Rattle.s39_words.specs.Layout.{IsIndex};
+ghost use Rattle.s39_words.specs.Printing.{listed_word};
+ghost use Rattle.s39_input.specs.Input.{ended_line};
+ghost use Rattle.s39_c.specs.Words.{GivesWords};
 
 use crate::answer::ShamirAnswer;
 use crate::clearing::WORDS;
 use s39_clearing::clear_stack;
-use s39_input::put;
-use s39_words::{WordRange, word_at, words_beginning};
+use s39_input::{Line, line_of, put_lines};
+use s39_words::{word_at, words_beginning};
 
 /// Lists the words of the word list that begin with some letters, in alphabetical order, with a line feed after each.
 ///
@@ -37,41 +39,17 @@ fn words_answer(letters: &[u8], text: &mut [u8]) -> ShamirAnswer
     ensures { GivesWords letters.now text.old text.new result }
 {
     let words = words_beginning(letters);
-    let needed = length_of(words);
-    if text.len() < needed {
-        return ShamirAnswer::too_short(needed);
+    let count = words.end - words.first;
+    match put_lines(text, count, &|index| word_line(words.first + index)) {
+        Ok(written) => ShamirAnswer::done(written),
+        Err(short) => ShamirAnswer::too_short(short.needed),
     }
-    copy_words(words, text);
-    ShamirAnswer::done(needed)
 }
 
-/// How many bytes these words have, with a line feed after each.
-fn length_of(words: WordRange) -> usize
-    requires ordered { words.first ≤ words.end }
-    requires in_list { words.end ≤ word_list_length }
-    ensures { result ≡ length (lines_between words.first words.end) }
+/// The line of the word at an index of the list.
+fn word_line(index: u16) -> Line
+    requires { IsIndex index }
+    ensures { result.items ≡ ended_line (listed_word index) }
 {
-    let mut needed = 0;
-    for index in words.first..words.end {
-        needed += word_at(index).len() + 1;
-    }
-    needed
-}
-
-/// Puts these words at the front of a slice, in which they fit, with a line feed after each.
-fn copy_words(words: WordRange, out: &mut [u8])
-    requires ordered { words.first ≤ words.end }
-    requires in_list { words.end ≤ word_list_length }
-    requires room { length (lines_between words.first words.end) ≤ length out.old }
-    ensures { out.new ≡ lines_between words.first words.end
-        ++ drop (length (lines_between words.first words.end)) out.old }
-{
-    let mut written = 0;
-    for index in words.first..words.end {
-        let word = word_at(index);
-        put(out, written, word);
-        written += word.len();
-        put(out, written, b"\n");
-        written += 1;
-    }
+    line_of(word_at(index))
 }
