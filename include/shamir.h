@@ -438,7 +438,7 @@ shamir_answer shamir_reissue(
  * For 11, first is which mark stands for no word, counted from 1. The code is 16 if more than three places are open, and 17 if
  * one to three are open and no mnemonic fits. The codes 13 to 15 and 18 are for lines with no open place. If the checksum is
  * wrong and one other word would make a mnemonic of the line, the code is 18: if one word is wrong, it is word number first,
- * counted from 1, or word number second if that isn't 0. first is then below second. If there is no such word, the code is 13.
+ * counted from 1, or, if second isn't 0, one of the two. first is then below second. If there is no such word, the code is 13.
  *
  * The call refuses with the first of these that applies: 11, 12, 16, 17, 18, 13, 14, 15, 1.
  *
