@@ -12,9 +12,11 @@ lowest eight, where the clearing puts the address to which its last step returns
 It also adds up the frames of the functions that a call reaches, as objdump shows them. A call must clear as much, whatever it is
 given. The tool needs a C compiler for x86-64 and objdump. It says what it doesn't check without them.
 
-Of the program, it runs each command: with good ends, with each kind of refusal, with devices that fail, and with values in files and
-in lines of the input. It stops the program when it is about to end, and searches all memory that it can write for the same as above.
-It also checks that on the stack all is 0 below the frames of `main`. For this it needs the right to trace a program.
+Of the program, it runs each command: with good ends, with each kind of refusal, with devices that fail, with values in files and in
+lines of the input, at a terminal, and if memory runs out. It stops the program when it is about to end, and searches all memory that
+it can write for the same as above. It also checks that on the stack all is 0 below the frames of `main`. With too small a stack, a
+signal must end the program before it has read anything secret or written anything. For this it needs the right to trace a program,
+and for a lack of memory a C compiler, as tools/faults.c refuses the allocations.
 
 It exits with status 1 if something is found, if a call or a run answers something else than it must, or if a call can reach further
 than it clears.
@@ -117,12 +119,23 @@ def of_calls(archive: pathlib.Path) -> List[str]:
     return told
 
 
+def shim_in(folder: str) -> str:
+    """Compiles what refuses allocations. Returns where it is, or nothing without a compiler."""
+    if not shutil.which(COMPILER[0]):
+        print(f"tools/leftovers: there is no {COMPILER[0]}, so the program isn't run without memory")
+        return ""
+    shim = f"{folder}/faults.so"
+    subprocess.run([*COMPILER, "-O1", "-shared", "-fPIC", "-o", shim, str(ROOT / "tools" / "faults.c"), "-ldl"], check=True)
+    return shim
+
+
 def of_runs(program: pathlib.Path) -> List[str]:
     """Checks the runs of the program. Returns what is wrong."""
     if not exits.can_trace():
         print("tools/leftovers: programs can't be traced here, so the runs of the program aren't checked")
         return []
-    told, count, deepest = ends.all_leftovers(program)
+    with tempfile.TemporaryDirectory() as folder:
+        told, count, deepest = ends.all_leftovers(program, shim_in(folder))
     if not told:
         print(f"at the end of each of {count} runs of the program, nothing secret is in its memory; below {deepest} bytes, all of its stack is 0")
     return told

@@ -10,8 +10,9 @@ plain: Any = importlib.import_module("plain")
 PASSPHRASE = b"correct horse battery"
 WINDOW = 8
 RUN = 3
-# Bytes with fewer than eight zeros in a row: nothing that is looked for is in others.
-FILLED = re.compile(rb"\0{0,7}[^\0](?:\0{0,7}[^\0])*")
+# Bytes with fewer than eight zeros in a row. Nothing that is looked for is in others, except up to seven zeros at its beginning.
+# A range of bytes is found faster than all bytes but one.
+FILLED = re.compile(rb"[\1-\xff](?:\0{0,7}[\1-\xff])*")
 
 
 @dataclass(frozen=True)
@@ -97,7 +98,7 @@ class Needles:
     def within(self, memory: bytes) -> Iterator[Tuple[int, str]]:
         """Yields where something secret begins in memory, and what it is."""
         for stretch in FILLED.finditer(memory):
-            for at in range(*stretch.span()):
+            for at in range(max(0, stretch.start() - WINDOW + 1), stretch.end()):
                 for text, name in self._found.get(memory[at : at + WINDOW], []):
                     if memory.startswith(text, at):
                         yield at, name

@@ -1,9 +1,13 @@
-"""The runs of the program: each command, with good ends, with each kind of refusal, and with devices that fail."""
-from dataclasses import dataclass
+"""The runs of the program: each command, with good ends, with each kind of refusal, with devices that fail, at a terminal, and with too
+small a stack.
+"""
+import signal
+from dataclasses import dataclass, replace
 from typing import Dict, Iterator, List, Tuple
 
 import cases
 from backups import PASSPHRASE, Backup
+from devices import How
 
 # These numbers are of the library alone: a buffer, a limit or an exponent.
 OF_A_CALL = [1, 2, 3]
@@ -11,6 +15,10 @@ READ_FAILED, WRITE_FAILED = 72, 73
 MOST = 1024
 # A word that begins so stands for a file with the rest as its text.
 IN_FILE = "FILE:"
+CUT_OFF, FULL = How(is_cut=True), How(is_full=True)
+UNKNOWN_WORD = 13
+# Each command needs less of the stack than this, and `main` takes more before it reads anything.
+SHORT = 400 << 10
 
 
 @dataclass(frozen=True)
@@ -22,12 +30,20 @@ class Run:
     given: bytes
     code: int = 0
     status: int = 0
-    is_cut: bool = False
-    is_full: bool = False
+    how: How = How()
 
     @property
     def name(self) -> str:
-        return f"shamir {self.words[0]} with the code {self.code} and the status {self.status}"
+        return f"shamir {self.words[0]}{self.how.told}, with the code {self.code} and the status {self.status}"
+
+    @property
+    def is_sound(self) -> bool:
+        """Says whether nothing is refused, and each device works."""
+        return not self.code and not self.status
+
+    @property
+    def has_files(self) -> bool:
+        return any(word.startswith(IN_FILE) for word in self.words)
 
 
 def placed(option: str, value: bytes, is_line: bool) -> Tuple[List[str], bytes]:
@@ -91,17 +107,39 @@ def failures(backup: Backup, is_line: bool) -> Iterator[Run]:
     first, line_before = placed("master-secret", digits, is_line)
     create = ["create", backup.plan, *first, *words]
     yield Run(["create", backup.plan, *first, "--passphrase-file", "none"], line_before + drawn, status=3)
-    yield Run(create, line_before + line + drawn[:-1], READ_FAILED, 3, is_cut=True)
-    yield Run(create, line_before + line + drawn, WRITE_FAILED, 3, is_full=True)
+    yield Run(create, line_before + line + drawn[:-1], READ_FAILED, 3, CUT_OFF)
+    yield Run(create, line_before + line + drawn, WRITE_FAILED, 3, FULL)
     for command in ("recover", "drill"):
-        yield Run([command, *words], line + lines, READ_FAILED, 3, is_cut=True)
-        yield Run([command, *words], line + lines, WRITE_FAILED, 3, is_full=True)
+        yield Run([command, *words], line + lines, READ_FAILED, 3, CUT_OFF)
+        yield Run([command, *words], line + lines, WRITE_FAILED, 3, FULL)
     for plain in (["show"], ["status"], ["repair"], ["reissue", backup.plan, "0.1"]):
         if not is_line:
-            yield Run(plain, lines, READ_FAILED, 3, is_cut=True)
-            yield Run(plain, lines, WRITE_FAILED, 3, is_full=True)
+            yield Run(plain, lines, READ_FAILED, 3, CUT_OFF)
+            yield Run(plain, lines, WRITE_FAILED, 3, FULL)
     for refused in (["--help"], ["recover", *words, "--help"], ["recover", *words, "--limit=1"], ["no"]):
         yield Run(refused, line + lines, status=0 if "--help" in refused else 2)
+
+
+def at_terminals(runs: List[Run]) -> Iterator[Run]:
+    """Yields these runs at a terminal: all of them typed, and the sound ones and one kind of refusal also with their output shown.
+    `create` takes no random bytes that are typed.
+    """
+    for run in runs:
+        is_creation = run.words[0] == "create"
+        if run.has_files or run.how.is_cut or is_creation and not run.is_sound:
+            continue
+        typed = replace(run, status=2 if is_creation else run.status, how=replace(run.how, is_typed=True))
+        yield typed
+        if run.is_sound or run.code == UNKNOWN_WORD:
+            yield replace(typed, how=How(is_typed=True, is_shown=True))
+            yield replace(run, how=How(is_shown=True))
+
+
+def without_stack(runs: List[Run]) -> Iterator[Run]:
+    """Yields the sound runs with so small a stack that a signal ends them before they have read anything."""
+    for run in runs:
+        if run.is_sound:
+            yield replace(run, status=-signal.SIGSEGV, how=How(stack=SHORT))
 
 
 def greatest(backup: Backup) -> Iterator[Run]:
@@ -116,6 +154,7 @@ def all_runs() -> Iterator[Tuple[Backup, List[Run]]]:
     for backup, made in cases.all_cases():
         if backup.plan == cases.PLAN:
             runs = [run for case in made for is_line in (False, True) for run in like(case, is_line)]
-            yield backup, runs + [run for is_line in (False, True) for run in failures(backup, is_line)]
+            runs += [run for is_line in (False, True) for run in failures(backup, is_line)]
+            yield backup, [*runs, *at_terminals(runs), *without_stack(runs)]
         else:
             yield backup, list(greatest(backup))

@@ -3,17 +3,20 @@ import multiprocessing
 import pathlib
 import re
 import tempfile
-from dataclasses import dataclass
-from typing import List, Tuple
+from dataclasses import dataclass, replace
+from typing import Iterator, List, Tuple
 
 import backups
 import commands
 import exits
 
-REFUSAL = re.compile(rb"shamir: (?:line \d+: )?(\d\d) ")
+REFUSAL = re.compile(rb"^shamir: (?:line \d+: )?(\d\d) ", re.MULTILINE)
 # Below the words of the command, this many bytes of the stack may be other than 0: the frames of `main` and of those that call
 # it, and what ends the process.
-FRAMES = 2048
+FRAMES = 1024
+OUT_OF_MEMORY = 4
+# A line of what tools/faults.c logs.
+CALL = re.compile(rb"^(allocation|file|read) \d+ -?\d+$", re.MULTILINE)
 
 
 @dataclass(frozen=True)
@@ -26,11 +29,14 @@ class Search:
     def __call__(self, run: commands.Run) -> Tuple[List[str], int]:
         """Runs the program. Returns what is left, and how many bytes below the words of the command the lowest is that isn't 0."""
         end = ended(self.program, run)
-        found = REFUSAL.match(end.errors)
+        found = REFUSAL.search(end.errors)
         code = int(found[1]) if found else 0
         if code != run.code or end.status != run.status and (code, run.status, end.status) != (0, 0, 1):
             return [f"{run.name} ends with the code {code} and the status {end.status}"], 0
         told = {f"{run.name} leaves {what} in {area.name}" for area in end.areas for _, what in self.needles.within(area.memory)}
+        if run.how.stack:
+            # A signal ended it, before it could clear anything.
+            return sorted(told | {f"{run.name} has written" for _ in end.output[:1]}), 0
         lowest = max(end.lowest(area) for area in end.areas)
         if lowest > FRAMES:
             told.add(f"{run.name} leaves bytes other than 0 on the stack, {lowest} bytes below the words of the command")
@@ -47,7 +53,26 @@ def ended(program: str, run: commands.Run) -> exits.End:
                 path.write_bytes(word[len(commands.IN_FILE) :].encode("latin-1") + b"\n")
                 word = path.name
             words.append(word)
-        return exits.ended(words, run.given, folder, run.is_cut, run.is_full)
+        return exits.ended(words, run.given, folder, run.how)
+
+
+def with_variables(run: commands.Run, **variables: str) -> commands.Run:
+    return replace(run, how=replace(run.how, variables=variables))
+
+
+def refused_allocations(program: str, shim: str, run: commands.Run) -> Iterator[commands.Run]:
+    """Yields runs like this one: in each, another allocation is refused, of the last one before the first read and all after it."""
+    calls = CALL.findall(ended(program, with_variables(run, LD_PRELOAD=shim)).errors)
+    before = next((at for at, call in enumerate(calls) if call != b"allocation"), len(calls))
+    for number in range(before, calls.count(b"allocation") + 1):
+        yield replace(with_variables(run, LD_PRELOAD=shim, FAULT_ALLOCATION=str(number)), status=OUT_OF_MEMORY)
+
+
+def without_memory(program: str, shim: str, runs: List[commands.Run]) -> Iterator[commands.Run]:
+    """Yields what the first sound run does of each command, with each kind of devices, if memory runs out."""
+    firsts = {(run.words[0], run.has_files, run.how.told): run for run in reversed(runs) if run.is_sound}
+    for run in firsts.values():
+        yield from refused_allocations(program, shim, run)
 
 
 SEARCHES: List[Search] = []
@@ -62,12 +87,16 @@ def searched(run: commands.Run) -> Tuple[List[str], int]:
     return SEARCHES[0](run)
 
 
-def all_leftovers(program: pathlib.Path) -> Tuple[List[str], int, int]:
-    """Makes all runs. Returns what they leave, how many they are, and the lowest byte of the stack that one leaves other than 0."""
+def all_leftovers(program: pathlib.Path, shim: str) -> Tuple[List[str], int, int]:
+    """Makes all runs. Returns what they leave, how many they are, and the lowest byte of the stack that one leaves other than 0.
+    `shim` is tools/faults.c as a library, or nothing.
+    """
     told: List[str] = []
     count = deepest = 0
     for backup, runs in commands.all_runs():
         search = Search(str(program.resolve()), backups.Needles(backup))
+        if shim:
+            runs += without_memory(search.program, shim, runs)
         # Each process traces its own runs, since only the thread that started a program may trace it.
         with multiprocessing.get_context("fork").Pool(initializer=begin, initargs=(search,)) as pool:
             for found, lowest in pool.imap(searched, runs, chunksize=4):

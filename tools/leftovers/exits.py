@@ -3,12 +3,14 @@ import ctypes
 import os
 import pathlib
 import re
+import resource
 import signal
-import socket
 import subprocess
 import tempfile
 from dataclasses import dataclass
-from typing import IO, List, Tuple, Union
+from typing import List, Tuple
+
+import devices
 
 LIBC = ctypes.CDLL(None, use_errno=True)
 LIBC.ptrace.restype = ctypes.c_long
@@ -75,43 +77,37 @@ def words_of(number: int) -> int:
     return int(pathlib.Path(f"/proc/{number}/stat").read_text().rpartition(")")[2].split()[25])
 
 
-def cut_off(given: bytes) -> socket.socket:
-    """Returns an input whose read fails after these bytes."""
-    near, far = socket.socketpair()
-    near.setsockopt(socket.SOL_SOCKET, socket.SO_SNDBUF, 1 << 20)
-    far.sendall(b"unread")
-    near.sendall(given)
-    near.close()
-    return far
-
-
-def ended(words: List[str], given: bytes, folder: str, is_cut: bool = False, is_full: bool = False) -> End:
-    """Runs a program in a folder. If `is_cut`, reads fail at the end of its input, and if `is_full`, its writes fail."""
-    with tempfile.TemporaryFile() as whole, tempfile.TemporaryFile() as kept, tempfile.TemporaryFile() as errors, open("/dev/full", "wb") as full:
-        whole.write(given)
-        whole.seek(0)
-        reader: Union[IO[bytes], socket.socket] = cut_off(given) if is_cut else whole
+def ended(words: List[str], given: bytes, folder: str, how: devices.How = devices.How()) -> End:
+    """Runs a program in a folder."""
+    with tempfile.TemporaryFile() as output, tempfile.TemporaryFile() as errors, devices.opened(given, how, output) as (reader, writer):
         run = subprocess.Popen(
             words,
             cwd=folder,
-            stdin=reader.fileno(),
-            stdout=full if is_full else kept,
+            stdin=reader,
+            stdout=writer,
             stderr=errors,
+            env={**os.environ, **how.variables},
             preexec_fn=lambda: trace(TRACE_ME, 0),
         )
-        if is_cut:
-            reader.close()
-        areas, words_at = stopped_at_exit(run.pid)
+        areas, words_at = stopped_at_exit(run.pid, how.stack)
         status = run.wait()
-        kept.seek(0)
+        output.seek(0)
         errors.seek(0)
-        return End(status, kept.read(), errors.read(), areas, words_at)
+        return End(status, output.read(), errors.read(), areas, words_at)
 
 
-def stopped_at_exit(number: int) -> Tuple[List[Area], int]:
+def limit(number: int, stack: int) -> None:
+    """Lets the stack of a process grow to this many bytes only. A signal then ends the process, which leaves no core file."""
+    resource.prlimit(number, resource.RLIMIT_STACK, (stack, stack))
+    resource.prlimit(number, resource.RLIMIT_CORE, (1, 1))
+
+
+def stopped_at_exit(number: int, stack: int) -> Tuple[List[Area], int]:
     """Lets a traced process run to its end. Returns its memory there, and where the words of its command are."""
     os.waitpid(number, 0)
     trace(SET_OPTIONS, number, STOP_AT_EXIT | END_WITH_TRACER)
+    if stack:
+        limit(number, stack)
     signals = 0
     while True:
         trace(CONTINUE, number, signals)
