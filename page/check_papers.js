@@ -11,6 +11,9 @@ import { counted, say } from "./say.js";
 /** @typedef {import("./desk.js").Kind} Kind */
 /** @typedef {import("./drill.js").Verdict} Verdict */
 
+/** With these results, words that were found and not read may be wrong. */
+const FAULTY = ["other", "none", "some", "several"];
+
 /**
  * Checks papers.
  *
@@ -36,10 +39,21 @@ export async function collectAndCheck(desk, what, saidFew) {
     const found = await collectPapers(desk, what);
     if (found === null) return;
     const { status, kinds } = found;
-    const tooFew = () => askForMore(say("check.done.few"), saidFew(kinds), status, kinds);
-    const answer = status.enough ? await drillWithPassphrase(desk, status, kinds[0], say("check.drill")) : await tooFew();
+    const tooFew = async () => askForMore(say("check.done.few"), [...saidFew(kinds), await saidLeftOut(desk)], status, kinds);
+    const isRepaired = kinds.some(({ name }) => name === what.repaired);
+    const answer = status.enough ? await drillWithPassphrase(desk, status, kinds[0], say("check.drill"), isRepaired) : await tooFew();
     if (answer === "end") return;
   }
+}
+
+/**
+ * Returns what says how many papers were begun and aren't among the others, or null if there are none.
+ *
+ * @param {Desk} desk
+ */
+export async function saidLeftOut(desk) {
+  const count = await desk.ask("leftOut");
+  return count ? paragraph(counted(count, "left"), "bad") : null;
 }
 
 /**
@@ -49,9 +63,10 @@ export async function collectAndCheck(desk, what, saidFew) {
  * @param {Status} status
  * @param {Kind} kind
  * @param {string} title
+ * @param {boolean} [isRepaired] whether words of a paper were found and not read
  * @returns {Promise<"papers" | "end">}
  */
-export async function drillWithPassphrase(desk, status, kind, title) {
+export async function drillWithPassphrase(desk, status, kind, title, isRepaired = false) {
   let fault = "";
   /** @type {string | null} */
   let noted = null;
@@ -69,7 +84,8 @@ export async function drillWithPassphrase(desk, status, kind, title) {
       fault = saidRefusal(verdict.refused);
       continue;
     }
-    const answer = await tellVerdict(verdict, noted);
+    const keep = isRepaired && FAULTY.includes(verdict.result) ? paragraph(say("damaged.keep"), "note") : null;
+    const answer = await tellVerdict(verdict, noted, [...saidTried(verdict, status), await saidLeftOut(desk), keep]);
     if (answer !== "again") return answer;
     fault = "";
   }
@@ -80,17 +96,36 @@ export async function drillWithPassphrase(desk, status, kind, title) {
  *
  * @param {Verdict} verdict
  * @param {string} noted
+ * @param {(HTMLElement | null)[]} more what is said of the papers
  */
-function tellVerdict({ result, fingerprint, sentences }, noted) {
+function tellVerdict({ result, fingerprint, sentences, hasPassphrase }, noted, more) {
   const isGood = result === "good";
   // Without a noted fingerprint, no result is known to be good.
   const isNoted = noted !== "";
+  const isOther = result === "other" && !hasPassphrase;
+  const again = ["other", "none"].includes(result) ? `${say(hasPassphrase ? "check.again" : "check.again.none")} ` : "";
   const told = [
     ...sentences.map((text) => paragraph(text, !isGood ? "bad" : isNoted ? "good" : "")),
-    isGood ? null : paragraph(say(`check.${result}`)),
+    ...more,
+    isGood ? null : paragraph(again + say(`check.${result}`)),
     ...(isGood && !isNoted && fingerprint ? [paragraph(say("noted.first")), element("p", { class: "fingerprint" }, fingerprint)] : []),
     paragraph(say("close")),
   ];
   const next = { good: "end", stopped: "again", other: "again", none: "again", some: "papers", several: "papers" }[result];
-  return askWhatNext(say(isGood && !isNoted ? "check.done.same" : `check.done.${result}`), told, next, isGood && isNoted);
+  const isLeft = more.some((it) => it?.classList.contains("bad"));
+  const kind = isGood ? (!isNoted ? "same" : isLeft ? "left_out" : "good") : isOther ? "other.none" : result;
+  return askWhatNext(say(`check.done.${kind}`), told, next, isGood && isNoted);
+}
+
+/**
+ * Names the papers that were tried, and those that are in no quorum.
+ *
+ * @param {Verdict} verdict
+ * @param {Status} status
+ */
+function saidTried({ result, names }, status) {
+  const here = status.groups.flatMap((group) => group.names);
+  const [tried, others] = [here.filter((name) => names.includes(name)), here.filter((name) => !names.includes(name))];
+  const none = others.length && result !== "stopped" ? [paragraph(say("verdict.papers.none", { names: others.join(", ") }))] : [];
+  return tried.length ? [paragraph(say("verdict.papers", { names: tried.join(", ") })), ...none] : [];
 }

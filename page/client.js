@@ -158,5 +158,5 @@ export class Desk {
  * @returns {ArrayBufferLike[]}
  */
 function buffersOf(held) {
-  return [...held.papers, ...held.shown, held.passphrase].filter((bytes) => bytes.length > 0).map((bytes) => bytes.buffer);
+  return [...held.papers, ...held.left, ...held.shown, held.passphrase].filter((bytes) => bytes.length > 0).map((bytes) => bytes.buffer);
 }

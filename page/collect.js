@@ -2,7 +2,7 @@
 import { button, element, paragraph } from "./dom.js";
 import { PaperEntry } from "./paper_entry.js";
 import { picture, saidWhole } from "./picture.js";
-import { saidError, wordsToLookAt } from "./refusals.js";
+import { saidForeign, wordsToLookAt } from "./refusals.js";
 import { say } from "./say.js";
 import { ask, show } from "./screen.js";
 
@@ -116,7 +116,8 @@ class Collection {
       const told = say(isNew ? "collect.taken" : "collect.repeated", { name: kind.name });
       return { isTaken: true, text: `${told} ${saidWhole(status, kind.groupCount, this.#task)}` };
     } catch (error) {
-      return { isTaken: false, text: saidError(error), words: wordsToLookAt(error) };
+      const repaired = this.#kinds.filter(({ name }) => name === this.#repaired).map(({ name }) => name);
+      return { isTaken: false, text: saidForeign(error, repaired), words: wordsToLookAt(error) };
     }
   }
 
@@ -168,8 +169,10 @@ class Collection {
     this.#entry.focus();
   }
 
-  #leaveOut() {
+  async #leaveOut() {
+    const line = this.#entry.line();
     this.#entry.clear();
+    await this.#desk.ask("leaveOut", { line }, [line.buffer]);
     this.#end();
   }
 }

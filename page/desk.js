@@ -1,6 +1,8 @@
 // The worker. It holds what a task has of papers, secrets and passphrases, and asks the engine. The page sends it byte arrays,
 // which it takes over, and gets names, counts, fingerprints and refusals. It gets words or digits only to show them.
 import { load, Refusal } from "../bindings/js/shamir.js";
+import { digitValue, faultOf, hex, unhex } from "./digits.js";
+import { isBegun, resembles } from "./left_out.js";
 import { selfTest } from "./self_test.js";
 
 /** @typedef {import("../bindings/js/shamir.js").Engine} Engine */
@@ -8,7 +10,7 @@ import { selfTest } from "./self_test.js";
 /** @typedef {{complete: number, required: number, enough: boolean, groups: GroupStatus[]}} Status */
 /** @typedef {{names: string[], fingerprint: string | null, expected: boolean | null, mismatch: number | null}} Tried */
 /** @typedef {{name: string, words: number, secretBytes: number, exponent: number, extendable: boolean, groupCount: number, groupThreshold: number, memberThreshold: number}} Kind */
-/** @typedef {{papers: Uint8Array[], shown: Uint8Array[], passphrase: Uint8Array, fingerprint: string}} Held */
+/** @typedef {{papers: Uint8Array[], left: Uint8Array[], shown: Uint8Array[], passphrase: Uint8Array, fingerprint: string}} Held */
 /** @typedef {{code: number, line: number | null, details: number[], text: string}} Refused */
 
 const BAD_CHECKSUM = 13;
@@ -21,7 +23,7 @@ let held = nothing();
 
 /** @returns {Held} */
 function nothing() {
-  return { papers: [], shown: [], passphrase: new Uint8Array(), fingerprint: "" };
+  return { papers: [], left: [], shown: [], passphrase: new Uint8Array(), fingerprint: "" };
 }
 
 /** @param {Uint8Array[]} arrays */
@@ -30,7 +32,7 @@ function wipe(...arrays) {
 }
 
 function clear() {
-  wipe(...held.papers, ...held.shown, held.passphrase);
+  wipe(...held.papers, ...held.left, ...held.shown, held.passphrase);
   held = nothing();
 }
 
@@ -93,18 +95,39 @@ function statusOf(lines) {
 }
 
 /**
- * Takes a paper. `isNew` is false if it was typed before.
+ * Takes a paper. `isNew` is false if it was typed before. A paper that is refused is taken note of.
  *
  * @param {{line: Uint8Array}} given
  */
 function add({ line }) {
   return wipedUnlessTaken(line, () => {
-    const kind = kindOf(line);
-    const status = statusOf([...held.papers, line]);
-    const isNew = !held.papers.some((paper) => isSame(paper, line));
-    if (isNew) held.papers.push(line);
-    return { kind, isNew, status };
+    try {
+      const kind = kindOf(line);
+      const status = statusOf([...held.papers, line]);
+      const isNew = !held.papers.some((paper) => isSame(paper, line));
+      if (isNew) held.papers.push(line);
+      return { kind, isNew, status };
+    } catch (error) {
+      if (error instanceof Refusal) leaveOut({ line: line.slice() });
+      throw error;
+    }
   });
+}
+
+/**
+ * Takes note of a paper that was begun, and that isn't taken. A few words are no paper.
+ *
+ * @param {{line: Uint8Array}} given
+ */
+function leaveOut({ line }) {
+  const earlier = held.left.filter((it) => resembles(it, line));
+  if (isBegun(line)) held.left = [...held.left.filter((it) => !earlier.includes(it)), line];
+  wipe(...(isBegun(line) ? earlier : [line]));
+}
+
+/** Returns how many papers were begun, and aren't here. */
+function leftOut() {
+  return held.left.filter((line) => !held.papers.some((paper) => resembles(line, paper))).length;
 }
 
 /**
@@ -153,51 +176,6 @@ function tryPassphrase({ passphrase }) {
   } finally {
     wipe(passphrase);
   }
-}
-
-/**
- * Returns what a hexadecimal digit stands for, or -1.
- *
- * @param {number} digit
- */
-function digitValue(digit) {
-  return "0123456789abcdef".indexOf(String.fromCharCode(digit).toLowerCase());
-}
-
-/**
- * Returns why digits stand for no bytes, or an empty text.
- *
- * @param {Uint8Array} digits
- * @returns {"not_hex" | "odd" | ""}
- */
-function faultOf(digits) {
-  if (digits.some((digit) => digitValue(digit) < 0)) return "not_hex";
-  return digits.length % 2 ? "odd" : "";
-}
-
-/**
- * Returns the bytes that hexadecimal digits stand for.
- *
- * @param {Uint8Array} digits
- */
-function unhex(digits) {
-  const bytes = new Uint8Array(digits.length / 2);
-  digits.forEach((digit, at) => (bytes[at >> 1] = bytes[at >> 1] * 16 + digitValue(digit)));
-  return bytes;
-}
-
-/**
- * Returns the digits of bytes, as bytes.
- *
- * @param {Uint8Array} bytes
- */
-function hex(bytes) {
-  const digits = new Uint8Array(2 * bytes.length);
-  bytes.forEach((byte, at) => {
-    digits[2 * at] = "0123456789abcdef".charCodeAt(byte >> 4);
-    digits[2 * at + 1] = "0123456789abcdef".charCodeAt(byte & 15);
-  });
-  return digits;
 }
 
 /**
@@ -347,6 +325,8 @@ async function begin({ module, kept }) {
 const CALLS = {
   begin,
   add,
+  leaveOut,
+  leftOut,
   drop,
   passphrase,
   tryPassphrase,
@@ -363,6 +343,7 @@ const CALLS = {
   status: () => statusOf(held.papers),
   kinds: () => held.papers.map(kindOf),
   fingerprint: () => held.fingerprint,
+  hasPassphrase: () => held.passphrase.length > 0,
   keep: () => held,
   clear,
 };

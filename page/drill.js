@@ -11,9 +11,10 @@ import { announce, ask, show } from "./screen.js";
 /** @typedef {import("./desk.js").Kind} Kind */
 /**
  * What a drill found: no fault, or that it was stopped, or that all quorums give another secret than the expected one, that none
- * gives it, that some don't, or that they give several secrets. With it the sentences that say so.
+ * gives it, that some don't, or that they give several secrets. With it the sentences that say so, the papers that were tried, and
+ * whether a passphrase was typed.
  *
- * @typedef {{result: "good" | "stopped" | "other" | "none" | "some" | "several", fingerprint: string | null, sentences: string[]}} Verdict
+ * @typedef {{result: "good" | "stopped" | "other" | "none" | "some" | "several", fingerprint: string | null, sentences: string[], names: string[], hasPassphrase: boolean}} Verdict
  */
 
 /** From this exponent on, a drill says how long it takes. */
@@ -75,6 +76,7 @@ export async function askToDrill(desk, status, kind, { title, hasBack }) {
 export async function runDrill(desk, status, { title, noted, isOwn = false }) {
   const total = count(status);
   const isWhole = total <= TRIED_WHOLE;
+  const hasPassphrase = await desk.ask("hasPassphrase");
   const table = new Table(title, total, noted, () => desk.stop());
   let isStopped = false;
   try {
@@ -85,7 +87,7 @@ export async function runDrill(desk, status, { title, noted, isOwn = false }) {
     if (!(error instanceof Stopped)) throw error;
     isStopped = true;
   }
-  return table.end(isStopped, isOwn);
+  return table.end(isStopped, isOwn, hasPassphrase);
 }
 
 /**
@@ -188,11 +190,13 @@ class Table {
    *
    * @param {boolean} isStopped
    * @param {boolean} isOwn
+   * @param {boolean} hasPassphrase
    * @returns {Promise<Verdict>}
    */
-  end(isStopped, isOwn) {
+  end(isStopped, isOwn, hasPassphrase) {
     this.#bar.remove();
     const { result, sentences } = verdictOf(this.tried, this.#total, this.#noted, isOwn);
+    if (result === "other" && !hasPassphrase) sentences.splice(0, 1, say("verdict.other.none", { quorums: counted(this.tried.length, "quorum") }));
     if (this.tried.length === 0) {
       sentences.length = 0;
       this.#scroll.remove();
@@ -200,7 +204,7 @@ class Table {
     const isWhole = !isStopped && BigInt(this.tried.length) === this.#total;
     if (!isWhole) sentences.unshift(say("drill.part", { tried: said(this.tried.length), total: said(this.#total) }));
     /** @type {Verdict} */
-    const verdict = { result: isStopped ? "stopped" : result, fingerprint: fingerprints(this.tried)[0]?.[0] ?? null, sentences };
+    const verdict = { result: isStopped ? "stopped" : result, fingerprint: fingerprints(this.tried)[0]?.[0] ?? null, sentences, names: namesOf(this.tried), hasPassphrase };
     this.#verdict.append(...sentences.map((text) => paragraph(text, verdict.result === "good" ? "good" : "bad")));
     this.#progress.textContent = "";
     announce(sentences.join(" "));
@@ -211,6 +215,15 @@ class Table {
       document.querySelector("h1")?.replaceChildren(say("drill.done"));
     });
   }
+}
+
+/**
+ * Returns the papers that were tried.
+ *
+ * @param {Tried[]} tried
+ */
+function namesOf(tried) {
+  return [...new Set(tried.flatMap(({ names }) => names))];
 }
 
 /**

@@ -8,7 +8,7 @@ import { readDamaged } from "./read_damaged.js";
 import { recoverSecret } from "./recover.js";
 import { replacePaper } from "./replace.js";
 import { say } from "./say.js";
-import { announce, ask, askAbove, conceal, isTouched, isUnfinished, setTouched, setUnfinished, show } from "./screen.js";
+import { announce, ask, askAbove, conceal, isTouched, setTouched, setUnfinished, show, unfinishedKey } from "./screen.js";
 
 /** @typedef {{key: "make" | "check" | "recover" | "replace" | "damaged" | "blank", run: (desk: Desk) => Promise<void>, isSecret: boolean}} Task */
 
@@ -114,7 +114,7 @@ async function clearAll(tried) {
   document.getElementById("sheet")?.replaceChildren();
   home(tried, isTouched() ? [`${say("cleared")} ${say("close")}`] : []);
   setTouched(false);
-  setUnfinished(false);
+  setUnfinished("");
   await ended?.end();
   if (ended) announce(say("cleared"));
 }
@@ -125,9 +125,9 @@ async function clearAll(tried) {
  * @param {Desk} tried
  */
 function clearOrAsk(tried) {
-  if (isUnfinished()) {
+  if (unfinishedKey() !== "") {
     conceal();
-    askAbove(say("clear.unfinished"), say("clear.stay"), say("clear.yes"), () => clearAll(tried));
+    askAbove(say(unfinishedKey()), say("clear.stay"), say("clear.yes"), () => clearAll(tried));
   } else clearAll(tried);
 }
 

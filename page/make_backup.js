@@ -34,7 +34,7 @@ export async function makeBackup(desk) {
   const names = planNames(plan);
   const papers = names.map((name, index) => ({ index, name, takes: saidTakes(plan, name) }));
   const place = (/** @type {number} */ index) => say("paper.place", { number: index + 1, count: names.length });
-  setUnfinished(true);
+  setUnfinished("clear.unfinished");
   for (const paper of papers) await showPaper(desk, paper, place(paper.index));
   const words = await wordsOfPaper(desk);
   await ask(say("back.begin.title"), [paragraph(say("back.begin"))], [{ key: "go", label: say("continue"), kind: "primary" }]);
@@ -247,11 +247,12 @@ async function created(desk, plan, { secret, passphrase }, { exponent, extendabl
 async function drillAndNote(desk, plan, isOwn) {
   const fingerprint = await desk.ask("fingerprint");
   if (!(await drillUntilDone(desk, fingerprint))) return;
-  setUnfinished(false);
+  setUnfinished("");
   const noting = [paragraph(say("noted.new")), element("p", { class: "fingerprint" }, fingerprint), paragraph(say(isOwn ? "noted.own" : "noted.drawn")), paragraph(say("noted.apart"))];
   const skip = isOwn ? [{ key: "skip", label: say("noted.skip") }] : [];
   await ask(say("noted.title"), noting, [{ key: "go", label: say("noted.done"), kind: "primary" }, ...skip]);
-  const done = [paragraph(saidPlan(plan), "good"), paragraph(say("make.keep")), paragraph(say("close"))];
+  const keep = `${say("make.keep")} ${say((await desk.ask("hasPassphrase")) ? "make.with" : "make.without")}`;
+  const done = [paragraph(saidPlan(plan), "good"), paragraph(keep), paragraph(say("make.note", { plan: planText(plan) })), paragraph(say("close"))];
   await ask(say("make.done"), done, [{ key: "end", label: say("end"), kind: "primary" }]);
 }
 

@@ -196,7 +196,7 @@ export class PaperEntry {
   }
 
   /** Returns the words as the bytes of a line. */
-  #line() {
+  line() {
     const words = this.#typed;
     const bytes = new Uint8Array(words.reduce((sum, word) => sum + 4 * word.length + 1, 0));
     let end = 0;
@@ -234,7 +234,7 @@ export class PaperEntry {
       return;
     }
     this.#isAsked = true;
-    const { isTaken, text, isFault = !isTaken, words = [] } = await this.#onPaper(this.#line()).finally(() => (this.#isAsked = false));
+    const { isTaken, text, isFault = !isTaken, words = [] } = await this.#onPaper(this.line()).finally(() => (this.#isAsked = false));
     if (!this.element.isConnected) return;
     this.say(text, isFault);
     if (isTaken) this.clear();

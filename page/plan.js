@@ -90,7 +90,7 @@ export function saidTakes(plan, name) {
 /**
  * Says what a paper takes to be of use, as far as the paper itself says so.
  *
- * @param {Kind} kind
+ * @param {Pick<Kind, "name" | "groupCount" | "groupThreshold" | "memberThreshold">} kind
  */
 export function saidTakesAlone({ name, groupCount, groupThreshold, memberThreshold }) {
   if (groupCount > 1) return saidUse(Number(name.split(".")[0]), memberThreshold, groupThreshold);

@@ -5,7 +5,7 @@ import { button, element, paragraph } from "./dom.js";
 import { PaperEntry } from "./paper_entry.js";
 import { saidTakesAlone } from "./plan.js";
 import { saidError, wordsToLookAt } from "./refusals.js";
-import { say } from "./say.js";
+import { counted, say } from "./say.js";
 import { concealLater, setTouched, show } from "./screen.js";
 import { shownWords, writeAndTypeBack } from "./show_paper.js";
 
@@ -39,6 +39,31 @@ export async function readDamaged(desk) {
  */
 function askWhatIsRead(desk) {
   return new Promise((resolve) => new Damaged(desk, resolve).show());
+}
+
+/**
+ * Whether a backup can have a paper: its group is one of the groups that it says the backup has.
+ *
+ * @param {Kind} kind
+ */
+function isPossible({ name, groupCount }) {
+  return Number(name.split(".")[0]) < groupCount;
+}
+
+/** @param {Kind} kind */
+function saidImpossible({ name, groupCount }) {
+  return say("damaged.impossible", { name, groups: counted(groupCount, "group") });
+}
+
+/**
+ * Returns what the fields are told of the papers that fit.
+ *
+ * @param {Kind[]} kinds
+ */
+function answerOf(kinds) {
+  const possible = kinds.filter(isPossible);
+  if (possible.length === 0) return { isFault: true, text: saidImpossible(kinds[0]) };
+  return { isFault: false, text: say(possible.length > 1 ? "damaged.two" : "damaged.one", { name: possible[0].name }) };
 }
 
 class Damaged {
@@ -81,7 +106,7 @@ class Damaged {
     try {
       const kinds = await this.#desk.ask("repair", { line }, [line.buffer]);
       if (changes === this.#changes) await this.#tell(kinds, marks);
-      return { isTaken: false, isFault: false, text: say(kinds.length > 1 ? "damaged.two" : "damaged.one", { name: kinds[0].name }) };
+      return { isTaken: false, ...answerOf(kinds) };
     } catch (error) {
       return { isTaken: false, text: saidError(error, "damaged"), words: wordsToLookAt(error) };
     }
@@ -95,17 +120,20 @@ class Damaged {
    */
   async #tell(kinds, marks) {
     setTouched(true);
-    const isOneOfTwo = kinds.length > 1;
     // A fourth mark that is taken stands behind the four letters that make a word.
     const open = Math.min(OPEN_MAX, marks.filter((mark) => mark.endsWith("?")).length);
-    const fits = kinds.map((kind, index) => this.#fit({ index, kind }, marks, isOneOfTwo));
+    const [possible, impossible] = [kinds.filter(isPossible), kinds.filter((kind) => !isPossible(kind))];
+    const isOneOfTwo = possible.length > 1;
+    const fits = possible.map((kind) => this.#fit({ index: kinds.indexOf(kind), kind }, marks, { isOneOfTwo, isOpen: open > 0 }));
     const heading = element("h2", { tabindex: "-1" }, say("damaged.found"));
     this.#found.replaceChildren(
       heading,
+      ...impossible.map((kind) => paragraph(saidImpossible(kind), "bad")),
       ...(isOneOfTwo ? [paragraph(say("damaged.two.why")), paragraph(say("damaged.two.which"), "note")] : []),
       ...fits.map(({ box }) => box),
-      ...(open ? [paragraph(say("damaged.compare"), "note"), paragraph(say("damaged.limits", { case: say(`damaged.limits.${open}`) }))] : []),
-      paragraph(say("damaged.next")),
+      ...(open && fits.length ? [paragraph(say("damaged.compare"), "note")] : []),
+      ...(open ? [paragraph(say("damaged.limits", { case: say(`damaged.limits.${open}`) }))] : []),
+      ...(fits.length ? [paragraph(say("damaged.next"))] : []),
       element("div", { class: "buttons" }, ...fits.map(({ write }) => write)),
     );
     await Promise.all(fits.map(({ fill }) => fill()));
@@ -117,9 +145,9 @@ class Damaged {
    *
    * @param {Fit} fit
    * @param {string[]} marks
-   * @param {boolean} isOneOfTwo
+   * @param {{isOneOfTwo: boolean, isOpen: boolean}} what whether another paper fits too, and whether a word is open
    */
-  #fit(fit, marks, isOneOfTwo) {
+  #fit(fit, marks, { isOneOfTwo, isOpen }) {
     const { index, kind } = fit;
     const list = element("ul", { class: "rows", translate: "no" });
     const row = (/** @type {string} */ word, /** @type {number} */ at) =>
@@ -132,6 +160,7 @@ class Damaged {
     concealLater(empty);
     const which = isOneOfTwo ? element("h3", {}, say("damaged.which", { number: index + 1, name: kind.name })) : null;
     const write = button(say(isOneOfTwo ? "damaged.write.which" : "damaged.write", { number: index + 1, name: kind.name }), () => this.#onChosen(fit), isOneOfTwo ? "" : "primary");
-    return { fill, write, box: element("div", { class: "fit" }, which, list, again) };
+    const sure = isOpen ? paragraph(say("damaged.sure", { name: kind.name })) : null;
+    return { fill, write, box: element("div", { class: "fit" }, which, list, again, sure) };
   }
 }

@@ -1,5 +1,6 @@
 // The task 'Recover': papers are typed, and the secret is compared by its fingerprint. Its digits show only while a button is
 // pressed.
+import { saidLeftOut } from "./check_papers.js";
 import { Declined, Stopped } from "./client.js";
 import { askForMore, askWhatNext, collectPapers } from "./collect.js";
 import { element, paragraph, shownText, zero } from "./dom.js";
@@ -24,7 +25,7 @@ export async function recoverSecret(desk) {
     const found = await collectPapers(desk, { title: say("recover.title"), intro: say("recover.intro") });
     if (found === null) return;
     const { status, kinds } = found;
-    const tooFew = () => askForMore(say("recover.few"), [paragraph(say("recover.too_few"), "bad")], status, kinds);
+    const tooFew = async () => askForMore(say("recover.few"), [paragraph(say("recover.too_few"), "bad"), await saidLeftOut(desk)], status, kinds);
     const answer = status.enough ? await recoverFrom(desk, kinds[0]) : await tooFew();
     if (answer === "end") return;
   }
@@ -80,9 +81,10 @@ async function recovered(desk, kind) {
  */
 async function tell(desk, noted, fingerprint) {
   const which = noted === "" ? "unnoted" : noted === fingerprint ? "same" : "other";
+  const key = which === "other" && !(await desk.ask("hasPassphrase")) ? "recover.other.none" : `recover.${which}`;
   const offered = which === "other" ? [] : [element("h2", {}, say("digits.title")), paragraph(say("digits.what")), digits(desk)];
   const children = [
-    paragraph(say(`recover.${which}`, { fingerprint, noted }), which === "other" ? "bad" : which === "same" ? "good" : "note"),
+    paragraph(say(key, { fingerprint, noted }), which === "other" ? "bad" : which === "same" ? "good" : "note"),
     element("p", { class: "fingerprint" }, fingerprint),
     ...offered,
     paragraph(say("close")),

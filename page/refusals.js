@@ -6,6 +6,8 @@ import { counted, hasText, say } from "./say.js";
 
 const UNKNOWN_WORD = 11;
 const WRONG_WORD = 18;
+// The first and the last number of refusals of papers that aren't of one backup.
+const [FOREIGN_FIRST, FOREIGN_LAST] = [21, 28];
 const DIGEST_MISMATCH = 51;
 const UNDETERMINED = 66;
 /** The number that stands for the group shares in place of a group. */
@@ -15,12 +17,14 @@ const OF_GROUPS = 16;
  * Says what a paper that isn't determined takes: papers of its group, or complete groups besides it and one paper fewer.
  *
  * @param {number[]} details
- * @param {boolean} isOnly whether the backup has one group
+ * @param {string} task "only" if the backup has one group, and "all" if each of several is needed, so that only papers of its group
+ *   give a paper
  */
-function saidUndetermined([first, second], isOnly) {
+function saidUndetermined([first, second], task) {
   const [members, threshold, groups, required] = [24, 16, 8, 0].map((bits) => Math.floor(second / 2 ** bits) % 256);
   const [group, missing] = [Math.floor(first / 256), threshold - members];
-  const key = isOnly ? "only.refused.66" : missing > 1 ? "refused.66.fewer" : "refused.66";
+  const lost = threshold === 1 ? "all.refused.66.lost" : "all.refused.66";
+  const key = task === "only" ? "only.refused.66" : task === "all" ? lost : missing > 1 ? "refused.66.fewer" : "refused.66";
   return say(key, { group, more: counted(missing, "paper"), fewer: counted(missing - 1, "paper"), whole: counted(required, "whole"), groups: Math.min(groups, required) });
 }
 
@@ -34,7 +38,7 @@ export function saidRefusal({ code, details, text }, task = "") {
   const [first, second] = details;
   const name = `refused.${code}${formOf(code, details)}`;
   const key = [`${task}.${name}`, name, "refused.other"].find(hasText) ?? "";
-  const told = code === UNDETERMINED ? saidUndetermined(details, task === "only") : say(key, { first, second, text });
+  const told = code === UNDETERMINED ? saidUndetermined(details, task) : say(key, { first, second, text });
   return say("refused.number", { told, code });
 }
 
@@ -57,6 +61,19 @@ function formOf(code, [first, second]) {
  */
 export function saidError(error, task = "") {
   return error instanceof Declined ? saidRefusal(error.refused, task) : say("fault.other");
+}
+
+/**
+ * Says why a paper isn't taken. If words of another one were found and not read, most likely that one is wrong.
+ *
+ * @param {unknown} error
+ * @param {string[]} repaired
+ */
+export function saidForeign(error, repaired) {
+  if (!(error instanceof Declined) || repaired.length === 0) return saidError(error);
+  const { code } = error.refused;
+  if (code < FOREIGN_FIRST || code > FOREIGN_LAST) return saidError(error);
+  return say("refused.number", { told: say("refused.repaired.one", { names: repaired[0] }), code });
 }
 
 /**

@@ -1,9 +1,9 @@
 // The task 'Replace a paper': papers that were destroyed are computed from the others, written down, typed back and drilled.
-import { drillWithPassphrase } from "./check_papers.js";
+import { drillWithPassphrase, saidLeftOut } from "./check_papers.js";
 import { Declined } from "./client.js";
 import { askForMore, collectPapers } from "./collect.js";
 import { choice, element, labelled, paragraph } from "./dom.js";
-import { planNames, planText, saidTakes } from "./plan.js";
+import { planNames, planText, saidTakesAlone } from "./plan.js";
 import { saidError } from "./refusals.js";
 import { counted, say } from "./say.js";
 import { ask } from "./screen.js";
@@ -56,19 +56,21 @@ function tellNew() {
 async function replaceDestroyed(desk) {
   /** @type {Wanted | null} */
   let before = null;
+  let isWritten = false;
   for (;;) {
     const collected = await collectPapers(desk, { title: say("replace.title"), intro: say("replace.intro"), task: "replace" });
     if (collected === null) return "back";
     const { status, kinds } = collected;
     if (!mayDetermine(status)) {
       const key = kinds[0].groupCount === 1 ? "replace.none_yet.only" : "replace.none_yet";
-      if ((await tellFew(status, kinds, key)) === "end") return "end";
+      if ((await tellFew(desk, status, kinds, key)) === "end") return "end";
       continue;
     }
     /** @type {{before: Wanted | null, answer: "papers" | "drill"}} */
     const written = await planAndWrite(desk, status, kinds[0], before);
     before = written.before;
-    if (written.answer === "drill" && (await drillRest(desk, kinds[0])) === "end") return "end";
+    isWritten ||= (await desk.ask("kinds")).length > kinds.length;
+    if (written.answer === "drill" && (await drillRest(desk, kinds[0], isWritten)) === "end") return "end";
   }
 }
 
@@ -88,7 +90,7 @@ async function planAndWrite(desk, status, kind, before) {
     const found = await planAndMissing(desk, status, kind, before);
     if (found === "papers") return { before, answer: found };
     before = found.answered;
-    const answer = await writeMissing(desk, before.plan, found.missing, { words: kind.words, said: saidNumbers(status, before) });
+    const answer = await writeMissing(desk, before, found.missing, { words: kind.words, said: saidNumbers(status, before) });
     if (answer !== "plan") return { before, answer };
     status = await desk.ask("status");
   }
@@ -121,30 +123,53 @@ function mayDetermine({ enough, groups }) {
 /**
  * Says that the papers are too few. Returns whether the owner wants to type more.
  *
+ * @param {Desk} desk
  * @param {Status} status
  * @param {Kind[]} kinds
  * @param {string} key what too few papers mean here
+ * @param {boolean} [isWritten] whether papers were written again
  */
-function tellFew(status, kinds, key) {
-  return askForMore(say("replace.few"), [paragraph(say(key), "note")], status, kinds, key === "replace.too_few" ? "" : "replace");
+async function tellFew(desk, status, kinds, key, isWritten = false) {
+  const told = [paragraph(say(key), "note"), await saidLeftOut(desk)];
+  return askForMore(say(isWritten ? "replace.done" : "replace.few"), told, status, kinds, key === "replace.too_few" ? "" : "replace");
 }
 
 /**
  * Lets the owner write missing papers, as many as are wanted. Returns where the owner wants to go then.
  *
  * @param {Desk} desk
- * @param {Plan} plan
+ * @param {Wanted} answered
  * @param {Missing[]} missing
  * @param {{words: number, said: string[]}} what how many words a paper has, and on which numbers of papers the missing ones rest
  * @returns {Promise<"papers" | "plan" | "drill">}
  */
-async function writeMissing(desk, plan, missing, { words, said }) {
+async function writeMissing(desk, { plan, wanted }, missing, { words, said }) {
   for (;;) {
-    const chosen = await askWhich(missing, said);
+    const chosen = await askWhich(missing, said, wanted.length < plan.groups.length ? wanted : []);
     if (typeof chosen === "string") return chosen;
-    await writeAndTypeBack(desk, { index: chosen.index, name: chosen.name, takes: saidTakes(plan, chosen.name) }, words);
+    await writeAndTypeBack(desk, { index: chosen.index, name: chosen.name, takes: takesOf(plan, chosen.name) }, words);
     missing.splice(missing.indexOf(chosen), 1);
   }
+}
+
+/**
+ * Says what a paper takes to be of use. The owner may have forgotten how many papers there were, so it doesn't count them.
+ *
+ * @param {Plan} plan
+ * @param {string} name
+ */
+function takesOf({ needed, groups }, name) {
+  return saidTakesAlone({ name, groupCount: groups.length, groupThreshold: needed, memberThreshold: groups[Number(name.split(".")[0])].needed });
+}
+
+/**
+ * Says that no paper of these groups is missing, or none at all if there are no groups.
+ *
+ * @param {number[]} groups
+ */
+function saidNone(groups) {
+  if (groups.length === 0) return say("replace.none");
+  return say(groups.length === 1 ? "replace.none.one" : "replace.none.many", { groups: groups.join(", ") });
 }
 
 /**
@@ -276,6 +301,7 @@ async function findMissing(desk, { plan, wanted }, status) {
   const here = status.groups.flatMap(({ names }) => names);
   const names = planNames(plan).filter((it) => !here.includes(it) && wanted.includes(Number(it.split(".")[0])));
   const missing = [];
+  const task = plan.groups.length === 1 ? "only" : plan.needed === plan.groups.length ? "all" : "";
   for (const name of names.length ? names : here.slice(0, 1)) {
     try {
       const index = await desk.ask("reissue", { plan: planText(plan), name });
@@ -283,7 +309,7 @@ async function findMissing(desk, { plan, wanted }, status) {
     } catch (error) {
       // Any other refusal is about the plan or the papers, so it is the same for each name.
       if (!(error instanceof Declined) || error.refused.code !== UNDETERMINED) return { missing: [], fault: saidError(error) };
-      missing.push({ name, index: -1, text: saidError(error, plan.groups.length === 1 ? "only" : "") });
+      missing.push({ name, index: -1, text: saidError(error, task) });
     }
   }
   return { missing: names.length ? missing : [], fault: "" };
@@ -294,12 +320,13 @@ async function findMissing(desk, { plan, wanted }, status) {
  *
  * @param {Missing[]} missing
  * @param {string[]} said
+ * @param {number[]} groups the groups that were looked at, or none if these are all
  * @returns {Promise<Missing | "papers" | "plan" | "drill">}
  */
-async function askWhich(missing, said) {
+async function askWhich(missing, said, groups) {
   const told = missing.filter(({ index }) => index < 0);
   const found = missing.filter(({ index }) => index >= 0);
-  const intro = missing.length === 0 ? say("replace.none") : found.length ? say("replace.found", { names: found.map(({ name }) => name).join(", ") }) : say("replace.untold");
+  const intro = missing.length === 0 ? saidNone(groups) : found.length ? say("replace.found", { names: found.map(({ name }) => name).join(", ") }) : say("replace.untold");
   const rows = told.map(({ name, text }) => element("li", {}, `${name}: ${text}`));
   const had = said.length ? paragraph(say(missing.length ? "replace.had" : "replace.had.all")) : null;
   const children = [...said.map((text) => paragraph(text)), paragraph(intro), rows.length ? element("ul", { class: "rows" }, ...rows) : null, had];
@@ -318,9 +345,10 @@ async function askWhich(missing, said) {
  *
  * @param {Desk} desk
  * @param {Kind} kind
+ * @param {boolean} isWritten whether papers were written again
  */
-async function drillRest(desk, kind) {
+async function drillRest(desk, kind, isWritten) {
   const [status, kinds] = [await desk.ask("status"), await desk.ask("kinds")];
   if (status.enough) return drillWithPassphrase(desk, status, kind, say("replace.drill"));
-  return tellFew(status, kinds, "replace.too_few");
+  return tellFew(desk, status, kinds, "replace.too_few", isWritten);
 }

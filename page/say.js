@@ -24,7 +24,7 @@ export function say(key, values = {}) {
  * Returns a number with its noun.
  *
  * @param {number} n
- * @param {"paper" | "group" | "whole" | "quorum" | "secret" | "second" | "minute" | "hour"} noun
+ * @param {"paper" | "group" | "whole" | "quorum" | "secret" | "left" | "second" | "minute" | "hour"} noun
  */
 export function counted(n, noun) {
   return say(`${noun}.${n === 1 ? "one" : "many"}`, { n: n.toLocaleString("en") });

@@ -14,7 +14,8 @@ const live = /** @type {HTMLElement} */ (document.getElementById("live"));
  */
 const shown = new Set();
 let touched = false;
-let unfinished = false;
+// The key of what is said before half written papers are cleared.
+let unfinished = "";
 // What the next screen says first.
 let news = "";
 
@@ -39,14 +40,14 @@ export function setTouched(is) {
   touched = is;
 }
 
-/** Whether papers are half written, so that clearing would lose them. */
-export function isUnfinished() {
+/** Returns the key of what is said before clearing, if papers are half written, so that clearing would lose them, or an empty text. */
+export function unfinishedKey() {
   return unfinished;
 }
 
-/** @param {boolean} is */
-export function setUnfinished(is) {
-  unfinished = is;
+/** @param {"" | "clear.unfinished" | "clear.replaced"} key */
+export function setUnfinished(key) {
+  unfinished = key;
 }
 
 /**

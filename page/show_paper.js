@@ -89,8 +89,8 @@ export function typeBack(desk, { index, name }, place, words) {
  * @param {number} words
  */
 export async function writeAndTypeBack(desk, paper, words) {
-  setUnfinished(true);
+  setUnfinished("clear.replaced");
   await showPaper(desk, paper, "");
   while (!(await typeBack(desk, paper, "", words))) await showPaper(desk, paper, "");
-  setUnfinished(false);
+  setUnfinished("");
 }

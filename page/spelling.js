@@ -14,12 +14,13 @@ export function wordsOf(text) {
 }
 
 /**
- * Returns the marks of a text of a damaged paper: words, and question marks with the letters before them.
+ * Returns the marks of a text of a damaged paper: words, and question marks with the letters before them. A line that stands for what
+ * can't be read is a question mark.
  *
  * @param {string} text
  */
 export function marksOf(text) {
-  return separated(text, /[^\p{L}\p{M}?]+/u);
+  return separated(text.replace(/_+/g, "?"), /[^\p{L}\p{M}?]+/u);
 }
 
 /**

@@ -120,6 +120,8 @@ export class WordField {
   #typed(event) {
     const whole = this.#whole;
     let value = this.field.value.toLowerCase();
+    // A line stands for what can't be read, as a question mark does.
+    if (this.#isDamaged && value.includes("_")) this.field.value = value = value.replace(/[?_]+/g, "?");
     if (this.#isRestOfOwn(value)) return;
     if (whole !== "" && this.#isDoubted && value.startsWith(whole)) {
       // The owner types the word anew. No word of the list begins with another one.

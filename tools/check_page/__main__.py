@@ -2,8 +2,8 @@
 
     python3 tools/check_page [--build] [--browser NAME] [--page FILE] [--cases N] [--faults] [PART..]
 
-PART is one of sources, tasks, refusals, entry, long, looks, agreement, privacy and ways; without one, all of them run. `agreement`
-compares N backups, 20 if it isn't given. The pictures of each screen go to page/out. `--faults` plants faults in copies of the
+PART is one of sources, tasks, refusals, entry, astray, long, looks, agreement, privacy and ways; without one, all of them run.
+`agreement` compares N backups, 20 if it isn't given. The pictures of each screen go to page/out. `--faults` plants faults in copies of the
 sources instead, and checks that each is found. `--build` first builds the page with `make`. The status is 1 if something fails.
 If a browser, or what the page is built with, isn't installed, the check says so and does nothing. A part that fails beside others
 is tried once more, by itself.
@@ -22,6 +22,7 @@ sys.dont_write_bytecode = True
 sys.path.insert(0, str(pathlib.Path(__file__).resolve().parent))
 
 import agreement  # noqa: E402
+import astray  # noqa: E402
 import browsers  # noqa: E402
 import entry  # noqa: E402
 import faults  # noqa: E402
@@ -36,7 +37,7 @@ import ways_out  # noqa: E402
 from hands import Page  # noqa: E402
 from texts import ROOT, say  # noqa: E402
 
-PARTS = ["sources", "tasks", "refusals", "entry", "long", "looks", "agreement", "privacy", "ways"]
+PARTS = ["sources", "tasks", "refusals", "entry", "astray", "long", "looks", "agreement", "privacy", "ways"]
 # The parts that take longest, and how many parts run side by side.
 LONG, AT_ONCE = ["privacy", "refusals", "tasks", "entry", "looks"], min(4, os.cpu_count() or 1)
 PICTURES = ROOT / "page/out"
@@ -91,6 +92,7 @@ def parts_of(name, url, modules, cases):
         "tasks": lambda: in_browser(name, url, tasks.TASKS.values()),
         "refusals": lambda: in_browser(name, url, refusals.CHECKS),
         "entry": lambda: in_browser(name, url, entry.CHECKS + steps.CHECKS),
+        "astray": lambda: in_browser(name, url, astray.CHECKS),
         "long": lambda: in_browser(name, url, long_drill.CHECKS),
         "looks": lambda: check_looks(name, url),
         "agreement": lambda: in_browser(name, url, [lambda page, _: agreement.check(page, modules, cases), lambda page, _: agreement.check_memory(page)]),

@@ -146,6 +146,7 @@ LOOK = """
   for (const line of given.lines) await ask("add", { line: bytes(line) });
   await ask("add", { line: bytes(given.lines[0]) });
   await ask("add", { line: bytes(given.lines[0] + " acid") }).catch(() => 0);
+  await ask("leaveOut", { line: bytes(given.lines[1]) });
   await ask("drill", { limit: 0, expect: "" });
   await ask("drill", { limit: 0, expect: "df41d8fe" });
   await ask("recover");

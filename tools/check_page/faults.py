@@ -7,6 +7,7 @@ import sys
 import tempfile
 
 import agreement
+import astray
 import entry
 import looks
 import privacy
@@ -54,7 +55,13 @@ FAULTS = [
     ("a field that the browser keeps", "page/dom.js", '  autocomplete: "off",\n', "", lambda folder, url: sources.check(folder / "page")),
     ("the same, looked for in the profile", "page/dom.js", '  autocomplete: "off",\n', "", lambda folder, url: privacy.check("chromium", url)),
     ("a policy that lets requests out", "shamir.html", "connect-src 'none'", "connect-src http:", lambda folder, url: ways_out.check("chromium", url)),
-    ("papers that aren't cleared", "page/desk.js", "wipe(...held.papers, ...held.shown, held.passphrase);", "wipe(...held.shown, held.passphrase);", of_page(agreement.check_memory)),
+    ("papers that aren't cleared", "page/desk.js", "wipe(...held.papers, ...held.left,", "wipe(...held.left,", of_page(agreement.check_memory)),
+    ("a paper that was left out isn't cleared", "page/desk.js", "wipe(...held.papers, ...held.left,", "wipe(...held.papers,", of_page(agreement.check_memory)),
+    ("a paper that was left out is forgotten", "page/desk.js", "if (error instanceof Refusal) leaveOut(", "if (false) leaveOut(", of_page(lambda page: astray.check_left_out(page, unseen))),
+    ("a paper that no backup has is offered", "page/read_damaged.js", '[0]) < groupCount;', '[0]) < 16;', of_page(lambda page: astray.check_impossible(page, unseen))),
+    ("a good paper is blamed for a repaired one", "page/collect.js", "saidForeign(error, repaired)", "saidForeign(error, [])", of_page(lambda page: astray.check_repaired(page, unseen))),
+    ("complete groups are asked for that there can't be", "page/replace.js", '? "all" : "";', '? "" : "";', of_page(lambda page: astray.check_lost(page, unseen))),
+    ("a passphrase that wasn't typed is called mistyped", "page/desk.js", "hasPassphrase: () => held.passphrase.length > 0", "hasPassphrase: () => true", of_page(lambda page: astray.check_without(page, unseen))),
     ("the module's memory isn't cleared", "bindings/js/calls.js", ".fill(0", ".slice(0", of_page(agreement.check_memory)),
     ("a wrong word is replaced", "page/word_field.js", "    else {\n      this.#mark(true);\n", "    else {\n      this.set(nearest(this.#list, this.word)[0]);\n", of_page(lambda page: refusals.check_words(page, unseen))),
     ("another paper is taken for the right one", "page/desk.js", "const same = isSame(line, held.shown[index]);", "const same = true;", of_page(lambda page: tasks.check_make(page, unseen))),
@@ -65,12 +72,12 @@ FAULTS = [
     ("a refusal chooses another secret", "page/make_backup.js", "new SecretFields(chosen.source, ", 'new SecretFields("new16", ', of_page(lambda page: refusals.check_values(page, unseen))),
     ("digits aren't compared with the noted fingerprint", "page/desk.js", 'if (noted !== "" && noted !== fingerprint)', "if (false)", of_page(lambda page: refusals.check_values(page, unseen))),
     ("digits are typed once", "page/make_backup.js", 'return typed === again ? this.#noted.missing() : say("secret.differ");', "return this.#noted.missing();", of_page(lambda page: refusals.check_values(page, unseen))),
-    ("without a noted fingerprint, no fault is found", "page/check_papers.js", 'isGood && !isNoted ? "check.done.same" : `', "false ? `` : `", of_page(lambda page: tasks.check_replace(page, unseen))),
+    ("without a noted fingerprint, no fault is found", "page/check_papers.js", '!isNoted ? "same" : isLeft', "isLeft", of_page(lambda page: tasks.check_replace(page, unseen))),
     ("no more papers can be typed", "page/collect.js", '{ key: "papers", label: say("collect.more"), kind: "primary" },', "", of_page(lambda page: refusals.check_papers(page, unseen))),
     ("digits of a wrong secret", "page/recover.js", 'which === "other" ? [] :', "false ? [] :", of_page(lambda page: tasks.check_recover(page, unseen))),
     ("a bad checksum names no word", "page/desk.js", "wipe(...engine.repairBytes(line));", "engine.version();", of_page(lambda page: refusals.check_papers(page, unseen))),
     ("a wrong word's place is counted from 0", "page/refusals.js", ".map((number) => number - 1)", ".map((number) => number)", of_page(lambda page: refusals.check_papers(page, unseen))),
-    ("one of two papers that fit isn't shown", "page/read_damaged.js", "const fits = kinds.map(", "const fits = kinds.slice(0, 1).map(", of_page(lambda page: entry.check_damaged(page, unseen))),
+    ("one of two papers that fit isn't shown", "page/read_damaged.js", "const fits = possible.map(", "const fits = possible.slice(0, 1).map(", of_page(lambda page: entry.check_damaged(page, unseen))),
     ("found words at other places", "page/read_damaged.js", "word === marks[at] ? []", "word !== marks[at] ? []", of_page(lambda page: tasks.check_damaged(page, unseen))),
     ("an answer stays beside other words", "page/read_damaged.js", "this.#found.replaceChildren();", "", of_page(lambda page: tasks.check_damaged(page, unseen))),
     ("a hidden tab shows words that were found", "page/read_damaged.js", "concealLater(empty);", "", of_page(lambda page: hidden_words(page))),
@@ -80,7 +87,7 @@ FAULTS = [
     ("the drill says that all are right", "page/quorums.js", "return tried.expected ?? ", "return true ?? ", of_page(lambda page: refusals.check_mixed(page, unseen))),
     ("the noted fingerprint isn't compared", "bindings/js/shamir.js", "[form, textOrNone(own, expect", "[FORM_FINGERPRINTS, textOrNone(own, expect", of_page(lambda page: tasks.check_papers(page, unseen))),
     ("an engine that gives another secret", "page/self_test.js", 'const SOUND_SECRET = "bb', 'const SOUND_SECRET = "bc', of_page(unseen)),
-    ("half written papers are cleared at once", "page/main.js", "if (isUnfinished()) {", "if (false) {", of_page(lambda page: hidden(page))),
+    ("half written papers are cleared at once", "page/main.js", 'if (unfinishedKey() !== "") {', "if (false) {", of_page(lambda page: hidden(page))),
     ("Enter in a passphrase does nothing", "page/screen.js", 'if (event.key !== "Enter") return;', "return;", of_page(lambda page: steps.check_passphrase(page, unseen))),
     ("what wallets don't take is refused late", "page/desk.js", "error.code !== NO_SHARES", "error.code < NO_SHARES", of_page(lambda page: refusals.check_values(page, unseen))),
     ("too few papers are told late", "page/replace.js", "if (!mayDetermine(status)) {", "if (false) {", of_page(lambda page: refusals.check_mixed(page, unseen))),

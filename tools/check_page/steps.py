@@ -126,7 +126,7 @@ def check_wanted(page, see):
         page.evaluate("document.activeElement.select()")
         page.type(members)
         page.push(say("continue"))
-        page.wait_text(say("replace.found", names=names) if names else say("replace.none"))
+        page.wait_text(say("replace.found", names=names) if names else say("replace.none.one", groups=0))
         page.wait_text(say("replace.had" if names else "replace.had.all"))
         page.wait_text(say("replace.said", group=0, papers=counted(int(members), "paper"), first="0.0", last=f"0.{int(members) - 1}"))
     if "That takes" in page.text():

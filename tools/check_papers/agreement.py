@@ -173,7 +173,7 @@ def compare_replace(case):
         owner.wait(say("replace.choose"))
         if status == 0:
             owner.expect(say("replace.found", names=name_of(lost)))
-            owner.answer(say("replace.choose"), "1")
+            owner.answer(say("replace.choose"), name_of(lost))
             owner.wait(say("new.write"))
             if owner.words() != output.strip():
                 raise Failed(f"{case.plan}: the dialogue writes another paper than ./shamir")

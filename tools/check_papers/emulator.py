@@ -61,6 +61,13 @@ class Emulator:
         # All that the alternate screen showed, for tests that look for a sentence.
         self.seen = []
 
+    def resize(self, columns, rows):
+        """Takes another size. What a program doesn't write again is gone."""
+        is_other = self.shown is self.other
+        self._keep()
+        self.main, self.other = Screen(columns, rows), Screen(columns, rows)
+        self.shown = self.other if is_other else self.main
+
     def feed(self, data):
         text = self._rest + data.decode("ascii")
         self._rest = ""

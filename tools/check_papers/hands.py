@@ -187,9 +187,14 @@ class Session:
         if bare:
             raise Failed(f"a number that owners don't know is shown: {bare[0]}")
         kept = "".join(self.emulator.kept().split())
-        ends = [say("closed")] if status == 0 else [f"{say(it)} {say('ended.close')}" for it in ([said] if said else ENDS)]
+        ends = [say(said or "closed")] if status == 0 else [f"{say(it)} {say('ended.close')}" for it in ([said] if said else ENDS)]
         if not self.is_plain and kept not in [it.replace(" ", "") for it in ends]:
             raise Failed(f"when the program is gone, the terminal still shows {kept!r}")
+
+    def resize(self, columns, rows):
+        """Gives the terminal another size."""
+        self.emulator.resize(columns, rows)
+        fcntl.ioctl(self.theirs, termios.TIOCSWINSZ, struct.pack("HHHH", rows, columns, 0, 0))
 
     def send(self, number):
         self.run.send_signal(number)

@@ -239,7 +239,7 @@ def check_open_words():
     with started("check") as owner:
         words = TWO[1].split()
         owner.answer(paper_prompt(1), " ".join([*words[:5], "pra?", "?", *words[7:]]))
-        ask = f"{say('entry.take')} (y/n)"
+        ask = f"{say('damaged.sure', name=name_of(TWO[1]))} (y/n)"
         owner.wait(ask)
         owner.expect(f"{say('entry.place', number=7)}: class")
         owner.answer(ask, "perhaps")

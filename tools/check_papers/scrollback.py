@@ -117,6 +117,7 @@ def check_stop(terminal):
     terminal.keys("Enter")
     terminal.wait(paper_prompt(3))
     terminal.keys("C-c")
+    terminal.answer(f"{say('end.ask')} (y/n)", "y")
     terminal.wait(f"{say('ended')} {say('ended.close')} $")
     if words_in(terminal.kept()):
         raise Failed(f"the scrollback keeps words: {terminal.kept()!r}")

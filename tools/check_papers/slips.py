@@ -6,14 +6,16 @@ from tasks import FINGERPRINT, PASSPHRASE, SIGN, THREE_GROUPS, name_of, paper_pr
 import plain
 from shamir.papers.entry import said_count
 
-TAKE = f"{say('entry.take')} (y/n)"
+
+def sure(name):
+    return f"{say('damaged.sure', name=name)} (y/n)"
 
 
 def type_damaged(owner, number, line):
     """Types a paper of which one word can't be read, and takes the word that is found."""
     words = short(line).split()
     owner.answer(paper_prompt(number), " ".join([*words[:6], "?", *words[7:]]))
-    owner.answer(TAKE, "y")
+    owner.answer(sure(name_of(line)), "y")
 
 
 def check_damaged():
@@ -46,6 +48,7 @@ def check_damaged():
         words = THREE_GROUPS[0].split()
         owner.answer(say("damaged.ask"), " ".join(["?" if at == 7 else word for at, word in enumerate(words)]))
         owner.answer(say("damaged.menu"), "w")
+        owner.answer(sure(names[0]), "y")
         owner.answer(say("new.write"), "")
         owner.type_paper(say("back.ask", name=names[0]), THREE_GROUPS[0])
         for number, line in enumerate(THREE_GROUPS[1:4], 2):
@@ -88,7 +91,7 @@ def check_number():
             owner.wait(choose)
             for text in [say("replace.said.only", papers=counted(int(number), "paper"), first="0.0", last=f"0.{int(number) - 1}"), *texts]:
                 owner.expect(text)
-            owner.answer(choose, "b" if number != "3" else "1")
+            owner.answer(choose, "b" if number != "3" else "0.2")
         owner.wait(say("new.write"))
         if owner.words() != papers[2]:
             raise Failed("the paper that is written again has other words")

@@ -154,7 +154,7 @@ def check_replace():
         owner.expect(say("replace.found", names="0.2"))
         owner.expect("1.0: That takes 1 paper more of group 1. Or it takes 2 complete groups besides")
         owner.expect("2.0, 2.1: That takes 2 papers more of group 2. Or it takes 1 paper more of group 2, and")
-        owner.answer(say("replace.choose"), "2")
+        owner.answer(say("replace.choose"), "p")
         owner.type_paper(paper_prompt(3), THREE_GROUPS[3])
         owner.reply(paper_prompt(4), "")
         owner.answer(say("replace.groups.ask"), "2.0")
@@ -181,9 +181,11 @@ def ask_groups(owner):
     owner.expect(say("replace.found", names="0.2"))
     if "That takes" in owner.emulator.all_seen():
         raise Failed("the program tells of papers of groups that aren't wanted")
-    owner.answer(say("replace.choose"), "0.9")
-    owner.answer(say("replace.choose"), "2")
-    owner.expect(say("screen.answers", answers="1, 2, 0.2, b"))
+    for wrong in ("0.9", "2"):
+        owner.answer(say("replace.choose"), wrong)
+        owner.expect(say("screen.answers", answers="0.2, d, b"))
+        owner.forget()
+    owner.answer(say("replace.choose"), "d")
     owner.answer(say("more.papers"), "")
     owner.answer(paper_prompt(3), "")
     owner.answer(groups, "")

@@ -52,6 +52,10 @@ class Owner(Session):
         self.prompts.append(prompt)
         self.answer(prompt, text)
 
+    def question(self, key):
+        """Returns a question, as a terminal gets it that can't be cleared, or any other."""
+        return say(f"{key}.plain" if self.is_plain else key)
+
     def prepare(self):
         self.reply(say("safety.go"), "")
 
@@ -87,9 +91,10 @@ class Owner(Session):
     def written(self):
         """Reads the papers that are shown to be written down, until they are to be typed back."""
         papers = []
-        while self.wait(say("new.write"), say("screen.next")) == say("new.write"):
+        write = self.question("new.write")
+        while self.wait(write, say("screen.next")) == write:
             papers.append(self.words())
-            self.reply(say("new.write"), "")
+            self.reply(write, "")
         return papers
 
     def within(self, most):
@@ -162,11 +167,11 @@ def check_recover(papers, noted):
         owner.passphrase(PASSPHRASE, noted)
         owner.reply(f"{say('recover.show')} (y/n)", "y")
         owner.expect(say("recover.same"))
-        owner.wait(say("recover.clear"))
+        owner.wait(owner.question("recover.clear"))
         digits = "".join(re.findall(r"\b[0-9a-f]{8}\b", owner.screen()))
         if digits != secret_of(papers, PASSPHRASE):
             raise Failed("the digits that are shown aren't those of the secret")
-        owner.reply(say("recover.clear"), "")
+        owner.reply(owner.question("recover.clear"), "")
         owner.reply(say("next.good"), "")
         owner.end(0)
         owner.within(12)
@@ -183,12 +188,12 @@ def check_replace(papers, noted):
         owner.wait(say("replace.choose"))
         owner.expect(say("replace.found", names="0.1, 0.3"))
         owner.reply(say("replace.choose"), "0.1")
-        owner.wait(say("new.write"))
+        owner.wait(owner.question("new.write"))
         if owner.words() != lost:
             raise Failed("the paper that is written again has other words")
-        owner.reply(say("new.write"), "")
+        owner.reply(owner.question("new.write"), "")
         owner.type_paper(say("back.ask", name="0.1"), lost)
-        owner.reply(say("replace.choose"), "2")
+        owner.reply(say("replace.choose"), "d")
         owner.passphrase(PASSPHRASE, noted)
         owner.wait(say("next.good"))
         owner.expect(say("verdict.all.noted", quorums="4 quorums", fingerprint=noted))
@@ -208,13 +213,14 @@ def check_repair(papers, noted):
         for number in (4, 10):
             owner.expect(f"{say('entry.place', number=number)}: {words[number - 1]}")
         owner.reply(say("damaged.menu"), "w")
-        owner.reply(say("new.write"), "")
+        owner.reply(f"{say('damaged.sure', name='0.0')} (y/n)", "y")
+        owner.reply(owner.question("new.write"), "")
         owner.type_paper(say("back.ask", name="0.0"), papers[0])
         owner.type_paper(paper_prompt(2), papers[1])
         owner.reply(paper_prompt(3), "")
         owner.reply(say("more.papers"), "e")
         owner.expect(say("damaged.too_few"))
-        owner.end(0)
+        owner.end(0, "closed.repaired")
 
 
 def check(see):

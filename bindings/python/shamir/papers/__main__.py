@@ -88,6 +88,7 @@ def run(screen: Screen, desk: Desk, task: Optional[str], plan: Optional[str]) ->
             return make_backup(screen, desk, plan) if chosen == "new" else RUN[chosen](screen, desk)
         except Back:
             desk.clear()
+            screen.hold("")
             task = plan = None
 
 
@@ -102,6 +103,11 @@ def end_by(number: int) -> NoReturn:
 def said_end(written: str) -> str:
     """Says what became of the papers if the program ends before the task does. `written` says what they are that were written."""
     return " ".join([say(f"ended.{written}") if written else say("ended"), say("ended.close")])
+
+
+def said_close(written: str) -> str:
+    """Says that the task ended. A damaged paper is to be kept until a drill has shown that the new words are right."""
+    return say("closed.repaired" if written == "repaired" else "closed")
 
 
 def told(terminal: Terminal, text: str) -> None:
@@ -141,7 +147,7 @@ def main() -> None:
         desk.clear()
     if is_failed:
         told(terminal, say("failed"))
-    told(terminal, say("closed") if ended is None and not is_failed else said_end(desk.written))
+    told(terminal, said_close(desk.written) if ended is None and not is_failed else said_end(desk.written))
     if ended is not None:
         end_by(ended)
     # A thread that was stopped may still wait for the library.

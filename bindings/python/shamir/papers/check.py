@@ -1,11 +1,13 @@
 """The task 'check': papers are typed, and every quorum among them is tried."""
 from __future__ import annotations
 
-from shamir.papers.collect import ask_for_more, collect, tell_damaged
+from typing import Optional
+
+from shamir.papers.collect import ask_for_more, collect, tell_damaged, tell_left_out
 from shamir.papers.desk import Desk
 from shamir.papers.drill import Verdict, run_drill
 from shamir.papers.questions import ask_passphrase
-from shamir.papers.screen import Screen
+from shamir.papers.screen import Back, Screen
 from shamir.papers.texts import say
 
 NEXT = {"good": "good", "same": "unnoted", "stopped": "again", "other": "again", "none": "again", "some": "papers", "several": "papers"}
@@ -20,14 +22,13 @@ def check_papers(screen: Screen, desk: Desk) -> None:
 
 def collect_and_check(screen: Screen, desk: Desk, title: str, intro: str, too_few: str) -> None:
     """Lets the owner type papers, and drills, until the owner is content. `too_few` says what too few papers show."""
-    while True:
-        collect(screen, desk, title, intro)
+    typed: Optional[str] = ""
+    while typed is not None:
+        collect(screen, desk, title, intro, typed=typed)
         if desk.status().enough:
-            is_more = drill_with_passphrase(screen, desk, say("check.drill")) == "p"
+            typed = "" if drill_with_passphrase(screen, desk, say("check.drill")) == "p" else None
         else:
-            is_more = ask_for_more(screen, desk, say("check.done.few"), too_few, False)
-        if not is_more:
-            return
+            typed = ask_for_more(screen, desk, say("check.done.few"), too_few, False)
 
 
 def drill_with_passphrase(screen: Screen, desk: Desk, title: str) -> str:
@@ -35,7 +36,10 @@ def drill_with_passphrase(screen: Screen, desk: Desk, title: str) -> str:
     'e' to end."""
     while True:
         screen.clear(title)
-        noted = ask_passphrase(screen, desk)
+        try:
+            noted = ask_passphrase(screen, desk)
+        except Back:
+            return "p"
         screen.gap()
         try:
             verdict = run_drill(screen, desk, noted)
@@ -50,19 +54,41 @@ def _tell(screen: Screen, desk: Desk, verdict: Verdict, noted: str) -> str:
     """Says what a drill found, and what to do. Returns what the owner wants then."""
     # Without a noted fingerprint, no result is known to be good.
     result = "same" if verdict.result == "good" and not noted else verdict.result
-    screen.tell(say(f"check.done.{result}"), "strong")
+    screen.tell(say(f"check.done.{_kind(desk, verdict, result)}"), "strong")
     for sentence in verdict.sentences:
         screen.tell(sentence, {"good": "good", "same": ""}.get(result, "bad"))
-    if result == "same":
-        screen.tell(say("noted.first"))
+    _tell_tried(screen, desk, verdict)
+    if result in ("other", "none"):
+        again = say("check.again" if verdict.has_passphrase else "check.again.none")
+        screen.tell(f"{again} {say('check.none')}")
     elif result != "good":
-        screen.tell(say("check.none" if result == "other" else f"check.{result}"))
+        screen.tell(say("noted.first" if result == "same" else f"check.{result}"))
     if result not in FAULTY:
         tell_damaged(screen, desk)
+    elif any(paper.is_repaired for paper in desk.papers):
+        screen.tell(say("damaged.keep"), "strong")
     if result == "good":
         screen.hold("")
         desk.written = desk.written and "replaced"
     return ask_next(screen, NEXT[result])
+
+
+def _kind(desk: Desk, verdict: Verdict, result: str) -> str:
+    """Returns what the heading of a result says. A good one isn't all if papers were left out, or can't be read in full."""
+    if result == "good":
+        return "left_out" if desk.left_out else "damaged" if desk.damaged else result
+    return "other.none" if result == "other" and not verdict.has_passphrase else result
+
+
+def _tell_tried(screen: Screen, desk: Desk, verdict: Verdict) -> None:
+    """Names the papers that were tried, and those that are in no quorum, and says how many were left out."""
+    if verdict.names:
+        names = [name for group in desk.status().groups for name in group.names]
+        screen.tell(say("verdict.papers", names=", ".join(name for name in names if name in verdict.names)))
+        others = [name for name in names if name not in verdict.names]
+        if others and verdict.result != "stopped":
+            screen.tell(say("verdict.papers.none", names=", ".join(others)))
+    tell_left_out(screen, desk)
 
 
 def ask_next(screen: Screen, likely: str) -> str:

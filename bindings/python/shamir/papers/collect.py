@@ -1,23 +1,23 @@
 """The papers that are typed, one after the other, and what they are together."""
 from __future__ import annotations
 
-from typing import Iterator
+from typing import Iterator, Optional
 
 import shamir
 from shamir.papers.desk import Desk, Paper
 from shamir.papers.entry import Entry
-from shamir.papers.refusals import said_refusal
+from shamir.papers.refusals import said_foreign
 from shamir.papers.screen import Screen
-from shamir.papers.spelling import DROP
+from shamir.papers.spelling import DROP, beginning, parts_of
 from shamir.papers.texts import counted, say
 
 
-def collect(screen: Screen, desk: Desk, title: str, intro: str, task: str = "") -> None:
+def collect(screen: Screen, desk: Desk, title: str, intro: str, task: str = "", typed: str = "") -> None:
     """Lets the owner type papers, beside those that are here already, until Enter alone is typed. `task` has its own words for what is
-    complete."""
+    complete. `typed` is what the owner has typed of the next paper."""
     screen.clear(title)
     screen.tell(intro)
-    entry = Entry(screen, len(desk.papers[0].words) if desk.papers else None)
+    entry = Entry(screen, len(desk.papers[0].words) if desk.papers else None, leave=desk.leave_out)
     if desk.papers:
         screen.tell(f"{say('collect.found')}:")
         for here in desk.papers:
@@ -28,7 +28,7 @@ def collect(screen: Screen, desk: Desk, title: str, intro: str, task: str = "") 
         screen.tell(say("entry.how"))
     while True:
         number = len(desk.papers) + 1
-        marks = entry.read(say("entry.paper" if desk.papers else "entry.paper.first", number=number))
+        marks, typed = entry.read(say("entry.paper" if desk.papers else "entry.paper.first", number=number), typed), ""
         if marks and marks[0].startswith(DROP):
             _drop(screen, desk, marks[0][len(DROP) :], task)
         elif marks:
@@ -47,14 +47,23 @@ def _take(screen: Screen, desk: Desk, title: str, paper: Paper, task: str) -> No
     try:
         is_new = desk.add(paper)
     except shamir.Refusal as refusal:
-        screen.drop_typed()
-        screen.tell(said_refusal(refusal), "bad")
-        screen.tell(say("entry.drop", sign=DROP, name=desk.papers[-1].name))
+        _refuse(screen, desk, paper, refusal)
         return
+    if not screen.is_held:
+        screen.hold(say("end.typed"))
     screen.clear(title)
     key = "collect.repeated" if not is_new else "collect.row.repaired" if paper.is_repaired else "collect.taken"
     screen.tell(say(key, name=paper.name, words=len(paper.words)), "good" if key == "collect.taken" else "bad")
     show_status(screen, desk, task)
+
+
+def _refuse(screen: Screen, desk: Desk, paper: Paper, refusal: shamir.Refusal) -> None:
+    """Says why a paper doesn't belong to the others, and how to take one of these out."""
+    desk.leave_out(paper.words)
+    screen.drop_typed()
+    screen.tell(said_foreign(refusal, [it.name for it in [*desk.papers, paper] if it.is_repaired]), "bad")
+    likely = [it.name for it in desk.papers if it.is_repaired] or [desk.papers[-1].name]
+    screen.tell(say("entry.drop", sign=DROP, name=likely[-1]))
 
 
 def _drop(screen: Screen, desk: Desk, name: str, task: str) -> None:
@@ -107,8 +116,14 @@ def tell_damaged(screen: Screen, desk: Desk) -> None:
         screen.tell(say(f"damaged.anew.{'one' if len(names) == 1 else 'many'}", names=", ".join(names)), "strong")
 
 
-def ask_for_more(screen: Screen, desk: Desk, title: str, told: str, is_fault: bool, task: str = "") -> bool:
-    """Says that the papers aren't enough, and what is missing. Returns whether the owner wants to type more."""
+def tell_left_out(screen: Screen, desk: Desk) -> None:
+    """Reminds the owner of the papers that were begun, and that aren't among the others."""
+    if desk.left_out:
+        screen.tell(counted(desk.left_out, "left"), "bad")
+
+
+def ask_for_more(screen: Screen, desk: Desk, title: str, told: str, is_fault: bool, task: str = "") -> Optional[str]:
+    """Says that the papers aren't enough, and what is missing. Returns what the owner has typed of the next paper, or None to end."""
     screen.clear(title)
     sound = [paper.name for paper in desk.papers if not paper.is_repaired]
     if sound:
@@ -118,5 +133,18 @@ def ask_for_more(screen: Screen, desk: Desk, title: str, told: str, is_fault: bo
             screen.tell(say("collect.row.repaired", name=paper.name, words=len(paper.words)), "bad")
     screen.tell(told, "bad" if is_fault else "")
     show_status(screen, desk, task)
+    tell_left_out(screen, desk)
     tell_damaged(screen, desk)
-    return screen.choose(say("more.papers"), {"": True, "e": False}, "")
+    return _ask_more(screen)
+
+
+def _ask_more(screen: Screen) -> Optional[str]:
+    """Asks whether to end or to type more. A paper that is typed here is the next one."""
+    words = shamir.words("")
+    while True:
+        typed = screen.ask(say("more.papers"), lambda letters: beginning(words, letters)).strip()
+        if typed.lower() == "e":
+            return None
+        if not typed or len(parts_of(typed)) > 1:
+            return typed
+        screen.tell(say("screen.answers", answers="Enter, e"), "bad")

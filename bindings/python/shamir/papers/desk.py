@@ -9,6 +9,9 @@ import shamir
 from shamir.papers.line import wipe
 from shamir.papers.quorums import Tried
 
+# From so many words on, what was typed is a paper that was begun.
+BEGUN_LEAST = 10
+
 
 @dataclass(frozen=True)
 class Paper:
@@ -25,6 +28,11 @@ class Paper:
     member_threshold: int
     is_repaired: bool = False
     is_rewritten: bool = False
+
+    @property
+    def is_possible(self) -> bool:
+        """Whether a backup can have this paper: its group is one of the groups that it says the backup has."""
+        return self.group < self.group_count
 
     @property
     def words(self) -> List[str]:
@@ -49,6 +57,12 @@ def is_same(one: Paper, other: Paper) -> bool:
     return shamir.parse(one.line) == shamir.parse(other.line)
 
 
+def resembles(one: Sequence[str], other: Sequence[str]) -> bool:
+    """Whether two rows of words are most likely of one paper: they have most words in common. Papers of one backup share only the first
+    words."""
+    return 2 * len({*one} & {*other}) > min(len({*one}), len({*other}))
+
+
 def drawn(count: int) -> bytearray:
     """Returns random bytes of the system."""
     found = bytearray(count)
@@ -65,6 +79,8 @@ class Desk:
     def __init__(self) -> None:
         self.papers: List[Paper] = []
         self.passphrase = bytearray()
+        # The words of papers that were begun, and that weren't taken.
+        self._left: List[List[str]] = []
         # What the papers are that were shown to be written: 'unfinished' (of a new backup), 'made', 'replaced' or 'repaired'.
         self.written = ""
 
@@ -73,6 +89,7 @@ class Desk:
         wipe(self.passphrase)
         self.passphrase = bytearray()
         self.papers = []
+        self._left = []
 
     def set_passphrase(self, passphrase: bytearray) -> None:
         wipe(self.passphrase)
@@ -99,6 +116,16 @@ class Desk:
         is_dropped = len(kept) < len(self.papers)
         self.papers = kept
         return is_dropped
+
+    def leave_out(self, words: Sequence[str]) -> None:
+        """Takes note of a paper that was begun, and that isn't taken. A few words are no paper."""
+        if len(words) >= BEGUN_LEAST:
+            self._left = [*(it for it in self._left if not resembles(it, words)), [*words]]
+
+    @property
+    def left_out(self) -> int:
+        """Returns how many papers were begun, and aren't here."""
+        return sum(not any(resembles(words, paper.words) for paper in self.papers) for words in self._left)
 
     @property
     def damaged(self) -> List[str]:

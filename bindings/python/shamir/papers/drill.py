@@ -20,11 +20,14 @@ NAMED_MAX = 8
 @dataclass
 class Verdict:
     """What a drill found: 'good', 'stopped', or that all quorums give another secret than the expected one ('other'), that none gives
-    it ('none'), that some don't ('some'), or that they give several secrets ('several'). With it the sentences that say so."""
+    it ('none'), that some don't ('some'), or that they give several secrets ('several'). With it the sentences that say so, the names of
+    the papers that were tried, and whether a passphrase was typed."""
 
     result: str
     fingerprint: Optional[str]
     sentences: List[str]
+    names: Tuple[str, ...] = ()
+    has_passphrase: bool = True
 
 
 def measured() -> float:
@@ -56,7 +59,7 @@ def run_drill(screen: Screen, desk: Desk, noted: str, is_own: bool = False) -> V
         _try(screen, desk, status, tried, noted)
     except Stopped:
         is_stopped = True
-    return verdict_of(list(tried), total, noted, is_own, is_stopped)
+    return verdict_of(list(tried), total, noted, is_own, is_stopped, bool(desk.passphrase))
 
 
 def _try(screen: Screen, desk: Desk, status: shamir.Status, tried: List[Tried], noted: str) -> None:
@@ -76,14 +79,17 @@ def _try(screen: Screen, desk: Desk, status: shamir.Status, tried: List[Tried], 
             tried.append(screen.work(functools.partial(desk.try_one, names, noted), progress, is_stoppable=True))
 
 
-def verdict_of(tried: Sequence[Tried], total: int, noted: str, is_own: bool, is_stopped: bool) -> Verdict:
+def verdict_of(tried: Sequence[Tried], total: int, noted: str, is_own: bool, is_stopped: bool, has_passphrase: bool = True) -> Verdict:
     """Returns what the outcomes of a drill say together."""
     found = fingerprints(tried)
     fingerprint = found[0][0] if found else None
     result, sentences = _verdict(tried, total, noted, is_own, found) if tried else ("none", list[str]())
+    if result == "other" and not has_passphrase:
+        sentences = [say("verdict.other.none", quorums=counted(len(tried), "quorum"))]
     if is_stopped or len(tried) != total:
         sentences.insert(0, say("drill.part", tried=f"{len(tried):,}", total=f"{total:,}"))
-    return Verdict("stopped" if is_stopped else result, fingerprint, sentences)
+    names = tuple({name: None for it in tried for name in it.names})
+    return Verdict("stopped" if is_stopped else result, fingerprint, sentences, names, has_passphrase)
 
 
 def _verdict(tried: Sequence[Tried], total: int, noted: str, is_own: bool, found: List[Tuple[str, int]]) -> Tuple[str, List[str]]:

@@ -5,7 +5,7 @@ is typed, and what was typed stays: what has no place stands again behind the qu
 """
 from __future__ import annotations
 
-from typing import Callable, List, Optional, Sequence
+from typing import Callable, Dict, List, Optional, Sequence
 
 import shamir
 from shamir.papers.desk import Paper, find_fault, paper_of
@@ -27,25 +27,37 @@ class Begun(Exception):
 
 class Entry:
     """Reads papers. `wanted` is how many words each has, if that is known. `task` has its own words for some refusals. `show` shows the
-    paper again that is typed back, if it is one: then no question mark may stand for letters."""
+    paper again that is typed back, if it is one: then no question mark may stand for letters. `leave` takes the words of a paper that the
+    owner begins again or leaves out."""
 
-    def __init__(self, screen: Screen, wanted: Optional[int] = None, task: str = "", show: Optional[Callable[[], None]] = None):
-        self._screen, self.wanted, self._task, self._show = screen, wanted, task, show
+    def __init__(
+        self,
+        screen: Screen,
+        wanted: Optional[int] = None,
+        task: str = "",
+        show: Optional[Callable[[], None]] = None,
+        leave: Callable[[List[str]], None] = lambda words: None,
+    ):
+        self._screen, self.wanted, self._task, self._show, self._leave = screen, wanted, task, show, leave
+        # What was typed so far, and the words that a question mark has taken the place of, by their numbers.
+        self._marks: List[str] = []
+        self._replaced: Dict[int, str] = {}
         self._list = shamir.words("")
         # Whether the owner was asked for words that follow, and typed some.
         self._is_continued = False
 
-    def read(self, prompt: str) -> List[str]:
+    def read(self, prompt: str, typed: str = "") -> List[str]:
         """Returns the marks of a paper that the library found sound or can repair, or nothing if Enter alone is typed.
 
-        If a paper is to be taken out, returns the sign for that with its name.
+        If a paper is to be taken out, returns the sign for that with its name. `typed` was typed before, as an answer to this question.
         """
         while True:
-            text = self._ask(prompt)
+            text, typed = typed or self._ask(prompt), ""
             name = taken_out(text)
             if name is not None:
                 return [DROP + name]
             parts, self._is_continued = parts_of(text), False
+            self._marks, self._replaced = [], {}
             if not parts and not text.strip():
                 return []
             try:
@@ -53,13 +65,19 @@ class Entry:
                     return self._whole(self._placed([], parts))
                 self._fault(say("entry.wordless"))
             except Begun:
-                self._screen.drop_typed()
+                self._dropped()
+
+    def _dropped(self) -> None:
+        """Takes note of what was typed of a paper that isn't taken."""
+        self._screen.drop_typed()
+        self._leave([mark for mark in self._marks if mark])
+        self._marks = []
 
     def paper(self, marks: List[str]) -> Optional[Paper]:
         """Returns the paper of marks. If the owner doesn't take the words that were found, marks are changed. Returns None if the owner
         begins the paper again."""
         while marks:
-            paper = ask_paper(self._screen, marks)
+            paper = ask_paper(self._screen, marks, self._replaced)
             if paper is not None:
                 return paper
             marks = self.changed(marks)
@@ -69,10 +87,11 @@ class Entry:
         """Returns marks of which the owner has typed some again, or nothing if the owner begins the paper again."""
         self._tell_typed(marks)
         self._screen.tell(say("entry.kept"))
+        self._marks = marks
         try:
             return self._whole(self._again(marks, None))
         except Begun:
-            self._screen.drop_typed()
+            self._dropped()
             return []
 
     def _ask(self, prompt: str, begun: str = "") -> str:
@@ -118,7 +137,7 @@ class Entry:
     def _whole(self, marks: List[str]) -> List[str]:
         """Asks for what is missing or wrong, until the library finds the whole sound or can repair it."""
         while True:
-            marks = self._spelled(marks)
+            marks = self._marks = self._spelled(marks)
             if "" in marks:
                 marks = self._filled(marks)
                 continue
@@ -209,8 +228,15 @@ class Entry:
 
     def _mended(self, marks: List[str], number: int) -> List[str]:
         """Asks for a word again that isn't one. Words that follow are taken too if they contradict none that was typed."""
+        self._marks = marks
         self._fault(self._unknown(number, marks[number - 1]))
-        return self._until_placed(self._prompt(number), lambda parts: continued(marks, number, parts), say("entry.one", number=number))
+        mended = self._until_placed(self._prompt(number), lambda parts: continued(marks, number, parts), say("entry.one", number=number))
+        self._note_replaced(marks, dict(enumerate(mended[:number], 1)))
+        return mended
+
+    def _note_replaced(self, marks: Sequence[str], new: Dict[int, str]) -> None:
+        """Takes note of the words that question marks take the place of."""
+        self._replaced |= {number: marks[number - 1] for number, mark in new.items() if mark.endswith("?") and marks[number - 1].isalpha()}
 
     def _unknown(self, number: int, mark: str) -> str:
         if "?" in mark:
@@ -246,7 +272,8 @@ class Entry:
             parts = [(parts[0][0] or place, parts[0][1])]
         numbers, count = [number for number, _ in parts], len(marks)
         if parts and all(number and number <= count for number in numbers) and len(set(numbers)) == len(numbers):
-            new = dict(parts)
+            new = {number: mark for number, mark in parts if number}
+            self._note_replaced(marks, new)
             return [new.get(number, mark) for number, mark in enumerate(marks, 1)]
         if len(parts) == count:
             return self._placed([], parts)

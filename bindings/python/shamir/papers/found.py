@@ -2,31 +2,44 @@
 from __future__ import annotations
 
 import dataclasses
-from typing import List, Optional, Sequence
+from typing import List, Mapping, Optional, Sequence
 
 import shamir
 from shamir.papers.desk import Paper, paper_of
 from shamir.papers.screen import Screen
-from shamir.papers.texts import say
+from shamir.papers.texts import counted, say
 
 OPEN_MAX = 3
 
 
-def ask_paper(screen: Screen, marks: List[str]) -> Optional[Paper]:
-    """Returns the paper of marks. If words were left open, the owner says whether those that were found are right; if not, None."""
+def ask_paper(screen: Screen, marks: List[str], typed: Mapping[int, str] = {}) -> Optional[Paper]:
+    """Returns the paper of marks. If words were left open, the owner says whether those that were found are right; if not, None. `typed`
+    has the words that the owner had typed before at open places."""
     line = " ".join(marks)
     if "?" not in line:
         return paper_of(line)
-    fits = [repaired(fit) for fit in shamir.repair(line)]
+    fits = possible(screen, [repaired(fit) for fit in shamir.repair(line)])
+    if not fits:
+        return None
     screen.tell(say("entry.fits"))
     for number, fit in enumerate(fits, 1):
         if len(fits) > 1:
             screen.tell(say("damaged.which", number=number, name=fit.name))
-        show_found(screen, fit, marks)
+        show_found(screen, fit, marks, typed)
     screen.tell(said_limits(marks))
+    if any(mark.endswith("?") and number in typed for number, mark in enumerate(marks, 1)):
+        screen.tell(say("entry.miswritten"))
     if len(fits) == 1:
-        return fits[0] if screen.agree(say("entry.take")) else None
+        return fits[0] if screen.agree(say("damaged.sure", name=fits[0].name)) else None
     return screen.choose(say("entry.take.which"), {"0": None, "1": fits[0], "2": fits[1]})
+
+
+def possible(screen: Screen, fits: Sequence[Paper]) -> List[Paper]:
+    """Returns the papers that a backup can have, and says of each other one that it can't."""
+    for fit in fits:
+        if not fit.is_possible:
+            screen.tell(say("damaged.impossible", name=fit.name, groups=counted(fit.group_count, "group")), "bad")
+    return [fit for fit in fits if fit.is_possible]
 
 
 def repaired(fit: str) -> Paper:
@@ -40,9 +53,10 @@ def said_limits(marks: Sequence[str]) -> str:
     return say("damaged.limits", case=say(f"damaged.limits.{opened}"))
 
 
-def show_found(screen: Screen, fit: Paper, marks: Sequence[str]) -> None:
-    """Shows the words of a paper where they differ from what was typed."""
+def show_found(screen: Screen, fit: Paper, marks: Sequence[str], typed: Mapping[int, str] = {}) -> None:
+    """Shows the words of a paper where they differ from what was typed, and what was typed there before."""
     found = [(number, word) for number, (word, mark) in enumerate(zip(fit.words, marks), 1) if word != mark]
     for number, word in found:
-        screen.item(f"{say('entry.place', number=number)}: {word}")
+        before = f" {say('entry.place.typed', word=typed[number])}" if number in typed else ""
+        screen.item(f"{say('entry.place', number=number)}: {word}{before}")
     screen.gap()

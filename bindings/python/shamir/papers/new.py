@@ -106,6 +106,7 @@ def _create(screen: Screen, desk: Desk, plan: Plan, choices: Choices) -> Tuple[L
         try:
             # The digits that were typed would be lost on the way back.
             desk.set_passphrase(ask_new_passphrase(screen, has_back=not choices.is_own))
+            choices.has_passphrase = bool(desk.passphrase)
             return _made(screen, desk, plan, secret, choices)
         except Stopped:
             screen.tell_next(say("make.stopped"))
@@ -153,5 +154,6 @@ def _tell_done(screen: Screen, plan: Plan, choices: Choices, fingerprint: str) -
     screen.hold("")
     screen.clear(say("make.done"))
     screen.tell(said_plan(plan), "good")
-    screen.tell(say("make.keep"))
+    screen.tell(f"{say('make.keep')} {say('make.with' if choices.has_passphrase else 'make.without')}")
+    screen.tell(say("make.note", plan=plan.text))
     screen.pause(say("screen.end"))

@@ -7,7 +7,7 @@ import shamir
 from shamir.papers.desk import Desk
 from shamir.papers.line import wipe
 from shamir.papers.refusals import said_refusal
-from shamir.papers.screen import Screen
+from shamir.papers.screen import BACK, Screen
 from shamir.papers.texts import say
 
 
@@ -21,32 +21,36 @@ def _fault_of(passphrase: bytearray) -> str:
     return ""
 
 
-def _ask_right(screen: Screen, prompt: str) -> bytearray:
+def _ask_right(screen: Screen, prompt: str, has_back: bool) -> bytearray:
     """Asks for a passphrase until the library takes it."""
     while True:
         typed = screen.ask_hidden(prompt)
         fault = _fault_of(typed)
-        if not fault and _is_meant(screen, typed):
+        if not fault and _is_meant(screen, typed, has_back):
             return typed
         wipe(typed)
         if fault:
             screen.tell(fault, "bad")
 
 
-def _is_meant(screen: Screen, typed: bytearray) -> bool:
-    """Whether a passphrase is as the owner wants it. A space at its end isn't seen, and makes it another one."""
+def _is_meant(screen: Screen, typed: bytearray, has_back: bool) -> bool:
+    """Whether a passphrase is as the owner wants it. A space at its end isn't seen, and makes it another one. The letter that goes back
+    elsewhere may be a passphrase. An owner who doesn't read the question may type a passphrase here, so no answer shows."""
+    if typed.lower() == BACK.encode() and not screen.agree(say("passphrase.back"), has_back, is_hidden=True):
+        return False
     for key, edge in [("passphrase.space.first", typed[:1]), ("passphrase.space.last", typed[-1:])]:
-        if edge == b" " and not screen.agree(say(key)):
+        if edge == b" " and not screen.agree(say(key), is_hidden=True):
             return False
     return True
 
 
 def ask_passphrase(screen: Screen, desk: Desk) -> str:
     """Asks for the passphrase of a backup, which may be empty, and for the fingerprint that was noted. Returns the fingerprint, or an
-    empty text if there is none. Nothing else shows then whether the passphrase is mistyped, so it is typed twice."""
+    empty text if there is none. Nothing else shows then whether the passphrase is mistyped, so it is typed twice. The owner may go back to
+    the papers."""
     screen.tell(say("passphrase.why"))
     while True:
-        desk.set_passphrase(_ask_right(screen, say("passphrase.ask")))
+        desk.set_passphrase(_ask_right(screen, say("passphrase.ask"), True))
         noted = ask_noted(screen)
         if noted or not desk.passphrase:
             return noted
@@ -71,9 +75,9 @@ def ask_new_passphrase(screen: Screen, has_back: bool) -> bytearray:
     screen.tell(say("passphrase.new"))
     screen.tell(say("passphrase.hint"))
     while True:
-        first = _ask_right(screen, say("new.passphrase"))
+        first = _ask_right(screen, say("new.passphrase"), has_back)
         if not first:
-            if screen.agree(say("new.passphrase.none"), has_back):
+            if screen.agree(say("new.passphrase.none"), has_back, is_hidden=True):
                 return first
             continue
         if _is_typed_again(screen, first):

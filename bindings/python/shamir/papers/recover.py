@@ -1,7 +1,7 @@
 """The task 'recover': papers are typed, and the secret is compared by its fingerprint. Its digits show only if asked for."""
 from __future__ import annotations
 
-from typing import Union
+from typing import Optional, Union
 
 import shamir
 from shamir.papers.check import ask_next
@@ -12,32 +12,35 @@ from shamir.papers.line import wipe
 from shamir.papers.questions import ask_passphrase
 from shamir.papers.quorums import Tried, gives
 from shamir.papers.refusals import said_refusal
-from shamir.papers.screen import Screen, Stopped
+from shamir.papers.screen import Back, Screen, Stopped
 from shamir.papers.texts import say
 
 DIGITS = 8
 
 
 def recover_secret(screen: Screen, desk: Desk) -> None:
-    while True:
-        collect(screen, desk, say("recover.title"), say("recover.intro"))
+    typed: Optional[str] = ""
+    while typed is not None:
+        collect(screen, desk, say("recover.title"), say("recover.intro"), typed=typed)
         if desk.status().enough:
-            is_more = _recover(screen, desk) == "p"
+            typed = "" if _recover(screen, desk) == "p" else None
         else:
-            is_more = ask_for_more(screen, desk, say("recover.few"), say("recover.too_few"), True)
-        if not is_more:
-            return
+            typed = ask_for_more(screen, desk, say("recover.few"), say("recover.too_few"), True)
 
 
 def _recover(screen: Screen, desk: Desk) -> str:
     """Asks for the passphrase, and recovers the secret. Returns what the owner wants then."""
     while True:
         screen.clear(say("recover.passphrase"))
-        noted = ask_passphrase(screen, desk)
+        try:
+            noted = ask_passphrase(screen, desk)
+        except Back:
+            return "p"
         screen.gap()
         warned_time(screen, desk.papers[0])
+        has_passphrase = bool(desk.passphrase)
         found = _recovered(screen, desk)
-        answer = _tell(screen, desk, found, noted) if isinstance(found, bytearray) else _tell_failed(screen, found)
+        answer = _tell(screen, desk, found, noted, has_passphrase) if isinstance(found, bytearray) else _tell_failed(screen, found)
         if answer != "t":
             return answer
 
@@ -62,13 +65,14 @@ def _tell_failed(screen: Screen, error: Union[Stopped, shamir.Refusal]) -> str:
     return ask_next(screen, "papers")
 
 
-def _tell(screen: Screen, desk: Desk, secret: bytearray, noted: str) -> str:
+def _tell(screen: Screen, desk: Desk, secret: bytearray, noted: str, has_passphrase: bool) -> str:
     """Says which secret was recovered. Its digits are offered unless it is known to be another one than the owner's."""
     try:
         fingerprint = shamir.fingerprint(secret)
         which = "unnoted" if not noted else "same" if gives(Tried((), fingerprint, None), noted) else "other"
         screen.tell(say(f"recover.done.{which}"), "strong")
-        screen.tell(f"{say(f'recover.{which}', noted=noted)} {fingerprint}", {"same": "good", "other": "bad"}.get(which, ""))
+        key = "recover.other.none" if which == "other" and not has_passphrase else f"recover.{which}"
+        screen.tell(f"{say(key, noted=noted)} {fingerprint}", {"same": "good", "other": "bad"}.get(which, ""))
         if which == "other":
             return ask_next(screen, "again")
         screen.tell(say("digits.what"))
@@ -76,6 +80,8 @@ def _tell(screen: Screen, desk: Desk, secret: bytearray, noted: str) -> str:
             _show(screen, secret)
     finally:
         wipe(secret)
+    if which == "same":
+        screen.hold("")
     tell_damaged(screen, desk)
     return ask_next(screen, "good" if which == "same" else "unnoted")
 
@@ -85,5 +91,5 @@ def _show(screen: Screen, secret: bytearray) -> None:
     screen.clear(say("digits.title"))
     digits = secret.hex()
     screen.digits([digits[at : at + DIGITS] for at in range(0, len(digits), DIGITS)])
-    screen.pause(say("recover.clear"))
+    screen.pause(say("recover.clear.plain" if screen.is_plain else "recover.clear"))
     screen.clear(say("recover.title"))

@@ -1,7 +1,7 @@
 """What a refusal of the library means to an owner, and what to do."""
 from __future__ import annotations
 
-from typing import Optional
+from typing import Optional, Sequence
 
 import shamir
 from shamir.papers.texts import counted, has_text, say
@@ -13,7 +13,7 @@ def said_refusal(refusal: shamir.Refusal, task: str = "") -> str:
     name = f"refused.{code}{_form(refusal)}"
     key = next(key for key in (f"{task}.{name}", name, "refused.other") if has_text(key))
     is_undetermined = code == shamir.Code.UNDETERMINED
-    told = _undetermined(first, second, task == "only") if is_undetermined else say(key, first=first, second=second, text=refusal.text)
+    told = _undetermined(first, second, task) if is_undetermined else say(key, first=first, second=second, text=refusal.text)
     return say("refused.number", told=told, code=code)
 
 
@@ -25,11 +25,22 @@ def _form(refusal: shamir.Refusal) -> str:
     return ".two" if refusal.code == shamir.Code.WRONG_WORD and second else ""
 
 
-def _undetermined(first: int, second: int, is_only: bool) -> str:
-    """Says what a paper that isn't determined takes: papers of its group, or complete groups besides it and one paper fewer."""
+def said_foreign(refusal: shamir.Refusal, repaired: Sequence[str]) -> str:
+    """Says why a paper doesn't belong to the others. If words of some of them were found and not read, most likely these are wrong."""
+    if not repaired:
+        return said_refusal(refusal)
+    key = "refused.repaired.one" if len(repaired) == 1 else "refused.repaired.many"
+    return say("refused.number", told=say(key, names=", ".join(repaired)), code=int(refusal.code))
+
+
+def _undetermined(first: int, second: int, task: str) -> str:
+    """Says what a paper that isn't determined takes: papers of its group, or complete groups besides it and one paper fewer. If each
+    group is needed, which is the task 'all', only papers of its group give it."""
     members, threshold, groups, required = (second >> bits & 0xFF for bits in (24, 16, 8, 0))
     missing = threshold - members
-    key = "only.refused.66" if is_only else "refused.66.fewer" if missing > 1 else "refused.66"
+    lost = "all.refused.66.lost" if threshold == 1 else "all.refused.66"
+    other = "refused.66.fewer" if missing > 1 else "refused.66"
+    key = {"only": "only.refused.66", "all": lost}.get(task, other)
     more, fewer, whole = counted(missing, "paper"), counted(missing - 1, "paper"), counted(required, "whole")
     return say(key, group=first >> 8, more=more, fewer=fewer, whole=whole, groups=min(groups, required))
 

@@ -7,7 +7,7 @@ import shamir
 from shamir.papers.check import collect_and_check
 from shamir.papers.desk import Desk, Paper, paper_of
 from shamir.papers.entry import Entry
-from shamir.papers.found import repaired, said_limits, show_found
+from shamir.papers.found import possible, repaired, said_limits, show_found
 from shamir.papers.plan import said_takes_alone
 from shamir.papers.screen import Screen
 from shamir.papers.shown import write_and_type_back
@@ -46,7 +46,8 @@ def _choose(screen: Screen, entry: Entry, marks: List[str]) -> Tuple[str, List[P
     """Shows the papers that fit marks, until the owner changes no more words. Returns what the owner chose, and these papers."""
     while marks:
         line = " ".join(marks)
-        fits = [repaired(fit) for fit in shamir.repair(line)] if "?" in line else [paper_of(line)]
+        screen.hold(say("end.typed"))
+        fits = possible(screen, [repaired(fit) for fit in shamir.repair(line)]) if "?" in line else [paper_of(line)]
         chosen = _tell(screen, fits, marks)
         if chosen != "change":
             return chosen, fits
@@ -57,6 +58,8 @@ def _choose(screen: Screen, entry: Entry, marks: List[str]) -> Tuple[str, List[P
 def _tell(screen: Screen, fits: List[Paper], marks: List[str]) -> str:
     """Shows the papers that fit. Returns the place of the one to be written anew, or 'change', 'again' or 'end'."""
     is_two = len(fits) > 1
+    if not fits:
+        return screen.choose(say("damaged.menu.none"), {"c": "change", "t": "again", "e": "end"})
     screen.tell(say("damaged.two") if is_two else say("damaged.one", name=fits[0].name), "good")
     if is_two:
         screen.tell(say("damaged.two.why"))
@@ -65,7 +68,8 @@ def _tell(screen: Screen, fits: List[Paper], marks: List[str]) -> str:
         if is_two:
             screen.tell(say("damaged.which", number=number, name=fit.name), "strong")
         show_found(screen, fit, marks)
-    if any("?" in mark for mark in marks):
+    is_open = any("?" in mark for mark in marks)
+    if is_open:
         screen.tell(say("damaged.compare"))
         screen.tell(said_limits(marks))
     else:
@@ -73,4 +77,7 @@ def _tell(screen: Screen, fits: List[Paper], marks: List[str]) -> str:
     screen.tell(say("damaged.next"))
     # Enter alone is no answer, so that nothing that was found is lost by it.
     answers = {**({"1": "0", "2": "1"} if is_two else {"w": "0"}), "c": "change", "t": "again", "e": "end"}
-    return screen.choose(say("damaged.menu.two" if is_two else "damaged.menu"), answers)
+    while True:
+        chosen = screen.choose(say("damaged.menu.two" if is_two else "damaged.menu"), answers)
+        if not is_open or not chosen.isdecimal() or screen.agree(say("damaged.sure", name=fits[int(chosen)].name)):
+            return chosen

@@ -8,7 +8,7 @@ import shamir
 from shamir.papers.check import drill_with_passphrase
 from shamir.papers.collect import ask_for_more, collect
 from shamir.papers.desk import Desk, Paper
-from shamir.papers.plan import Group, Plan, said_takes
+from shamir.papers.plan import Group, Plan, said_takes_alone
 from shamir.papers.refusals import said_refusal
 from shamir.papers.screen import Back, Screen
 from shamir.papers.shown import write_and_type_back
@@ -21,10 +21,10 @@ GROUP = re.compile(r"(\d+)(\.\d+)?")
 
 class Missing:
     """The papers that are missing: those that can be written, and for each other one what it takes. `said` says which numbers of papers
-    this rests on."""
+    this rests on. `groups` are those that were looked at, or none if that is all."""
 
-    def __init__(self, said: List[str]) -> None:
-        self.said = said
+    def __init__(self, said: List[str], groups: List[int]) -> None:
+        self.said, self.groups = said, groups
         self.found: Dict[str, Paper] = {}
         self.untold: Dict[str, List[str]] = {}
 
@@ -39,15 +39,14 @@ def replace_paper(screen: Screen, desk: Desk) -> None:
     if screen.choose(say("replace.how"), {"1": False, "2": True}, has_back=True):
         _advise(screen)
         return
-    while True:
-        collect(screen, desk, say("replace.title"), say("replace.intro"), "replace")
+    typed: Optional[str] = ""
+    while typed is not None:
+        collect(screen, desk, say("replace.title"), say("replace.intro"), "replace", typed)
         if not _may_determine(desk.status()):
             told = say("replace.none_yet.only" if desk.papers[0].group_count == 1 else "replace.none_yet")
-            if not ask_for_more(screen, desk, say("replace.few"), told, False, "replace"):
-                return
-            continue
-        if not _plan_and_write(screen, desk) and not _drill(screen, desk):
-            return
+            typed = ask_for_more(screen, desk, say("replace.few"), told, False, "replace")
+        else:
+            typed = "" if _plan_and_write(screen, desk) else _drill(screen, desk)
 
 
 def _plan_and_write(screen: Screen, desk: Desk) -> bool:
@@ -59,7 +58,7 @@ def _plan_and_write(screen: Screen, desk: Desk) -> bool:
         except Back:
             return True
         try:
-            return _write(screen, desk, plan, missing)
+            return _write(screen, desk, missing)
         except Back:
             if not missing.said and len(plan.groups) == 1:
                 # Nothing was asked.
@@ -169,7 +168,8 @@ def _missing(desk: Desk, plan: Plan, wanted: Set[int]) -> Missing:
     then says whether the plan fits the papers."""
     here = [paper.name for paper in desk.papers]
     names = [name for name in plan.names if name not in here and int(name.split(".")[0]) in wanted]
-    missing = Missing(_said_numbers(desk, plan, wanted))
+    missing = Missing(_said_numbers(desk, plan, wanted), sorted(wanted) if len(wanted) < len(plan.groups) else [])
+    task = "only" if len(plan.groups) == 1 else "all" if plan.needed == len(plan.groups) else ""
     for name in names or here[:1]:
         try:
             found = desk.reissue(plan.text, name)
@@ -177,7 +177,7 @@ def _missing(desk: Desk, plan: Plan, wanted: Set[int]) -> Missing:
             # Any other refusal is about the plan or the papers, so it is the same for each name.
             if refusal.code != shamir.Code.UNDETERMINED:
                 raise
-            missing.untold.setdefault(said_refusal(refusal, "only" if len(plan.groups) == 1 else ""), []).append(name)
+            missing.untold.setdefault(said_refusal(refusal, task), []).append(name)
             continue
         if names:
             missing.found[name] = found
@@ -192,7 +192,7 @@ def _said_numbers(desk: Desk, plan: Plan, wanted: Set[int]) -> List[str]:
     return [say(key, group=group, papers=counted(count, "paper"), first=f"{group}.0", last=f"{group}.{count - 1}") for group, count in numbers]
 
 
-def _write(screen: Screen, desk: Desk, plan: Plan, missing: Missing) -> bool:
+def _write(screen: Screen, desk: Desk, missing: Missing) -> bool:
     """Lets the owner write missing papers, as many as are wanted. Returns whether the owner wants to go back to the papers. The owner may
     also go back to the plan."""
     while True:
@@ -204,7 +204,8 @@ def _write(screen: Screen, desk: Desk, plan: Plan, missing: Missing) -> bool:
             return False
         desk.written = "replaced"
         screen.hold(say("end.replaced"))
-        write_and_type_back(screen, desk, paper, said_takes(plan, paper.name))
+        # The owner may have forgotten how many papers there were, so what is said of a paper doesn't count them.
+        write_and_type_back(screen, desk, paper, said_takes_alone(paper))
 
 
 def _ask_which(screen: Screen, missing: Missing) -> str:
@@ -215,30 +216,34 @@ def _ask_which(screen: Screen, missing: Missing) -> str:
     if missing.found:
         screen.tell(say("replace.found", names=", ".join(missing.found)))
     else:
-        screen.tell(say("replace.untold" if missing.untold else "replace.none"))
+        screen.tell(say("replace.untold") if missing.untold else _said_none(missing.groups))
     for text, names in missing.untold.items():
         screen.item(f"{', '.join(names)}: {text}")
     if missing.untold:
         screen.gap()
     if missing.said:
         screen.tell(say("replace.had" if missing.found or missing.untold else "replace.had.all"))
-    answers = [(name, say("replace.menu.write", name=name)) for name in missing.found]
-    answers += [("papers", say("replace.menu.papers"))] if missing.untold else []
-    answers += [("drill", say("replace.menu.drill"))]
-    for number, (_, label) in enumerate(answers, 1):
-        screen.item(label, f"{number:>2}  ")
+    # A paper is chosen by its name: a number beside it would be taken for a part of the name.
+    answers = {name: (name, say("replace.menu.write", name=name)) for name in missing.found}
+    if missing.untold:
+        answers["p"] = "papers", say("replace.menu.papers")
+    answers["d"] = "drill", say("replace.menu.drill")
+    for key, (_, label) in answers.items():
+        screen.item(label, f"{key:>4}  ")
     screen.gap()
-    chosen = {**{str(number): key for number, (key, _) in enumerate(answers, 1)}, **{name: name for name in missing.found}}
-    return screen.choose(say("replace.choose"), chosen, _likely(answers), has_back=True)
+    chosen = {key: answer for key, (answer, _) in answers.items()}
+    return screen.choose(say("replace.choose"), chosen, "d" if len(answers) == 1 else None, has_back=True)
 
 
-def _likely(answers: List[Tuple[str, str]]) -> Optional[str]:
-    """Returns the answer that Enter alone gives: the only one, or none."""
-    return "1" if len(answers) == 1 else None
+def _said_none(groups: List[int]) -> str:
+    """Says that no paper of these groups is missing, or none at all if there are no groups."""
+    if not groups:
+        return say("replace.none")
+    return say("replace.none.one" if len(groups) == 1 else "replace.none.many", groups=", ".join(map(str, groups)))
 
 
-def _drill(screen: Screen, desk: Desk) -> bool:
-    """Drills with all papers that were typed, if they are enough. Returns whether the owner wants to go back to the papers."""
+def _drill(screen: Screen, desk: Desk) -> Optional[str]:
+    """Drills with all papers that were typed, if they are enough. Returns what the owner has typed of the next paper, or None to end."""
     if desk.status().enough:
-        return drill_with_passphrase(screen, desk, say("replace.drill")) == "p"
-    return ask_for_more(screen, desk, say("replace.few"), say("replace.too_few"), False)
+        return "" if drill_with_passphrase(screen, desk, say("replace.drill")) == "p" else None
+    return ask_for_more(screen, desk, say("replace.done" if desk.written else "replace.few"), say("replace.too_few"), False)

@@ -55,6 +55,16 @@ class Screen:
     def _width(self) -> int:
         return max(WIDTH_MIN, min(WIDTH_MAX, self._terminal.size.columns - 1))
 
+    @property
+    def is_plain(self) -> bool:
+        """Whether nothing can be cleared."""
+        return self._terminal.is_plain
+
+    @property
+    def is_held(self) -> bool:
+        """Whether the owner is asked before the program ends."""
+        return bool(self._held)
+
     def clear(self, title: str) -> None:
         """Clears the screen, and shows a title, and what was to be shown after it."""
         self._terminal.clear()
@@ -72,9 +82,10 @@ class Screen:
         """Asks whether to end, if something would be lost. If the owner stays, the screen is again as it was."""
         if by.number != signal.SIGINT or not self._held:
             raise by
-        held, rows, begun = self._held, self._rows, self._begun
+        held, rows, begun, tells = self._held, self._rows, self._begun, self._terminal.tells_size
         # At this question, Ctrl-C ends at once.
         self.hold("")
+        self._terminal.tells_size = False
         with self._terminal.aside():
             self._rows, self._begun = 0, bytearray()
             self.tell(say("end.title"), "title")
@@ -82,7 +93,7 @@ class Screen:
             self.drop_typed()
             if self.agree(say("end.ask")):
                 raise by
-        self._rows, self._begun = rows, begun
+        self._rows, self._begun, self._terminal.tells_size = rows, begun, tells
         self.hold(held)
 
     def _held_on(self, call: Callable[[], T]) -> T:
@@ -140,10 +151,10 @@ class Screen:
         self.rows(" ".join(parts[at : at + columns]) for at in range(0, len(parts), columns))
         self.gap()
 
-    def ask(self, prompt: str, complete: Optional[Completer] = None, has_back: bool = False, begun: str = "") -> str:
+    def ask(self, prompt: str, complete: Optional[Completer] = None, has_back: bool = False, begun: str = "", is_hidden: bool = False) -> str:
         """Asks, and returns what is typed. `has_back` says that the owner may go back instead. `begun` stands in the line already."""
         self._begun = bytearray(begun.encode()) + self._begun
-        typed = self._read(prompt, complete, False).decode("utf-8", "replace")
+        typed = self._read(prompt, complete, is_hidden).decode("utf-8", "replace")
         if has_back and typed.strip().lower() == BACK:
             raise Back
         return typed
@@ -163,24 +174,29 @@ class Screen:
         self._rows = 0
         return typed
 
-    def choose(self, prompt: str, answers: Dict[str, T], default: Optional[str] = None, has_back: bool = False) -> T:
-        """Asks until one of the answers is given, or none if there is a default."""
+    def choose(self, prompt: str, answers: Dict[str, T], default: Optional[str] = None, has_back: bool = False, is_hidden: bool = False) -> T:
+        """Asks until one of the answers is given, or none if there is a default. A hidden answer doesn't show."""
         while True:
-            typed = self.ask(prompt, has_back=has_back).strip().lower() or default or ""
+            typed = self.ask(prompt, has_back=has_back, is_hidden=is_hidden).strip().lower() or default or ""
             if typed in answers:
                 return answers[typed]
             told = [key or "Enter" for key in answers] + [BACK] * has_back
             self.tell(say("screen.answers", answers=", ".join(told)), "bad")
 
-    def agree(self, prompt: str, has_back: bool = False) -> bool:
-        """Asks for yes or no, until one of them is given."""
+    def agree(self, prompt: str, has_back: bool = False, is_hidden: bool = False) -> bool:
+        """Asks for yes or no, until one of them is given. Where a secret may be typed by mistake, the answer is hidden."""
         how = say("screen.yes.back" if has_back else "screen.yes")
-        return self.choose(f"{prompt} {how}", {"y": True, "yes": True, "n": False, "no": False}, has_back=has_back)
+        return self.choose(f"{prompt} {how}", {"y": True, "yes": True, "n": False, "no": False}, has_back=has_back, is_hidden=is_hidden)
 
-    def pause(self, prompt: str) -> bool:
-        """Waits for Enter, and returns whether it came alone. What was typed before doesn't count."""
+    def pause(self, prompt: str, tells_size: bool = False) -> bool:
+        """Waits for Enter, and returns whether it came alone. What was typed before doesn't count. With `tells_size`, raises Resized if
+        the terminal gets another size."""
         self.drop_typed()
-        typed = self._read(prompt, None, True)
+        self._terminal.tells_size = tells_size
+        try:
+            typed = self._read(prompt, None, True)
+        finally:
+            self._terminal.tells_size = False
         is_alone = not typed.strip()
         wipe(typed)
         return is_alone

@@ -24,6 +24,7 @@ class Choices:
     """What the owner chose beside the plan. `is_own` says that the secret isn't a new one."""
 
     is_own: bool = False
+    has_passphrase: bool = False
     exponent: int = EXPONENT
     extendable: bool = True
 

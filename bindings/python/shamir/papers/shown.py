@@ -7,6 +7,7 @@ from dataclasses import dataclass
 from shamir.papers.desk import Desk, Paper, is_same
 from shamir.papers.entry import Entry
 from shamir.papers.screen import Screen
+from shamir.papers.terminal import Resized
 from shamir.papers.spelling import DROP
 from shamir.papers.texts import say
 
@@ -33,9 +34,13 @@ def show_paper(screen: Screen, shown: Shown) -> None:
         screen.tell(shown.takes)
         screen.tell(say("paper.how"))
         screen.words(shown.paper.words)
-        if screen.pause(say("new.write")):
-            break
-        fault = say("new.write.alone")
+        try:
+            if screen.pause(say("new.write.plain" if screen.is_plain else "new.write"), tells_size=True):
+                break
+            fault = say("new.write.alone")
+        except Resized:
+            # The words are laid out anew.
+            continue
     screen.clear("")
 
 

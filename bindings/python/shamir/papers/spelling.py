@@ -36,18 +36,18 @@ class Misplaced:
 
 def parts_of(text: str) -> List[Part]:
     """Returns the words of a text in small letters, and the marks with a question mark, each with the number before it. A heading is
-    left out."""
+    left out. A line that stands for a word, or for the end of one, is a question mark."""
     return list(_parts(re.split(r"[^\w?]+", HEADING.sub(" ", text.lower()))))
 
 
 def _parts(pieces: Sequence[str]) -> Iterator[Part]:
     number: Optional[int] = None
     for piece in pieces:
-        word = piece.lstrip("0123456789_")
-        digits = piece[: len(piece) - len(word)].replace("_", "")
+        word = piece.lstrip("0123456789")
+        digits = piece[: len(piece) - len(word)]
         number = int(digits) if digits else number
         if word:
-            yield number, re.sub(r"\?+$", "?", word)
+            yield number, re.sub(r"[?_]+$", "?", word)
             number = None
 
 

@@ -30,6 +30,10 @@ class Ended(BaseException):
         self.number = number
 
 
+class Resized(Exception):
+    """The terminal has another size now."""
+
+
 class Terminal:
     """A terminal that shows what is written to it until it is closed.
 
@@ -49,6 +53,9 @@ class Terminal:
         # Whether Ctrl-C ends only a wait for a key or for a work, so that the owner can be asked.
         self.is_held = False
         self._is_interrupted = False
+        # Whether another size ends a wait for a key. If not, what was written is written again.
+        self.tells_size = False
+        self._is_resized = False
 
     def open(self) -> None:
         """Shows the alternate screen, and takes over the signals."""
@@ -56,6 +63,7 @@ class Terminal:
         for number in ENDING:
             signal.signal(number, self._end)
         signal.signal(signal.SIGTSTP, self._stop)
+        signal.signal(signal.SIGWINCH, self._resize)
         self._is_open = True
         self._enter()
 
@@ -101,6 +109,19 @@ class Terminal:
         if self._is_interrupted:
             self._is_interrupted = False
             raise Ended(signal.SIGINT)
+
+    def _resize(self, number: int, frame: Optional[FrameType]) -> None:
+        self._is_resized = True
+
+    def _heed_size(self) -> None:
+        """Shows the screen again if the terminal got another size, which may have cut it."""
+        if not self._is_resized:
+            return
+        self._is_resized = False
+        if self.tells_size:
+            raise Resized
+        if not self.is_plain:
+            self._put("".join([CLEAR, *self._written]))
 
     @contextlib.contextmanager
     def aside(self) -> Iterator[None]:
@@ -153,6 +174,7 @@ class Terminal:
         while self._source not in select.select([self._source, self._woken], [], [])[0]:
             os.read(self._woken, 64)
             self.heed_interrupt()
+            self._heed_size()
         try:
             typed = os.read(self._source, 1)
         except OSError:

@@ -1,0 +1,221 @@
+"""Where an owner who reads only the screen could go astray: papers that don't work, results that say too much, and what may be destroyed."""
+from browsers import Failed
+from entry import with_words as of_sound
+from refusals import changed, paste
+from tasks import FINGERPRINT, PASSPHRASE, SOUND_PAPER, THREE_GROUPS, answer_passphrase, begin, end, fingerprint_of, found_words, plain, read_paper, type_damaged, type_paper
+from texts import counted, say
+
+
+def papers_of(plan):
+    """Returns the papers of a backup without a passphrase, by the plain reading."""
+    plan = plain.parse_plan(plan)
+    shares = plain.create(plan, bytes(range(16)), b"", 0, False, bytes(range(plain.random_needed(plan, 16))))
+    return [plain.mnemonic(share) for share in shares]
+
+
+def name_of(line):
+    share = plain.parse(line.encode())
+    return f"{share['group']}.{share['member']}"
+
+
+def with_words(line, changes):
+    """Returns a paper with other words at some places, counted from 1."""
+    words = line.split()
+    for place, word in changes.items():
+        words[place - 1] = word
+    return " ".join(words)
+
+
+def silent(page, text):
+    """Checks that a text isn't on the screen."""
+    if text in page.text():
+        raise Failed(f"this is shown, and shouldn't be: {text!r}")
+
+
+def take(page, lines):
+    """Pastes papers that are taken."""
+    for line in lines:
+        paste(page, line)
+        page.wait_text(say("collect.taken", name=name_of(line)))
+
+
+def clear(page):
+    page.push(say("clear"))
+    page.wait_title(say("home.title"))
+
+
+def leave_out(page, papers):
+    """Pastes paper 0.3 with a wrong word, and paper 0.4 with two words that changed places, and empties the fields."""
+    words = papers[4].split()
+    paste(page, with_words(papers[3], {17: "acid"}))
+    page.wait_text("If the paper says the same, it is miswritten: 'Read a damaged paper'")
+    page.push(say("entry.empty"))
+    paste(page, with_words(papers[4], {9: words[9], 10: words[8]}))
+    page.wait_text("If they agree, the paper itself is wrong")
+    page.push(say("entry.empty"))
+
+
+def check_left_out(page, see):
+    """Papers that were begun and left out are counted in the result, until they are typed soundly. Those that were tried are named."""
+    papers = papers_of("2/3of5,1of1")
+    noted = fingerprint_of(papers, "")
+    begin(page, "check")
+    page.wait_text("Have the passphrase at hand too, if there is one, and the fingerprint that you noted.")
+    silent(page, "Type the words in their order")
+    leave_out(page, papers)
+    take(page, [*papers[:3], papers[5]])
+    for left, more in [(2, [papers[3]]), (1, [papers[4]]), (0, [])]:
+        page.push(say("collect.end"))
+        answer_passphrase(page, None, noted)
+        page.push(say("drill.start"))
+        page.push(say("continue"))
+        page.wait_title(say("check.done.left_out" if left else "check.done.good"))
+        names = [name_of(line) for line in papers if line in papers[:3] + papers[5:] or line == papers[3] and left < 2 or not left]
+        page.wait_text(say("verdict.papers", names=", ".join(names)))
+        if left:
+            page.wait_text(counted(left, "left"))
+            see(f"{left} papers that were left out")
+            page.push(say("collect.back"))
+            page.wait_title(say("check.title"))
+            take(page, more)
+        else:
+            silent(page, "left out")
+    end(page)
+    begin(page, "recover")
+    take(page, papers[:1])
+    page.go_to("textbox", say("entry.word", number=1))
+    page.type(" ".join(papers[1].split()[:12]) + " ")
+    page.push(say("collect.end"))
+    page.push(say("collect.unread.drop"))
+    page.wait_title(say("recover.few"))
+    page.wait_text(counted(1, "left"))
+    end(page)
+
+
+def check_impossible(page, see):
+    """A paper that no backup has is never offered, though its words fit. A line stands for what can't be read."""
+    line = changed(SOUND_PAPER, group=12, group_count=10, group_threshold=7)
+    begin(page, "damaged")
+    paste(page, with_words(line, {5: "?", 6: "?", 7: "?"}))
+    page.wait_text(say("damaged.impossible", name="12.0", groups=counted(10, "group")))
+    silent(page, say("damaged.write", name="12.0"))
+    silent(page, say("damaged.one", name="12.0"))
+    see("a paper that no backup has")
+    type_damaged(page, of_sound({7: "_", 9: "fr__"}))
+    page.wait_text(say("damaged.sure", name="0.0"))
+    page.wait(lambda: "length" in found_words(page) and "fridge" in found_words(page), "the words in place of lines")
+    clear(page)
+
+
+def check_repaired(page, see):
+    """A repaired paper that is wrong: it's blamed, and not the good ones. If no drill shows that it is right, the damaged one is to be kept."""
+    line = changed(THREE_GROUPS[0], value=bytes(16))
+    begin(page, "damaged")
+    paste(page, with_words(line, {6: "?"}))
+    page.push(say("damaged.write", name="0.0"))
+    page.wait_title(say("paper.title", name="0.0"))
+    read_paper(page)
+    page.push(say("clear"))
+    page.wait_text("destroy only a paper written now and not typed back. Keep all others: your old ones, and those typed back.")
+    silent(page, say("clear.unfinished"))
+    page.push(say("clear.stay"))
+    page.push(say("paper.written"))
+    type_paper(page, line)
+    page.wait_title(say("damaged.check.title"))
+    paste(page, changed(THREE_GROUPS[1], exponent=3))
+    page.wait_text("Most likely paper 0.0 is wrong, of which words were found and not read.")
+    silent(page, "is of another backup, or forged")
+    see("a repaired paper is blamed")
+    page.push(say("entry.empty"))
+    take(page, THREE_GROUPS[1:4])
+    page.push(say("collect.end"))
+    answer_passphrase(page, PASSPHRASE, FINGERPRINT)
+    page.push(say("drill.start"))
+    page.push(say("continue"))
+    page.wait_title(say("check.done.some"))
+    page.wait_text(say("damaged.keep"))
+    end(page)
+
+
+def fill(page, fields):
+    """Types numbers into the fields of a plan, in place of what stands there."""
+    for name, value in fields:
+        page.go_to("spinbutton", name)
+        page.evaluate("document.activeElement.select()")
+        page.press("Backspace")
+        page.type(value)
+    page.push(say("continue"))
+
+
+def check_lost(page, see):
+    """The only paper of a group without which nothing is recovered: nothing else gives it. No more is said to be there than is known."""
+    papers = papers_of("2/3of5,1of1")
+    begin(page, "replace")
+    page.choose(say("replace.other"))
+    page.push(say("continue"))
+    page.wait_text("Destroy the old papers too, but only if no wallet uses them without a passphrase, or with another one")
+    page.wait_text("or if you don't have enough of them to recover it. Then make a new wallet while the old one still works")
+    page.push(say("back"))
+    page.choose(say("replace.destroyed"))
+    page.push(say("continue"))
+    take(page, papers[:4])
+    page.push(say("collect.end"))
+    fill(page, [(say("replace.needed", group=1), "1"), (say("replace.members", group=1), "1")])
+    page.wait_text("1.0: No other papers give it. If your wallet still works, make a new wallet, and move your money to it.")
+    silent(page, "Or it takes")
+    see("a paper that nothing else gives")
+    page.push(say("back"))
+    for name in (say("replace.needed", group=1), say("replace.members", group=1)):
+        page.go_to("spinbutton", name)
+        page.evaluate("document.activeElement.select()")
+        page.press("Backspace")
+    fill(page, [(say("replace.members", group=0), "5")])
+    page.push(say("replace.write", name="0.4"))
+    page.wait_title(say("paper.title", name="0.4"))
+    page.push(say("paper.written"))
+    type_paper(page, papers[4])
+    page.wait_title(say("replace.which"))
+    page.wait_text("No paper of group 0 is missing: you typed all of them.")
+    page.push(say("replace.end"))
+    page.wait_title(say("replace.done"))
+    end(page)
+    begin(page, "replace")
+    page.choose(say("replace.destroyed"))
+    page.push(say("continue"))
+    take(page, papers_of("2of3")[:2])
+    page.push(say("collect.end"))
+    fill(page, [(say("replace.members.only"), "16")])
+    page.push(say("replace.write", name="0.2"))
+    page.wait_title(say("paper.title", name="0.2"))
+    page.wait_text(say("takes.papers", needed=2))
+    silent(page, "of the 16 papers")
+    page.push(say("clear"))
+    page.push(say("clear.yes"))
+    page.wait_title(say("home.title"))
+
+
+def check_without(page, see):
+    """A passphrase that wasn't typed isn't said to be mistyped. A paper of another backup is known by its first words."""
+    for task, title, text in [
+        ("check", "check.done.other.none", "You typed no passphrase: most likely the backup has one."),
+        ("recover", "recover.done.other", "Most likely the backup has a passphrase: try again, and type it."),
+    ]:
+        begin(page, task)
+        take(page, THREE_GROUPS[:1])
+        paste(page, SOUND_PAPER)
+        page.wait_text("its first two words differ")
+        page.push(say("entry.empty"))
+        take(page, THREE_GROUPS[1:4])
+        page.push(say("collect.end"))
+        answer_passphrase(page, None, FINGERPRINT)
+        if task == "check":
+            page.push(say("drill.start"))
+            page.push(say("continue"))
+        page.wait_title(say(title))
+        page.wait_text(text)
+        silent(page, "passphrase is mistyped")
+        see(f"{task} without the passphrase")
+        end(page)
+
+
+CHECKS = [check_left_out, check_impossible, check_repaired, check_lost, check_without]

@@ -1,0 +1,413 @@
+"""Where an owner who reads only the screen could go astray: papers that don't work, results that say too much, and questions whose honest
+answer must lead on."""
+from hands import END, Failed, counted, say
+from refusals import NUMBERED, changed, end_by_keys, started, word_prompt
+from slips import papers_of, sure
+from tasks import FINGERPRINT, PASSPHRASE, SIGN, SOUND_PAPER, THREE_GROUPS, Owner, fingerprint_of, name_of, paper_prompt
+
+PLAN = "2/3of5,1of1"
+
+
+def with_words(line, changes):
+    """Returns a paper with other words at some places, counted from 1."""
+    words = line.split()
+    for place, word in changes.items():
+        words[place - 1] = word
+    return " ".join(words)
+
+
+def swapped(line, place):
+    words = line.split()
+    return with_words(line, {place: words[place], place + 1: words[place - 1]})
+
+
+def silent(owner, text):
+    """Checks that a text wasn't shown since the last `forget`."""
+    if text in owner.emulator.all_seen():
+        raise Failed(f"this is shown, and shouldn't be: {text!r}")
+
+
+def leave_out_two(owner, papers):
+    """Types paper 0.3 with a wrong word, and paper 0.4 with two words that changed places, and leaves both out."""
+    owner.answer(paper_prompt(1), with_words(papers[3], {17: "acid"}))
+    owner.wait(word_prompt(17))
+    owner.expect("If the paper says the same, it is miswritten: type ?")
+    owner.answer(word_prompt(17), SIGN)
+    owner.answer(paper_prompt(1), swapped(papers[4], 9))
+    owner.wait(NUMBERED)
+    owner.expect("If they agree, the paper itself is wrong: type ? for up to three words that may be.")
+    owner.answer(NUMBERED, SIGN)
+
+
+def check_left_out():
+    """Papers that were begun and left out are counted in the result, until they are typed soundly. Those that were tried are named."""
+    papers = papers_of(PLAN)
+    noted = fingerprint_of(papers, "")
+    with started("check") as owner:
+        owner.wait(paper_prompt(1))
+        owner.expect("Have the passphrase at hand too, if there is one, and the fingerprint that you noted.")
+        leave_out_two(owner, papers)
+        owner.collect([*papers[:3], papers[5]])
+        for left, more, title in [(2, papers[3], "left_out"), (1, papers[4], "left_out"), (0, "", "good")]:
+            owner.forget()
+            owner.passphrase("", noted)
+            owner.wait(say("next.good"))
+            owner.expect(say(f"check.done.{title}"))
+            names = [name_of(line) for line in papers if left == 0 or line in papers[:3] + papers[5:] or (left == 1 and line == papers[3])]
+            owner.expect(say("verdict.papers", names=", ".join(names)))
+            silent(owner, say("check.done.good" if left else "check.done.left_out"))
+            silent(owner, "left out" if not left else "The papers that you typed have no others")
+            if left:
+                owner.expect(counted(left, "left"))
+                owner.answer(say("next.good"), "p")
+                number = 7 - left
+                owner.type_paper(paper_prompt(number), more)
+                owner.reply(paper_prompt(number + 1), "")
+        owner.answer(say("next.good"), "")
+        owner.end(0)
+
+
+def check_too_few():
+    """Too few papers: those that were left out are told. A paper that is typed at the question whether to type more is the next one."""
+    papers = papers_of(PLAN)
+    for task in ("check", "recover", "replace"):
+        with started(task) as owner:
+            if task == "replace":
+                owner.answer(say("replace.how"), "1")
+            leave_out_two(owner, papers)
+            owner.collect(papers[:1])
+            owner.wait(say("more.papers"))
+            owner.expect(counted(2, "left"))
+            owner.answer(say("more.papers"), "perhaps")
+            owner.answer(say("more.papers"), papers[1])
+            owner.wait(paper_prompt(3))
+            owner.expect(say("collect.taken", name="0.1"))
+            end_by_keys(owner)
+
+
+def check_miswritten():
+    """A word that the paper says wrongly: the found word is taken, beside the one that the paper says."""
+    papers = papers_of(PLAN)
+    with started("check") as owner:
+        owner.answer(paper_prompt(1), with_words(papers[3], {17: "acid"}))
+        owner.answer(word_prompt(17), "?")
+        owner.wait(sure("0.3"))
+        owner.expect(f"{say('entry.place', number=17)}: {papers[3].split()[16]} {say('entry.place.typed', word='acid')}")
+        owner.expect(say("entry.miswritten"))
+        owner.answer(sure("0.3"), "y")
+        owner.wait(paper_prompt(2))
+        owner.expect(say("collect.row.repaired", name="0.3", words=20))
+        owner.answer(paper_prompt(2), swapped(papers[4], 9))
+        owner.answer(NUMBERED, "9 ? 10 ?")
+        owner.answer(sure("0.4"), "y")
+        owner.answer(paper_prompt(3), with_words(papers[0], {11: "emrald"}))
+        owner.answer(word_prompt(11), "?")
+        owner.wait(sure("0.0"))
+        owner.expect(say("entry.place.typed", word="emrald"))
+        owner.answer(sure("0.0"), "y")
+        owner.type_paper(paper_prompt(4), papers[5])
+        owner.forget()
+        owner.answer(paper_prompt(5), "")
+        owner.passphrase("", fingerprint_of(papers, ""))
+        owner.wait(say("next.good"))
+        owner.expect(say("check.done.damaged"))
+        owner.expect("The papers 0.3, 0.4, 0.0 can't be read in full, or are miswritten.")
+        silent(owner, say("check.done.good"))
+        end_by_keys(owner)
+
+
+def check_instead():
+    """A new backup in place of an old one: old papers may still give another wallet, and a recovery may be impossible."""
+    with started("replace") as owner:
+        owner.answer(say("replace.how"), "2")
+        owner.wait(say("screen.end"))
+        owner.expect("If they are the same, destroy the digits that you wrote down. Destroy the old papers too, but only if no wallet uses them")
+        owner.expect("or if you don't have enough of them to recover it. Then make a new wallet while the old one still works")
+        owner.answer(say("screen.end"), "")
+        owner.end(0)
+
+
+def check_letter():
+    """The letter that goes back elsewhere, as a passphrase: the program asks. No answer to a question about a passphrase shows."""
+    first, again, ask = say("new.passphrase"), say("new.passphrase.again"), say("passphrase.ask")
+    back = f"{say('passphrase.back')} {say('screen.yes.back')}"
+    papers = papers_of("1of1")
+    with started("new", "1of1") as owner:
+        owner.answer(say("new.secret"), "")
+        owner.answer(first, "b")
+        owner.answer(back, "b")
+        owner.answer(say("new.secret"), "")
+        owner.answer(first, "B")
+        owner.answer(back, "n")
+        owner.answer(first, "TREZOR ")
+        space = f"{say('passphrase.space.last')} (y/n)"
+        owner.answer(space, "TREZOR ")
+        owner.answer(space, "n")
+        owner.answer(first, "b")
+        owner.answer(back, "y")
+        owner.answer(again, "b")
+        line = owner.written()[0]
+        owner.answer(say("screen.next"), "")
+        owner.answer(say("back.ask", name="0.0"), line)
+        owner.answer(say("noted.done"), "")
+        owner.wait(say("screen.end"))
+        owner.expect("It has a passphrase: keep that in another place.")
+        owner.expect(say("make.note", plan="1of1"))
+        if b"TREZOR" in owner.raw:
+            raise Failed("a passphrase shows that was typed in place of an answer")
+        owner.answer(say("screen.end"), "")
+        owner.end(0)
+    if name_of(line) != "0.0" or fingerprint_of([line], "b") == fingerprint_of([line], ""):
+        raise Failed("the passphrase isn't the letter")
+    for task in ("check", "recover"):
+        with started(task) as owner:
+            owner.collect(papers)
+            owner.answer(ask, "b")
+            owner.answer(back, "b")
+            owner.answer(paper_prompt(2), "")
+            owner.answer(ask, "b")
+            owner.answer(back, "y")
+            owner.answer(say("noted.ask"), fingerprint_of(papers, "b"))
+            if task == "recover":
+                owner.answer(f"{say('recover.show')} (y/n)", "n")
+            owner.answer(say("next.good"), "")
+            owner.end(0)
+
+
+def check_without():
+    """A backup without a passphrase says so. 'quorum' is explained, a paper is said to be typed back in one way, and plans have examples."""
+    with started("new", "3/5") as owner:
+        for plan in ("2-of-3", "2/3OF5,1of1"):
+            owner.wait(say("new.plan.choose"))
+            owner.expect("2of3, or 2/3of5,1of1 with groups.")
+            owner.forget()
+            owner.answer(say("new.plan.choose"), plan)
+        owner.wait(say("new.plan.choose"))
+        owner.expect("This isn't a plan. Plans are typed so: 2of3")
+        owner.answer(say("new.plan.choose"), "1of1")
+        owner.answer(say("new.secret"), "")
+        owner.answer(say("new.passphrase"), "")
+        owner.answer(f"{say('new.passphrase.none')} {say('screen.yes.back')}", "y")
+        line = owner.written()[0]
+        owner.answer(say("screen.next"), "")
+        owner.wait(say("back.ask", name="0.0"))
+        silent(owner, "Type the words in their order")
+        owner.answer(say("back.ask", name="0.0"), line)
+        owner.wait(say("noted.done"))
+        owner.expect("A quorum is a set of papers that is just enough.")
+        owner.answer(say("noted.done"), "")
+        owner.wait(say("screen.end"))
+        owner.expect("This backup has no passphrase.")
+        silent(owner, "if there is one, in another place")
+        owner.answer(say("screen.end"), "")
+        owner.end(0)
+
+
+def check_end():
+    """Once a paper was typed, Ctrl-C and Ctrl-D ask, and a second Ctrl-C ends. What may be destroyed is told in full."""
+    for task, keys in [("check", "\x03"), ("recover", "\x04"), ("replace", "\x03")]:
+        with started(task) as owner:
+            if task == "replace":
+                owner.answer(say("replace.how"), "1")
+            owner.type_paper(paper_prompt(1), THREE_GROUPS[0])
+            owner.wait(paper_prompt(2))
+            owner.type(keys)
+            owner.wait(END)
+            owner.expect(say("end.typed"))
+            owner.answer(END, "n")
+            owner.wait(paper_prompt(2))
+            owner.expect(say("collect.taken", name="0.0"))
+            owner.type(keys)
+            owner.wait(END)
+            owner.type("\x03")
+            owner.was_asked = True
+            owner.end(130)
+    with started("repair") as owner:
+        owner.answer(say("damaged.ask"), with_words(SOUND_PAPER, {7: "?"}))
+        owner.wait(say("damaged.menu"))
+        owner.type("\x03")
+        owner.wait(END)
+        owner.answer(END, "n")
+        owner.answer(say("damaged.menu"), "e")
+        owner.end(0)
+
+
+def check_impossible():
+    """A paper that no backup has is never offered, though its words fit."""
+    line = changed(SOUND_PAPER, group=12, group_count=10, group_threshold=7)
+    told = say("damaged.impossible", name="12.0", groups="10 groups")
+    marks = with_words(line, {5: "?", 6: "?", 7: "?"})
+    with started("repair") as owner:
+        owner.answer(say("damaged.ask"), marks)
+        owner.answer(say("damaged.menu.none"), "w")
+        owner.expect(told)
+        owner.answer(say("damaged.menu.none"), "c")
+        owner.answer(NUMBERED, SOUND_PAPER)
+        owner.answer(say("damaged.menu"), "e")
+        owner.end(0)
+    with started("check") as owner:
+        owner.answer(paper_prompt(1), marks)
+        owner.wait(NUMBERED)
+        owner.expect(told)
+        end_by_keys(owner)
+
+
+def check_repaired():
+    """A repaired paper that is wrong: it's blamed, and not the good ones. If no drill shows that it is right, the damaged one is to be kept."""
+    line = changed(THREE_GROUPS[0], value=bytes(16))
+    with started("repair") as owner:
+        owner.answer(say("damaged.ask"), with_words(line, {6: "?"}))
+        owner.answer(say("damaged.menu"), "w")
+        owner.answer(sure("0.0"), "n")
+        owner.answer(say("damaged.menu"), "w")
+        owner.answer(sure("0.0"), "y")
+        owner.answer(say("new.write"), "")
+        owner.type_paper(say("back.ask", name="0.0"), line)
+        owner.type_paper(paper_prompt(2), changed(THREE_GROUPS[1], exponent=3))
+        owner.wait(paper_prompt(2))
+        owner.expect("Most likely paper 0.0 is wrong, of which words were found and not read.")
+        silent(owner, "is of another backup, or forged")
+        for number, one in enumerate(THREE_GROUPS[1:4], 2):
+            owner.type_paper(paper_prompt(number), one)
+        owner.answer(paper_prompt(5), "")
+        owner.passphrase(PASSPHRASE, FINGERPRINT)
+        owner.wait(say("next.papers"))
+        owner.expect(say("damaged.keep"))
+        owner.answer(say("next.papers"), "e")
+        owner.end(0, "closed.repaired")
+
+
+def check_lost():
+    """The only paper of a group without which nothing is recovered: nothing else gives it. No paper of a group is said to be missing when
+    others are, and no number of papers is made of a forgotten one."""
+    papers = papers_of(PLAN)
+    with started("replace") as owner:
+        owner.answer(say("replace.how"), "1")
+        owner.collect(papers[:4])
+        owner.answer(say("replace.groups.ask"), "1")
+        owner.answer(say("replace.ask.needed", group=1), "1")
+        owner.wait(say("replace.choose"))
+        owner.expect("1.0: No other papers give it. If your wallet still works, make a new wallet, and move your money to it.")
+        silent(owner, "Or it takes")
+        owner.answer(say("replace.choose"), "b")
+        owner.answer(say("replace.groups.ask"), "0")
+        owner.answer(say("replace.ask.group", group=0, needed=3), "5")
+        owner.answer(say("replace.choose"), "0.4")
+        owner.answer(say("new.write"), "")
+        owner.type_paper(say("back.ask", name="0.4"), papers[4])
+        owner.wait(say("replace.choose"))
+        owner.expect("No paper of group 0 is missing: you typed all of them.")
+        owner.type("\x03")
+        owner.wait(END)
+        owner.expect("destroy only a paper written now and not typed back. Keep all others: your old ones, and those typed back.")
+        owner.answer(END, "n")
+        owner.forget()
+        owner.answer(say("replace.choose"), "")
+        owner.wait(say("more.papers"))
+        owner.expect(say("replace.done"))
+        silent(owner, say("replace.few"))
+        owner.answer(say("more.papers"), "e")
+        owner.end(0)
+    with started("replace") as owner:
+        two = papers_of("2of3")
+        owner.answer(say("replace.how"), "1")
+        owner.collect(two[:2])
+        owner.answer(say("replace.ask", needed=2), "16")
+        owner.answer(say("replace.choose"), "0.2")
+        owner.wait(say("new.write"))
+        owner.expect(say("takes.papers", needed=2))
+        silent(owner, "of the 16 papers")
+        end_by_keys(owner)
+
+
+def check_unsaid():
+    """What a terminal that can't be cleared does, a passphrase that wasn't typed, and a paper of another backup."""
+    with Owner("new", "1of1", TERM="dumb") as owner:
+        owner.prepare()
+        owner.answer(say("new.secret"), "")
+        owner.answer(say("new.passphrase"), "")
+        owner.answer(f"{say('new.passphrase.none')} {say('screen.yes.back')}", "y")
+        owner.wait(say("new.write.plain"))
+        if b"cleared then" in owner.raw:
+            raise Failed("words are said to be cleared that stay")
+        end_by_keys(owner)
+    for task, told in [("check", "You typed no passphrase: most likely the backup has one."), ("recover", "Most likely the backup has a passphrase: try again, and type it.")]:
+        with started(task) as owner:
+            owner.type_paper(paper_prompt(1), THREE_GROUPS[0])
+            owner.type_paper(paper_prompt(2), SOUND_PAPER)
+            owner.wait(paper_prompt(2))
+            owner.expect("its first two words differ")
+            for number, line in enumerate(THREE_GROUPS[1:4], 2):
+                owner.type_paper(paper_prompt(number), line)
+            owner.forget()
+            owner.answer(paper_prompt(5), "")
+            owner.passphrase("", FINGERPRINT)
+            owner.wait(say("next.again"))
+            owner.expect(told)
+            silent(owner, "With this passphrase")
+            silent(owner, "the passphrase is mistyped")
+            end_by_keys(owner)
+
+
+def check_line():
+    """A line that stands for a word that can't be read is a question mark."""
+    with started("check") as owner:
+        owner.answer(paper_prompt(1), with_words(SOUND_PAPER, {7: "_", 9: "fr__"}))
+        owner.wait(sure("0.0"))
+        owner.expect(f"{say('entry.place', number=7)}: length")
+        owner.expect(f"{say('entry.place', number=9)}: fridge")
+        end_by_keys(owner)
+
+
+def check_size():
+    """A terminal that gets another size shows a paper anew, and any other screen as it was."""
+    with Owner("new", "1of1", columns=80, rows=24) as owner:
+        owner.prepare()
+        owner.answer(say("new.secret"), "")
+        owner.answer(say("new.passphrase"), "")
+        owner.answer(f"{say('new.passphrase.none')} {say('screen.yes.back')}", "y")
+        owner.wait(say("new.write"))
+        words = owner.words()
+        for columns, rows in [(40, 30), (80, 24)]:
+            owner.resize(columns, rows)
+            owner.wait(say("new.write"))
+            if owner.words() != words:
+                raise Failed(f"with {columns} columns, the words of a paper are {owner.words()!r}")
+        owner.resize(40, 12)
+        while owner.pull(0.5):
+            pass
+        owner.resize(80, 24)
+        owner.wait(say("new.write"))
+        if owner.words() != words:
+            raise Failed("after the terminal was small, words of a paper are missing")
+        owner.answer(say("new.write"), "")
+        owner.wait(say("screen.next"))
+        shown = owner.screen()
+        owner.resize(40, 30)
+        owner.resize(80, 24)
+        owner.wait(say("screen.next"))
+        if owner.screen() != shown:
+            raise Failed(f"after another size, the screen shows {owner.screen()!r}, and not {shown!r}")
+        end_by_keys(owner)
+
+
+CHECKS = [
+    check_left_out,
+    check_too_few,
+    check_miswritten,
+    check_instead,
+    check_letter,
+    check_without,
+    check_end,
+    check_impossible,
+    check_repaired,
+    check_lost,
+    check_unsaid,
+    check_line,
+    check_size,
+]
+
+
+def check(see):
+    for one in CHECKS:
+        one()
