@@ -85,7 +85,7 @@ export async function drillWithPassphrase(desk, status, kind, title, isRepaired 
       continue;
     }
     const keep = isRepaired && FAULTY.includes(verdict.result) ? paragraph(say("damaged.keep"), "note") : null;
-    const answer = await tellVerdict(verdict, noted, [...saidTried(verdict, status), await saidLeftOut(desk), keep]);
+    const answer = await tellVerdict(verdict, noted, { tried: saidTried(verdict, status), left: await saidLeftOut(desk), keep });
     if (answer !== "again") return answer;
     fault = "";
   }
@@ -96,25 +96,27 @@ export async function drillWithPassphrase(desk, status, kind, title, isRepaired 
  *
  * @param {Verdict} verdict
  * @param {string} noted
- * @param {(HTMLElement | null)[]} more what is said of the papers
+ * @param {{tried: HTMLElement[], left: HTMLElement | null, keep: HTMLElement | null}} papers what is said of the papers that were tried,
+ *   of those that were left out, and of a damaged one
  */
-function tellVerdict({ result, fingerprint, sentences, hasPassphrase }, noted, more) {
+function tellVerdict({ result, fingerprint, sentences, hasPassphrase }, noted, { tried, left, keep }) {
   const isGood = result === "good";
   // Without a noted fingerprint, no result is known to be good.
   const isNoted = noted !== "";
-  const isOther = result === "other" && !hasPassphrase;
   const again = ["other", "none"].includes(result) ? `${say(hasPassphrase ? "check.again" : "check.again.none")} ` : "";
   const told = [
     ...sentences.map((text) => paragraph(text, !isGood ? "bad" : isNoted ? "good" : "")),
-    ...more,
+    ...tried,
+    left,
+    keep,
     isGood ? null : paragraph(again + say(`check.${result}`)),
     ...(isGood && !isNoted && fingerprint ? [paragraph(say("noted.first")), element("p", { class: "fingerprint" }, fingerprint)] : []),
     paragraph(say("close")),
   ];
   const next = { good: "end", stopped: "again", other: "again", none: "again", some: "papers", several: "papers" }[result];
-  const isLeft = more.some((it) => it?.classList.contains("bad"));
-  const kind = isGood ? (!isNoted ? "same" : isLeft ? "left_out" : "good") : isOther ? "other.none" : result;
-  return askWhatNext(say(`check.done.${kind}`), told, next, isGood && isNoted);
+  const good = !isNoted ? "same" : left ? "left_out" : "good";
+  const wrong = result === "other" && !hasPassphrase ? "other.none" : result;
+  return askWhatNext(say(`check.done.${isGood ? good : wrong}`), told, next, isGood && isNoted);
 }
 
 /**

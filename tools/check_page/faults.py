@@ -72,7 +72,7 @@ FAULTS = [
     ("a refusal chooses another secret", "page/make_backup.js", "new SecretFields(chosen.source, ", 'new SecretFields("new16", ', of_page(lambda page: refusals.check_values(page, unseen))),
     ("digits aren't compared with the noted fingerprint", "page/desk.js", 'if (noted !== "" && noted !== fingerprint)', "if (false)", of_page(lambda page: refusals.check_values(page, unseen))),
     ("digits are typed once", "page/make_backup.js", 'return typed === again ? this.#noted.missing() : say("secret.differ");', "return this.#noted.missing();", of_page(lambda page: refusals.check_values(page, unseen))),
-    ("without a noted fingerprint, no fault is found", "page/check_papers.js", '!isNoted ? "same" : isLeft', "isLeft", of_page(lambda page: tasks.check_replace(page, unseen))),
+    ("without a noted fingerprint, no fault is found", "page/check_papers.js", 'const good = !isNoted ? "same" : left', "const good = left", of_page(lambda page: tasks.check_replace(page, unseen))),
     ("no more papers can be typed", "page/collect.js", '{ key: "papers", label: say("collect.more"), kind: "primary" },', "", of_page(lambda page: refusals.check_papers(page, unseen))),
     ("digits of a wrong secret", "page/recover.js", 'which === "other" ? [] :', "false ? [] :", of_page(lambda page: tasks.check_recover(page, unseen))),
     ("a bad checksum names no word", "page/desk.js", "wipe(...engine.repairBytes(line));", "engine.version();", of_page(lambda page: refusals.check_papers(page, unseen))),

@@ -35,7 +35,7 @@ def leave_out_two(owner, papers):
     owner.answer(word_prompt(17), SIGN)
     owner.answer(paper_prompt(1), swapped(papers[4], 9))
     owner.wait(NUMBERED)
-    owner.expect("If they agree, the paper itself is wrong: type ? for up to three words that may be.")
+    owner.expect("If they agree, the paper itself is wrong: type ? for up to three words that may be wrong.")
     owner.answer(NUMBERED, SIGN)
 
 
@@ -65,6 +65,21 @@ def check_left_out():
                 owner.reply(paper_prompt(number + 1), "")
         owner.answer(say("next.good"), "")
         owner.end(0)
+
+
+def check_refused():
+    """A sound paper of another backup is left out too. If an owner takes a paper out and types it again, it counts as before."""
+    with started("check") as owner:
+        owner.collect([THREE_GROUPS[3]])
+        owner.answer(say("more.papers"), "")
+        owner.type_paper(paper_prompt(2), SOUND_PAPER)
+        owner.type_paper(paper_prompt(2), THREE_GROUPS[4])
+        owner.reply(paper_prompt(3), "")
+        owner.passphrase(PASSPHRASE, FINGERPRINT)
+        owner.wait(say("next.good"))
+        owner.expect(say("check.done.left_out"))
+        owner.expect(counted(1, "left"))
+        end_by_keys(owner)
 
 
 def check_too_few():
@@ -151,7 +166,7 @@ def check_letter():
         owner.answer(say("back.ask", name="0.0"), line)
         owner.answer(say("noted.done"), "")
         owner.wait(say("screen.end"))
-        owner.expect("It has a passphrase: keep that in another place.")
+        owner.expect("This backup has a passphrase: keep it in another place.")
         owner.expect(say("make.note", plan="1of1"))
         if b"TREZOR" in owner.raw:
             raise Failed("a passphrase shows that was typed in place of an answer")
@@ -393,6 +408,7 @@ def check_size():
 
 CHECKS = [
     check_left_out,
+    check_refused,
     check_too_few,
     check_miswritten,
     check_instead,

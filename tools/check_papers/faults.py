@@ -3,6 +3,7 @@ import pathlib
 import shutil
 import tempfile
 
+import astray
 import ends
 import hands
 import looks
@@ -35,17 +36,17 @@ FAULTS = [
     ("digits aren't compared with the noted fingerprint", "secret", "if not noted or gives(Tried((), fingerprint, None), noted):", "if True:", lambda see: steps.check_new()),
     ("a paper that is here is beyond the plan", "replace", "if members > last:", "if True:", lambda see: steps.check_replace()),
     ("groups that aren't wanted are told of", "replace", "if name not in here and int(name.split(\".\")[0]) in wanted]", "if name not in here]", lambda see: steps.check_replace()),
-    ("Enter alone drops words that were found", "repair", '"t": "again"', '"": "again", "t": "again"', lambda see: steps.check_repair()),
+    ("Enter alone drops words that were found", "repair", '{"w": "0"}), "c": "change", "t": "again"', '{"w": "0"}), "c": "change", "": "again", "t": "again"', lambda see: steps.check_repair()),
     ("an answer where the screen is full is lost", "screen", "self._begun += self._held_on(lambda: first_key(self._terminal))", "self._held_on(lambda: first_key(self._terminal))", lambda see: steps.check_full()),
     ("the last line is wider than the screen", "__main__", "wrapped(text, max(1, terminal.size.columns - 1))", "[text]", looks.check),
     ("a damaged paper isn't named at the end", "collect", "    names = desk.damaged\n", "    names: list[str] = []\n", lambda see: slips.check_damaged()),
-    ("the number of papers can't be given again", "replace", "chosen, _likely(answers), has_back=True)", "chosen, _likely(answers))", lambda see: slips.check_number()),
+    ("the number of papers can't be given again", "replace", '"d" if len(answers) == 1 else None, has_back=True)', '"d" if len(answers) == 1 else None)', lambda see: slips.check_number()),
     ("without a noted fingerprint, a passphrase is typed once", "questions", "        if noted or not desk.passphrase:", "        if True:", lambda see: slips.check_twice()),
     ("Ctrl-C ends half written papers at once", "screen", "self._held, self._terminal.is_held = text, bool(text)", 'self._held, self._terminal.is_held = "", False', lambda see: ends.check_written()),
     ("a backup that is made is called unfinished", "new", '        desk.written = "made"\n', "", lambda see: ends.check_written()),
     ("a paper isn't shown again while it is typed back", "entry", "            if not begun and self._show is not None:", "            if False:", lambda see: slips.check_written_wrongly()),
     ("typing back asks for question marks", "shown", 'Entry(screen, len(paper.words), "back", show_again)', 'Entry(screen, len(paper.words), "", show_again)', lambda see: slips.check_written_wrongly()),
-    ("words that are typed too early clear a paper", "shown", '        if screen.pause(say("new.write")):\n            break\n', '        screen.pause(say("new.write"))\n        break\n', lambda see: slips.check_written_wrongly()),
+    ("words that are typed too early clear a paper", "shown", 'tells_size=True):\n                break\n', 'tells_size=True) or True:\n                break\n', lambda see: slips.check_written_wrongly()),
     ("words that have no place are lost", "entry", 'begun = f"{text.rstrip()} " if text.strip() else ""', 'begun = ""', lambda see: refusals.check_words()),
     ("all words with a number that is there twice are lost", "entry", "        return found\n\n    def _whole", "        if misplaced:\n            raise Begun\n        return found\n\n    def _whole", lambda see: refusals.check_numbers()),
     ("words that don't fit are lost", "entry", "            return self._whole(self._again(marks, None))", "            raise Begun", lambda see: refusals.check_open_words()),
@@ -55,6 +56,21 @@ FAULTS = [
     ("a paper without which nothing is recovered isn't told", "plan", "    if plan.needed < len(plan.groups):", "    if True:", lambda see: slips.check_plans()),
     ("a plan without the number of groups isn't explained", "new", "if GROUPS.fullmatch(text) and", "if False and", lambda see: slips.check_plans()),
     ("a wrong digit is shown", "secret", 'say("secret.not_hex", place=wrong)', 'say("secret.not_hex", place=typed.decode())', lambda see: steps.check_new()),
+    ("a paper that was left out is forgotten", "entry", "        self._leave([mark for mark in self._marks if mark])\n", "", lambda see: astray.check_left_out()),
+    ("a paper that is refused beside others is forgotten", "collect", "    desk.leave_out(paper.words)\n", "", lambda see: astray.check_refused()),
+    ("a word that the paper says isn't told", "found", 'if number in typed else ""', 'if False else ""', lambda see: astray.check_miswritten()),
+    ("a letter is taken for a passphrase", "questions", "if typed.lower() == BACK.encode() and", "if False and", lambda see: astray.check_letter()),
+    ("what is typed in place of an answer shows", "questions", "if edge == b\" \" and not screen.agree(say(key), is_hidden=True):", "if edge == b\" \" and not screen.agree(say(key)):", lambda see: astray.check_letter()),
+    ("a paper that no backup has is offered", "desk", "return self.group < self.group_count", "return True", lambda see: astray.check_impossible()),
+    ("a good paper is blamed for a repaired one", "refusals", "    if not repaired:\n", "    if True:\n", lambda see: astray.check_repaired()),
+    ("the damaged paper isn't kept", "__main__", '"closed.repaired" if written == "repaired" else', '"closed.repaired" if False else', lambda see: astray.check_repaired()),
+    ("complete groups are asked for that there can't be", "replace", '"all" if plan.needed == len(plan.groups) else ""', '""', lambda see: astray.check_lost()),
+    ("a passphrase that wasn't typed is called mistyped", "drill", 'if result == "other" and not has_passphrase:', "if False:", lambda see: astray.check_unsaid()),
+    ("Ctrl-C ends at once though papers were typed", "collect", "    if not screen.is_held:\n", "    if False:\n", lambda see: astray.check_end()),
+    ("a paper at the question for more is lost", "collect", "if not typed or len(parts_of(typed)) > 1:", "if not typed:", lambda see: astray.check_too_few()),
+    ("a line for an unreadable word is lost", "spelling", 'word = piece.lstrip("0123456789")', 'word = piece.lstrip("0123456789_")', lambda see: astray.check_line()),
+    ("another size cuts a paper", "terminal", "        if self.tells_size:\n            raise Resized\n", "", lambda see: astray.check_size()),
+    ("another size cuts a screen", "terminal", '            self._put("".join([CLEAR, *self._written]))', "            pass", lambda see: astray.check_size()),
     ("the digits of another secret are shown", "recover", "digits = secret.hex()", "digits = secret[::-1].hex()", tasks.check),
 ]
 

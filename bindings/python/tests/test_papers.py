@@ -16,6 +16,7 @@ if sys.version_info < (3, 10):
 
 import shamir  # noqa: E402
 import shamir.papers  # noqa: E402
+from shamir.papers.desk import Desk, paper_of  # noqa: E402
 from shamir.papers.drill import verdict_of  # noqa: E402
 from shamir.papers.entry import Entry, said_count  # noqa: E402
 from shamir.papers.found import ask_paper  # noqa: E402
@@ -275,10 +276,28 @@ class EntryTests(unittest.TestCase):
         self.assertEqual(self.read("\n".join(["- " + word for word in ONE.split()]).replace("\n", " "))[0], ONE)
 
 
+class DeskTests(unittest.TestCase):
+    def test_left_out(self):
+        desk = Desk()
+        desk.leave_out(FIVE[0].split()[:5])
+        self.assertEqual(desk.left_out, 0)
+        for line in [FIVE[0], FIVE[1], FIVE[0].replace(FIVE[0].split()[8], "acid")]:
+            desk.leave_out(line.split())
+        self.assertEqual(desk.left_out, 2)
+        for left, line in [(1, FIVE[1]), (1, FIVE[2]), (0, FIVE[0])]:
+            desk.add(paper_of(line))
+            self.assertEqual(desk.left_out, left)
+        self.assertTrue(desk.drop(desk.papers[-1].name))
+        self.assertEqual(desk.left_out, 1)
+        desk.clear()
+        self.assertEqual(desk.left_out, 0)
+
+
 class SpellingTests(unittest.TestCase):
     def test_marks(self):
         self.assertEqual([mark for _, mark in parts_of("1. Shadow 2) PISTOL,acad ? em?? 3shadow")], ["shadow", "pistol", "acad", "?", "em?", "shadow"])
         self.assertEqual(parts_of(" 12 .. "), [])
+        self.assertEqual(parts_of("_ acad __ 7 em_? 8. ___"), [(None, "?"), (None, "acad"), (None, "?"), (7, "em?"), (8, "?")])
 
     def test_parts(self):
         self.assertEqual(parts_of("7 shadow, 9. acid"), [(7, "shadow"), (9, "acid")])
@@ -482,6 +501,8 @@ class VerdictTests(unittest.TestCase):
         for outcomes, result, key in [((False, False), "other", "verdict.other"), ((False, None), "none", "verdict.none"), ((None, None), "some", "verdict.nothing")]:
             found = verdict(*outcomes)
             self.assertEqual((found.result, found.sentences), (result, [say(key, quorums="2 quorums")]))
+        untyped = verdict_of([Tried(("0.0",), None, None, False)], 1, "01234567", False, False, has_passphrase=False)
+        self.assertEqual((untyped.sentences, untyped.names), ([say("verdict.other.none", quorums="1 quorum")], ("0.0",)))
         for outcomes in [(True, False), (True, None), (False, True)]:
             self.assertEqual(verdict(*outcomes).result, "some")
             self.assertNotIn("Every", " ".join(verdict(*outcomes).sentences))
