@@ -238,6 +238,13 @@ def check_end():
             owner.was_asked = True
             owner.end(130)
     with started("repair") as owner:
+        owner.answer(say("damaged.ask"), with_words(SOUND_PAPER, {7: "acid"}))
+        owner.answer(word_prompt(7), "?")
+        owner.wait(say("damaged.menu"))
+        owner.expect(f"{say('entry.place', number=7)}: length {say('entry.place.typed', word='acid')}")
+        owner.expect(say("entry.miswritten"))
+        end_by_keys(owner)
+    with started("repair") as owner:
         owner.answer(say("damaged.ask"), with_words(SOUND_PAPER, {7: "?"}))
         owner.wait(say("damaged.menu"))
         owner.type("\x03")

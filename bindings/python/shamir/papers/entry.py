@@ -39,9 +39,9 @@ class Entry:
         leave: Callable[[List[str]], None] = lambda words: None,
     ):
         self._screen, self.wanted, self._task, self._show, self._leave = screen, wanted, task, show, leave
-        # What was typed so far, and the words that a question mark has taken the place of, by their numbers.
+        # What was typed so far, and by their numbers the words that a question mark has taken the place of.
         self._marks: List[str] = []
-        self._replaced: Dict[int, str] = {}
+        self.replaced: Dict[int, str] = {}
         self._list = shamir.words("")
         # Whether the owner was asked for words that follow, and typed some.
         self._is_continued = False
@@ -57,7 +57,7 @@ class Entry:
             if name is not None:
                 return [DROP + name]
             parts, self._is_continued = parts_of(text), False
-            self._marks, self._replaced = [], {}
+            self._marks, self.replaced = [], {}
             if not parts and not text.strip():
                 return []
             try:
@@ -77,7 +77,7 @@ class Entry:
         """Returns the paper of marks. If the owner doesn't take the words that were found, marks are changed. Returns None if the owner
         begins the paper again."""
         while marks:
-            paper = ask_paper(self._screen, marks, self._replaced)
+            paper = ask_paper(self._screen, marks, self.replaced)
             if paper is not None:
                 return paper
             marks = self.changed(marks)
@@ -236,7 +236,7 @@ class Entry:
 
     def _note_replaced(self, marks: Sequence[str], new: Dict[int, str]) -> None:
         """Takes note of the words that question marks take the place of."""
-        self._replaced |= {number: marks[number - 1] for number, mark in new.items() if mark.endswith("?") and marks[number - 1].isalpha()}
+        self.replaced |= {number: marks[number - 1] for number, mark in new.items() if mark.endswith("?") and marks[number - 1].isalpha()}
 
     def _unknown(self, number: int, mark: str) -> str:
         if "?" in mark:

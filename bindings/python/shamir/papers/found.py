@@ -27,11 +27,16 @@ def ask_paper(screen: Screen, marks: List[str], typed: Mapping[int, str] = {}) -
             screen.tell(say("damaged.which", number=number, name=fit.name))
         show_found(screen, fit, marks, typed)
     screen.tell(said_limits(marks))
-    if any(mark.endswith("?") and number in typed for number, mark in enumerate(marks, 1)):
-        screen.tell(say("entry.miswritten"))
+    tell_miswritten(screen, marks, typed)
     if len(fits) == 1:
         return fits[0] if screen.agree(say("damaged.sure", name=fits[0].name)) else None
     return screen.choose(say("entry.take.which"), {"0": None, "1": fits[0], "2": fits[1]})
+
+
+def tell_miswritten(screen: Screen, marks: Sequence[str], typed: Mapping[int, str]) -> None:
+    """Says what it means if the paper says what was typed before at an open place."""
+    if any(mark.endswith("?") and number in typed for number, mark in enumerate(marks, 1)):
+        screen.tell(say("entry.miswritten"))
 
 
 def possible(screen: Screen, fits: Sequence[Paper]) -> List[Paper]:

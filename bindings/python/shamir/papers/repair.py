@@ -1,13 +1,13 @@
 """The task 'repair': the library finds the words of a damaged paper that can't be read, or says where words may be wrong."""
 from __future__ import annotations
 
-from typing import List, Optional, Tuple
+from typing import List, Mapping, Optional, Tuple
 
 import shamir
 from shamir.papers.check import collect_and_check
 from shamir.papers.desk import Desk, Paper, paper_of
 from shamir.papers.entry import Entry
-from shamir.papers.found import possible, repaired, said_limits, show_found
+from shamir.papers.found import possible, repaired, said_limits, show_found, tell_miswritten
 from shamir.papers.plan import said_takes_alone
 from shamir.papers.screen import Screen
 from shamir.papers.shown import write_and_type_back
@@ -48,15 +48,15 @@ def _choose(screen: Screen, entry: Entry, marks: List[str]) -> Tuple[str, List[P
         line = " ".join(marks)
         screen.hold(say("end.typed"))
         fits = possible(screen, [repaired(fit) for fit in shamir.repair(line)]) if "?" in line else [paper_of(line)]
-        chosen = _tell(screen, fits, marks)
+        chosen = _tell(screen, fits, marks, entry.replaced)
         if chosen != "change":
             return chosen, fits
         marks = entry.changed(marks)
     return "again", []
 
 
-def _tell(screen: Screen, fits: List[Paper], marks: List[str]) -> str:
-    """Shows the papers that fit. Returns the place of the one to be written anew, or 'change', 'again' or 'end'."""
+def _tell(screen: Screen, fits: List[Paper], marks: List[str], typed: Mapping[int, str]) -> str:
+    """Shows the papers that fit, and what was typed before at open places. Returns the place of the one to be written anew, or 'change', 'again' or 'end'."""
     is_two = len(fits) > 1
     if not fits:
         return screen.choose(say("damaged.menu.none"), {"c": "change", "t": "again", "e": "end"})
@@ -67,11 +67,12 @@ def _tell(screen: Screen, fits: List[Paper], marks: List[str]) -> str:
     for number, fit in enumerate(fits, 1):
         if is_two:
             screen.tell(say("damaged.which", number=number, name=fit.name), "strong")
-        show_found(screen, fit, marks)
+        show_found(screen, fit, marks, typed)
     is_open = any("?" in mark for mark in marks)
     if is_open:
         screen.tell(say("damaged.compare"))
         screen.tell(said_limits(marks))
+        tell_miswritten(screen, marks, typed)
     else:
         screen.tell(say("damaged.whole"))
     screen.tell(say("damaged.next"))
