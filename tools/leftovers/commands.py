@@ -18,7 +18,7 @@ IN_FILE = "FILE:"
 CUT_OFF, FULL = How(is_cut=True), How(is_full=True)
 UNKNOWN_WORD = 13
 # Each command needs less of the stack than this, and `main` takes more before it reads anything.
-SHORT = 400 << 10
+SHORT = 344 << 10
 
 
 @dataclass(frozen=True)

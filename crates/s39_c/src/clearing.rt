@@ -3,7 +3,7 @@
 /// How many words of 64 bits a KiB has.
 const KIB: usize = 128;
 
-pub(crate) const WORDS: usize = 6 * KIB;
+pub(crate) const WORDS: usize = 8 * KIB;
 
 pub(crate) const PARSE: usize = 8 * KIB;
 
