@@ -140,7 +140,8 @@ fn drill(
 ) -> ShamirAnswer
     ensures drills { GivesDrill (λ kind names n. IsDrillOutput kind passphrase.now names n (whole lines.now))
         after.now limit form expected.now text.old text.new result }
-    ensures complete { GivesDrill (λ kind names n. DrillsCreated kind passphrase.now names n (whole lines.now))
+    ensures complete { GivesDrill
+        (λ kind names n. DrillsCreated kind passphrase.now names n (whole lines.now))
         after.now limit form expected.now text.old text.new result }
 {
     if limit == 0 {

@@ -148,8 +148,8 @@ pub fn a_most_of_15_refuses_nothing()
         → UpTo most lines old new answer
         (GivesExpectedSecret (λ noted. IsRecoverOutput Digits noted passphrase (whole lines)) digits old new answer)
         → GivesExpectedSecret (λ noted. IsRecoverOutput Digits noted passphrase (whole lines)) digits old new answer }
-    ensures drills { (most : ℕ) (passphrase lines cursor : List ℕ) (limit number : ℕ) (digits old new : List ℕ)
-        (answer : Answer) → 15 ≤ most
+    ensures drills { (most : ℕ) (passphrase lines cursor : List ℕ) (limit number : ℕ)
+        (digits old new : List ℕ) (answer : Answer) → 15 ≤ most
         → UpTo most lines old new answer
         (GivesDrill (λ form names n. IsDrillOutput form passphrase names n (whole lines))
         cursor limit number digits old new answer)

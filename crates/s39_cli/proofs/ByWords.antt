@@ -270,7 +270,8 @@ module _ {R W : Type 0} (told : Told) (remaining : R → Option (List ℕ)) (con
       → Ends told remaining contents source words reader writer ended → OnEnd ended (Delivers remaining contents (WordsWrite words) reader writer)
   reissue plan listed are is_plan written =
       begins (reissue_words_are_taken plan listed words are) (reissue_plain plan listed words are)
-      (λ j given gives. reissue_ready source plan listed gives.0 gives.1 (reissue_found plan listed words are gives.0 gives.1 gives.2) is_plan written j gives.3)
+      (λ j given gives. reissue_ready source plan listed gives.0 gives.1 (reissue_found plan listed words are gives.0 gives.1 gives.2)
+      is_plan written j gives.3)
 
 -- what words write, and what is known of it
 pub with_known : {R W : Type 0} (remaining : R → Option (List ℕ)) (contents : W → Option (List ℕ)) (words : List Text) (reader : R) (writer : W)

@@ -64,7 +64,8 @@ module _ {R W : Type 0} (told : Told) (remaining : R → Option (List ℕ)) (con
       taken = λ _. inr (call, gives, does);
     }
 
-    pub ends_typed : (ended : Ended R W) → IsTyped source call.job → ended ≡ With 2 reader writer → Ends told remaining contents source words reader writer ended
+    pub ends_typed : (ended : Ended R W) → IsTyped source call.job → ended ≡ With 2 reader writer
+        → Ends told remaining contents source words reader writer ended
     ends_typed ended typed same =
         subst (Ends told remaining contents source words reader writer) (sym same) (ends_by_call 2 reader writer (inl (typed, (refl, refl, refl))))
 

@@ -145,7 +145,8 @@ module _ (written : (form : SecretForm) (asked : Asked) (random text : List ℕ)
     → IsRecoverOutput form None passphrase input text answer → IsRecoverOutput form None passphrase input other another
     → (text ≡ other) × (answer ≡ another)) where
   pub few_created_words_recover : FewCreatedWordsRecover
-  few_created_words_recover form plan secret p e again creating recovering random text output status are also alike (j, given, gives, (answer, created, is)) recovers =
+  few_created_words_recover form plan secret p e again creating recovering random text output status are also alike
+      (j, given, gives, (answer, created, is)) recovers =
       let found = creation_found plan secret p e creating are gives.0 gives.1 gives.2 in
       let done = creation_of plan secret p random text gives.0 gives.1 j _ _ found gives.3
       (ap or_empty (gives.4.secret_is ∙ ap (λ (f : Found). f.secret) found))

@@ -34,7 +34,8 @@ reissue_of plan listed input text status name rows (job.Reissue p n) s w found g
           (subst (λ (t : Text). Reissues t n.now input text output.0) same output.1),
       is ∙ ap status_of output.2,
     )
-reissue_of plan listed input text status name rows j s w found gives answer output is = absurd (other_job (codes "reissue") name rows j refl (ap (λ (f : Found). f.name) found) gives)
+reissue_of plan listed input text status name rows j s w found gives answer output is = absurd
+    (other_job (codes "reissue") name rows j refl (ap (λ (f : Found). f.name) found) gives)
 
 reissued : (set : List ShareFields) (group_threshold : ℕ) (groups : List Members) (backup : List ShareFields) (names : Names) (text : List ℕ)
     (plain : Result (Unit {0}) Fault) (status : ℕ) → WritesThoseOrCause set group_threshold groups backup names text plain

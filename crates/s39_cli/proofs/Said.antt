@@ -135,7 +135,8 @@ module _ {E : Type 0} (contents : E → Option (List ℕ)) where
           absurd (work_sound w is.0 is.1 is.2.0 is.2.1 (sym is.2.2 ∙ none) bad.1)
 
   -- a run whose devices are known
-  pub said_by_work : {R W : Type 0} (remaining : R → Option (List ℕ)) (held : W → Option (List ℕ)) (j : Job) (secret : Text) (types tells asks : Bool) (w : Work)
+  pub said_by_work : {R W : Type 0} (remaining : R → Option (List ℕ)) (held : W → Option (List ℕ)) (j : Job) (secret : Text)
+      (types tells asks : Bool) (w : Work)
       (answer : Result Bool Fault) (reader read_to : R) (writer written_to : W) (ended : Ended R W) (old mid new : Messages E)
       → IsReady j secret → (asks ≡ types) ⊎ ((asks ≡ false) × HasBadPassphrase w)
       → Delivers remaining held (HasStatus (IsWorkOutput w)) reader writer (status_of answer) read_to written_to

@@ -59,7 +59,8 @@ WordsCompare words noted passphrase after limit input text status =
 
 -- the words of a drill that expects a fingerprint write that
 abbrev pub ExpectingDrillWordsCompare : Type 0
-ExpectingDrillWordsCompare = (expected passphrase after limit : Text) (noted : NotedFingerprint) (words : List Text) (input : Input) (text : List ℕ) (status : ℕ)
+ExpectingDrillWordsCompare = (expected passphrase after limit : Text) (noted : NotedFingerprint) (words : List Text) (input : Input)
+    (text : List ℕ) (status : ℕ)
     → AreExpectingDrillWords expected passphrase after limit words → noted_in expected ≡ Ok noted → WordsWrite words input text status
     → ComparesBackup noted passphrase after (limit_of limit) input text status
 

@@ -131,7 +131,8 @@ create_words_are_few plan secret p words are = record {
   passphrase_given = are.passphrase_given;
   exponent_given = refl;
   plan_given = are.plan_given;
-  words_are = are.words_are ∙ ap (λ (l : List Text). are.program ∷ codes "create" ∷ (l ++ plan ∷ [])) (sym (append-nil (are.secret_words ++ are.passphrase_words)));
+  words_are = are.words_are ∙ ap (λ (l : List Text). are.program ∷ codes "create" ∷ (l ++ plan ∷ []))
+      (sym (append-nil (are.secret_words ++ are.passphrase_words)));
 }
 
 -- an exponent that isn't given is 0

@@ -116,27 +116,42 @@ unfolding shamir_app
 holds Digits w a None None None None one = record { fits = λ is. tt; completes = record { defaults = refl; valid = refl }; found = refl }
 holds Digits w a None None None (Some n) one = record { fits = λ is. (tt, rw is); completes = record { defaults = refl; valid = refl }; found = refl }
 holds Digits w a None None (Some q) None one = record { fits = λ is. (tt, refl); completes = record { defaults = refl; valid = refl }; found = refl }
-holds Digits w a None None (Some q) (Some n) one = record { fits = λ is. ((tt, refl), rw is); completes = record { defaults = refl; valid = refl }; found = refl }
+holds Digits w a None None (Some q) (Some n) one = record
+    { fits = λ is. ((tt, refl), rw is); completes = record { defaults = refl; valid = refl }; found = refl }
 holds Digits w a None (Some p) None None one = record { fits = λ is. (tt, refl); completes = record { defaults = refl; valid = refl }; found = refl }
-holds Digits w a None (Some p) None (Some n) one = record { fits = λ is. ((tt, refl), rw is); completes = record { defaults = refl; valid = refl }; found = refl }
-holds Digits w a None (Some p) (Some q) None one = record { fits = λ is. ((tt, refl), refl); completes = record { defaults = refl; valid = refl }; found = refl }
-holds Digits w a None (Some p) (Some q) (Some n) one = record { fits = λ is. (((tt, refl), refl), rw is); completes = record { defaults = refl; valid = refl }; found = refl }
+holds Digits w a None (Some p) None (Some n) one = record
+    { fits = λ is. ((tt, refl), rw is); completes = record { defaults = refl; valid = refl }; found = refl }
+holds Digits w a None (Some p) (Some q) None one = record
+    { fits = λ is. ((tt, refl), refl); completes = record { defaults = refl; valid = refl }; found = refl }
+holds Digits w a None (Some p) (Some q) (Some n) one = record
+    { fits = λ is. (((tt, refl), refl), rw is); completes = record { defaults = refl; valid = refl }; found = refl }
 holds Digits w a (Some e) None None None one = record { fits = λ is. (tt, refl); completes = record { defaults = refl; valid = refl }; found = refl }
-holds Digits w a (Some e) None None (Some n) one = record { fits = λ is. ((tt, refl), rw is); completes = record { defaults = refl; valid = refl }; found = refl }
-holds Digits w a (Some e) None (Some q) None one = record { fits = λ is. ((tt, refl), refl); completes = record { defaults = refl; valid = refl }; found = refl }
-holds Digits w a (Some e) None (Some q) (Some n) one = record { fits = λ is. (((tt, refl), refl), rw is); completes = record { defaults = refl; valid = refl }; found = refl }
-holds Digits w a (Some e) (Some p) None None one = record { fits = λ is. ((tt, refl), refl); completes = record { defaults = refl; valid = refl }; found = refl }
-holds Digits w a (Some e) (Some p) None (Some n) one = record { fits = λ is. (((tt, refl), refl), rw is); completes = record { defaults = refl; valid = refl }; found = refl }
-holds Digits w a (Some e) (Some p) (Some q) None one = record { fits = λ is. (((tt, refl), refl), refl); completes = record { defaults = refl; valid = refl }; found = refl }
-holds Digits w a (Some e) (Some p) (Some q) (Some n) one = record { fits = λ is. ((((tt, refl), refl), refl), rw is); completes = record { defaults = refl; valid = refl }; found = refl }
+holds Digits w a (Some e) None None (Some n) one = record
+    { fits = λ is. ((tt, refl), rw is); completes = record { defaults = refl; valid = refl }; found = refl }
+holds Digits w a (Some e) None (Some q) None one = record
+    { fits = λ is. ((tt, refl), refl); completes = record { defaults = refl; valid = refl }; found = refl }
+holds Digits w a (Some e) None (Some q) (Some n) one = record
+    { fits = λ is. (((tt, refl), refl), rw is); completes = record { defaults = refl; valid = refl }; found = refl }
+holds Digits w a (Some e) (Some p) None None one = record
+    { fits = λ is. ((tt, refl), refl); completes = record { defaults = refl; valid = refl }; found = refl }
+holds Digits w a (Some e) (Some p) None (Some n) one = record
+    { fits = λ is. (((tt, refl), refl), rw is); completes = record { defaults = refl; valid = refl }; found = refl }
+holds Digits w a (Some e) (Some p) (Some q) None one = record
+    { fits = λ is. (((tt, refl), refl), refl); completes = record { defaults = refl; valid = refl }; found = refl }
+holds Digits w a (Some e) (Some p) (Some q) (Some n) one = record
+    { fits = λ is. ((((tt, refl), refl), refl), rw is); completes = record { defaults = refl; valid = refl }; found = refl }
 holds Fingerprint w a None None None None one = record { fits = λ is. tt; completes = record { defaults = refl; valid = refl }; found = refl }
 holds Fingerprint w a None None None (Some n) one = record { fits = λ is. (tt, rw is); completes = record { defaults = refl; valid = refl }; found = refl }
 holds Fingerprint w a None None (Some q) None one = record { fits = λ is. (tt, refl); completes = record { defaults = refl; valid = refl }; found = refl }
-holds Fingerprint w a None None (Some q) (Some n) one = record { fits = λ is. ((tt, refl), rw is); completes = record { defaults = refl; valid = refl }; found = refl }
+holds Fingerprint w a None None (Some q) (Some n) one = record
+    { fits = λ is. ((tt, refl), rw is); completes = record { defaults = refl; valid = refl }; found = refl }
 holds Fingerprint w a None (Some p) None None one = record { fits = λ is. (tt, refl); completes = record { defaults = refl; valid = refl }; found = refl }
-holds Fingerprint w a None (Some p) None (Some n) one = record { fits = λ is. ((tt, refl), rw is); completes = record { defaults = refl; valid = refl }; found = refl }
-holds Fingerprint w a None (Some p) (Some q) None one = record { fits = λ is. ((tt, refl), refl); completes = record { defaults = refl; valid = refl }; found = refl }
-holds Fingerprint w a None (Some p) (Some q) (Some n) one = record { fits = λ is. (((tt, refl), refl), rw is); completes = record { defaults = refl; valid = refl }; found = refl }
+holds Fingerprint w a None (Some p) None (Some n) one = record
+    { fits = λ is. ((tt, refl), rw is); completes = record { defaults = refl; valid = refl }; found = refl }
+holds Fingerprint w a None (Some p) (Some q) None one = record
+    { fits = λ is. ((tt, refl), refl); completes = record { defaults = refl; valid = refl }; found = refl }
+holds Fingerprint w a None (Some p) (Some q) (Some n) one = record
+    { fits = λ is. (((tt, refl), refl), rw is); completes = record { defaults = refl; valid = refl }; found = refl }
 holds Fingerprint w a (Some e) p q n one = absurd (let bad : true ≡ false = ap is_fingerprint one in cc)
 holds (Expected noted) w a e p q n one = absurd a
 
@@ -188,7 +203,8 @@ few_is_drill form p q n words are = record {
   after_given = are.after_given;
   limit_given = are.limit_given;
   words_are = are.words_are
-      ∙ ap (λ (l : List Text). are.program ∷ codes "drill" ∷ (l ++ are.passphrase_words ++ are.after_words ++ are.limit_words)) (sym (append-nil are.form_words));
+      ∙ ap (λ (l : List Text). are.program ∷ codes "drill" ∷ (l ++ are.passphrase_words ++ are.after_words ++ are.limit_words))
+      (sym (append-nil are.form_words));
 }
 
 pub expecting_is_drill : (e p q n : Text) (words : List Text) → AreExpectingDrillWords e p q n words

@@ -29,8 +29,8 @@ use std::io::{Read, Write};
 /// This holds for all devices, even if they don't tell their bytes. `recover` refuses a passphrase only if a byte of it
 /// isn't printable, and names the first such byte.
 pub fn refusals_have_causes<R: Read, W: Write>()
-    ensures recover { (form : SecretForm) (expected : Option NotedFingerprint) (passphrase : List ℕ) (reader read_to : Counted R)
-        (writer written_to : Counted W) (bad : BadPassphrase)
+    ensures recover { (form : SecretForm) (expected : Option NotedFingerprint) (passphrase : List ℕ)
+        (reader read_to : Counted R) (writer written_to : Counted W) (bad : BadPassphrase)
         → Runs R.remaining W.contents (IsRecoverOutput form expected passphrase) reader read_to writer written_to
         (Err (fault_of (Passphrase bad)))
         → IsFirstUnprintable passphrase bad.position }
@@ -38,8 +38,8 @@ pub fn refusals_have_causes<R: Read, W: Write>()
 
 /// If a run of `recover` answers without a read, its answer is right for every input. This holds for all devices.
 pub fn unread_inputs_decide_nothing<R: Read, W: Write>()
-    ensures recover { (form : SecretForm) (expected : Option NotedFingerprint) (passphrase : List ℕ) (reader read_to : Counted R)
-        (writer written_to : Counted W) (answer : Result (Unit {0}) Fault)
+    ensures recover { (form : SecretForm) (expected : Option NotedFingerprint) (passphrase : List ℕ)
+        (reader read_to : Counted R) (writer written_to : Counted W) (answer : Result (Unit {0}) Fault)
         → Runs R.remaining W.contents (IsRecoverOutput form expected passphrase) reader read_to
         writer written_to answer
         → read_to.reads ≡ reader.reads → read_to.failures ≡ reader.failures → (input : Input)
@@ -48,8 +48,8 @@ pub fn unread_inputs_decide_nothing<R: Read, W: Write>()
 
 /// An input has at most one output of `recover` with a passphrase: one text, and one answer.
 pub fn one_recover_output()
-    ensures { (form : SecretForm) (expected : Option NotedFingerprint) (passphrase : List ℕ) (input : Input) (text other : List ℕ)
-        (answer another : Result (Unit {0}) Fault)
+    ensures { (form : SecretForm) (expected : Option NotedFingerprint) (passphrase : List ℕ) (input : Input)
+        (text other : List ℕ) (answer another : Result (Unit {0}) Fault)
         → IsRecoverOutput form expected passphrase input text answer
         → IsRecoverOutput form expected passphrase input other another
         → (text ≡ other) × (answer ≡ another) }

@@ -51,8 +51,8 @@ pub fn written_mnemonics_recover()
 
 /// What `recover` gives for mnemonics of a created backup is at most one text and one answer.
 pub fn one_output_of_a_backup()
-    ensures recover { (form : SecretForm) (expected : Option NotedFingerprint) (passphrase secret : List ℕ) (input : Input) (text other : List ℕ)
-        (answer another : Result (Unit {0}) Fault) → HoldsMnemonicsOf passphrase secret input
+    ensures recover { (form : SecretForm) (expected : Option NotedFingerprint) (passphrase secret : List ℕ)
+        (input : Input) (text other : List ℕ) (answer another : Result (Unit {0}) Fault) → HoldsMnemonicsOf passphrase secret input
         → RecoversCreated form expected passphrase input text answer
         → RecoversCreated form expected passphrase input other another
         → (text ≡ other) × (answer ≡ another) }

@@ -118,5 +118,6 @@ module _ (group_threshold : ℕ) (groups : List Members) (names : Names) where
           let f = from_set read shares same in
           let share_set : IsShareSet f.set = subst (λ r. IfOk r IsShareSet) f.read_is is in
           each-values (given f.set group_threshold groups) (IsNameOfPlan groups) IsShare
-          (λ name share in_plan so. are_shares f.set group_threshold groups name share share_set plan in_plan (given_share f.set group_threshold groups name share so))
+          (λ name share in_plan so. are_shares f.set group_threshold groups name share share_set plan in_plan
+          (given_share f.set group_threshold groups name share so))
           names shares f.named f.each_is

@@ -54,7 +54,8 @@ module _ (of_plan : (set : List ShareFields) (passphrase secret : List ℕ) → 
         → All (IsDetermined set backup.group_threshold backup.groups) some
     all_determined =
         each-all gives (IsDetermined set backup.group_threshold backup.groups)
-        (λ name share so. determined set backup.group_threshold backup.groups name share is (given_share set backup.group_threshold backup.groups name share so))
+        (λ name share so. determined set backup.group_threshold backup.groups name share is
+        (given_share set backup.group_threshold backup.groups name share so))
 
     -- no digest refuses what a share is computed from
     missing_cause : set ≢ [] → (fault : Fault) (first : IsStopped gives names fault) (error : ReissueError)

@@ -118,7 +118,8 @@ module _ (agree : (set earlier : List ShareFields) (share : ShareFields) (passph
       → mnemonics.group_threshold ≡ group_threshold → mnemonics.groups ≡ groups → All (IsNameOfPlan groups) names
       → ReissuesCreated group_threshold groups names input text answer → ReissuesCreated group_threshold groups names input other another
       → (text ≡ other) × (answer ≡ another)
-  reissues_once one_set one_printed_form group_threshold groups names passphrase secret input text other answer another mnemonics threshold_is groups_are named p q =
+  reissues_once one_set one_printed_form group_threshold groups names passphrase secret input text other answer another mnemonics
+      threshold_is groups_are named p q =
       let (set, read, gives) = p passphrase secret mnemonics threshold_is groups_are named in
       let (again, read', gives') = q passphrase secret mnemonics threshold_is groups_are named in
       let same = same_set one_set input set again read read' in

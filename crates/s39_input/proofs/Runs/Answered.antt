@@ -45,7 +45,8 @@ module _ {W S H : Type 0} (contents : W → Option (List ℕ)) (Says : List ℕ 
     IsOutput said all text answer = output_behind said all ≡ (text, answer)
 
     -- what the rest of a run writes, how many writes fail, and what its last state follows
-    record Outcome (said : List H) (all : List H × Result (Unit {0}) (Stop LineRefusal)) (old new : S) (answer : Result (Unit {0}) (Stop Unanswered)) : Type 0 where
+    record Outcome (said : List H) (all : List H × Result (Unit {0}) (Stop LineRefusal)) (old new : S)
+        (answer : Result (Unit {0}) (Stop Unanswered)) : Type 0 where
       writes : Writes contents (IsOutput said all) (output old) (output new) (answered (done new) answer)
       failures : (output new).failures ≡ (output old).failures + write_failures (answered (done new) answer)
       follows : (more : List H) × Follows first more new
@@ -97,7 +98,8 @@ module _ {W S H : Type 0} (contents : W → Option (List ℕ)) (Says : List ℕ 
         subst (λ (r : Result H LineRefusal). Outcome said (said_until ended n (r ∷ map say lines)) old new answer) (sym (is_said line (Ok one) says))
         (subst (λ (a : Result (Unit {0}) (Stop Unanswered)). Outcome said (one ∷ rest.0, rest.1) old new a) is (record {
           writes = writes_part contents (IsOutput said (one ∷ rest.0, rest.1)) (output old) (output new) (text_of one ++ flat_map text_of rest.0)
-              (answer_of (answer_to (said ++ one ∷ rest.0)) rest.1) (longer_part contents (output old) (output new) (text_of one) (flat_map text_of rest.0) part)
+              (answer_of (answer_to (said ++ one ∷ rest.0)) rest.1)
+              (longer_part contents (output old) (output new) (text_of one) (flat_map text_of rest.0) part)
               refl;
           failures = part.failure;
           follows = (said ++ [], joins first old new said [] follows further);
@@ -106,11 +108,13 @@ module _ {W S H : Type 0} (contents : W → Option (List ℕ)) (Says : List ℕ 
     -- a run over the lines of an input writes the output, or a beginning of it
     pub run_answered : {R : Type 0} {remaining : R → Option (List ℕ)} {reader read_to : Counted R} (new : S) (stop : Result (Unit {0}) (Stop Unanswered))
         → OfInput remaining reader read_to (λ input. RunsOver Takes input first new stop) → read_to.failures ≡ reader.failures + stop_failures stop
-        → Runs remaining contents (λ input text answer. output_of_each text_of answer_to say input ≡ (text, answer)) reader read_to (output first) (output new) (answered (done new) stop)
+        → Runs remaining contents (λ input text answer. output_of_each text_of answer_to say input ≡ (text, answer)) reader read_to
+        (output first) (output new) (answered (done new) stop)
     run_answered {R} {remaining} {reader} {read_to} new stop over_input failures = record {
       output = OfInput-map over_input (λ input over. (runs input.ended 0 (lines_of input) [] first new stop (stays first) over).writes);
       read_failures_are = failures ∙ ap (λ n. reader.failures + n) (sym (answers_read_failures (done new) stop));
-      write_failures_are = let (input, over) = some_input remaining reader read_to _ over_input in (runs input.ended 0 (lines_of input) [] first new stop (stays first) over).failures;
+      write_failures_are = let (input, over) = some_input remaining reader read_to _ over_input in
+          (runs input.ended 0 (lines_of input) [] first new stop (stays first) over).failures;
     }
 
     -- its last state follows the first

@@ -117,7 +117,8 @@ module _ (line mnemonic : List ℕ) (first : ShareFields) where
   only_one None others one t = t.different (others t.mnemonic t.share t.fits ∙ sym (others t.other t.found t.also_fits))
   only_one (Some found) others one t = cc
 
-  two : (second : Option ShareFields) → Others line mnemonic second → not (is_some second) ≡ false → Fits line mnemonic first → is_skipped line ≡ false → TwoFit line
+  two : (second : Option ShareFields) → Others line mnemonic second → not (is_some second) ≡ false → Fits line mnemonic first
+      → is_skipped line ≡ false → TwoFit line
   two None others fails fits other = absurd (cc)
   two (Some found) (last, also_fits, before, _) fails fits other = record {
     not_skipped = other;
@@ -158,7 +159,8 @@ some_fit_two (line ∷ lines) [] says fails = absurd says
 some_fit_two (line ∷ lines) (h ∷ hs) says fails =
     elim (cases_Bool (fits_one h)) [
       | inl one ↦
-          let rest = some_fit_two lines hs says.1 (sym (ap (λ b. b && list_all fits_one hs) one) ∙ fails) in (rest.0, (suc rest.1.0, omega (arith, rest.1.1), rest.1.2), rest.2)
+          let rest = some_fit_two lines hs says.1 (sym (ap (λ b. b && list_all fits_one hs) one) ∙ fails) in
+          (rest.0, (suc rest.1.0, omega (arith, rest.1.1), rest.1.2), rest.2)
       | inr other ↦ (line, (0, omega arith, refl), two_fit line h says.0 other)
     ]
 

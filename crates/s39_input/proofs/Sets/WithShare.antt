@@ -28,7 +28,8 @@ with_own : (set : List ShareFields) (share : ShareFields) → AllPairs IsBefore 
 with_own [] share ordered among = absurd (omega (arith, among.1))
 with_own (s ∷ set) share ordered among =
     elim (Contains-cases s set share among) [
-      | inl same ↦ ap (λ o. placed o share s set (with_share share set)) (ap (λ (t : ShareFields). name_cmp (name_of s) (name_of t)) (sym same) ∙ same_name (name_of s))
+      | inl same ↦ ap (λ o. placed o share s set (with_share share set))
+          (ap (λ (t : ShareFields). name_cmp (name_of s) (name_of t)) (sym same) ∙ same_name (name_of s))
       | inr later ↦
           ap (λ o. placed o share s set (with_share share set)) (All-contains (IsBefore s) set share (AllPairs-head IsBefore s set ordered) later)
           ∙ ap (λ l. s ∷ l) (with_own set share (AllPairs-tail IsBefore s set ordered) later)

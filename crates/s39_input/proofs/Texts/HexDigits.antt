@@ -156,7 +156,8 @@ read_more digits bytes i worth a b fits room is_a is_b before =
           elim (cases_lt worth 16) [
             | inr earlier ↦ before.refused earlier
             | inl small ↦
-                let error = pair_refused a b (2 * i) (one_large high low (λ h l. let four = or_lt 4 worth joined (omega arith) (or_lt 4 high low h l) in omega arith)) in
+                let error = pair_refused a b (2 * i) (one_large high low
+                (λ h l. let four = or_lt 4 worth joined (omega arith) (or_lt 4 high low h l) in omega arith)) in
                 (error.0, decode_err digits bytes i error.0 fits (rw (← is_a, ← is_b) error.1) (before.read small))
           ];
     }

@@ -15,7 +15,8 @@ use Rattle.s39_input.specs.OfBackup.{HoldsMnemonicsOf}
 use Rattle.s39_reading.specs.Recover.{is_other_than, IsUnwritten, IsSecretOrCause, RecoversCreated}
 use Rattle.s39_input.proofs.Sets.OneSet.{InputsAreReadOnce, same_set}
 
-module _ (one_set : InputsAreReadOnce) (one_lack : SetsHaveOneLack) (no_lack : SetsWithQuorumsHaveNone) (form : SecretForm) (expected : Option NotedFingerprint) where
+module _ (one_set : InputsAreReadOnce) (one_lack : SetsHaveOneLack) (no_lack : SetsWithQuorumsHaveNone) (form : SecretForm)
+    (expected : Option NotedFingerprint) where
   -- a fault is one
   unwritten_once : (set : List ShareFields) (secret : List ℕ) (fault other : Fault) → IsUnwritten expected set secret fault
       → IsUnwritten expected set secret other → fault ≡ other
@@ -41,7 +42,8 @@ module _ (one_set : InputsAreReadOnce) (one_lack : SetsHaveOneLack) (no_lack : S
       (none ∙ sym none', ap Err (unwritten_once set secret f g cause cause'))
 
   pub recovers_once : (passphrase secret : List ℕ) (input : Input) (text other : List ℕ) (answer another : Result (Unit {0}) Fault)
-      → HoldsMnemonicsOf passphrase secret input → RecoversCreated form expected passphrase input text answer → RecoversCreated form expected passphrase input other another
+      → HoldsMnemonicsOf passphrase secret input → RecoversCreated form expected passphrase input text answer
+      → RecoversCreated form expected passphrase input other another
       → (text ≡ other) × (answer ≡ another)
   recovers_once passphrase secret input text other answer another mnemonics p q =
       let (set, read, gives) = p secret mnemonics in

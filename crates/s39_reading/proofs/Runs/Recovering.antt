@@ -71,7 +71,8 @@ module _ (one_lack : SetsHaveOneLack) (no_lack : SetsWithQuorumsHaveNone)
 
 -- every set has a least quorum or a lack
 module _ (quorum_or_lack : (set : List ShareFields) → IsShareSet set
-    → ((names : Names) × IsFirstQuorumAfter set None names) ⊎ ((lack : SetLack) × IsLack set lack)) (form : SecretForm) (expected : Option NotedFingerprint) where
+    → ((names : Names) × IsFirstQuorumAfter set None names) ⊎ ((lack : SetLack) × IsLack set lack)) (form : SecretForm)
+    (expected : Option NotedFingerprint) where
   -- and every quorum an outcome
   pub some_secret : ((set : List ShareFields) (names : Names) (passphrase : List ℕ) → IsShareSet set → IsQuorum set names
       → (outcome : Result (List ℕ) Mismatch) × IsOutcome set names passphrase outcome)

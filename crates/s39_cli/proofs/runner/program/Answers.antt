@@ -8,19 +8,22 @@ use Rattle.s39_cli.proofs.runner.program.Goals as goal
 pub returns-in-Err-clause-ends : goal.returns-in-Err-clause-ends
 returns-in-Err-clause-ends g c =
     let words = map (λ (word : Bor (List ℕ)). word.now) c.args.words.now in
-    ends_without_job (g.S.Shelf.told c.args.shelf.now) g.R.Read.remaining g.W.Write.contents c.args.source words c.args.input c.args.output c.in-Err.no_job c.without_job.result
+    ends_without_job (g.S.Shelf.told c.args.shelf.now) g.R.Read.remaining g.W.Write.contents c.args.source words c.args.input c.args.output
+    c.in-Err.no_job c.without_job.result
     c.in-Err.ensures.answer c.in-Err.ensures.memory c.without_job.ensures.ends
 
 pub returns-then-is_typed-clause-ends : goal.returns-then-is_typed-clause-ends
 returns-then-is_typed-clause-ends g c =
     let words = map (λ (word : Bor (List ℕ)). word.now) c.args.words.now in
-    ends_typed (g.S.Shelf.told c.args.shelf.now) g.R.Read.remaining g.W.Write.contents c.args.source words c.args.input c.args.output c.in-Ok.call c.in-Ok.ensures.call
+    ends_typed (g.S.Shelf.told c.args.shelf.now) g.R.Read.remaining g.W.Write.contents c.args.source words c.args.input c.args.output
+    c.in-Ok.call c.in-Ok.ensures.call
     c.in-Ok.ensures.taken c.in-Ok.ensures.faultless c.typed.result (c.is_typed.ensures.typed c.if-is_typed.true) c.typed.ensures.ends
 
 pub returns-in-Err-read-clause-ends : goal.returns-in-Err-read-clause-ends
 returns-in-Err-read-clause-ends g c =
     let words = map (λ (word : Bor (List ℕ)). word.now) c.args.words.now in
-    ends_unread (g.S.Shelf.told c.args.shelf.now) g.R.Read.remaining g.W.Write.contents c.args.source words c.args.input c.args.output c.in-Ok.call c.in-Ok.ensures.call
+    ends_unread (g.S.Shelf.told c.args.shelf.now) g.R.Read.remaining g.W.Write.contents c.args.source words c.args.input c.args.output
+    c.in-Ok.call c.in-Ok.ensures.call
     c.in-Ok.ensures.taken c.in-Ok.ensures.faultless c.read.new.input c.without_value.result
     (c.in-Err-read.unread.cause ≡ TooLong) (c.is_typed.ensures.untyped c.if-is_typed.false) c.in-Err-read.ensures.failed
     c.in-Err-read.ensures.long c.without_value.ensures.ends
@@ -28,7 +31,8 @@ returns-in-Err-read-clause-ends g c =
 pub returns-clause-ends : goal.returns-clause-ends
 returns-clause-ends g c =
     let words = map (λ (word : Bor (List ℕ)). word.now) c.args.words.now in
-    ends_by_job (g.S.Shelf.told c.args.shelf.now) g.R.Read.remaining g.W.Write.contents c.args.source words c.args.input c.args.output c.in-Ok.call c.in-Ok.ensures.call
+    ends_by_job (g.S.Shelf.told c.args.shelf.now) g.R.Read.remaining g.W.Write.contents c.args.source words c.args.input c.args.output
+    c.in-Ok.call c.in-Ok.ensures.call
     c.in-Ok.ensures.taken c.in-Ok.ensures.faultless (option_map (λ held. held.items) c.in-Ok-read.values.secret)
     (option_map (λ held. held.items) c.in-Ok-read.values.passphrase) c.texts.result.secret.now c.texts.result.passphrase.now c.read.new.input
     c.by_job.result (c.is_typed.ensures.untyped c.if-is_typed.false) c.in-Ok-read.ensures.values c.texts.ensures.secret c.texts.ensures.passphrase

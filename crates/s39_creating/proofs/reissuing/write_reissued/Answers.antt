@@ -14,8 +14,16 @@ returns-in_err-check_names-clause-runs g c =
     let name = c.in_err-check_names.field-0.0 in
     rw (p.1, p.2) (run_whole (nothing_written g.W.Write.contents c.args.output.now)
     (of_nothing g.R.Read.remaining c.args.input.now _ (λ input.
-    let (read, is, set) = c.every_input_is_read.ensures input in
-    (Err _, (read, is, names_refused c.args.plan.now.group_threshold c.args.plan.now.groups.items c.args.names.now c.pairs-pairs.result.now c.pairs-pairs.ensures.same read (name.group, name.member) c.in_err-check_names.ensures.other), (refl, refl))))
+    let (read, is, set) = c.every_input_is_read.ensures input in (
+      Err _,
+      (
+        read,
+        is,
+        names_refused c.args.plan.now.group_threshold c.args.plan.now.groups.items c.args.names.now c.pairs-pairs.result.now
+            c.pairs-pairs.ensures.same read (name.group, name.member) c.in_err-check_names.ensures.other,
+      ),
+      (refl, refl),
+    )))
     (omega arith) refl)
 
 pub returns-in_err-set-clause-runs : goal.returns-in_err-set-clause-runs
@@ -24,7 +32,16 @@ returns-in_err-set-clause-runs g c =
     let stop = c.in_err-set.field-0.0 in
     rw (p.1, p.2) (run_whole (nothing_written g.W.Write.contents c.args.output.now)
     (OfInput-map c.in_err-set.ensures.read
-    (λ input read. (Err _, (Err stop, read, set_refused c.args.plan.now.group_threshold c.args.plan.now.groups.items c.args.names.now c.pairs-pairs.result.now c.pairs-pairs.ensures.same stop c.in_ok-check_names.ensures.all), (refl, refl))))
+    (λ input read. (
+      Err _,
+      (
+        Err stop,
+        read,
+        set_refused c.args.plan.now.group_threshold c.args.plan.now.groups.items c.args.names.now
+            c.pairs-pairs.result.now c.pairs-pairs.ensures.same stop c.in_ok-check_names.ensures.all,
+      ),
+      (refl, refl),
+    )))
     (c.in_err-set.ensures.failures ∙ ap (λ n. c.args.input.now.failures + n) (sym (stop_reads stop))) (stop_writes stop))
 
 pub returns-in_err-created-clause-runs : goal.returns-in_err-created-clause-runs
@@ -37,7 +54,12 @@ returns-in_err-created-clause-runs g c =
     (OfInput-map c.in_ok-set.ensures.read
     (λ input read. (
       Err fault,
-      (Ok c.in_ok-set.set, read, set_gives c.args.plan.now.group_threshold c.args.plan.now.groups.items c.args.names.now c.pairs-pairs.result.now c.pairs-pairs.ensures.same c.in_ok-set.set c.in_ok-check_names.ensures.all c.in_err-created.ensures),
+      (
+        Ok c.in_ok-set.set,
+        read,
+        set_gives c.args.plan.now.group_threshold c.args.plan.now.groups.items c.args.names.now
+            c.pairs-pairs.result.now c.pairs-pairs.ensures.same c.in_ok-set.set c.in_ok-check_names.ensures.all c.in_err-created.ensures,
+      ),
       (refl, refl),
     )))
     (c.in_ok-set.ensures.failures ∙ ap (λ n. c.args.input.now.failures + n) (sym of.reads)) of.writes)
@@ -58,7 +80,12 @@ returns-in_err-write_mnemonics-clause-runs g c =
     (OfInput-map c.in_ok-set.ensures.read
     (λ input read. (
       Ok c.in_ok-created.created,
-      (Ok c.in_ok-set.set, read, set_gives c.args.plan.now.group_threshold c.args.plan.now.groups.items c.args.names.now c.pairs-pairs.result.now c.pairs-pairs.ensures.same c.in_ok-set.set c.in_ok-check_names.ensures.all c.in_ok-created.ensures),
+      (
+        Ok c.in_ok-set.set,
+        read,
+        set_gives c.args.plan.now.group_threshold c.args.plan.now.groups.items c.args.names.now
+            c.pairs-pairs.result.now c.pairs-pairs.ensures.same c.in_ok-set.set c.in_ok-check_names.ensures.all c.in_ok-created.ensures,
+      ),
       (subst (λ shares. ArePrintedLines shares text) c.shares-shares.ensures.shares printed, refl),
     )))
     (omega (arith, c.in_ok-set.ensures.failures)))
@@ -70,7 +97,12 @@ returns-clause-runs g c =
     (OfInput-map c.in_ok-set.ensures.read
     (λ input read. (
       Ok c.in_ok-created.created,
-      (Ok c.in_ok-set.set, read, set_gives c.args.plan.now.group_threshold c.args.plan.now.groups.items c.args.names.now c.pairs-pairs.result.now c.pairs-pairs.ensures.same c.in_ok-set.set c.in_ok-check_names.ensures.all c.in_ok-created.ensures),
+      (
+        Ok c.in_ok-set.set,
+        read,
+        set_gives c.args.plan.now.group_threshold c.args.plan.now.groups.items c.args.names.now
+            c.pairs-pairs.result.now c.pairs-pairs.ensures.same c.in_ok-set.set c.in_ok-check_names.ensures.all c.in_ok-created.ensures,
+      ),
       (subst (λ shares. ArePrintedLines shares text) c.shares-shares.ensures.shares printed, refl),
     )))
     c.in_ok-set.ensures.failures refl

@@ -25,8 +25,10 @@ returns-in_err-secret-clause-runs g c =
     rw (p.1, p.2) (run_whole (nothing_written g.W.Write.contents c.args.output.now)
     (OfInput-map c.in_ok-set.ensures.checked (λ input checked. gives c.in_ok-set.set checked (refuses fault so refl)))
     (c.in_ok-set.ensures.read_failures ∙ ap (λ n. c.args.input.now.failures + n)
-    (sym (recovered_fault (λ f. read_failures_in f.refusal ≡ 0) (λ lack. refl) (λ mismatch. refl) refl c.args.expected c.args.passphrase.now c.in_ok-set.set fault so)))
-    (recovered_fault (λ f. write_failures_in f.refusal ≡ 0) (λ lack. refl) (λ mismatch. refl) refl c.args.expected c.args.passphrase.now c.in_ok-set.set fault so))
+    (sym (recovered_fault (λ f. read_failures_in f.refusal ≡ 0) (λ lack. refl) (λ mismatch. refl) refl c.args.expected c.args.passphrase.now
+    c.in_ok-set.set fault so)))
+    (recovered_fault (λ f. write_failures_in f.refusal ≡ 0) (λ lack. refl) (λ mismatch. refl) refl c.args.expected c.args.passphrase.now
+    c.in_ok-set.set fault so))
 
 pub returns-in_err-write_text-clause-runs : goal.returns-in_err-write_text-clause-runs
 returns-in_err-write_text-clause-runs g c =
@@ -55,7 +57,8 @@ returns-in_err-secret-clause-unread g c = λ bad is.
 -- ---- mnemonics of a created backup
 
 pub returns-in_err-set-clause-created : goal.returns-in_err-set-clause-created
-returns-in_err-set-clause-created g c = Runs-map (returns-in_err-set-clause-runs g c) (c.created_backups_recover.ensures c.args.form c.args.expected c.args.passphrase.now)
+returns-in_err-set-clause-created g c = Runs-map (returns-in_err-set-clause-runs g c)
+    (c.created_backups_recover.ensures c.args.form c.args.expected c.args.passphrase.now)
 
 pub returns-in_err-secret-clause-created : goal.returns-in_err-secret-clause-created
 returns-in_err-secret-clause-created g c =

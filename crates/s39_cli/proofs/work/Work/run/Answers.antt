@@ -50,7 +50,8 @@ returns-in-Recover-clause-runs g c =
     let expected = c.in-Recover.expected in
     subst (λ (w : Work). Runs g.R.Read.remaining g.W.Write.contents (IsWorkOutput w) c.args.input.now c.run_recover.new.input c.args.output.now
     c.run_recover.new.output c.where_done-in-Recover.result) (sym c.in-Recover.is)
-    (Runs-judged g.R.Read.remaining g.W.Write.contents where_done (IsRecoverOutput form expected passphrase.now) (IsWorkOutput (work.Recover passphrase form expected))
+    (Runs-judged g.R.Read.remaining g.W.Write.contents where_done (IsRecoverOutput form expected passphrase.now)
+    (IsWorkOutput (work.Recover passphrase form expected))
     c.args.input.now c.run_recover.new.input c.args.output.now c.run_recover.new.output c.run_recover.result
     c.where_done-in-Recover.result c.run_recover.ensures.runs c.where_done-in-Recover.ensures
     (λ input text full output. (full, output, refl)))
