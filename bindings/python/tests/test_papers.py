@@ -1,5 +1,6 @@
 """Tests parts of `shamir.papers` without a terminal: the entry of words over generated typing, the line editor, plans, quorums, what
 outcomes say together, and the sentences. tools/check_papers tests the program at a terminal."""
+import contextlib
 import pathlib
 import random
 import re
@@ -23,6 +24,7 @@ from shamir.papers.found import ask_paper  # noqa: E402
 from shamir.papers.line import Line, first_key  # noqa: E402
 from shamir.papers.plan import plan_of, said_plan, said_risks, said_takes  # noqa: E402
 from shamir.papers.quorums import Tried, count, quorum_with, suspects  # noqa: E402
+from shamir.papers.screen import Screen  # noqa: E402
 from shamir.papers.spelling import Misplaced, continued, nearest, numbers_of, parts_of, placed, said_empty, seems_bip39, without  # noqa: E402
 from shamir.papers.terminal import Ended  # noqa: E402
 from shamir.papers.texts import OWN, TABLE, TASKS, _page, say  # noqa: E402
@@ -430,6 +432,30 @@ class LineTests(unittest.TestCase):
             self.typed(b"\x04")
         with self.assertRaises(Ended):
             self.typed(b"ac\x15\x04")
+
+
+class KeysAside(Keys):
+    """A terminal that notes whether Ctrl-C was held back when it showed again what was there before a question."""
+
+    is_held = tells_size = was_held = False
+
+    def drop_typed(self):
+        pass
+
+    @contextlib.contextmanager
+    def aside(self):
+        yield
+        self.was_held = self.is_held
+
+
+class ScreenTests(unittest.TestCase):
+    def test_who_stays_is_asked_again(self):
+        terminal = KeysAside(b"\x04n\nacid\n")
+        screen = Screen(terminal)
+        screen.hold("Two papers would be lost.")
+        self.assertEqual(screen.ask("Word 1?"), "acid")
+        self.assertIn("Two papers would be lost.", terminal.shown)
+        self.assertTrue(terminal.was_held)
 
 
 class PlanTests(unittest.TestCase):

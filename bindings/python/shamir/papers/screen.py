@@ -93,8 +93,9 @@ class Screen:
             self.drop_typed()
             if self.agree(say("end.ask")):
                 raise by
+            # The owner may press the keys again as soon as the screen shows what it showed before.
+            self.hold(held)
         self._rows, self._begun, self._terminal.tells_size = rows, begun, tells
-        self.hold(held)
 
     def _held_on(self, call: Callable[[], T]) -> T:
         """Returns what a call gives that waits for keys. If the owner wants to end, but stays, it is called again."""
