@@ -135,10 +135,14 @@ def check_instead():
     """A new backup in place of an old one: old papers may still give another wallet, and a recovery may be impossible."""
     with started("replace") as owner:
         owner.answer(say("replace.how"), "2")
-        owner.wait(say("screen.end"))
-        owner.expect("If they are the same, destroy the digits that you wrote down. Destroy the old papers too, but only if no wallet uses them")
+        owner.answer(say("screen.end.back"), "b")
+        owner.answer(say("home.choose"), "replace")
+        owner.answer(say("replace.how"), "2")
+        owner.wait(say("screen.end.back"))
+        owner.expect("so write the steps down first:")
+        owner.expect("But keep the old papers if a wallet uses them with another passphrase")
         owner.expect("or if you don't have enough of them to recover it. Then make a new wallet while the old one still works")
-        owner.answer(say("screen.end"), "")
+        owner.answer(say("screen.end.back"), "")
         owner.end(0)
 
 
@@ -210,9 +214,11 @@ def check_without():
         owner.answer(say("back.ask", name="0.0"), line)
         owner.wait(say("noted.done"))
         owner.expect("A quorum is a set of papers that is just enough.")
+        silent(owner, "helps to guess the passphrase")
         owner.answer(say("noted.done"), "")
         owner.wait(say("screen.end"))
         owner.expect("This backup has no passphrase.")
+        owner.expect("This paper alone recovers the secret, so keep it where nobody finds it.")
         silent(owner, "if there is one, in another place")
         owner.answer(say("screen.end"), "")
         owner.end(0)
@@ -294,9 +300,47 @@ def check_repaired():
         owner.answer(paper_prompt(5), "")
         owner.passphrase(PASSPHRASE, FINGERPRINT)
         owner.wait(say("next.papers"))
+        owner.expect(say("damaged.drill"))
+        owner.expect(say("damaged.suspect.one", names="0.0"))
         owner.expect(say("damaged.keep"))
         owner.answer(say("next.papers"), "e")
         owner.end(0, "closed.repaired")
+
+
+def check_untried():
+    """A repaired paper that is in no quorum: nothing says that it's right, and the damaged one is to be kept."""
+    papers = papers_of("1/2of3,2of3")
+    with started("repair") as owner:
+        owner.answer(say("damaged.ask"), with_words(papers[3], {6: "?"}))
+        owner.answer(say("damaged.menu"), "w")
+        owner.answer(sure("1.0"), "y")
+        owner.answer(say("new.write"), "")
+        owner.type_paper(say("back.ask", name="1.0"), papers[3])
+        for number, line in enumerate(papers[:2], 2):
+            owner.type_paper(paper_prompt(number), line)
+        owner.answer(paper_prompt(4), "")
+        owner.passphrase("", fingerprint_of(papers[:2], ""))
+        owner.wait(say("next.good"))
+        owner.expect(say("check.done.left_out"))
+        owner.expect(say("damaged.keep"))
+        silent(owner, "is right: the drill gave your secret with it")
+        end_by_keys(owner)
+
+
+def check_back():
+    """From the first paper, the owner may go back to all tasks, and from the fingerprint to the passphrase."""
+    with started("check") as owner:
+        owner.answer(paper_prompt(1), "b")
+        owner.answer(say("home.choose"), "repair")
+        owner.answer(say("damaged.ask"), "B")
+        owner.answer(say("home.choose"), "recover")
+        owner.collect(papers_of("1of1"))
+        owner.answer(say("passphrase.ask"), "wrong")
+        owner.answer(say("noted.ask"), "b")
+        owner.passphrase("", fingerprint_of(papers_of("1of1"), ""))
+        owner.wait(f"{say('recover.show')} (y/n)")
+        owner.expect(say("recover.done.same"))
+        end_by_keys(owner)
 
 
 def check_lost():
@@ -328,7 +372,13 @@ def check_lost():
         owner.wait(say("more.papers"))
         owner.expect(say("replace.done"))
         silent(owner, say("replace.few"))
-        owner.answer(say("more.papers"), "e")
+        # With enough papers, the drill comes next.
+        owner.answer(say("more.papers"), papers[5])
+        owner.answer(paper_prompt(7), "")
+        owner.passphrase("", fingerprint_of(papers[:3] + papers[5:], ""))
+        owner.wait(say("next.good"))
+        owner.expect(say("check.done.good"))
+        owner.answer(say("next.good"), "")
         owner.end(0)
     with started("replace") as owner:
         two = papers_of("2of3")
@@ -353,7 +403,7 @@ def check_unsaid():
         if b"cleared then" in owner.raw:
             raise Failed("words are said to be cleared that stay")
         end_by_keys(owner)
-    for task, told in [("check", "You typed no passphrase: most likely the backup has one."), ("recover", "Most likely the backup has a passphrase: try again, and type it.")]:
+    for task, told in [("check", "the backup most likely has a passphrase, and you typed none."), ("recover", "the backup most likely has a passphrase: try again, and type it.")]:
         with started(task) as owner:
             owner.type_paper(paper_prompt(1), THREE_GROUPS[0])
             owner.type_paper(paper_prompt(2), SOUND_PAPER)
@@ -424,6 +474,8 @@ CHECKS = [
     check_end,
     check_impossible,
     check_repaired,
+    check_untried,
+    check_back,
     check_lost,
     check_unsaid,
     check_line,

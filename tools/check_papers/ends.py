@@ -93,8 +93,9 @@ def check_work():
     with Owner("new", "2of3") as owner:
         owner.prepare()
         owner.answer(say("new.secret"), "m")
-        owner.answer(f"{say('new.flag')} (y/n)", "y")
+        owner.answer(say("new.flag"), "")
         owner.answer(say("new.exponent"), "15")
+        owner.answer("Is that right? (y/n)", "y")
         owner.answer(say("new.secret"), "1")
         owner.answer(say("new.passphrase"), "TREZOR")
         owner.answer(say("new.passphrase.again"), "TREZOR")
@@ -283,8 +284,9 @@ def check_held_drill():
     with Owner("new", "1of1") as owner:
         owner.prepare()
         owner.answer(say("new.secret"), "m")
-        owner.answer(f"{say('new.flag')} (y/n)", "y")
+        owner.answer(say("new.flag"), "y")
         owner.answer(say("new.exponent"), "8")
+        owner.answer("Is that right? (y/n)", "y")
         line = first_paper(owner)
         owner.answer(say("new.write"), "")
         owner.answer(say("screen.next"), "")

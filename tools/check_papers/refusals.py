@@ -272,7 +272,7 @@ def check_passphrases():
         owner.expect(say("noted.wrong"))
         owner.wait(say("next.again"))
         owner.expect(say("check.done.other"))
-        owner.expect("Most likely the passphrase is mistyped")
+        owner.expect("the passphrase is most likely mistyped, or the backup has none")
         if "Every quorum" in owner.emulator.all_seen():
             raise Failed("with a wrong passphrase, every quorum is said to be right")
         owner.answer(say("next.again"), "")

@@ -56,6 +56,7 @@ def check_damaged():
         owner.answer(paper_prompt(5), "")
         owner.passphrase(PASSPHRASE, FINGERPRINT)
         owner.wait(say("next.good"))
+        owner.expect(say("damaged.right.one", names=names[0]))
         if "can't be read in full" in owner.emulator.all_seen():
             raise Failed("a paper that was written anew is still to be written anew")
         end_by_keys(owner)

@@ -130,7 +130,7 @@ def make(owner, passphrase, names, secret=None, known=""):
         owner.type_paper(say("back.ask", name=name), line)
     noted = say("noted.done.own" if secret else "noted.done")
     owner.wait(noted)
-    found = re.search(rf"{say('noted.title')}: ([0-9a-f]{{8}})", owner.screen() + owner.emulator.all_seen())[1]
+    found = re.search(rf"(?:{say('noted.title')}|{say('noted.title.own')}): ([0-9a-f]{{8}})", owner.screen() + owner.emulator.all_seen())[1]
     if found != fingerprint_of(papers, passphrase):
         raise Failed(f"the fingerprint {found} isn't that of the papers")
     owner.reply(noted, "")

@@ -25,7 +25,7 @@ from shamir.papers.line import Line, first_key  # noqa: E402
 from shamir.papers.plan import plan_of, said_plan, said_risks, said_takes  # noqa: E402
 from shamir.papers.quorums import Tried, count, quorum_with, suspects  # noqa: E402
 from shamir.papers.screen import Screen  # noqa: E402
-from shamir.papers.spelling import Misplaced, continued, nearest, numbers_of, parts_of, placed, said_empty, seems_bip39, without  # noqa: E402
+from shamir.papers.spelling import Misplaced, continued, has_idle_number, nearest, numbers_of, parts_of, placed, said_empty, seems_bip39, without  # noqa: E402
 from shamir.papers.terminal import Ended  # noqa: E402
 from shamir.papers.texts import OWN, TABLE, TASKS, _page, say  # noqa: E402
 
@@ -153,7 +153,7 @@ class EntryTests(unittest.TestCase):
             (21, 20, "Typed: 21 words. Each paper of this backup has 20 words, so 1 word is too many"),
             (19, None, "Typed: 19 words. Most papers have 20 or 33 words, so 1 word is missing, or 14."),
             (21, None, "Typed: 21 words. Most papers have 20 or 33 words, so 1 word is too many, or 12 words are missing."),
-            (35, None, "Typed: 35 words. Most papers have 20 or 33 words, so 2 words are too many."),
+            (35, None, "Typed: 35 words. Most papers have 20 or 33 words, so 2 words are too many, or several papers were typed as one."),
         ]:
             self.assertTrue(said_count(count, wanted).startswith(said), said_count(count, wanted))
         words = ONE.split()
@@ -244,6 +244,7 @@ class EntryTests(unittest.TestCase):
         self.assertIn(say("entry.bip39", count=12), screen.told)
         self.assertTrue(seems_bip39(WORDS, ["abandon"] * 24))
         self.assertFalse(seems_bip39(WORDS, ONE.split()[:12]))
+        self.assertFalse(seems_bip39(WORDS, ["enlrage", *ONE.split()[:11]]))
 
     def test_faulty_programs_papers(self):
         padding = "duckling enlarge academic academic email result length solution fridge kidney coal piece deal husband erode duke ajar music cargo fitness"
@@ -270,6 +271,16 @@ class EntryTests(unittest.TestCase):
         screen = Scripted(" ".join(words), "-", "")
         self.assertEqual(Entry(screen, None).read("Paper 1:"), [])
         self.assertTrue(any("13" in text or "17" in text for text in screen.told), screen.told)
+
+    def test_letters_that_follow(self):
+        """After a whole paper, a letter that answers another question is no word of it, and a number needs its word."""
+        words = ONE.split()
+        words[3], words[6] = words[6], words[3]
+        for typed, behind in [("e", "e "), ("4", "4 "), ("4 acid 7", "4 acid 7 ")]:
+            screen = Scripted(" ".join(words), typed, f"4 {words[6]} 7 {words[3]}")
+            self.assertEqual(Entry(screen, None).read("Paper 1:"), ONE.split())
+            self.assertIn(say("entry.numbers", count=20), screen.told)
+            self.assertEqual(screen.begun[-1], behind)
 
     def test_drop_sign(self):
         self.assertEqual(Entry(Scripted("-0.1"), None).read("Paper 2:"), ["-0.1"])
@@ -311,6 +322,10 @@ class SpellingTests(unittest.TestCase):
         for text, wanted in [("21", [21]), (" 3, 7. ", [3, 7]), ("", []), ("3 acid", []), ("3x", [])]:
             self.assertEqual(numbers_of(text), wanted)
         self.assertEqual(without(["shadow", "acid", "pistol"], [1, 3, 7]), ["acid"])
+
+    def test_idle_numbers(self):
+        for text, is_idle in [("7 acid", False), ("7. ?, 12) acid", False), ("acid", False), ("", False), ("7", True), ("7 acid 8", True), ("6 6 acid", True), ("12.", True)]:
+            self.assertEqual(has_idle_number(text), is_idle, text)
 
     def test_continued(self):
         for text, wanted in [
@@ -526,11 +541,13 @@ class VerdictTests(unittest.TestCase):
         self.assertEqual(verdict(True, True).sentences, [say("verdict.all.noted", quorums="2 quorums", fingerprint="01234567")])
         for outcomes, result, key in [((False, False), "other", "verdict.other"), ((False, None), "none", "verdict.none"), ((None, None), "some", "verdict.nothing")]:
             found = verdict(*outcomes)
-            self.assertEqual((found.result, found.sentences), (result, [say(key, quorums="2 quorums")]))
+            self.assertEqual((found.result, found.sentences), (result, [say(key, quorums="2 quorums", noted="01234567")]))
+            self.assertEqual(found.right, ())
         untyped = verdict_of([Tried(("0.0",), None, None, False)], 1, "01234567", False, False, has_passphrase=False)
-        self.assertEqual((untyped.sentences, untyped.names), ([say("verdict.other.none", quorums="1 quorum")], ("0.0",)))
+        self.assertEqual((untyped.sentences, untyped.names), ([say("verdict.other.none", quorums="1 quorum", noted="01234567")], ("0.0",)))
         for outcomes in [(True, False), (True, None), (False, True)]:
             self.assertEqual(verdict(*outcomes).result, "some")
+            self.assertEqual(verdict(*outcomes).right, (f"0.{outcomes.index(True)}",))
             self.assertNotIn("Every", " ".join(verdict(*outcomes).sentences))
 
     def test_suspects(self):

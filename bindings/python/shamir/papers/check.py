@@ -1,14 +1,14 @@
 """The task 'check': papers are typed, and every quorum among them is tried."""
 from __future__ import annotations
 
-from typing import Optional
+from typing import List, Optional
 
 from shamir.papers.collect import ask_for_more, collect, tell_damaged, tell_left_out
-from shamir.papers.desk import Desk
+from shamir.papers.desk import Desk, Paper
 from shamir.papers.drill import Verdict, run_drill
 from shamir.papers.questions import ask_passphrase
 from shamir.papers.screen import Back, Screen
-from shamir.papers.texts import say
+from shamir.papers.texts import one_or_many, say
 
 NEXT = {"good": "good", "same": "unnoted", "stopped": "again", "other": "again", "none": "again", "some": "papers", "several": "papers"}
 
@@ -17,16 +17,17 @@ FAULTY = ("other", "none", "some", "several")
 
 
 def check_papers(screen: Screen, desk: Desk) -> None:
-    collect_and_check(screen, desk, say("check.title"), say("check.intro"), say("check.too_few"))
+    collect_and_check(screen, desk, say("check.title"), say("check.intro"), say("check.drill"), say("check.too_few"))
 
 
-def collect_and_check(screen: Screen, desk: Desk, title: str, intro: str, too_few: str) -> None:
-    """Lets the owner type papers, and drills, until the owner is content. `too_few` says what too few papers show."""
+def collect_and_check(screen: Screen, desk: Desk, title: str, intro: str, drill: str, too_few: str) -> None:
+    """Lets the owner type papers, and drills, until the owner is content. `drill` is the title of the drill, and `too_few` says what too
+    few papers show."""
     typed: Optional[str] = ""
     while typed is not None:
         collect(screen, desk, title, intro, typed=typed)
         if desk.status().enough:
-            typed = "" if drill_with_passphrase(screen, desk, say("check.drill")) == "p" else None
+            typed = "" if drill_with_passphrase(screen, desk, drill) == "p" else None
         else:
             typed = ask_for_more(screen, desk, say("check.done.few"), too_few, False)
 
@@ -63,20 +64,37 @@ def _tell(screen: Screen, desk: Desk, verdict: Verdict, noted: str) -> str:
         screen.tell(f"{again} {say('check.none')}")
     elif result != "good":
         screen.tell(say("noted.first" if result == "same" else f"check.{result}"))
+    _tell_repaired(screen, desk, verdict, result)
     if result not in FAULTY:
         tell_damaged(screen, desk)
-    elif any(paper.is_repaired for paper in desk.papers):
-        screen.tell(say("damaged.keep"), "strong")
     if result == "good":
         screen.hold("")
         desk.written = desk.written and "replaced"
     return ask_next(screen, NEXT[result])
 
 
+def _tell_repaired(screen: Screen, desk: Desk, verdict: Verdict, result: str) -> None:
+    """Says what a drill shows of the papers of which words were found and not read."""
+    repaired = [paper for paper in desk.papers if paper.is_repaired]
+    tried = [paper for paper in repaired if paper.name in verdict.names]
+    right = tried if result == "good" else []
+    if result in ("none", "some"):
+        _tell_names(screen, "damaged.suspect", [paper for paper in tried if paper.name not in verdict.right], "strong")
+    _tell_names(screen, "damaged.right", [paper for paper in right if paper.is_rewritten], "good")
+    if len(right) < len(repaired):
+        screen.tell(say("damaged.keep"), "strong")
+
+
+def _tell_names(screen: Screen, key: str, papers: List[Paper], style: str) -> None:
+    if papers:
+        screen.tell(say(f"{key}.{one_or_many(papers)}", names=", ".join(paper.name for paper in papers)), style)
+
+
 def _kind(desk: Desk, verdict: Verdict, result: str) -> str:
     """Returns what the heading of a result says. A good one isn't all if papers were left out, or can't be read in full."""
     if result == "good":
-        return "left_out" if desk.left_out else "damaged" if desk.damaged else result
+        is_whole = all(paper.name in verdict.names for paper in desk.papers)
+        return "left_out" if desk.left_out or not is_whole else "damaged" if desk.damaged else result
     return "other.none" if result == "other" and not verdict.has_passphrase else result
 
 

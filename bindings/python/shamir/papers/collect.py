@@ -9,7 +9,7 @@ from shamir.papers.entry import Entry
 from shamir.papers.refusals import said_foreign
 from shamir.papers.screen import Screen
 from shamir.papers.spelling import DROP, beginning, parts_of
-from shamir.papers.texts import counted, say
+from shamir.papers.texts import counted, one_or_many, say
 
 
 def collect(screen: Screen, desk: Desk, title: str, intro: str, task: str = "", typed: str = "") -> None:
@@ -28,7 +28,8 @@ def collect(screen: Screen, desk: Desk, title: str, intro: str, task: str = "", 
         screen.tell(say("entry.how"))
     while True:
         number = len(desk.papers) + 1
-        marks, typed = entry.read(say("entry.paper" if desk.papers else "entry.paper.first", number=number), typed), ""
+        prompt = say("entry.paper" if desk.papers else "entry.paper.first", number=number)
+        marks, typed = entry.read(prompt, typed, has_back=not desk.papers), ""
         if marks and marks[0].startswith(DROP):
             _drop(screen, desk, marks[0][len(DROP) :], task)
         elif marks:
@@ -113,7 +114,7 @@ def tell_damaged(screen: Screen, desk: Desk) -> None:
     """Reminds the owner of the papers that are still to be written anew."""
     names = desk.damaged
     if names:
-        screen.tell(say(f"damaged.anew.{'one' if len(names) == 1 else 'many'}", names=", ".join(names)), "strong")
+        screen.tell(say(f"damaged.anew.{one_or_many(names)}", names=", ".join(names)), "strong")
 
 
 def tell_left_out(screen: Screen, desk: Desk) -> None:

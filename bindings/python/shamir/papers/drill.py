@@ -4,13 +4,13 @@ from __future__ import annotations
 import functools
 import time
 from dataclasses import dataclass
-from typing import List, Optional, Sequence, Tuple
+from typing import Iterable, List, Optional, Sequence, Tuple
 
 import shamir
 from shamir.papers.desk import Desk, Paper, derivation_seconds
 from shamir.papers.quorums import TRIED_FIRST, TRIED_WHOLE, Tried, count, fingerprints, gives, quorum_with, suspects
 from shamir.papers.screen import Screen, Stopped
-from shamir.papers.texts import counted, said_time, say
+from shamir.papers.texts import counted, one_or_many, said_time, say
 
 # From this exponent on, a task says how long it takes.
 LONG_EXPONENT = 5
@@ -21,12 +21,13 @@ NAMED_MAX = 8
 class Verdict:
     """What a drill found: 'good', 'stopped', or that all quorums give another secret than the expected one ('other'), that none gives
     it ('none'), that some don't ('some'), or that they give several secrets ('several'). With it the sentences that say so, the names of
-    the papers that were tried, and whether a passphrase was typed."""
+    the papers that were tried, and of those that are in a right quorum, and whether a passphrase was typed."""
 
     result: str
     fingerprint: Optional[str]
     sentences: List[str]
     names: Tuple[str, ...] = ()
+    right: Tuple[str, ...] = ()
     has_passphrase: bool = True
 
 
@@ -85,11 +86,16 @@ def verdict_of(tried: Sequence[Tried], total: int, noted: str, is_own: bool, is_
     fingerprint = found[0][0] if found else None
     result, sentences = _verdict(tried, total, noted, is_own, found) if tried else ("none", list[str]())
     if result == "other" and not has_passphrase:
-        sentences = [say("verdict.other.none", quorums=counted(len(tried), "quorum"))]
+        sentences = [say("verdict.other.none", quorums=counted(len(tried), "quorum"), noted=noted)]
     if is_stopped or len(tried) != total:
         sentences.insert(0, say("drill.part", tried=f"{len(tried):,}", total=f"{total:,}"))
-    names = tuple({name: None for it in tried for name in it.names})
-    return Verdict("stopped" if is_stopped else result, fingerprint, sentences, names, has_passphrase)
+    right = _names(it for it in tried if gives(it, noted or fingerprint or ""))
+    return Verdict("stopped" if is_stopped else result, fingerprint, sentences, _names(tried), right, has_passphrase)
+
+
+def _names(tried: Iterable[Tried]) -> Tuple[str, ...]:
+    """Returns the names of the papers in quorums, each once."""
+    return tuple({name: None for it in tried for name in it.names})
 
 
 def _verdict(tried: Sequence[Tried], total: int, noted: str, is_own: bool, found: List[Tuple[str, int]]) -> Tuple[str, List[str]]:
@@ -112,13 +118,13 @@ def _wrong(right: List[Tried], wrong: List[Tried], found: List[Tuple[str, int]],
         if mismatched == len(wrong):
             return "some", [say("verdict.nothing", quorums=quorums)]
         result = "none" if mismatched else "other"
-        return result, [say(f"verdict.{result}", quorums=quorums)]
+        return result, [say(f"verdict.{result}", quorums=quorums, noted=noted)]
     if not noted and len(found) > 1:
         return "several", [say("verdict.several", quorums=quorums, secrets=counted(len(found), "secret")), *_gave([*right, *wrong], found)]
     sentences = [say("verdict.some" if noted else "verdict.some.unnoted", wrong=len(wrong), quorums=quorums), _named(wrong)]
     names = suspects(right, wrong)
     if names:
-        sentences.append(say(f"verdict.suspects.{'one' if len(names) == 1 else 'many'}", names=", ".join(names)))
+        sentences.append(say(f"verdict.suspects.{one_or_many(names)}", names=", ".join(names)))
     return "some", sentences
 
 

@@ -12,7 +12,7 @@ from shamir.papers.desk import Paper, find_fault, paper_of
 from shamir.papers.found import ask_paper
 from shamir.papers.refusals import said_refusal, wrong_word
 from shamir.papers.screen import Screen
-from shamir.papers.spelling import DROP, Part, beginning, continued, nearest, numbers_of, parts_of, placed, read, said_empty, seems_bip39, taken_out, without
+from shamir.papers.spelling import DROP, Part, beginning, continued, has_idle_number, nearest, numbers_of, parts_of, placed, read, said_empty, seems_bip39, taken_out, without
 from shamir.papers.texts import counted, say
 
 # Most papers have one of these numbers of words.
@@ -46,13 +46,14 @@ class Entry:
         # Whether the owner was asked for words that follow, and typed some.
         self._is_continued = False
 
-    def read(self, prompt: str, typed: str = "") -> List[str]:
+    def read(self, prompt: str, typed: str = "", has_back: bool = False) -> List[str]:
         """Returns the marks of a paper that the library found sound or can repair, or nothing if Enter alone is typed.
 
         If a paper is to be taken out, returns the sign for that with its name. `typed` was typed before, as an answer to this question.
+        `has_back` says that the owner may go back instead.
         """
         while True:
-            text, typed = typed or self._ask(prompt), ""
+            text, typed = typed or self._ask(prompt, has_back=has_back), ""
             name = taken_out(text)
             if name is not None:
                 return [DROP + name]
@@ -94,8 +95,8 @@ class Entry:
             self._dropped()
             return []
 
-    def _ask(self, prompt: str, begun: str = "") -> str:
-        return self._screen.ask(prompt, lambda letters: beginning(self._list, letters), begun=begun)
+    def _ask(self, prompt: str, begun: str = "", has_back: bool = False) -> str:
+        return self._screen.ask(prompt, lambda letters: beginning(self._list, letters), has_back, begun)
 
     def _asked(self, prompt: str, begun: str = "") -> str:
         """Asks for a part of a paper. The owner may begin the paper again instead."""
@@ -114,7 +115,7 @@ class Entry:
             if not begun and self._show is not None:
                 self._show()
                 continue
-            changed = change([(number, self._read(mark) or mark) for number, mark in parts_of(text)])
+            changed = None if has_idle_number(text) else change([(number, self._read(mark) or mark) for number, mark in parts_of(text)])
             if changed is not None:
                 return changed
             self._fault(fault)
@@ -277,7 +278,7 @@ class Entry:
             return [new.get(number, mark) for number, mark in enumerate(marks, 1)]
         if len(parts) == count:
             return self._placed([], parts)
-        if parts and count != self.wanted and numbers[0] in (None, count + 1):
+        if parts and count != self.wanted and numbers[0] in (None, count + 1) and all(self._read(mark) for _, mark in parts):
             return self._placed(marks, parts)
         return None
 

@@ -145,15 +145,20 @@ def _drill_until_done(screen: Screen, desk: Desk, fingerprint: str) -> bool:
 
 def _tell_done(screen: Screen, plan: Plan, choices: Choices, fingerprint: str) -> None:
     """Shows the fingerprint to note, and then says that the backup is made."""
-    screen.tell(f"{say('noted.title')}: {fingerprint}", "strong")
+    title = say("noted.title.own" if choices.is_own else "noted.title")
+    screen.tell(f"{title}: {fingerprint}", "strong")
     screen.tell(say("noted.new"))
     screen.tell(say("noted.own" if choices.is_own else "noted.drawn"))
-    screen.tell(say("noted.apart"))
+    if choices.has_passphrase:
+        screen.tell(say("noted.apart"))
     screen.hold(say("end.made"))
     screen.pause(say("noted.done.own" if choices.is_own else "noted.done"))
     screen.hold("")
     screen.clear(say("make.done"))
     screen.tell(said_plan(plan), "good")
-    screen.tell(f"{say('make.keep')} {say('make.with' if choices.has_passphrase else 'make.without')}")
+    keep = say("make.keep" if len(plan.names) > 1 else "make.keep.one")
+    screen.tell(f"{keep} {say('make.with' if choices.has_passphrase else 'make.without')}")
+    if choices.is_own:
+        screen.tell(say("make.own"))
     screen.tell(say("make.note", plan=plan.text))
     screen.pause(say("screen.end"))

@@ -6,10 +6,10 @@ from __future__ import annotations
 
 import re
 from dataclasses import dataclass
-from typing import Iterator, List, Sequence, Tuple
+from typing import Iterator, List, Tuple
 
 from shamir.papers.desk import Paper
-from shamir.papers.texts import counted, say
+from shamir.papers.texts import counted, one_or_many, say
 
 Group = Tuple[int, int]
 
@@ -77,7 +77,7 @@ def _losses(plan: Plan) -> Iterator[str]:
         return
     alone = [f"{at}.0" for at, (_, members) in enumerate(plan.groups) if members == 1]
     if alone:
-        yield say(f"plan.lost.{_form(alone)}", names=", ".join(alone))
+        yield say(f"plan.lost.{one_or_many(alone)}", names=", ".join(alone))
     for at, (needed, members) in enumerate(plan.groups):
         if needed == members > 1:
             yield say("plan.lost.any" if len(plan.groups) == 1 else "plan.lost.group", group=at)
@@ -89,13 +89,9 @@ def _thefts(plan: Plan) -> Iterator[str]:
     if not groups:
         return
     if plan.needed == 1:
-        yield say(f"plan.found.{_form(groups)}", names=", ".join(f"{at}.0" for at in groups))
+        yield say(f"plan.found.{one_or_many(groups)}", names=", ".join(f"{at}.0" for at in groups))
     else:
-        yield say(f"plan.found.group.{_form(groups)}", groups=", ".join(map(str, groups)))
-
-
-def _form(names: Sequence[object]) -> str:
-    return "one" if len(names) == 1 else "many"
+        yield say(f"plan.found.group.{one_or_many(groups)}", groups=", ".join(map(str, groups)))
 
 
 def said_takes(plan: Plan, name: str) -> str:

@@ -7,7 +7,7 @@ import shamir
 from shamir.papers.desk import Desk
 from shamir.papers.line import wipe
 from shamir.papers.refusals import said_refusal
-from shamir.papers.screen import BACK, Screen
+from shamir.papers.screen import BACK, Back, Screen
 from shamir.papers.texts import say
 
 
@@ -51,7 +51,10 @@ def ask_passphrase(screen: Screen, desk: Desk) -> str:
     screen.tell(say("passphrase.why"))
     while True:
         desk.set_passphrase(_ask_right(screen, say("passphrase.ask"), True))
-        noted = ask_noted(screen)
+        try:
+            noted = ask_noted(screen)
+        except Back:
+            continue
         if noted or not desk.passphrase:
             return noted
         screen.tell(say("passphrase.twice"))
@@ -87,9 +90,9 @@ def ask_new_passphrase(screen: Screen, has_back: bool) -> bytearray:
 
 
 def ask_noted(screen: Screen) -> str:
-    """Asks for the fingerprint that was noted. Returns an empty text if there is none."""
+    """Asks for the fingerprint that was noted. Returns an empty text if there is none. The owner may go back."""
     while True:
-        typed = re.sub(r"\s", "", screen.ask(say("noted.ask"))).lower()
+        typed = re.sub(r"\s", "", screen.ask(say("noted.ask"), has_back=True)).lower()
         if not typed or re.fullmatch("[0-9a-f]{8}", typed):
             return typed
         screen.tell(say("noted.wrong"), "bad")

@@ -4,7 +4,7 @@ from __future__ import annotations
 from typing import Optional, Sequence
 
 import shamir
-from shamir.papers.texts import counted, has_text, say
+from shamir.papers.texts import counted, has_text, one_or_many, say
 
 
 def said_refusal(refusal: shamir.Refusal, task: str = "") -> str:
@@ -29,8 +29,8 @@ def said_foreign(refusal: shamir.Refusal, repaired: Sequence[str]) -> str:
     """Says why a paper doesn't belong to the others. If words of some of them were found and not read, most likely these are wrong."""
     if not repaired:
         return said_refusal(refusal)
-    key = "refused.repaired.one" if len(repaired) == 1 else "refused.repaired.many"
-    return say("refused.number", told=say(key, names=", ".join(repaired)), code=int(refusal.code))
+    told = say(f"refused.repaired.{one_or_many(repaired)}", names=", ".join(repaired))
+    return say("refused.number", told=told, code=int(refusal.code))
 
 
 def _undetermined(first: int, second: int, task: str) -> str:

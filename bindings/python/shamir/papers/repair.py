@@ -23,7 +23,7 @@ def read_damaged(screen: Screen, desk: Desk) -> None:
     desk.written = "repaired"
     screen.hold(say("end.repaired"))
     write_and_type_back(screen, desk, paper, said_takes_alone(paper))
-    collect_and_check(screen, desk, say("damaged.check.title"), say("damaged.check.intro"), say("damaged.too_few"))
+    collect_and_check(screen, desk, say("damaged.check.title"), say("damaged.check.intro"), say("damaged.drill"), say("damaged.too_few"))
 
 
 def _ask_damaged(screen: Screen) -> Optional[Paper]:
@@ -36,7 +36,7 @@ def _ask_damaged(screen: Screen) -> Optional[Paper]:
         screen.gap()
         screen.tell(say("damaged.first"))
         entry = Entry(screen, task="damaged")
-        marks = entry.read(say("damaged.ask"))
+        marks = entry.read(say("damaged.ask"), has_back=True)
         chosen, fits = _choose(screen, entry, [] if marks and marks[0].startswith(DROP) else marks)
         if chosen != "again":
             return None if chosen == "end" else fits[int(chosen)]

@@ -41,8 +41,11 @@ def replace_paper(screen: Screen, desk: Desk) -> None:
         return
     typed: Optional[str] = ""
     while typed is not None:
+        is_untried = desk.written == "replaced" and not desk.status().enough
         collect(screen, desk, say("replace.title"), say("replace.intro"), "replace", typed)
-        if not _may_determine(desk.status()):
+        if is_untried and desk.status().enough:
+            typed = _drill(screen, desk)
+        elif not _may_determine(desk.status()):
             told = say("replace.none_yet.only" if desk.papers[0].group_count == 1 else "replace.none_yet")
             typed = ask_for_more(screen, desk, say("replace.few"), told, False, "replace")
         else:
@@ -78,7 +81,7 @@ def _advise(screen: Screen) -> None:
         screen.item(say(f"replace.new.{key}"), f"{number}. ")
     screen.gap()
     screen.tell(say("replace.new.move"))
-    screen.pause(say("screen.end"))
+    screen.choose(say("screen.end.back"), {"": None}, has_back=True)
 
 
 def _plan_and_missing(screen: Screen, desk: Desk) -> Tuple[Plan, Missing]:
@@ -88,7 +91,7 @@ def _plan_and_missing(screen: Screen, desk: Desk) -> Tuple[Plan, Missing]:
     count = desk.papers[0].group_count
     wanted = _ask_wanted(screen, count) if count > 1 else {0}
     if any(group.threshold > 1 and group.group in wanted for group in desk.status().groups):
-        screen.tell(say("replace.plan"))
+        screen.tell(say("replace.plan" if count == 1 else "replace.plan.groups"))
         screen.tell(say("replace.forgotten"))
     while True:
         plan = _ask_plan(screen, desk, wanted)
@@ -141,7 +144,7 @@ def _ask_members(screen: Screen, group: shamir.GroupStatus, is_only: bool) -> in
     ask = say("replace.ask" if is_only else "replace.ask.group", group=group.group, needed=group.threshold)
     last = max(int(name.split(".")[1]) for name in group.names)
     while True:
-        members = _ask_number(screen, ask)
+        members = _ask_number(screen, ask, group.threshold)
         if members > last:
             return members
         key = "replace.members.few.only" if is_only else "replace.members.few"
@@ -154,10 +157,10 @@ def _ask_needed(screen: Screen, number: int) -> int:
     return _ask_number(screen, say("replace.ask.needed", group=number))
 
 
-def _ask_number(screen: Screen, prompt: str) -> int:
-    """Asks for a number from 1 to 16."""
+def _ask_number(screen: Screen, prompt: str, needed: int = 0) -> int:
+    """Asks for a number from 1 to 16. It may stand as in a plan, behind the number that is needed."""
     while True:
-        typed = screen.ask(prompt, has_back=True).strip()
+        typed = screen.ask(prompt, has_back=True).strip().removeprefix(f"{needed}of")
         if typed.isdecimal() and 1 <= int(typed) <= MEMBERS_MAX:
             return int(typed)
         screen.tell(say("replace.members.wrong"), "bad")

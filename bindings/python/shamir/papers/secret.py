@@ -6,7 +6,7 @@ from dataclasses import dataclass
 
 import shamir
 from shamir.papers.desk import derivation_seconds, drawn
-from shamir.papers.drill import measured
+from shamir.papers.drill import LONG_EXPONENT, measured
 from shamir.papers.line import wipe
 from shamir.papers.questions import ask_noted
 from shamir.papers.quorums import Tried, gives
@@ -37,14 +37,12 @@ def ask_secret(screen: Screen, choices: Choices) -> bytearray:
     screen.gap()
     while True:
         answer = screen.choose(say("new.secret"), {"1": 16, "2": 32, "3": 0, "m": -1}, "1", has_back=True)
-        if answer < 0:
-            _ask_more(screen, choices)
-            continue
         choices.is_own = answer == 0
-        if answer:
-            return drawn(answer)
         try:
-            return _ask_own(screen)
+            if answer < 0:
+                _ask_more(screen, choices)
+            else:
+                return drawn(answer) if answer else _ask_own(screen)
         except Back:
             continue
 
@@ -52,17 +50,26 @@ def ask_secret(screen: Screen, choices: Choices) -> bytearray:
 def _ask_more(screen: Screen, choices: Choices) -> None:
     """Asks for the extendable flag and the iteration exponent."""
     screen.tell(say("more.extendable.hint"))
-    choices.extendable = screen.agree(say("new.flag"))
+    extendable = screen.choose(say("new.flag"), {"y": True, "yes": True, "n": False, "no": False}, "y", has_back=True)
     screen.tell(say("more.exponent.hint"))
     screen.tell(say("more.time", time=said_time(derivation_seconds(measured(), EXPONENT, 16))) + " " + say("new.exponent.each"))
-    while True:
-        typed = screen.ask(say("new.exponent")).strip() or str(EXPONENT)
-        if typed.isdecimal() and int(typed) <= shamir.EXPONENT_MAX:
-            choices.exponent = int(typed)
-            break
-        screen.tell(say("more.exponent.wrong"), "bad")
+    choices.exponent = _ask_exponent(screen)
+    choices.extendable = extendable
     flag = say("new.flag.set" if choices.extendable else "new.flag.unset")
     screen.tell(say("new.chosen", flag=flag, exponent=choices.exponent))
+
+
+def _ask_exponent(screen: Screen) -> int:
+    """Asks for the iteration exponent. If recoveries would be long, the owner says whether that is meant."""
+    while True:
+        typed = screen.ask(say("new.exponent"), has_back=True).strip() or str(EXPONENT)
+        if not typed.isdecimal() or int(typed) > shamir.EXPONENT_MAX:
+            screen.tell(say("more.exponent.wrong"), "bad")
+            continue
+        exponent = int(typed)
+        time = said_time(derivation_seconds(measured(), exponent, 16))
+        if exponent < LONG_EXPONENT or screen.agree(say("new.exponent.long", exponent=exponent, time=time)):
+            return exponent
 
 
 def _ask_own(screen: Screen) -> bytearray:
@@ -72,7 +79,11 @@ def _ask_own(screen: Screen) -> bytearray:
         secret = _ask_twice(screen)
         screen.tell(say("new.secret.count", digits=2 * len(secret), bytes=len(secret)))
         screen.tell(say("secret.noted"))
-        noted = ask_noted(screen)
+        try:
+            noted = ask_noted(screen)
+        except Back:
+            wipe(secret)
+            raise
         fingerprint = shamir.fingerprint(secret)
         if not noted or gives(Tried((), fingerprint, None), noted):
             if noted:

@@ -8,6 +8,8 @@ from typing import Dict, Iterator, List, Optional, Sequence, Tuple
 
 # A BIP-39 backup most often has one of these numbers of words.
 BIP39_COUNTS = (12, 24)
+# At least one of so many of its words isn't in the list, unlike those of half a paper that is typed with a slip.
+BIP39_PART = 4
 NEAREST_MAX = 3
 # How alike two words must be, from 0 to 1, so that one is named for the other.
 LIKENESS = 0.6
@@ -98,6 +100,11 @@ def numbers_of(text: str) -> List[int]:
     return [int(piece) for piece in pieces] if all(piece.isdecimal() and piece.isascii() for piece in pieces) else []
 
 
+def has_idle_number(text: str) -> bool:
+    """Whether a number of a text stands before no word."""
+    return re.search(r"\b\d+(?!\w)[^\w?]*(\d|$)", text) is not None
+
+
 def said_empty(marks: Sequence[str]) -> str:
     """Returns the numbers of the places that are still empty, such as '2 to 5, 7'."""
     runs: List[List[int]] = []
@@ -138,4 +145,4 @@ def nearest(words: Sequence[str], word: str) -> List[str]:
 
 def seems_bip39(words: Sequence[str], marks: Sequence[str]) -> bool:
     """Whether marks are likely to be a BIP-39 backup."""
-    return len(marks) in BIP39_COUNTS and any(read(words, mark) is None for mark in marks)
+    return len(marks) in BIP39_COUNTS and sum(read(words, mark) is None for mark in marks) * BIP39_PART >= len(marks)

@@ -4,7 +4,7 @@ from __future__ import annotations
 import json
 import pathlib
 import re
-from typing import Dict, Union
+from typing import Dict, Sized, Union
 
 Value = Union[str, int]
 
@@ -42,13 +42,14 @@ OWN: Dict[str, str] = {
     "screen.yes.back": "(y/n; b: back)",
     "screen.next": "Enter: go on",
     "screen.end": "Enter: end",
+    "screen.end.back": "Enter: end. b: back to all tasks.",
     "work.passed": "{time} so far.",
     "work.stop": "Enter stops it.",
     "end.title": "You aren't finished",
-    "end.ask": "End now?",
+    "end.ask": "End now (Ctrl-C again ends too)?",
     "end.typed": "If you end now, the program forgets the papers that you typed.",
     "end.unfinished": "If you end now, the program forgets the papers. Those that you have written so far are no finished backup. You would have to destroy them, and begin again.",
-    "end.made": "The backup is made, and its papers are right. If you end before you note the fingerprint, only a check of the papers shows it again.",
+    "end.made": "The backup is made, and its papers are right. If you end before you note the fingerprint, only a check of the papers or a recovery shows it again.",
     "end.replaced": "If you end now, destroy only a paper written now and not typed back. Keep all others: your old ones, and those typed back.",
     "end.repaired": "No drill has shown yet that the words that were found are right. If you end now, keep the damaged paper too.",
     "ended": "shamir-papers: nothing was kept.",
@@ -84,11 +85,12 @@ OWN: Dict[str, str] = {
     "new.secret.count": "You typed {digits} digits, for {bytes} bytes.",
     "make.passphrase": "Make a backup: the passphrase",
     "new.chosen": "Extendable flag: {flag}. Iteration exponent: {exponent}.",
-    "new.flag": "Set the extendable flag?",
+    "new.flag": "Set the extendable flag (Enter or y: yes, as usual; n: no; b: back)?",
     "new.exponent.each": "Each step from there doubles that.",
     "new.flag.set": "set",
     "new.flag.unset": "not set",
-    "new.exponent": "Iteration exponent, 0 to 15 (Enter: 1):",
+    "new.exponent": "Iteration exponent, 0 to 15 (Enter: 1, as usual; b: back):",
+    "new.exponent.long": "With the iteration exponent {exponent}, each recovery takes about {time} on this machine, and much longer on a hardware wallet. Is that right?",
     "new.passphrase": "Passphrase (it doesn't show; Enter alone: none):",
     "new.passphrase.again": "The same again:",
     "new.passphrase.none": "No passphrase: is that right (the answer doesn't show)?",
@@ -97,7 +99,7 @@ OWN: Dict[str, str] = {
     "new.write.alone": "Nothing is typed here: press Enter alone when you have written the paper. You type it back later.",
     "paper.how": "Write 'SLIP-0039', the name of the paper and the words with their numbers, in block letters.",
     "back.ask": "Paper {name} (Enter alone: show it again):",
-    "noted.ask": "The fingerprint that you noted (Enter alone: none):",
+    "noted.ask": "The fingerprint that you noted (it shows; Enter alone: none; b: back):",
     "noted.wrong": "This isn't a fingerprint. A fingerprint has exactly eight characters, each of which is a digit or a letter from a to f. Compare it with your note. If you have noted none, press Enter alone.",
     "noted.done": "Enter: I have noted it",
     "noted.done.own": "Enter: go on",
@@ -109,12 +111,12 @@ OWN: Dict[str, str] = {
     "entry.how": "Type the words in their order, in one line or several. Four letters of a word are enough, and Tab completes a word. Type ? for a word that you can't read, or its first letters and ?.",
     "entry.how.whole": "You may type them in one line or several. Four letters of a word are enough, and Tab completes a word.",
     "entry.paper": "Paper {number} (Enter alone: no more):",
-    "entry.paper.first": "Paper 1:",
+    "entry.paper.first": "Paper 1 (begin with any; b: back):",
     "entry.on": "{typed} Word {number} and on ({sign} alone: begin this paper again):",
     "entry.count.wanted": "Typed: {count} of {words}, so {missing}.",
     "entry.count.few": "Typed: {count}. Most papers have {few} or {many} words, so {missing}, or {others}.",
     "entry.count.between": "Typed: {count}. Most papers have {few} or {many} words, so {excess}, or {missing}.",
-    "entry.count.beyond": "Typed: {count}. Most papers have {few} or {many} words, so {excess}.",
+    "entry.count.beyond": "Typed: {count}. Most papers have {few} or {many} words, so {excess}, or several papers were typed as one.",
     "entry.count.over": "Typed: {count}. Each paper of this backup has {words}, so {excess}: perhaps a word was typed twice, or two papers were typed as one.",
     "entry.compare": "Compare them with your paper. If they aren't its words, type {sign} alone, and begin this paper again.",
     "entry.on.many": "{typed} Word {number} and on (a number alone: take that word out; {sign} alone: begin this paper again):",
@@ -132,10 +134,10 @@ OWN: Dict[str, str] = {
     "entry.mark.none": "Word {number}, {word}, isn't a word. Here each word is to be read from the paper. If you can't read it, look at the paper again on the screen, and write it anew.",
     "entry.word": "Word {number} (? if it stands so; {sign} alone: begin again):",
     "entry.word.back": "Word {number} (Enter alone: show the paper again; {sign} alone: type it anew):",
-    "entry.one": "Type word {number} alone: the others stay as you typed them. Ctrl-W takes the last word away.",
+    "entry.one": "Type word {number} alone: the others stay as you typed them. Ctrl-U empties the line.",
     "entry.numbered": "Number and word, such as '7 acid' or '7 ?' ({sign} alone: begin again):",
     "entry.numbered.back": "Number and word, such as '7 acid' (Enter alone: show the paper again; {sign} alone: type it anew):",
-    "entry.numbers": "Type the number of a word, from 1 to {count}, and the word.",
+    "entry.numbers": "Type the number of a word, from 1 to {count}, and the word. Ctrl-U empties the line.",
     "entry.longer": "If the paper has more than {count} words, type those that follow.",
     "entry.typed": "These words were typed:",
     "entry.place": "Word {number}",
@@ -167,7 +169,7 @@ OWN: Dict[str, str] = {
     "recover.show": "Show the secret?",
     "recover.clear": "Enter: clear the digits",
     "recover.clear.plain": "Enter: go on. The digits stay in this terminal until you close it.",
-    "replace.choose": "A paper's name, or a letter from the list (b: back):",
+    "replace.choose": "Which of these (b: back)?",
     "replace.how": "1 or 2 (b: back):",
     "replace.groups": "This backup has {groups}. Of which of them do you want to write papers again? The program asks only how many papers these have.",
     "replace.groups.ask": "Groups, such as 0 or 0 2 (Enter alone: all; b: back):",
@@ -180,7 +182,7 @@ OWN: Dict[str, str] = {
     "replace.menu.drill": "Go on to the drill",
     "damaged.intro": "Type the words that you can read. You may leave up to three words open. A question mark stands for what you can't read.",
     "damaged.found": "What was found:",
-    "damaged.ask": "The damaged paper:",
+    "damaged.ask": "The damaged paper (b: back):",
     "damaged.menu": "w: write it anew. c: change words that you typed. t: drop these words, and type it again. e: end.",
     "damaged.menu.two": "1 or 2: write it anew. c: change words that you typed. t: drop these words, and type it again. e: end.",
     "damaged.menu.none": "c: change words that you typed. t: drop these words, and type it again. e: end.",
@@ -207,6 +209,11 @@ def say(key: str, **values: Value) -> str:
 def counted(n: int, noun: str) -> str:
     """Returns a number with its noun."""
     return say(f"{noun}.{'one' if n == 1 else 'many'}", n=f"{n:,}")
+
+
+def one_or_many(things: Sized) -> str:
+    """Returns the end of the key of a sentence that says something of one thing, or of many."""
+    return "one" if len(things) == 1 else "many"
 
 
 def said_time(seconds: float) -> str:
