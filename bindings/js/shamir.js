@@ -18,7 +18,8 @@
  *
  * Each method passes its arguments to the engine, and throws a `Refusal` if the engine refuses them. A text is a string, which
  * is encoded as UTF-8, or a Uint8Array. A secret and random bytes are a Uint8Array. Another type, an option that the call
- * doesn't know, and an array whose buffer was transferred throw a TypeError. A number out of range, a string that UTF-8 can't encode, and a line feed inside a line of a list throw a RangeError.
+ * doesn't know, and an array whose buffer was transferred throw a TypeError. A number out of range, a string that UTF-8 can't
+ * encode, and a line feed inside a line of a list throw a RangeError.
  *
  * Arguments are copied into the memory of the module. After each call, also after a refusal, everything that the call may have
  * written there is cleared, and so are the copies of the arguments. If a call traps, the whole memory is cleared, and the next
