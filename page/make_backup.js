@@ -248,11 +248,14 @@ async function drillAndNote(desk, plan, isOwn) {
   const fingerprint = await desk.ask("fingerprint");
   if (!(await drillUntilDone(desk, fingerprint))) return;
   setUnfinished("");
-  const noting = [paragraph(say("noted.new")), element("p", { class: "fingerprint" }, fingerprint), paragraph(say(isOwn ? "noted.own" : "noted.drawn")), paragraph(say("noted.apart"))];
+  const hasPassphrase = await desk.ask("hasPassphrase");
+  const apart = hasPassphrase ? paragraph(say("noted.apart")) : null;
+  const noting = [paragraph(say("noted.new")), element("p", { class: "fingerprint" }, fingerprint), paragraph(say(isOwn ? "noted.own" : "noted.drawn")), apart];
   const skip = isOwn ? [{ key: "skip", label: say("noted.skip") }] : [];
-  await ask(say("noted.title"), noting, [{ key: "go", label: say("noted.done"), kind: "primary" }, ...skip]);
-  const keep = `${say("make.keep")} ${say((await desk.ask("hasPassphrase")) ? "make.with" : "make.without")}`;
-  const done = [paragraph(saidPlan(plan), "good"), paragraph(keep), paragraph(say("make.note", { plan: planText(plan) })), paragraph(say("close"))];
+  await ask(say(isOwn ? "noted.title.own" : "noted.title"), noting, [{ key: "go", label: say("noted.done"), kind: "primary" }, ...skip]);
+  const keep = `${say(planNames(plan).length === 1 ? "make.keep.one" : "make.keep")} ${say(hasPassphrase ? "make.with" : "make.without")}`;
+  const old = isOwn ? paragraph(say("make.own")) : null;
+  const done = [paragraph(saidPlan(plan), "good"), paragraph(keep), old, paragraph(say("make.note", { plan: planText(plan) })), paragraph(say("close"))];
   await ask(say("make.done"), done, [{ key: "end", label: say("end"), kind: "primary" }]);
 }
 

@@ -27,7 +27,7 @@ export async function readDamaged(desk) {
   if (fit === null) return;
   const { index, kind } = fit;
   await writeAndTypeBack(desk, { index, name: kind.name, takes: saidTakesAlone(kind) }, kind.words);
-  const what = { title: say("damaged.check.title"), intro: say("damaged.check.intro"), repaired: kind.name };
+  const what = { title: say("damaged.check.title"), intro: say("damaged.check.intro"), drill: say("damaged.drill"), repaired: kind.name };
   await collectAndCheck(desk, what, () => [paragraph(say("damaged.too_few"), "note")]);
 }
 

@@ -233,7 +233,7 @@ async function askPlan(status, kind, before, fault) {
     answered = read();
     return answered.wanted.length && answered.plan.groups.every(isGroup) ? saidFew(status, answered.plan) : say("replace.members.wrong");
   };
-  const told = [kind.groupCount > 1 ? paragraph(say("replace.groups")) : null, paragraph(say("replace.plan")), paragraph(say("replace.forgotten"))];
+  const told = [kind.groupCount > 1 ? paragraph(say("replace.groups")) : null, paragraph(say(kind.groupCount > 1 ? "replace.plan.groups" : "replace.plan")), paragraph(say("replace.forgotten"))];
   const children = [fault ? paragraph(fault, "fault") : null, ...told, ...rows.map(({ box }) => box)];
   const answer = await ask(say("replace.plan.title"), children, [
     { key: "go", label: say("continue"), kind: "primary", isReady },

@@ -60,6 +60,8 @@ FAULTS = [
     ("a paper that was left out is forgotten", "page/desk.js", "if (error instanceof Refusal) leaveOut(", "if (false) leaveOut(", of_page(lambda page: astray.check_left_out(page, unseen))),
     ("a paper that no backup has is offered", "page/read_damaged.js", '[0]) < groupCount;', '[0]) < 16;', of_page(lambda page: astray.check_impossible(page, unseen))),
     ("a good paper is blamed for a repaired one", "page/collect.js", "saidForeign(error, repaired)", "saidForeign(error, [])", of_page(lambda page: astray.check_repaired(page, unseen))),
+    ("a repaired paper that no drill tried is called right", "page/check_papers.js", "const isTried = names.includes(name);", "const isTried = true;", of_page(lambda page: astray.check_untried(page, unseen))),
+    ("without a noted fingerprint, a repaired paper is called right", "page/check_papers.js", 'result === "good" && noted !== "")', 'result === "good")', of_page(lambda page: astray.check_untried(page, unseen))),
     ("complete groups are asked for that there can't be", "page/replace.js", '? "all" : "";', '? "" : "";', of_page(lambda page: astray.check_lost(page, unseen))),
     ("a passphrase that wasn't typed is called mistyped", "page/desk.js", "hasPassphrase: () => held.passphrase.length > 0", "hasPassphrase: () => true", of_page(lambda page: astray.check_without(page, unseen))),
     ("the module's memory isn't cleared", "bindings/js/calls.js", ".fill(0", ".slice(0", of_page(agreement.check_memory)),
