@@ -1,4 +1,5 @@
 // The drill: each quorum of the papers that were typed, in a table that fills, and what they say together.
+import { Code, OF_GROUPS } from "../bindings/js/refusal.js";
 import { Declined, Stopped } from "./client.js";
 import { button, element, paragraph } from "./dom.js";
 import { count, fingerprints, isRight, quorumWith, suspects, TRIED_FIRST, TRIED_WHOLE } from "./quorums.js";
@@ -19,22 +20,12 @@ import { announce, ask, show } from "./screen.js";
 
 /** @typedef {{noted: string, isOwn: boolean, hasPassphrase: boolean}} Asked the fingerprint that is expected, and what else a verdict depends on */
 
-/** From this exponent on, a drill says how long it takes. */
-const LONG_EXPONENT = 5;
+/** From this exponent on, the page says how long a derivation takes. */
+export const LONG_EXPONENT = 5;
 /** The table shows at most this many quorums that gave the expected secret, and as many others. */
 const ROWS_MAX = 500;
-const OF_GROUPS = 16;
-const PASSPHRASE = 41;
-
-/**
- * Says how long one key derivation takes, from what was measured at the start.
- *
- * @param {Desk} desk
- * @param {Kind} kind
- */
-function saidDerivation(desk, { exponent, secretBytes }) {
-  return saidTime((desk.begun.milliseconds / 1000) * 2 ** exponent * (secretBytes > 64 ? 2 : 1));
-}
+/** A screen reader is told of the progress after so many milliseconds, and not at each change. */
+const ANNOUNCED_EVERY = 5000;
 
 /**
  * Returns a sentence on the time that one recovery takes if that is long, and else null.
@@ -43,7 +34,7 @@ function saidDerivation(desk, { exponent, secretBytes }) {
  * @param {Kind} kind
  */
 export function warnedTime(desk, kind) {
-  return kind.exponent < LONG_EXPONENT ? null : say("time.long", { exponent: kind.exponent, time: saidDerivation(desk, kind) });
+  return kind.exponent < LONG_EXPONENT ? null : say("time.long", { exponent: kind.exponent, time: saidTime(desk.secondsFor(kind)) });
 }
 
 /**
@@ -85,7 +76,7 @@ export async function runDrill(desk, status, { title, noted, isOwn = false }) {
     await desk.askLong("drill", { limit: isWhole ? 0 : TRIED_FIRST, expect: noted }, (part) => table.add(part));
     if (!isWhole) await tryEachPaper(desk, status, noted, table);
   } catch (error) {
-    if (error instanceof Declined && error.refused.code === PASSPHRASE) return { refused: error.refused };
+    if (error instanceof Declined && error.refused.code === Code.PASSPHRASE) return { refused: error.refused };
     if (!(error instanceof Stopped)) throw error;
     isStopped = true;
   }
@@ -129,7 +120,8 @@ class Table {
   #body = element("tbody");
   #scroll = element("div", { class: "scroll", tabindex: "0", role: "region", "aria-label": say("drill.caption") });
   #more = element("p", { class: "hint" });
-  #progress = element("p", { class: "work", role: "status" });
+  #progress = element("p", { class: "work" });
+  #announced = performance.now();
   #bar = element("progress", { "aria-label": say("drill.progress") });
   #verdict = element("div", { class: "verdict" });
   #buttons = element("div", { class: "buttons" });
@@ -165,7 +157,11 @@ class Table {
   }
 
   #say() {
-    this.#progress.textContent = say("drill.tried", { tried: said(this.tried.length), total: said(this.#total) });
+    const told = say("drill.tried", { tried: said(this.tried.length), total: said(this.#total) });
+    this.#progress.textContent = told;
+    if (performance.now() - this.#announced < ANNOUNCED_EVERY) return;
+    this.#announced = performance.now();
+    announce(told);
   }
 
   /** @param {Tried} tried */

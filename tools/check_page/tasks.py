@@ -44,7 +44,7 @@ def begin(page, task):
 def type_paper(page, line, is_by_four=False):
     """Types a paper's words. Each word is followed by a space, or only its first four letters are typed."""
     page.go_to("textbox", say("entry.word", number=1))
-    if len(line.split()) != page.evaluate("document.querySelectorAll('.word').length"):
+    if len(line.split()) != page.evaluate("document.querySelectorAll('.word:not([hidden])').length"):
         page.push(say("entry.words", count=len(line.split())))
         page.go_to("textbox", say("entry.word", number=1))
     page.type("".join(f"{word[:4]} " for word in line.split()) if is_by_four else line + " ")
@@ -362,6 +362,12 @@ SHOW_AS = "for (const it of document.styleSheets[0].cssRules) if (it.media?.medi
 def check_blank(page, see):
     page.evaluate("window.print = () => { window.printed = true }; null")
     begin(page, "blank")
+    page.choose(say("plan.own"))
+    page.push(f"{say('plan.fewer')}: {say('plan.needed', group=0)}")
+    page.push(say("blank.print"))
+    page.wait_text(say("refused.34", first=0))
+    if page.evaluate("Boolean(window.printed) || document.getElementById('sheet').children.length > 0"):
+        raise Failed("forms of a plan that the engine refuses are printed")
     page.choose(say("plan.home"))
     page.choose(say("entry.words", count=33))
     see("blank forms")
