@@ -147,14 +147,15 @@ export function endsBefore(list, letters, whole, rest) {
 const MISTYPED_MAX = 2;
 
 /**
- * Whether letters that are ended, and that begin no word, are most likely the rest of the word before, mistyped.
+ * Whether letters that are ended, and that make no word, are most likely the rest of the word before, mistyped.
  *
  * @param {readonly string[]} list
  * @param {string} letters
  * @param {Rest} rest
  */
 export function isMistypedRest(list, letters, rest) {
-  return rest.letters !== "" && beginning(list, letters).length === 0 && distance(letters, rest.letters) <= MISTYPED_MAX;
+  if (letters === "" || rest.letters === "" || beginning(list, letters).length === 1) return false;
+  return distance(letters, rest.letters) <= MISTYPED_MAX;
 }
 
 /**

@@ -148,10 +148,11 @@ export class WordField {
     }
     const letters = words[0] ?? "";
     const isEnded = letters !== value;
-    if (isEnded && this.#isMistyped(letters)) return;
+    const isRest = isRestWhole(this.#list, letters, rest, isEnded);
+    if (isEnded && !isRest && this.#isMistyped(letters)) return;
     if (isEnded) arrived = null;
     if (isEnded && letters === "") rest = NO_REST;
-    if (isRestWhole(this.#list, letters, rest, isEnded)) {
+    if (isRest) {
       if (!isEnded) habit = habitOf(letters.length, rest, habit);
       rest = NO_REST;
       this.set("");

@@ -87,14 +87,14 @@ def check_mistyped(page, see):
     begin(page, "check")
     for key in (" ", "Enter", "Tab"):
         page.go_to("textbox", say("entry.word", number=1))
-        page.type(" ".join(words[:7]) + " soluton" + (key if key == " " else ""))
+        page.type(" ".join(words[:7]) + (" soluton" if key != "Tab" else " solutios") + (key if key == " " else ""))
         if key != " ":
             page.press(key)
         page.wait_text(say("entry.mistyped", number=8))
         if not page.has_focus(page.node("textbox", say("entry.word", number=9))) or page.evaluate("document.activeElement.value") != "":
             raise Failed("the end of a word that was mistyped goes into the next field")
-        if not page.evaluate("document.querySelectorAll('.word')[7].classList.contains('doubt')"):
-            raise Failed("the word whose end was mistyped isn't marked")
+        if page.evaluate("[...document.querySelectorAll('.word')].map((it, at) => it.classList.contains('doubt') ? at + 1 : '').join('')") != "8":
+            raise Failed("the word whose end was mistyped isn't marked, or another word is")
         see("a mistyped end of a word")
         page.type(" ".join(words[8:]) + " ")
         page.wait_text(say("collect.taken", name="0.0"))

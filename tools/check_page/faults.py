@@ -101,7 +101,7 @@ FAULTS = [
     ("a heading is read as words", "page/spelling.js", 'replace(HEADING, " ")', "trim()", of_page(lambda page: refusals.check_words(page, unseen))),
     ("papers that no quorum has aren't told in the title", "page/check_papers.js", "left || untried ?", "left ?", of_page(lambda page: astray.check_untried(page, unseen))),
     ("on the way back, what was chosen is lost", "page/make_backup.js", ', take: keep }', " }", of_page(lambda page: steps.check_chosen(page, unseen))),
-    ("a mistyped end goes into the next field", "page/word_field.js", "if (isEnded && this.#isMistyped(letters)) return;", "", of_page(lambda page: entry.check_mistyped(page, unseen))),
+    ("a mistyped end goes into the next field", "page/word_field.js", "if (isEnded && !isRest && this.#isMistyped(letters)) return;", "", of_page(lambda page: entry.check_mistyped(page, unseen))),
     ("how an owner types isn't learnt", "page/word_field.js", "if (isBySpelling && arrived === this", "if (false", of_page(lambda page: entry.check_habits(page, unseen))),
     ("forms of a plan that is refused", "page/blank_forms.js", 'if (fault !== "") continue;', "", of_page(lambda page: tasks.check_blank(page, unseen))),
     ("words that were pasted are left without a question", "page/word_field.js", "    setTouched(true);\n", "", of_page(lambda page: entry.check_kept(page, unseen))),
