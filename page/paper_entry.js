@@ -186,7 +186,7 @@ export class PaperEntry {
   /** The end of the last completed word was mistyped, so that word may be a wrong one. The paper may have been taken meanwhile. */
   #mistyped() {
     const field = this.#fields[this.#completedAt];
-    if (field.word === "") return;
+    if (!field?.word) return;
     field.doubt();
     this.say(say("entry.mistyped", { number: this.#completedAt + 1 }), true);
   }

@@ -86,8 +86,8 @@ export function show(title, ...children) {
 }
 
 /**
- * Shows a screen with buttons, and waits until one of them is pressed. The `take` of a button takes what was typed. If it
- * returns a text, which says what is missing, the screen stays.
+ * Shows a screen with buttons, and waits until one of them is pressed. The `take` of a button takes what was typed. If it returns a
+ * text, which says what is missing, the screen stays.
  *
  * @template {string} K
  * @param {string} title

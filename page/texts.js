@@ -96,7 +96,7 @@ export const TEXTS = {
   "entry.several": "Word {number} isn't complete. Some of the words that begin so:",
   "entry.missing": "Word {number} is missing: {count} of {fields} words are typed. If the paper has another number of words, change it above.",
   "entry.nothing": "No word is typed yet.",
-  "entry.mistyped": "After word {number}, you typed letters that are no word and look like its end, so the page left them out. Compare word {number} with your paper.",
+  "entry.mistyped": "The letters that you typed after word {number} make no word, and look like its end. So the page left them out. Compare word {number} with your paper.",
   "entry.lost": "The fields still hold words that you typed. If you go back now, the page forgets them.",
   "entry.lost.go": "Forget these words",
   "entry.bip39": "These {count} words aren't all in the list of SLIP-0039. They are probably a BIP-39 backup, which is another standard. This page doesn't convert it: type such words into a wallet that knows BIP-39.",
