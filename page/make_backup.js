@@ -1,6 +1,6 @@
 // The task 'Make a backup': a plan, a secret, a passphrase, the papers one by one, typed back, drilled, and the fingerprint.
 import { bytesOf, typedDigits, zero } from "./bytes.js";
-import { Stopped } from "./client.js";
+import { Declined, Stopped } from "./client.js";
 import { choice, element, hidden, labelled, paragraph, tick } from "./dom.js";
 import { askToDrill, LONG_EXPONENT, runDrill } from "./drill.js";
 import { notedFields, passphraseFields } from "./passphrase.js";
@@ -228,7 +228,9 @@ async function created(desk, plan, { secret, passphrase }, { exponent, extendabl
     if (fault === "" && secret.noted !== "") tellNext(say("secret.same"));
     return { fault: fault === "" ? "" : say(`secret.${fault}`, { digits, fingerprint, place, noted: secret.noted }), words };
   } catch (error) {
-    return { fault: error instanceof Stopped ? say("make.stopped") : saidError(error), words: 0 };
+    if (error instanceof Stopped) return { fault: say("make.stopped"), words: 0 };
+    if (!(error instanceof Declined)) throw error;
+    return { fault: saidError(error), words: 0 };
   } finally {
     if (secret.digits) zero(secret.digits);
   }

@@ -67,8 +67,9 @@ async function recovered(desk, kind, noted) {
   try {
     return { fingerprint: /** @type {string} */ (await desk.askLong("recover", { noted })), refused: 0, text: "" };
   } catch (error) {
-    const text = error instanceof Stopped ? say("recover.stopped") : saidError(error);
-    return { fingerprint: "", refused: error instanceof Declined ? error.refused.code : 0, text };
+    if (error instanceof Stopped) return { fingerprint: "", refused: 0, text: say("recover.stopped") };
+    if (!(error instanceof Declined)) throw error;
+    return { fingerprint: "", refused: error.refused.code, text: saidError(error) };
   }
 }
 

@@ -114,14 +114,10 @@ def check_stop(page, see):
     time.sleep(0.5)
     page.evaluate("{ const given = Worker; window.undo = () => { window.Worker = given; }; window.Worker = function () { throw new Error('none'); }; } null")
     page.push(say("stop"))
-    page.wait_title(say("recover.failed"))
+    page.wait_title(say("fault.title"))
     page.wait_text(say("fault.other"))
     page.evaluate(UNDO)
     see("no other worker starts")
-    page.push(say("again"))
-    page.tick(say("passphrase.none"))
-    page.push(say("continue"))
-    page.wait_title(say("fault.title"))
     end(page)
 
 
