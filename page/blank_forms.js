@@ -1,30 +1,39 @@
 // The task 'Print blank forms': sheets to write papers on. Nothing else of the page can be printed.
 import { choice, element, paragraph, tick } from "./dom.js";
+import { USUAL_WORDS } from "./paper_entry.js";
 import { planNames, saidPlan, saidTakes } from "./plan.js";
-import { PlanChoice } from "./plan_choice.js";
+import { PlanChoice, planFault } from "./plan_choice.js";
 import { say } from "./say.js";
 import { ask } from "./screen.js";
 
+/** @typedef {import("./client.js").Desk} Desk */
 /** @typedef {import("./plan.js").Plan} Plan */
 
 const sheet = /** @type {HTMLElement} */ (document.getElementById("sheet"));
 
-/** Prints blank forms. */
-export async function blankForms() {
+/**
+ * Prints blank forms.
+ *
+ * @param {Desk} desk
+ */
+export async function blankForms(desk) {
   const plan = new PlanChoice();
-  let count = 20;
-  const options = /** @type {const} */ (["20", "33"]).map((key) => ({ key, label: say("entry.words", { count: key }), hint: "" }));
-  const words = choice(say("blank.words"), options, "20", (key) => (count = Number(key)));
-  const named = tick(say("blank.named"), () => {});
+  let [count] = USUAL_WORDS;
+  const options = USUAL_WORDS.map((it) => ({ key: String(it), label: say("entry.words", { count: it }), hint: "" }));
+  const words = choice(say("blank.words"), options, String(count), (key) => (count = Number(key)));
+  const named = tick(say("blank.named"));
   named.field.checked = true;
   const children = [paragraph(say("blank.intro")), plan.element, words, named.box];
+  let fault = "";
   for (;;) {
-    const answer = await ask(say("blank.title"), children, [
+    const answer = await ask(say("blank.title"), [fault ? paragraph(fault, "fault") : null, ...children], [
       { key: "print", label: say("blank.print"), kind: "primary" },
       { key: "end", label: say("end") },
     ]);
     sheet.replaceChildren();
     if (answer === "end") return;
+    fault = await planFault(desk, plan.plan);
+    if (fault !== "") continue;
     const names = named.field.checked ? planNames(plan.plan) : [""];
     sheet.append(...names.map((name) => form(plan.plan, name, count)));
     window.print();

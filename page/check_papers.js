@@ -11,9 +11,6 @@ import { counted, say } from "./say.js";
 /** @typedef {import("./desk.js").Kind} Kind */
 /** @typedef {import("./drill.js").Verdict} Verdict */
 
-/** With these results, words that were found and not read may be wrong. */
-const FAULTY = ["other", "none", "some", "several"];
-
 /**
  * Checks papers.
  *
@@ -24,14 +21,15 @@ export async function checkPapers(desk) {
     const sound = say("check.sound", { papers: counted(kinds.length, "paper"), names: kinds.map((it) => it.name).join(", ") });
     return [paragraph(sound, "good"), paragraph(say("check.too_few"))];
   };
-  await collectAndCheck(desk, { title: say("check.title"), intro: say("check.intro") }, saidFew);
+  await collectAndCheck(desk, { title: say("check.title"), intro: say("check.intro"), drill: say("check.drill") }, saidFew);
 }
 
 /**
  * Lets the owner type papers, and drills, until the owner is content.
  *
  * @param {Desk} desk
- * @param {{title: string, intro: string, repaired?: string}} what
+ * @param {{title: string, intro: string, drill: string, repaired?: string}} what `drill` is the title of the drill, and `repaired` is the
+ *   name of a paper of which words were found and not read
  * @param {(kinds: Kind[]) => HTMLElement[]} saidFew says what too few papers show
  */
 export async function collectAndCheck(desk, what, saidFew) {
@@ -40,8 +38,7 @@ export async function collectAndCheck(desk, what, saidFew) {
     if (found === null) return;
     const { status, kinds } = found;
     const tooFew = async () => askForMore(say("check.done.few"), [...saidFew(kinds), await saidLeftOut(desk)], status, kinds);
-    const isRepaired = kinds.some(({ name }) => name === what.repaired);
-    const answer = status.enough ? await drillWithPassphrase(desk, status, kinds[0], say("check.drill"), isRepaired) : await tooFew();
+    const answer = status.enough ? await drillWithPassphrase(desk, status, kinds[0], what.drill, what.repaired) : await tooFew();
     if (answer === "end") return;
   }
 }
@@ -63,10 +60,10 @@ export async function saidLeftOut(desk) {
  * @param {Status} status
  * @param {Kind} kind
  * @param {string} title
- * @param {boolean} [isRepaired] whether words of a paper were found and not read
+ * @param {string} [repaired] the name of a paper of which words were found and not read
  * @returns {Promise<"papers" | "end">}
  */
-export async function drillWithPassphrase(desk, status, kind, title, isRepaired = false) {
+export async function drillWithPassphrase(desk, status, kind, title, repaired = "") {
   let fault = "";
   /** @type {string | null} */
   let noted = null;
@@ -84,8 +81,7 @@ export async function drillWithPassphrase(desk, status, kind, title, isRepaired 
       fault = saidRefusal(verdict.refused);
       continue;
     }
-    const keep = isRepaired && FAULTY.includes(verdict.result) ? paragraph(say("damaged.keep"), "note") : null;
-    const answer = await tellVerdict(verdict, noted, { tried: saidTried(verdict, status), left: await saidLeftOut(desk), keep });
+    const answer = await tellVerdict(verdict, noted, { ...saidTried(verdict, status), left: await saidLeftOut(desk), repaired: saidRepaired(verdict, noted, repaired) });
     if (answer !== "again") return answer;
     fault = "";
   }
@@ -96,31 +92,32 @@ export async function drillWithPassphrase(desk, status, kind, title, isRepaired 
  *
  * @param {Verdict} verdict
  * @param {string} noted
- * @param {{tried: HTMLElement[], left: HTMLElement | null, keep: HTMLElement | null}} papers what is said of the papers that were tried,
- *   of those that were left out, and of a damaged one
+ * @param {{tried: HTMLElement | null, untried: HTMLElement | null, left: HTMLElement | null, repaired: HTMLElement[]}} papers what is said
+ *   of the papers that were tried, of those that no quorum has, of those that were left out, and of a repaired one
  */
-function tellVerdict({ result, fingerprint, sentences, hasPassphrase }, noted, { tried, left, keep }) {
+function tellVerdict({ result, fingerprint, sentences, hasPassphrase }, noted, { tried, untried, left, repaired }) {
   const isGood = result === "good";
   // Without a noted fingerprint, no result is known to be good.
   const isNoted = noted !== "";
   const again = ["other", "none"].includes(result) ? `${say(hasPassphrase ? "check.again" : "check.again.none")} ` : "";
   const told = [
     ...sentences.map((text) => paragraph(text, !isGood ? "bad" : isNoted ? "good" : "")),
-    ...tried,
+    tried,
+    untried,
     left,
-    keep,
+    ...repaired,
     isGood ? null : paragraph(again + say(`check.${result}`)),
     ...(isGood && !isNoted && fingerprint ? [paragraph(say("noted.first")), element("p", { class: "fingerprint" }, fingerprint)] : []),
     paragraph(say("close")),
   ];
   const next = { good: "end", stopped: "again", other: "again", none: "again", some: "papers", several: "papers" }[result];
-  const good = !isNoted ? "same" : left ? "left_out" : "good";
+  const good = !isNoted ? "same" : left || untried ? "left_out" : "good";
   const wrong = result === "other" && !hasPassphrase ? "other.none" : result;
   return askWhatNext(say(`check.done.${isGood ? good : wrong}`), told, next, isGood && isNoted);
 }
 
 /**
- * Names the papers that were tried, and those that are in no quorum.
+ * Names the papers that were tried, and those that no quorum has.
  *
  * @param {Verdict} verdict
  * @param {Status} status
@@ -128,6 +125,25 @@ function tellVerdict({ result, fingerprint, sentences, hasPassphrase }, noted, {
 function saidTried({ result, names }, status) {
   const here = status.groups.flatMap((group) => group.names);
   const [tried, others] = [here.filter((name) => names.includes(name)), here.filter((name) => !names.includes(name))];
-  const none = others.length && result !== "stopped" ? [paragraph(say("verdict.papers.none", { names: others.join(", ") }))] : [];
-  return tried.length ? [paragraph(say("verdict.papers", { names: tried.join(", ") })), ...none] : [];
+  const isUntried = tried.length > 0 && others.length > 0 && result !== "stopped";
+  return {
+    tried: tried.length ? paragraph(say("verdict.papers", { names: tried.join(", ") })) : null,
+    untried: isUntried ? paragraph(say("verdict.papers.none", { names: others.join(", ") })) : null,
+  };
+}
+
+/**
+ * Says what a drill shows of a repaired paper. Only a quorum that has it, and that gives the noted fingerprint, shows that its words are
+ * right.
+ *
+ * @param {Verdict} verdict
+ * @param {string} noted
+ * @param {string} name the name of the repaired paper, or an empty text if there is none
+ */
+function saidRepaired({ result, names, isAnyRight }, noted, name) {
+  if (name === "") return [];
+  const isTried = names.includes(name);
+  if (isTried && result === "good" && noted !== "") return [paragraph(say("damaged.right.one", { names: name }), "good")];
+  const suspect = isTried && !isAnyRight ? [paragraph(say("damaged.suspect.one", { names: name }), "bad")] : [];
+  return [...suspect, paragraph(say("damaged.keep"), "note")];
 }

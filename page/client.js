@@ -1,4 +1,5 @@
 // The page's side of the worker: it starts the worker, asks it one thing after the other, stops it and ends it.
+import { zero } from "./bytes.js";
 
 /** @typedef {import("./desk.js").Tried} Tried */
 /** @typedef {import("./desk.js").Held} Held */
@@ -36,21 +37,41 @@ export class Desk {
   #asked = 0;
   /** @type {Worker} */
   #worker = this.#started();
+  /** @type {Uint8Array | null} */
+  #module = null;
   /** @type {Held | null} */
   #kept = null;
+  // Whether the owner stopped the last long call.
+  #isStopped = false;
+  /** @type {Error | null} why there is no worker any more */
+  #fault = null;
 
   /**
    * What the worker said when it began.
    *
-   * @type {{fault: string | null, milliseconds: number, version: string, words: string[]}}
+   * @type {{fault: string | null, milliseconds: number, version: string, words: string[], exponentMax: number}}
    */
-  begun = { fault: null, milliseconds: 0, version: "", words: [] };
+  begun = { fault: null, milliseconds: 0, version: "", words: [], exponentMax: 0 };
 
   /** Starts a worker, and the engine in it. */
   static async launch() {
     const desk = new Desk();
-    desk.begun = await desk.#begin(null);
+    try {
+      desk.begun = await desk.#begin(null);
+    } catch (error) {
+      desk.#worker.terminate();
+      throw error;
+    }
     return desk;
+  }
+
+  /**
+   * Returns how many seconds one key derivation takes, from what was measured at the start. A long secret takes twice as long.
+   *
+   * @param {{exponent: number, secretBytes: number}} kind
+   */
+  secondsFor({ exponent, secretBytes }) {
+    return (this.begun.milliseconds / 1000) * 2 ** exponent * (secretBytes > 64 ? 2 : 1);
   }
 
   #started() {
@@ -65,8 +86,8 @@ export class Desk {
 
   /** @param {Held | null} kept */
   async #begin(kept) {
-    const module = await unpacked("engine");
-    return this.ask("begin", { module, kept }, [module.buffer, ...(kept ? buffersOf(kept) : [])]);
+    this.#module ??= await unpacked("engine");
+    return this.ask("begin", { module: this.#module, kept }, kept ? buffersOf(kept) : []);
   }
 
   /** @param {{id: number, value?: any, part?: Tried[], refused?: Refused | null, fault?: string | null}} data */
@@ -99,6 +120,7 @@ export class Desk {
    * @returns {Promise<any>}
    */
   ask(call, given = {}, taken = [], onPart = () => {}) {
+    if (this.#fault) return Promise.reject(this.#fault);
     this.#asked += 1;
     const id = this.#asked;
     return new Promise((resolve, reject) => {
@@ -115,9 +137,12 @@ export class Desk {
    * @param {(part: Tried[]) => void} [onPart]
    */
   async askLong(call, given = {}, onPart = () => {}) {
+    this.#isStopped = false;
     const kept = await this.ask("keep");
     this.#kept = kept;
     try {
+      // The owner may have stopped it while the copy was under way.
+      if (this.#isStopped) throw new Stopped();
       return await this.ask(call, given, [], onPart);
     } finally {
       if (this.#kept === kept) this.#forget();
@@ -125,27 +150,33 @@ export class Desk {
   }
 
   #forget() {
-    if (this.#kept) for (const buffer of buffersOf(this.#kept)) new Uint8Array(buffer).fill(0);
+    if (this.#kept) zero(...arraysOf(this.#kept));
     this.#kept = null;
   }
 
   /** Stops what `askLong` asked for: it throws `Stopped`, and a new worker holds what the old one held. */
   async stop() {
+    this.#isStopped = true;
     const kept = this.#kept;
     if (!kept) return;
     this.#kept = null;
     this.#worker.terminate();
     const waiting = [...this.#waiting.values()];
     this.#waiting.clear();
-    this.#worker = this.#started();
-    await this.#begin(kept);
-    for (const { reject } of waiting) reject(new Stopped());
+    try {
+      this.#worker = this.#started();
+      await this.#begin(kept);
+    } catch (error) {
+      zero(...arraysOf(kept));
+      this.#fault = /** @type {Error} */ (error);
+    }
+    for (const { reject } of waiting) reject(this.#fault ?? new Stopped());
   }
 
   /** Ends the worker, after it has cleared what it holds. If it is at work, it ends at once, and its memory goes with it. */
   async end() {
     const worker = this.#worker;
-    const cleared = this.#waiting.size === 0 ? this.ask("clear") : Promise.resolve();
+    const cleared = this.#waiting.size === 0 ? this.ask("clear").catch(() => {}) : Promise.resolve();
     await Promise.race([cleared, new Promise((resolve) => setTimeout(resolve, 500))]);
     worker.terminate();
     this.#waiting.clear();
@@ -154,9 +185,15 @@ export class Desk {
 }
 
 /**
+ * Returns the arrays that are held, except those that a worker has taken over, which have no length any more.
+ *
  * @param {Held} held
- * @returns {ArrayBufferLike[]}
  */
+function arraysOf(held) {
+  return [...held.papers, ...held.left, ...held.shown, held.passphrase, held.secret].filter((bytes) => bytes.length > 0);
+}
+
+/** @param {Held} held */
 function buffersOf(held) {
-  return [...held.papers, ...held.left, ...held.shown, held.passphrase].filter((bytes) => bytes.length > 0).map((bytes) => bytes.buffer);
+  return arraysOf(held).map((bytes) => bytes.buffer);
 }

@@ -1,6 +1,6 @@
 // The screen on which papers are typed, one after the other.
 import { button, element, paragraph } from "./dom.js";
-import { PaperEntry } from "./paper_entry.js";
+import { leaveEntry, PaperEntry, USUAL_WORDS } from "./paper_entry.js";
 import { picture, saidWhole } from "./picture.js";
 import { saidForeign, wordsToLookAt } from "./refusals.js";
 import { say } from "./say.js";
@@ -10,8 +10,6 @@ import { ask, show } from "./screen.js";
 /** @typedef {import("./desk.js").Status} Status */
 /** @typedef {import("./desk.js").Kind} Kind */
 /** @typedef {import("./paper_entry.js").Answer} Answer */
-
-const USUAL_WORDS = 20;
 
 /** @typedef {{status: Status, kinds: Kind[]}} Collected */
 
@@ -74,7 +72,7 @@ class Collection {
   #fault = element("p", { class: "fault", role: "alert" });
   // What is asked if words were typed and not read.
   #question = element("div", { class: "buttons" });
-  #back = button(say("back"), () => this.#onEnd(null));
+  #back = button(say("back"), () => leaveEntry(this.#entry, () => this.#onEnd(null)));
   #entry;
 
   /**
@@ -89,7 +87,7 @@ class Collection {
     this.#repaired = repaired;
     this.#task = task;
     this.#onEnd = onEnd;
-    this.#entry = new PaperEntry(desk.begun.words, kinds[0]?.words ?? USUAL_WORDS, (line) => this.#take(line));
+    this.#entry = new PaperEntry(desk.begun.words, kinds[0]?.words ?? USUAL_WORDS[0], (line) => this.#take(line));
   }
 
   /**

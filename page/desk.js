@@ -1,7 +1,7 @@
 // The worker. It holds what a task has of papers, secrets and passphrases, and asks the engine. The page sends it byte arrays,
 // which it takes over, and gets names, counts, fingerprints and refusals. It gets words or digits only to show them.
-import { load, Refusal } from "../bindings/js/shamir.js";
-import { digitValue, faultOf, hex, unhex } from "./digits.js";
+import { Code, EXPONENT_MAX, load, Refusal } from "../bindings/js/shamir.js";
+import { digitValue, faultOf, hex, unhex, zero } from "./bytes.js";
 import { isBegun, resembles } from "./left_out.js";
 import { selfTest } from "./self_test.js";
 
@@ -9,12 +9,9 @@ import { selfTest } from "./self_test.js";
 /** @typedef {{group: number, threshold: number, names: string[]}} GroupStatus */
 /** @typedef {{complete: number, required: number, enough: boolean, groups: GroupStatus[]}} Status */
 /** @typedef {{names: string[], fingerprint: string | null, expected: boolean | null, mismatch: number | null}} Tried */
-/** @typedef {{name: string, words: number, secretBytes: number, exponent: number, extendable: boolean, groupCount: number, groupThreshold: number, memberThreshold: number}} Kind */
-/** @typedef {{papers: Uint8Array[], left: Uint8Array[], shown: Uint8Array[], passphrase: Uint8Array, fingerprint: string}} Held */
-/** @typedef {{code: number, line: number | null, details: number[], text: string}} Refused */
-
-const BAD_CHECKSUM = 13;
-const NO_SHARES = 29;
+/** @typedef {{name: string, words: number, secretBytes: number, exponent: number, extendable: boolean, groupCount: number, groupThreshold: number, memberThreshold: number, isPossible: boolean}} Kind */
+/** @typedef {{papers: Uint8Array[], left: Uint8Array[], shown: Uint8Array[], passphrase: Uint8Array, secret: Uint8Array, fingerprint: string}} Held */
+/** @typedef {{code: number, details: number[], text: string}} Refused */
 
 /** @type {Engine} */
 let engine;
@@ -23,16 +20,11 @@ let held = nothing();
 
 /** @returns {Held} */
 function nothing() {
-  return { papers: [], left: [], shown: [], passphrase: new Uint8Array(), fingerprint: "" };
-}
-
-/** @param {Uint8Array[]} arrays */
-function wipe(...arrays) {
-  for (const array of arrays) array.fill(0);
+  return { papers: [], left: [], shown: [], passphrase: new Uint8Array(), secret: new Uint8Array(), fingerprint: "" };
 }
 
 function clear() {
-  wipe(...held.papers, ...held.left, ...held.shown, held.passphrase);
+  zero(...held.papers, ...held.left, ...held.shown, held.passphrase, held.secret);
   held = nothing();
 }
 
@@ -45,29 +37,39 @@ function parsed(line) {
   try {
     return engine.parse(line);
   } catch (error) {
-    if (error instanceof Refusal && error.code === BAD_CHECKSUM) wipe(...engine.repairBytes(line));
+    if (error instanceof Refusal && error.code === Code.BAD_CHECKSUM) zero(...engine.repairBytes(line));
     throw error;
   }
 }
 
 /**
- * Returns what a paper is, without its value.
+ * Returns how many words a line has.
+ *
+ * @param {Uint8Array} line
+ */
+function wordsIn(line) {
+  return line.reduce((sum, byte, at) => sum + (byte > 32 && (at === 0 || line[at - 1] <= 32) ? 1 : 0), 0);
+}
+
+/**
+ * Returns what a paper is, without its value. No backup can have it if its group isn't one of the groups that it says there are.
  *
  * @param {Uint8Array} line
  * @returns {Kind}
  */
 function kindOf(line) {
   const share = parsed(line);
-  wipe(share.value);
+  zero(share.value);
   return {
     name: `${share.groupIndex}.${share.memberIndex}`,
-    words: line.reduce((sum, byte, at) => sum + (byte > 32 && (at === 0 || line[at - 1] <= 32) ? 1 : 0), 0),
+    words: wordsIn(line),
     secretBytes: share.value.length,
     exponent: share.exponent,
     extendable: share.extendable,
     groupCount: share.groupCount,
     groupThreshold: share.groupThreshold,
     memberThreshold: share.memberThreshold,
+    isPossible: share.groupIndex < share.groupCount,
   };
 }
 
@@ -81,7 +83,7 @@ function isSame(one, other) {
   const [a, b] = [engine.parse(one), engine.parse(other)];
   const fields = /** @type {(keyof typeof a)[]} */ (Object.keys(a)).filter((field) => field !== "value");
   const same = fields.every((field) => a[field] === b[field]) && a.value.length === b.value.length && a.value.every((byte, at) => byte === b.value[at]);
-  wipe(a.value, b.value);
+  zero(a.value, b.value);
   return same;
 }
 
@@ -122,7 +124,7 @@ function add({ line }) {
 function leaveOut({ line }) {
   const earlier = held.left.filter((it) => resembles(it, line));
   if (isBegun(line)) held.left = [...held.left.filter((it) => !earlier.includes(it)), line];
-  wipe(...(isBegun(line) ? earlier : [line]));
+  zero(...(isBegun(line) ? earlier : [line]));
 }
 
 /** Returns how many papers were begun, and aren't here. */
@@ -141,7 +143,7 @@ function wipedUnlessTaken(line, use) {
   try {
     return use();
   } finally {
-    if (!held.papers.includes(line)) wipe(line);
+    if (!held.papers.includes(line)) zero(line);
   }
 }
 
@@ -153,13 +155,13 @@ function wipedUnlessTaken(line, use) {
 function drop({ name }) {
   const dropped = held.papers.filter((paper) => kindOf(paper).name === name);
   held.papers = held.papers.filter((paper) => !dropped.includes(paper));
-  wipe(...dropped);
+  zero(...dropped);
   return held.papers.length ? statusOf(held.papers) : null;
 }
 
 /** @param {{passphrase: Uint8Array}} given */
 function passphrase({ passphrase }) {
-  wipe(held.passphrase);
+  zero(held.passphrase);
   held.passphrase = passphrase;
 }
 
@@ -172,25 +174,25 @@ function tryPassphrase({ passphrase }) {
   try {
     engine.recover([], { passphrase });
   } catch (error) {
-    if (!(error instanceof Refusal) || error.code !== NO_SHARES) throw error;
+    if (!(error instanceof Refusal) || error.code !== Code.NO_SHARES) throw error;
   } finally {
-    wipe(passphrase);
+    zero(passphrase);
   }
 }
 
 /**
  * Makes a backup of a new secret of `bytes` bytes, or of the secret with these digits. Returns what is wrong with the digits, or an
  * empty text: they have another fingerprint than the one that was noted ("other"), or stand for no bytes. `noted` may be empty. `place`
- * says which digit is none.
+ * says which digit is none, and `words` how many words each paper has.
  *
  * @param {{plan: string, bytes: number, digits: Uint8Array | null, noted?: string, exponent: number, extendable: boolean}} given
- * @returns {{fault: "not_hex" | "odd" | "other" | "", fingerprint: string, place?: number}}
+ * @returns {{fault: "not_hex" | "odd" | "other" | "", fingerprint: string, place?: number, words?: number}}
  */
 function make({ plan, bytes, digits, noted = "", exponent, extendable }) {
   const fault = digits ? faultOf(digits) : "";
   const place = digits ? digits.findIndex((digit) => digitValue(digit) < 0) + 1 : 0;
   const secret = digits ? unhex(digits) : crypto.getRandomValues(new Uint8Array(bytes));
-  if (digits) wipe(digits);
+  if (digits) zero(digits);
   try {
     if (fault !== "") return { fault, fingerprint: "", place };
     // The engine refuses a secret that no backup can have before it is compared.
@@ -198,12 +200,12 @@ function make({ plan, bytes, digits, noted = "", exponent, extendable }) {
     const fingerprint = engine.fingerprint(secret);
     if (noted !== "" && noted !== fingerprint) return { fault: "other", fingerprint };
     const shown = engine.createBytes(plan, secret, { passphrase: held.passphrase, exponent, extendable });
-    wipe(...held.shown);
+    zero(...held.shown);
     held.shown = shown;
     held.fingerprint = fingerprint;
-    return { fault, fingerprint };
+    return { fault, fingerprint, words: wordsIn(shown[0]) };
   } finally {
-    wipe(secret);
+    zero(secret);
   }
 }
 
@@ -223,13 +225,13 @@ function reissue({ plan, name }) {
  * @param {{line: Uint8Array}} given
  */
 function repair({ line }) {
-  wipe(...held.shown);
+  zero(...held.shown);
   held.shown = [];
   try {
     held.shown = engine.repairBytes(line);
     return held.shown.map(kindOf);
   } finally {
-    wipe(line);
+    zero(line);
   }
 }
 
@@ -293,20 +295,23 @@ function tryOne({ names, expect }) {
   return [...outcomes(held.papers.filter((paper) => names.includes(kindOf(paper).name)), expect)];
 }
 
-/** Recovers the secret, and returns its fingerprint. */
-function recover() {
-  const secret = engine.recover(held.papers, { passphrase: held.passphrase });
-  const fingerprint = engine.fingerprint(secret);
-  wipe(secret);
+/**
+ * Recovers the secret, and returns its fingerprint. Unless another one was noted, the secret is held to be shown, until `forgetSecret`:
+ * to derive it again could take minutes, and what it is derived from is held too.
+ *
+ * @param {{noted: string}} given
+ */
+function recover({ noted }) {
+  forgetSecret();
+  held.secret = engine.recover(held.papers, { passphrase: held.passphrase });
+  const fingerprint = engine.fingerprint(held.secret);
+  if (noted !== "" && noted !== fingerprint) forgetSecret();
   return fingerprint;
 }
 
-/** Recovers the secret, and returns its digits. */
-function digits() {
-  const secret = engine.recover(held.papers, { passphrase: held.passphrase });
-  const found = hex(secret);
-  wipe(secret);
-  return found;
+function forgetSecret() {
+  zero(held.secret);
+  held.secret = new Uint8Array();
 }
 
 /**
@@ -318,7 +323,7 @@ async function begin({ module, kept }) {
   engine = await load(module);
   if (kept) held = kept;
   const tested = kept ? { fault: null, milliseconds: 0 } : selfTest(engine);
-  return { ...tested, version: engine.version(), words: [...engine.words("")] };
+  return { ...tested, version: engine.version(), words: [...engine.words("")], exponentMax: EXPONENT_MAX };
 }
 
 /** @type {Record<string, (given: any, tell: (part: Tried[]) => void) => any>} */
@@ -337,7 +342,8 @@ const CALLS = {
   drill,
   tryOne,
   recover,
-  digits,
+  forgetSecret,
+  digits: () => hex(held.secret),
   plan: ({ plan, bytes }) => engine.randomNeeded(plan, bytes),
   paper: ({ index }) => held.shown[index].slice(),
   status: () => statusOf(held.papers),
@@ -353,7 +359,7 @@ self.onmessage = async ({ data: { id, call, given } }) => {
     const value = await CALLS[call](given, (part) => self.postMessage({ id, part }));
     self.postMessage({ id, value }, { transfer: value instanceof Uint8Array ? [value.buffer] : [] });
   } catch (error) {
-    const refused = error instanceof Refusal ? { code: error.code, line: error.line, details: error.details, text: error.text } : null;
+    const refused = error instanceof Refusal ? { code: error.code, details: error.details, text: error.text } : null;
     self.postMessage({ id, refused, fault: refused ? null : String(error) });
   }
 };

@@ -32,12 +32,45 @@ export function paragraph(text, kind = "") {
 }
 
 /**
+ * Returns what listens to a button. It doesn't take the second press of a double click, which would press what has come to this place.
+ *
+ * @param {() => void} onPress
+ */
+function pressed(onPress) {
+  return (/** @type {MouseEvent} */ event) => {
+    if (!(event.detail > 1)) onPress();
+  };
+}
+
+/**
  * @param {string} label
  * @param {() => void} onPress
  * @param {string} [kind]
  */
 export function button(label, onPress, kind = "") {
-  return element("button", { type: "button", class: kind, click: onPress }, label);
+  return element("button", { type: "button", class: kind, click: pressed(onPress) }, label);
+}
+
+const CONCEALED = "concealed";
+
+/**
+ * Marks an element that shows or holds something secret. `empty` is called when the tab is hidden and when the screen changes.
+ *
+ * @param {HTMLElement} it
+ * @param {() => void} empty
+ */
+export function concealLater(it, empty) {
+  it.classList.add(CONCEALED);
+  it.addEventListener(CONCEALED, empty);
+}
+
+/**
+ * Empties what is marked inside an element.
+ *
+ * @param {HTMLElement} box
+ */
+export function concealIn(box) {
+  for (const it of box.querySelectorAll(`.${CONCEALED}`)) it.dispatchEvent(new Event(CONCEALED));
 }
 
 // A browser writes what stands in a field to disk unless the field itself says `autocomplete="off"`.
@@ -85,10 +118,9 @@ export function labelled(label, type, more = {}) {
  * Makes a box to tick, with its label beside it.
  *
  * @param {string} label
- * @param {(isTicked: boolean) => void} onChange
  */
-export function tick(label, onChange) {
-  const field = input("checkbox", { change: () => onChange(field.checked) });
+export function tick(label) {
+  const field = input("checkbox");
   return { box: element("label", { class: "tick" }, field, element("span", {}, label)), field };
 }
 
@@ -100,15 +132,14 @@ export function tick(label, onChange) {
  */
 export function hidden(label, { show, hide, hint = "" }) {
   const { box, field } = labelled(label, "password", { hint });
-  const toggle = element("button", { type: "button", class: "small", "aria-pressed": "false" }, show);
+  const toggle = element("button", { type: "button", class: "small" });
   const set = (/** @type {boolean} */ isShown) => {
     field.type = isShown ? "text" : "password";
-    toggle.setAttribute("aria-pressed", String(isShown));
     toggle.textContent = isShown ? hide : show;
     toggle.setAttribute("aria-label", `${toggle.textContent}: ${label}`);
   };
   toggle.addEventListener("click", () => set(field.type === "password"));
-  document.addEventListener("visibilitychange", () => document.hidden && set(false));
+  concealLater(field, () => set(false));
   set(false);
   box.append(toggle);
   return { box, field };
@@ -127,7 +158,7 @@ export function large(label, hint, onPress, attributes = {}) {
   const told = hint ? element("span", { id: newId() }, hint) : null;
   /** @type {Attributes} */
   const described = told ? { "aria-describedby": told.id } : {};
-  return element("button", { type: "button", "aria-labelledby": name.id, ...described, click: onPress, ...attributes }, name, told);
+  return element("button", { type: "button", "aria-labelledby": name.id, ...described, click: pressed(onPress), ...attributes }, name, told);
 }
 
 /**
@@ -168,31 +199,4 @@ export function choice(legend, options, first, onChoose) {
     element("p", { id, class: "legend" }, legend),
     ...buttons,
   );
-}
-
-/**
- * Overwrites byte arrays with zeros.
- *
- * @param {Uint8Array[]} arrays
- */
-export function zero(...arrays) {
-  for (const array of arrays) array.fill(0);
-}
-
-/**
- * Returns the bytes of a text that was typed.
- *
- * @param {string} text
- */
-export function bytesOf(text) {
-  return new TextEncoder().encode(text);
-}
-
-/**
- * Returns bytes as a text, which is made only to be shown.
- *
- * @param {Uint8Array} bytes
- */
-export function shownText(bytes) {
-  return new TextDecoder().decode(bytes);
 }

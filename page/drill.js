@@ -1,4 +1,5 @@
 // The drill: each quorum of the papers that were typed, in a table that fills, and what they say together.
+import { Code, OF_GROUPS } from "../bindings/js/refusal.js";
 import { Declined, Stopped } from "./client.js";
 import { button, element, paragraph } from "./dom.js";
 import { count, fingerprints, isRight, quorumWith, suspects, TRIED_FIRST, TRIED_WHOLE } from "./quorums.js";
@@ -11,28 +12,20 @@ import { announce, ask, show } from "./screen.js";
 /** @typedef {import("./desk.js").Kind} Kind */
 /**
  * What a drill found: no fault, or that it was stopped, or that all quorums give another secret than the expected one, that none
- * gives it, that some don't, or that they give several secrets. With it the sentences that say so, the papers that were tried, and
- * whether a passphrase was typed.
+ * gives it, that some don't, or that they give several secrets. With it the sentences that say so, the papers that were tried, whether
+ * any quorum is right, and whether a passphrase was typed.
  *
- * @typedef {{result: "good" | "stopped" | "other" | "none" | "some" | "several", fingerprint: string | null, sentences: string[], names: string[], hasPassphrase: boolean}} Verdict
+ * @typedef {{result: "good" | "stopped" | "other" | "none" | "some" | "several", fingerprint: string | null, sentences: string[], names: string[], isAnyRight: boolean, hasPassphrase: boolean}} Verdict
  */
 
-/** From this exponent on, a drill says how long it takes. */
-const LONG_EXPONENT = 5;
+/** @typedef {{noted: string, isOwn: boolean, hasPassphrase: boolean}} Asked the fingerprint that is expected, and what else a verdict depends on */
+
+/** From this exponent on, the page says how long a derivation takes. */
+export const LONG_EXPONENT = 5;
 /** The table shows at most this many quorums that gave the expected secret, and as many others. */
 const ROWS_MAX = 500;
-const OF_GROUPS = 16;
-const PASSPHRASE = 41;
-
-/**
- * Says how long one key derivation takes, from what was measured at the start.
- *
- * @param {Desk} desk
- * @param {Kind} kind
- */
-function saidDerivation(desk, { exponent, secretBytes }) {
-  return saidTime((desk.begun.milliseconds / 1000) * 2 ** exponent * (secretBytes > 64 ? 2 : 1));
-}
+/** A screen reader is told of the progress after so many milliseconds, and not at each change. */
+const ANNOUNCED_EVERY = 5000;
 
 /**
  * Returns a sentence on the time that one recovery takes if that is long, and else null.
@@ -41,7 +34,7 @@ function saidDerivation(desk, { exponent, secretBytes }) {
  * @param {Kind} kind
  */
 export function warnedTime(desk, kind) {
-  return kind.exponent < LONG_EXPONENT ? null : say("time.long", { exponent: kind.exponent, time: saidDerivation(desk, kind) });
+  return kind.exponent < LONG_EXPONENT ? null : say("time.long", { exponent: kind.exponent, time: saidTime(desk.secondsFor(kind)) });
 }
 
 /**
@@ -83,7 +76,7 @@ export async function runDrill(desk, status, { title, noted, isOwn = false }) {
     await desk.askLong("drill", { limit: isWhole ? 0 : TRIED_FIRST, expect: noted }, (part) => table.add(part));
     if (!isWhole) await tryEachPaper(desk, status, noted, table);
   } catch (error) {
-    if (error instanceof Declined && error.refused.code === PASSPHRASE) return { refused: error.refused };
+    if (error instanceof Declined && error.refused.code === Code.PASSPHRASE) return { refused: error.refused };
     if (!(error instanceof Stopped)) throw error;
     isStopped = true;
   }
@@ -127,7 +120,8 @@ class Table {
   #body = element("tbody");
   #scroll = element("div", { class: "scroll", tabindex: "0", role: "region", "aria-label": say("drill.caption") });
   #more = element("p", { class: "hint" });
-  #progress = element("p", { class: "work", role: "status" });
+  #progress = element("p", { class: "work" });
+  #announced = performance.now();
   #bar = element("progress", { "aria-label": say("drill.progress") });
   #verdict = element("div", { class: "verdict" });
   #buttons = element("div", { class: "buttons" });
@@ -163,7 +157,11 @@ class Table {
   }
 
   #say() {
-    this.#progress.textContent = say("drill.tried", { tried: said(this.tried.length), total: said(this.#total) });
+    const told = say("drill.tried", { tried: said(this.tried.length), total: said(this.#total) });
+    this.#progress.textContent = told;
+    if (performance.now() - this.#announced < ANNOUNCED_EVERY) return;
+    this.#announced = performance.now();
+    announce(told);
   }
 
   /** @param {Tried} tried */
@@ -195,8 +193,7 @@ class Table {
    */
   end(isStopped, isOwn, hasPassphrase) {
     this.#bar.remove();
-    const { result, sentences } = verdictOf(this.tried, this.#total, this.#noted, isOwn);
-    if (result === "other" && !hasPassphrase) sentences.splice(0, 1, say("verdict.other.none", { quorums: counted(this.tried.length, "quorum") }));
+    const { result, isAnyRight, sentences } = verdictOf(this.tried, this.#total, { noted: this.#noted, isOwn, hasPassphrase });
     if (this.tried.length === 0) {
       sentences.length = 0;
       this.#scroll.remove();
@@ -204,7 +201,7 @@ class Table {
     const isWhole = !isStopped && BigInt(this.tried.length) === this.#total;
     if (!isWhole) sentences.unshift(say("drill.part", { tried: said(this.tried.length), total: said(this.#total) }));
     /** @type {Verdict} */
-    const verdict = { result: isStopped ? "stopped" : result, fingerprint: fingerprints(this.tried)[0]?.[0] ?? null, sentences, names: namesOf(this.tried), hasPassphrase };
+    const verdict = { result: isStopped ? "stopped" : result, fingerprint: fingerprints(this.tried)[0]?.[0] ?? null, sentences, names: namesOf(this.tried), isAnyRight, hasPassphrase };
     this.#verdict.append(...sentences.map((text) => paragraph(text, verdict.result === "good" ? "good" : "bad")));
     this.#progress.textContent = "";
     announce(sentences.join(" "));
@@ -231,11 +228,11 @@ function namesOf(tried) {
  *
  * @param {Tried[]} tried
  * @param {bigint} total
- * @param {string} noted
- * @param {boolean} isOwn
- * @returns {{result: Verdict["result"], sentences: string[]}}
+ * @param {Asked} asked
+ * @returns {Pick<Verdict, "result" | "isAnyRight" | "sentences">}
  */
-function verdictOf(tried, total, noted, isOwn) {
+function verdictOf(tried, total, asked) {
+  const { noted, isOwn } = asked;
   const found = fingerprints(tried);
   const fingerprint = noted !== "" ? noted : found[0]?.[0] ?? "";
   const right = tried.filter((it) => isRight(it, fingerprint));
@@ -244,9 +241,27 @@ function verdictOf(tried, total, noted, isOwn) {
   if (tried.length > 0 && wrong.length === 0) {
     const whole = BigInt(tried.length) === total ? "all" : "tried";
     const which = noted === "" ? "same" : isOwn ? "own" : "noted";
-    return { result: "good", sentences: [say(`verdict.${whole}.${which}`, { quorums, fingerprint })] };
+    return { result: "good", isAnyRight: true, sentences: [say(`verdict.${whole}.${which}`, { quorums, fingerprint })] };
   }
-  return wrongVerdict(right, wrong, found.length, noted, quorums);
+  if (right.length === 0) return { ...noneVerdict(wrong, asked, quorums), isAnyRight: false };
+  return { ...wrongVerdict(right, wrong, found.length, noted, quorums), isAnyRight: true };
+}
+
+/**
+ * Says that no quorum is right.
+ *
+ * @param {Tried[]} wrong
+ * @param {Asked} asked
+ * @param {string} quorums
+ * @returns {Pick<Verdict, "result" | "sentences">}
+ */
+function noneVerdict(wrong, { noted, hasPassphrase }, quorums) {
+  const mismatched = wrong.filter((it) => it.mismatch !== null).length;
+  // The passphrase changes nothing about papers that don't belong together.
+  if (mismatched === wrong.length) return { result: "some", sentences: [say("verdict.nothing", { quorums })] };
+  const result = mismatched === 0 ? "other" : "none";
+  const key = result === "other" && !hasPassphrase ? "other.none" : result;
+  return { result, sentences: [say(`verdict.${key}`, { quorums, noted })] };
 }
 
 /**
@@ -257,16 +272,9 @@ function verdictOf(tried, total, noted, isOwn) {
  * @param {number} secrets how many fingerprints were found, if none is expected
  * @param {string} noted
  * @param {string} quorums
- * @returns {{result: Verdict["result"], sentences: string[]}}
+ * @returns {Pick<Verdict, "result" | "sentences">}
  */
 function wrongVerdict(right, wrong, secrets, noted, quorums) {
-  if (right.length === 0) {
-    const mismatched = wrong.filter((it) => it.mismatch !== null).length;
-    // The passphrase changes nothing about papers that don't belong together.
-    if (mismatched === wrong.length) return { result: "some", sentences: [say("verdict.nothing", { quorums })] };
-    const result = mismatched === 0 ? "other" : "none";
-    return { result, sentences: [say(`verdict.${result}`, { quorums })] };
-  }
   if (secrets > 1) return { result: "several", sentences: [say("verdict.several", { quorums, secrets: counted(secrets, "secret") })] };
   const sentences = [say(noted === "" ? "verdict.some.unnoted" : "verdict.some", { wrong: wrong.length, quorums })];
   const names = suspects(right, wrong);

@@ -9,6 +9,7 @@ import { recoverSecret } from "./recover.js";
 import { replacePaper } from "./replace.js";
 import { say } from "./say.js";
 import { announce, ask, askAbove, conceal, isTouched, setTouched, setUnfinished, show, unfinishedKey } from "./screen.js";
+import { forgetRest } from "./word_field.js";
 
 /** @typedef {{key: "make" | "check" | "recover" | "replace" | "damaged" | "blank", run: (desk: Desk) => Promise<void>, isSecret: boolean}} Task */
 
@@ -33,7 +34,10 @@ const TASKS = [
  */
 let desk = null;
 let isPrepared = false;
-let isLaunching = false;
+// The number of the launch of a worker that the owner waits for. Another launch, or 'Clear everything', takes its place.
+let awaited = 0;
+
+const network = element("p", { role: "status" });
 
 /**
  * Shows the first screen.
@@ -54,10 +58,17 @@ function home(tried, news = []) {
   );
 }
 
+/** Says whether the machine seems to be connected. */
+function tellNetwork() {
+  network.textContent = say(navigator.onLine ? "prepare.online" : "prepare.offline");
+  network.setAttribute("class", navigator.onLine ? "bad" : "good");
+}
+
 /** Asks to go offline and to use a private window. Going on without is allowed after a second question. Returns whether to go on. */
 async function prepare() {
+  tellNetwork();
   const intro = [
-    paragraph(say(navigator.onLine ? "prepare.online" : "prepare.offline"), navigator.onLine ? "bad" : "good"),
+    network,
     element("ul", {}, ...["network", "window", "extensions", "screen"].map((key) => element("li", {}, say(`prepare.${key}`)))),
     paragraph(say("prepare.stays")),
   ];
@@ -75,6 +86,17 @@ async function prepare() {
   return second === "yes";
 }
 
+/** Starts the worker of a task. Returns null if the owner waits no more for it, or if it isn't right, which is told. */
+async function launched() {
+  const mine = (awaited += 1);
+  /** @type {Desk | null} */
+  const own = await Desk.launch().catch(() => null);
+  if (own !== null && mine === awaited && own.begun.fault === null) return own;
+  await own?.end();
+  if (mine === awaited) refuse(own === null ? say("lacks.engine") : say("lacks.wrong", { fault: String(own.begun.fault) }));
+  return null;
+}
+
 /**
  * Begins a task with a worker of its own, and ends the worker after the task.
  *
@@ -82,7 +104,6 @@ async function prepare() {
  * @param {Desk} tried
  */
 async function begin(task, tried) {
-  if (isLaunching) return;
   if (task.isSecret && !isPrepared) {
     isPrepared = await prepare();
     if (!isPrepared) {
@@ -90,8 +111,8 @@ async function begin(task, tried) {
       return;
     }
   }
-  isLaunching = true;
-  const own = await Desk.launch().finally(() => (isLaunching = false));
+  const own = await launched();
+  if (own === null) return;
   desk = own;
   try {
     await task.run(own);
@@ -110,7 +131,9 @@ async function begin(task, tried) {
 async function clearAll(tried) {
   const ended = desk;
   desk = null;
+  awaited += 1;
   conceal();
+  forgetRest();
   document.getElementById("sheet")?.replaceChildren();
   home(tried, isTouched() ? [`${say("cleared")} ${say("close")}`] : []);
   setTouched(false);
@@ -120,7 +143,8 @@ async function clearAll(tried) {
 }
 
 /**
- * Clears everything, or asks first if papers are half written. Nothing secret shows while it asks.
+ * Clears everything, or asks first if papers are half written. Meanwhile the page shows no secret, but what was typed stays in its
+ * fields.
  *
  * @param {Desk} tried
  */
@@ -135,6 +159,7 @@ function clearOrAsk(tried) {
 function lacking() {
   if (typeof WebAssembly !== "object") return say("lacks.webassembly");
   if (typeof Worker !== "function" || typeof DecompressionStream !== "function") return say("lacks.old");
+  if (typeof structuredClone !== "function" || typeof Object.hasOwn !== "function") return say("lacks.old");
   if (typeof crypto !== "object" || typeof crypto.getRandomValues !== "function") return say("lacks.random");
   return null;
 }
@@ -164,8 +189,12 @@ function watch(tried) {
     if (event.target instanceof HTMLInputElement && event.target.value !== "") setTouched(true);
   });
   window.addEventListener("beforeunload", (event) => {
-    if (isTouched()) event.preventDefault();
+    if (!isTouched()) return;
+    event.preventDefault();
+    // Chromium before 119 asks only for this.
+    event.returnValue = true;
   });
+  for (const change of ["online", "offline"]) window.addEventListener(change, tellNetwork);
   // A browser may keep a page that was left, to show it again.
   window.addEventListener("pagehide", () => clearAll(tried));
 }

@@ -1,10 +1,11 @@
 // The task 'Make a backup': a plan, a secret, a passphrase, the papers one by one, typed back, drilled, and the fingerprint.
-import { Stopped } from "./client.js";
-import { choice, element, hidden, labelled, paragraph, tick, bytesOf } from "./dom.js";
-import { askToDrill, runDrill } from "./drill.js";
+import { bytesOf, typedDigits, zero } from "./bytes.js";
+import { Declined, Stopped } from "./client.js";
+import { choice, element, hidden, labelled, paragraph, tick } from "./dom.js";
+import { askToDrill, LONG_EXPONENT, runDrill } from "./drill.js";
 import { notedFields, passphraseFields } from "./passphrase.js";
 import { planNames, planText, saidPlan, saidTakes } from "./plan.js";
-import { PlanChoice } from "./plan_choice.js";
+import { PlanChoice, planFault } from "./plan_choice.js";
 import { saidError, saidRefusal } from "./refusals.js";
 import { say, saidTime } from "./say.js";
 import { ask, setTouched, setUnfinished, showWork, tellNext } from "./screen.js";
@@ -15,12 +16,15 @@ import { showPaper, typeBack } from "./show_paper.js";
 /** @typedef {import("./desk.js").Kind} Kind */
 /** @typedef {"new16" | "new32" | "own"} Source */
 /** @typedef {{bytes: number, digits: Uint8Array | null, noted: string}} Secret */
+/** @typedef {{source: Source, noted: string | null, exponent: number, extendable: boolean}} Chosen what was chosen and isn't secret */
 
 const BYTES = { new16: 16, new32: 32, own: 0 };
-// A new backup has what the reference implementation gives it.
-const EXPONENT = 1;
-const EXPONENT_MAX = 15;
-const LONG_EXPONENT = 5;
+/**
+ * A new backup has what the reference implementation gives it.
+ *
+ * @type {Chosen}
+ */
+const USUAL = { source: "new16", noted: null, exponent: 1, extendable: true };
 
 /**
  * Makes a backup.
@@ -30,13 +34,12 @@ const LONG_EXPONENT = 5;
 export async function makeBackup(desk) {
   const made = await planAndCreate(desk);
   if (made === null) return;
-  const { plan, isOwn } = made;
+  const { plan, isOwn, words } = made;
   const names = planNames(plan);
   const papers = names.map((name, index) => ({ index, name, takes: saidTakes(plan, name) }));
   const place = (/** @type {number} */ index) => say("paper.place", { number: index + 1, count: names.length });
   setUnfinished("clear.unfinished");
   for (const paper of papers) await showPaper(desk, paper, place(paper.index));
-  const words = await wordsOfPaper(desk);
   await ask(say("back.begin.title"), [paragraph(say("back.begin"))], [{ key: "go", label: say("continue"), kind: "primary" }]);
   for (const paper of papers) {
     while (!(await typeBack(desk, paper, place(paper.index), words))) await showPaper(desk, paper, place(paper.index));
@@ -50,24 +53,12 @@ export async function makeBackup(desk) {
  * @param {Desk} desk
  */
 async function planAndCreate(desk) {
-  const chosen = new PlanChoice();
-  while (await askPlan(desk, chosen)) {
-    const isOwn = await create(desk, chosen.plan);
-    if (isOwn !== null) return { plan: chosen.plan, isOwn };
+  const [planned, chosen] = [new PlanChoice(), { ...USUAL }];
+  while (await askPlan(desk, planned)) {
+    const words = await create(desk, planned.plan, chosen);
+    if (words !== null) return { plan: planned.plan, isOwn: chosen.source === "own", words };
   }
   return null;
-}
-
-/**
- * Returns how many words each paper has.
- *
- * @param {Desk} desk
- */
-async function wordsOfPaper(desk) {
-  const line = await desk.ask("paper", { index: 0 });
-  const words = line.reduce((/** @type {number} */ sum, /** @type {number} */ byte) => sum + (byte === 32 ? 1 : 0), 1);
-  line.fill(0);
-  return words;
 }
 
 /**
@@ -85,12 +76,8 @@ async function askPlan(desk, chosen) {
       { key: "back", label: say("back") },
     ]);
     if (answer === "back") return false;
-    try {
-      await desk.ask("plan", { plan: planText(chosen.plan), bytes: 16 });
-      return true;
-    } catch (error) {
-      fault = saidError(error);
-    }
+    fault = await planFault(desk, chosen.plan);
+    if (fault === "") return true;
   }
 }
 
@@ -103,11 +90,8 @@ class SecretFields {
   #again = hidden(say("secret.again"), { show: say("show"), hide: say("hide") });
   #noted;
 
-  /**
-   * @param {Source} source what is chosen at first
-   * @param {string | null} noted the fingerprint that was given before, or null
-   */
-  constructor(source, noted) {
+  /** @param {Chosen} first what is chosen at first */
+  constructor({ source, noted }) {
     this.source = source;
     this.#noted = notedFields(noted);
     const options = /** @type {const} */ (["new16", "new32", "own"]).map((key) => ({ key, label: say(`secret.${key}`), hint: say(`secret.${key}.hint`) }));
@@ -122,38 +106,53 @@ class SecretFields {
   /** Returns what is missing, or null. */
   missing() {
     if (this.source !== "own") return null;
-    const [typed, again] = [this.#digits, this.#again].map(({ field }) => field.value.replace(/\s/g, "").toLowerCase());
+    const [typed, again] = [this.#digits, this.#again].map(({ field }) => typedDigits(field.value));
     if (typed === "") return say("secret.missing");
     return typed === again ? this.#noted.missing() : say("secret.differ");
   }
 
+  /** The fingerprint that was noted, or an empty text if none was, or null if that isn't said yet. */
+  get noted() {
+    return this.#noted.missing() === null ? this.#noted.read() : null;
+  }
+
+  /** How many bytes the secret has. */
+  get secretBytes() {
+    return BYTES[this.source] || typedDigits(this.#digits.field.value).length / 2;
+  }
+
   /** @returns {Secret} */
   read() {
-    const digits = this.source === "own" ? bytesOf(this.#digits.field.value.replace(/\s/g, "")) : null;
+    const digits = this.source === "own" ? bytesOf(typedDigits(this.#digits.field.value)) : null;
     return { bytes: BYTES[this.source], digits, noted: digits ? this.#noted.read() : "" };
   }
 }
 
 /** The fields under 'More'. */
 class MoreFields {
-  #extendable = tick(say("more.extendable"), () => {});
+  #extendable = tick(say("more.extendable"));
   #exponent;
+  #most;
 
   /**
    * @param {Desk} desk
-   * @param {{exponent: number, extendable: boolean}} first
+   * @param {Chosen} first
+   * @param {SecretFields} secret
    */
-  constructor(desk, { exponent, extendable }) {
+  constructor(desk, { exponent, extendable }, secret) {
+    this.#most = desk.begun.exponentMax;
     const time = element("p", { class: "hint" });
-    const told = () => (time.textContent = say("more.time", { time: saidTime((desk.begun.milliseconds / 1000) * 2 ** this.exponent) }));
+    const tell = () => (time.textContent = say("more.time", { time: saidTime(desk.secondsFor({ exponent: this.exponent, secretBytes: secret.secretBytes })) }));
     this.#exponent = labelled(say("more.exponent"), "number", {
       hint: say("more.exponent.hint"),
-      attributes: { min: "0", max: String(EXPONENT_MAX), value: String(exponent), class: "count", input: told },
+      attributes: { min: "0", max: String(this.#most), value: String(exponent), class: "count", input: tell },
     });
     this.#extendable.field.checked = extendable;
-    told();
+    tell();
+    for (const change of ["input", "click"]) secret.element.addEventListener(change, tell);
     const inside = [this.#extendable.box, paragraph(say("more.extendable.hint"), "hint"), this.#exponent.box, time];
-    this.element = element("details", {}, element("summary", {}, say("more.title")), ...inside);
+    const isUsual = exponent === USUAL.exponent && extendable === USUAL.extendable;
+    this.element = element("details", { open: !isUsual }, element("summary", {}, say("more.title")), ...inside);
   }
 
   get extendable() {
@@ -166,74 +165,74 @@ class MoreFields {
 
   missing() {
     const { value } = this.#exponent.field;
-    return /^\d+$/.test(value) && Number(value) <= EXPONENT_MAX ? null : say("more.exponent.wrong");
+    return /^\d+$/.test(value) && Number(value) <= this.#most ? null : say("more.exponent.wrong");
   }
 }
 
 /**
- * Asks for the secret and the passphrase, and makes the backup. Returns whether the secret is the owner's own, or null if the owner
- * goes back.
+ * Asks for the secret and the passphrase, and makes the backup. Returns how many words each paper has, or null if the owner goes back.
+ * What was chosen stays then, and after a refusal. What is secret is typed again.
  *
  * @param {Desk} desk
  * @param {Plan} plan
+ * @param {Chosen} chosen
  */
-async function create(desk, plan) {
+async function create(desk, plan, chosen) {
   let fault = "";
-  // What was chosen stays after a refusal, and what is secret is typed again.
-  let chosen = { source: /** @type {Source} */ ("new16"), noted: /** @type {string | null} */ (null), exponent: EXPONENT, extendable: true };
   for (;;) {
-    const [secret, more, passphrase] = [new SecretFields(chosen.source, chosen.noted), new MoreFields(desk, chosen), passphraseFields(desk, true)];
+    const secret = new SecretFields(chosen);
+    const [more, passphrase] = [new MoreFields(desk, chosen, secret), passphraseFields(desk, true)];
     /** @type {{secret: Secret, passphrase: Uint8Array} | null} */
     let typed = null;
-    const isReady = () => {
-      const lacks = secret.missing() ?? passphrase.missing() ?? more.missing();
-      if (lacks !== null) return lacks;
-      typed = { secret: secret.read(), passphrase: passphrase.read() };
-      const noted = secret.source === "own" ? typed.secret.noted : chosen.noted;
-      chosen = { source: secret.source, noted, exponent: more.exponent, extendable: more.extendable };
+    const keep = () => {
+      chosen.source = secret.source;
+      if (secret.source === "own") chosen.noted = secret.noted ?? chosen.noted;
+      if (more.missing() === null) Object.assign(chosen, { exponent: more.exponent, extendable: more.extendable });
       return null;
     };
-    const children = [
-      ...(fault ? [paragraph(fault, "fault"), paragraph(say("passphrase.emptied"), "fault")] : []),
-      secret.element,
-      element("h2", {}, say("passphrase.heading")),
-      paragraph(say("passphrase.new")),
-      passphrase.box,
-      more.element,
-    ];
-    const answer = await ask(say("make.secret"), children, [
-      { key: "go", label: say("make.create"), kind: "primary", isReady },
-      { key: "back", label: say("back") },
+    const take = () => {
+      const lacks = secret.missing() ?? passphrase.missing() ?? more.missing();
+      if (lacks === null) typed = { secret: secret.read(), passphrase: passphrase.read() };
+      return lacks ?? keep();
+    };
+    const refused = fault ? [paragraph(fault, "fault"), paragraph(say("passphrase.emptied"), "fault")] : [];
+    const asked = [element("h2", {}, say("passphrase.heading")), paragraph(say("passphrase.new")), passphrase.box];
+    const answer = await ask(say("make.secret"), [...refused, secret.element, ...asked, more.element], [
+      { key: "go", label: say("make.create"), kind: "primary", take },
+      { key: "back", label: say("back"), take: keep },
     ]);
     if (answer === "back") return null;
-    fault = await created(desk, plan, /** @type {any} */ (typed), chosen);
-    if (fault === "") return chosen.source === "own";
+    const made = await created(desk, plan, /** @type {any} */ (typed), chosen);
+    if (made.fault === "") return made.words;
+    fault = made.fault;
   }
 }
 
 /**
- * Makes the backup, and returns what is wrong, or an empty text.
+ * Makes the backup, and returns what is wrong, or an empty text, and how many words each paper has.
  *
  * @param {Desk} desk
  * @param {Plan} plan
  * @param {{secret: Secret, passphrase: Uint8Array}} typed
- * @param {{exponent: number, extendable: boolean}} chosen
+ * @param {Chosen} chosen
  */
 async function created(desk, plan, { secret, passphrase }, { exponent, extendable }) {
   setTouched(true);
-  const time = saidTime((desk.begun.milliseconds / 1000) * 2 ** exponent);
+  const digits = secret.digits?.length ?? 0;
+  const time = saidTime(desk.secondsFor({ exponent, secretBytes: secret.bytes || digits / 2 }));
   const isLong = exponent >= LONG_EXPONENT;
-  showWork(say("make.work"), isLong ? say("time.about", { time }) : say("time.moment"), isLong ? () => desk.stop() : null);
   try {
     await desk.ask("passphrase", { passphrase }, [passphrase.buffer]);
-    const digits = secret.digits?.length ?? 0;
-    const { fault, fingerprint, place = 0 } = await desk.askLong("make", { plan: planText(plan), exponent, extendable, ...secret });
+    showWork(say("make.work"), isLong ? say("time.about", { time }) : say("time.moment"), isLong ? () => desk.stop() : null);
+    const { fault, fingerprint, place = 0, words = 0 } = await desk.askLong("make", { plan: planText(plan), exponent, extendable, ...secret });
     if (fault === "" && secret.noted !== "") tellNext(say("secret.same"));
-    return fault === "" ? "" : say(`secret.${fault}`, { digits, fingerprint, place, noted: secret.noted });
+    return { fault: fault === "" ? "" : say(`secret.${fault}`, { digits, fingerprint, place, noted: secret.noted }), words };
   } catch (error) {
-    return error instanceof Stopped ? say("make.stopped") : saidError(error);
+    if (error instanceof Stopped) return { fault: say("make.stopped"), words: 0 };
+    if (!(error instanceof Declined)) throw error;
+    return { fault: saidError(error), words: 0 };
   } finally {
-    secret.digits?.fill(0);
+    if (secret.digits) zero(secret.digits);
   }
 }
 
@@ -248,11 +247,14 @@ async function drillAndNote(desk, plan, isOwn) {
   const fingerprint = await desk.ask("fingerprint");
   if (!(await drillUntilDone(desk, fingerprint))) return;
   setUnfinished("");
-  const noting = [paragraph(say("noted.new")), element("p", { class: "fingerprint" }, fingerprint), paragraph(say(isOwn ? "noted.own" : "noted.drawn")), paragraph(say("noted.apart"))];
+  const hasPassphrase = await desk.ask("hasPassphrase");
+  const apart = hasPassphrase ? paragraph(say("noted.apart")) : null;
+  const noting = [paragraph(say("noted.new")), element("p", { class: "fingerprint" }, fingerprint), paragraph(say(isOwn ? "noted.own" : "noted.drawn")), apart];
   const skip = isOwn ? [{ key: "skip", label: say("noted.skip") }] : [];
-  await ask(say("noted.title"), noting, [{ key: "go", label: say("noted.done"), kind: "primary" }, ...skip]);
-  const keep = `${say("make.keep")} ${say((await desk.ask("hasPassphrase")) ? "make.with" : "make.without")}`;
-  const done = [paragraph(saidPlan(plan), "good"), paragraph(keep), paragraph(say("make.note", { plan: planText(plan) })), paragraph(say("close"))];
+  await ask(say(isOwn ? "noted.title.own" : "noted.title"), noting, [{ key: "go", label: say("noted.done"), kind: "primary" }, ...skip]);
+  const keep = `${say(planNames(plan).length === 1 ? "make.keep.one" : "make.keep")} ${say(hasPassphrase ? "make.with" : "make.without")}`;
+  const old = isOwn ? paragraph(say("make.own")) : null;
+  const done = [paragraph(saidPlan(plan), "good"), paragraph(keep), old, paragraph(say("make.note", { plan: planText(plan) })), paragraph(say("close"))];
   await ask(say("make.done"), done, [{ key: "end", label: say("end"), kind: "primary" }]);
 }
 

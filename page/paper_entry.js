@@ -1,7 +1,7 @@
 // The entry of a paper: a numbered field for each word, and the answer to the whole.
 import { button, element, labelled } from "./dom.js";
 import { say } from "./say.js";
-import { announce } from "./screen.js";
+import { announce, askAbove } from "./screen.js";
 import { seemsBip39 } from "./spelling.js";
 import { WordField } from "./word_field.js";
 
@@ -11,7 +11,8 @@ import { WordField } from "./word_field.js";
  * @typedef {{isTaken: boolean, text: string, isFault?: boolean, words?: number[]}} Answer
  */
 
-const USUAL = [20, 33];
+/** Papers have one of these numbers of words, if their secret has a usual length. */
+export const USUAL_WORDS = [20, 33];
 const COUNT_MAX = 128;
 
 export class PaperEntry {
@@ -20,6 +21,10 @@ export class PaperEntry {
   #onChange;
   /** @type {WordField[]} */
   #fields = [];
+  /** @type {WordField[]} those that are hidden, since the paper has fewer words, the last one first. What was typed stays in them */
+  #spare = [];
+  // The field whose word was completed last.
+  #completedAt = 0;
   #grid = element("div", { class: "words" });
   #answer = element("p", { class: "answer" });
   #count = labelled(say("entry.count"), "number", {
@@ -40,7 +45,7 @@ export class PaperEntry {
     this.#list = list;
     this.#onPaper = onPaper;
     this.#onChange = onChange;
-    const quick = USUAL.map((it) => button(say("entry.words", { count: it }), () => this.setCount(it), "small"));
+    const quick = USUAL_WORDS.map((it) => button(say("entry.words", { count: it }), () => this.setCount(it), "small"));
     this.element = element(
       "div",
       { class: "entry" },
@@ -61,10 +66,10 @@ export class PaperEntry {
 
   /** Whether nothing is typed. */
   get isEmpty() {
-    return this.#typed.length === 0;
+    return [...this.#fields, ...this.#spare].every((field) => field.word === "");
   }
 
-  /** What stands in each field. */
+  /** What stands in each field that is shown. */
   get words() {
     return this.#fields.map((field) => field.word);
   }
@@ -85,7 +90,7 @@ export class PaperEntry {
   }
 
   /**
-   * Shows so many fields. What stands in the first ones stays.
+   * Shows so many fields.
    *
    * @param {number} count
    */
@@ -95,17 +100,16 @@ export class PaperEntry {
       back: (/** @type {number} */ at) => this.#fields[Math.max(0, at - 1)].focus(),
       spread: (/** @type {number} */ at, /** @type {string[]} */ words) => this.#spread(at, words),
       ended: () => this.#ended(),
+      mistyped: () => this.#mistyped(),
     };
-    while (this.#fields.length > count) {
-      const removed = /** @type {WordField} */ (this.#fields.pop());
-      removed.field.value = "";
-      removed.box.remove();
-    }
+    while (this.#fields.length > count) this.#spare.push(/** @type {WordField} */ (this.#fields.pop()));
     while (this.#fields.length < count) {
-      const added = new WordField(this.#fields.length, this.#list, this.#onChange !== null, events);
+      const added = this.#spare.pop() ?? new WordField(this.#fields.length, this.#list, this.#onChange !== null, events);
       this.#fields.push(added);
-      this.#grid.append(added.box);
+      if (!added.box.isConnected) this.#grid.append(added.box);
     }
+    for (const { box } of this.#fields) box.hidden = false;
+    for (const { box } of this.#spare) box.hidden = true;
     this.#count.field.value = String(count);
     this.#changed();
   }
@@ -118,7 +122,7 @@ export class PaperEntry {
 
   /** Empties the fields. */
   clear() {
-    for (const field of this.#fields) field.set("");
+    for (const field of [...this.#fields, ...this.#spare]) field.set("");
   }
 
   #emptied() {
@@ -134,7 +138,7 @@ export class PaperEntry {
    */
   #spread(at, words) {
     this.#changed();
-    const isWhole = at === 0 && words.length >= USUAL[0];
+    const isWhole = at === 0 && words.length >= USUAL_WORDS[0];
     if (isWhole || at + words.length > this.count) this.setCount(Math.min(COUNT_MAX, at + words.length));
     words.slice(0, COUNT_MAX - at).forEach((word, index) => this.#fields[at + index].set(word));
     const after = at + words.length;
@@ -150,6 +154,7 @@ export class PaperEntry {
    */
   #completed(at, isBySpelling) {
     this.#changed();
+    this.#completedAt = at;
     if (this.#isFull) this.#read(isBySpelling);
     else this.#go(this.#next(at), isBySpelling);
   }
@@ -176,6 +181,14 @@ export class PaperEntry {
 
   #ended() {
     if (this.#isFull) this.#read();
+  }
+
+  /** The end of the last completed word was mistyped, so that word may be a wrong one. The paper may have been taken meanwhile. */
+  #mistyped() {
+    const field = this.#fields[this.#completedAt];
+    if (!field?.word) return;
+    field.doubt();
+    this.say(say("entry.mistyped", { number: this.#completedAt + 1 }), true);
   }
 
   get #isFull() {
@@ -209,15 +222,19 @@ export class PaperEntry {
     return line;
   }
 
-  /** Returns what is wrong before the engine is asked, or null. */
+  /**
+   * Returns what is wrong before the engine is asked, and the field to go to if there is one, or null.
+   *
+   * @returns {{told: string, field?: WordField} | null}
+   */
   #missing() {
     const words = this.#typed;
-    if (seemsBip39(this.#list, words)) return say("entry.bip39", { count: words.length });
+    if (seemsBip39(this.#list, words)) return { told: say("entry.bip39", { count: words.length }) };
     const empty = this.#fields.findIndex((field) => field.word === "");
     if (empty < 0) return null;
-    if (words.length === 0) return say("entry.nothing");
-    this.#fields[empty].focus();
-    return say(this.#onChange ? "damaged.missing" : "entry.missing", { number: empty + 1, count: words.length, fields: this.count });
+    if (words.length === 0) return { told: say("entry.nothing") };
+    const told = say(this.#onChange ? "damaged.missing" : "entry.missing", { number: empty + 1, count: words.length, fields: this.count });
+    return { told, field: this.#fields[empty] };
   }
 
   /**
@@ -229,7 +246,8 @@ export class PaperEntry {
     if (this.#isAsked) return;
     const missing = this.#missing();
     if (missing !== null) {
-      this.say(missing, true);
+      missing.field?.focus();
+      this.say(missing.told, true);
       this.#isMissing = true;
       return;
     }
@@ -243,4 +261,15 @@ export class PaperEntry {
     if (words.length && !isBySpelling) this.#fields[words[0]]?.select();
     else if (isTaken || words.length) this.#go(this.#fields[words[0] ?? 0], isBySpelling);
   }
+}
+
+/**
+ * Leaves the screen of an entry. Words that were typed and not read would be lost, so the owner is asked first.
+ *
+ * @param {PaperEntry} entry
+ * @param {() => void} onLeave
+ */
+export function leaveEntry(entry, onLeave) {
+  if (entry.isEmpty) onLeave();
+  else askAbove(say("entry.lost"), say("collect.unread.stay"), say("entry.lost.go"), onLeave);
 }

@@ -1,5 +1,6 @@
 // The questions for the passphrase and for the noted fingerprint.
-import { element, hidden, labelled, paragraph, tick, bytesOf } from "./dom.js";
+import { bytesOf, typedDigits } from "./bytes.js";
+import { element, hidden, labelled, paragraph, tick } from "./dom.js";
 import { saidError } from "./refusals.js";
 import { say } from "./say.js";
 import { ask } from "./screen.js";
@@ -18,7 +19,7 @@ export function passphraseFields(desk, isTwice) {
   const texts = { show: say("show"), hide: say("hide") };
   const first = hidden(say("passphrase.label"), { ...texts, hint: say("passphrase.hint") });
   const again = isTwice ? hidden(say("passphrase.again"), texts) : null;
-  const none = tick(say("passphrase.none"), () => {});
+  const none = tick(say("passphrase.none"));
   const fault = element("p", { class: "fault", role: "alert" });
   // Whether the owner was asked about a space that isn't seen.
   let isAsked = false;
@@ -65,11 +66,11 @@ async function refusalOf(desk, typed) {
  * @param {string | null} noted what was said before, or null
  */
 export function notedFields(noted) {
-  const none = tick(say("noted.none"), () => {});
+  const none = tick(say("noted.none"));
   const { box, field } = labelled(say("noted.label"), "text", { hint: say("noted.hint"), attributes: { maxlength: "16", input: () => (none.field.checked = false) } });
   field.value = noted ?? "";
   none.field.checked = noted === "";
-  const read = () => field.value.replace(/\s/g, "").toLowerCase();
+  const read = () => typedDigits(field.value);
   /** Returns what is missing, or null. */
   const missing = () => {
     if (none.field.checked) return read() === "" ? null : say("noted.both");
@@ -89,7 +90,7 @@ export function notedFields(noted) {
 export async function askPassphrase(desk, { title, fault, noted }) {
   const [passphrase, fingerprint] = [passphraseFields(desk, false), notedFields(noted)];
   const typed = { passphrase: new Uint8Array(), fingerprint: "" };
-  const isReady = () => {
+  const take = () => {
     const lacks = passphrase.missing() ?? fingerprint.missing();
     if (lacks === null) Object.assign(typed, { passphrase: passphrase.read(), fingerprint: fingerprint.read() });
     return lacks;
@@ -97,7 +98,7 @@ export async function askPassphrase(desk, { title, fault, noted }) {
   const refused = fault ? [paragraph(fault, "fault"), paragraph(say("passphrase.emptied"), "fault")] : [];
   const children = [...refused, paragraph(say("passphrase.why")), passphrase.box, fingerprint.box];
   const answer = await ask(title, children, [
-    { key: "go", label: say("continue"), kind: "primary", isReady },
+    { key: "go", label: say("continue"), kind: "primary", take },
     { key: "back", label: say("collect.back") },
   ]);
   if (answer === "back") return null;

@@ -2,6 +2,9 @@
 // right; this only writes their text and says them in words.
 import { counted, say } from "./say.js";
 
+export const GROUPS_MAX = 16;
+export const MEMBERS_MAX = 16;
+
 /** @typedef {{needed: number, members: number}} Group */
 /** @typedef {{needed: number, groups: Group[]}} Plan */
 /** @typedef {import("./desk.js").Kind} Kind */

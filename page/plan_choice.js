@@ -1,14 +1,13 @@
 // The choice of a plan: proposals in plain words, or groups and members by buttons.
-import { button, choice, element, paragraph } from "./dom.js";
-import { saidPlan, saidRisks } from "./plan.js";
+import { choice, element, paragraph } from "./dom.js";
+import { GROUPS_MAX, MEMBERS_MAX, planText, saidPlan, saidRisks } from "./plan.js";
+import { saidError } from "./refusals.js";
 import { say } from "./say.js";
 import { announce } from "./screen.js";
 
+/** @typedef {import("./client.js").Desk} Desk */
 /** @typedef {import("./plan.js").Plan} Plan */
 /** @typedef {import("./plan.js").Group} Group */
-
-const GROUPS_MAX = 16;
-const MEMBERS_MAX = 16;
 
 /** @type {Record<"two" | "three" | "home", Plan>} */
 const PROPOSALS = {
@@ -54,18 +53,22 @@ export class PlanChoice {
     this.#sentence.textContent = text;
   }
 
-  /** Draws the groups again, and puts the focus back on the button that was pressed. */
+  /** Draws the groups again, and puts the focus back on the button that was pressed, or beside it if it can't be pressed again. */
   #draw() {
     const { groups } = this.plan;
-    const label = document.activeElement?.getAttribute("aria-label");
+    const label = nameOf(document.activeElement);
     const rows = groups.map((group, at) => this.#group(group, at));
     const whole = stepper(say("plan.groups_needed"), this.plan.needed, 1, groups.length, (value) => this.#change(() => (this.plan.needed = value)));
-    const add = button(say("plan.add"), () => this.#change(() => groups.push({ needed: 1, members: 1 })), "small");
-    const drop = button(say("plan.drop"), () => this.#change(() => groups.pop()), "small");
+    // An owner may press these fast, so a double click is two presses.
+    const quick = (/** @type {string} */ text, /** @type {() => void} */ change) => element("button", { type: "button", class: "small", click: () => this.#change(change) }, text);
+    const add = quick(say("plan.add"), () => groups.push({ needed: 1, members: 1 }));
+    const drop = quick(say("plan.drop"), () => groups.pop());
     add.disabled = groups.length === GROUPS_MAX;
     drop.disabled = groups.length === 1;
     this.#own.replaceChildren(...rows, element("div", { class: "buttons" }, add, drop), ...(groups.length > 1 ? [whole] : []));
-    if (label) [...this.#own.querySelectorAll("button")].find((it) => it.getAttribute("aria-label") === label)?.focus();
+    const same = [...this.#own.querySelectorAll("button")].find((it) => nameOf(it) === label);
+    const beside = [...(same?.parentElement?.querySelectorAll("button") ?? [])].find((it) => !it.disabled);
+    (same?.disabled ? beside : same)?.focus();
   }
 
   /**
@@ -74,7 +77,7 @@ export class PlanChoice {
    */
   #group(group, at) {
     const members = stepper(say("plan.members", { group: at }), group.members, 1, MEMBERS_MAX, (value) => this.#change(() => (group.members = value)));
-    const needed = stepper(say("plan.needed", { group: at }), group.needed, 1, MEMBERS_MAX, (value) => this.#change(() => (group.needed = value)));
+    const needed = stepper(say("plan.needed", { group: at }), group.needed, 1, group.members, (value) => this.#change(() => (group.needed = value)));
     return element("fieldset", {}, element("legend", {}, say("status.group", { group: at })), members, needed);
   }
 
@@ -82,9 +85,30 @@ export class PlanChoice {
   #change(change) {
     change();
     this.plan.needed = Math.min(this.plan.needed, this.plan.groups.length);
+    for (const group of this.plan.groups) group.needed = Math.min(group.needed, group.members);
     this.#draw();
     this.#tell();
   }
+}
+
+/**
+ * Returns what the engine says against a plan, or an empty text. The length of the secret doesn't matter to it.
+ *
+ * @param {Desk} desk
+ * @param {Plan} plan
+ */
+export async function planFault(desk, plan) {
+  try {
+    await desk.ask("plan", { plan: planText(plan), bytes: 16 });
+    return "";
+  } catch (error) {
+    return saidError(error);
+  }
+}
+
+/** @param {Element | null} it */
+function nameOf(it) {
+  return it?.getAttribute("aria-label") ?? it?.textContent;
 }
 
 /**

@@ -2,20 +2,18 @@
 // them with the paper, writes it anew, types it back, and checks it together with other papers.
 import { collectAndCheck } from "./check_papers.js";
 import { button, element, paragraph } from "./dom.js";
-import { PaperEntry } from "./paper_entry.js";
+import { leaveEntry, PaperEntry, USUAL_WORDS } from "./paper_entry.js";
 import { saidTakesAlone } from "./plan.js";
 import { saidError, wordsToLookAt } from "./refusals.js";
 import { counted, say } from "./say.js";
-import { concealLater, setTouched, show } from "./screen.js";
+import { setTouched, show } from "./screen.js";
 import { shownWords, writeAndTypeBack } from "./show_paper.js";
+import { isOpen } from "./spelling.js";
 
 /** @typedef {import("./client.js").Desk} Desk */
 /** @typedef {import("./desk.js").Kind} Kind */
 /** @typedef {import("./paper_entry.js").Answer} Answer */
 /** @typedef {{index: number, kind: Kind}} Fit a paper that fits, and its number among those that the worker keeps to be shown */
-
-const USUAL_WORDS = 20;
-const OPEN_MAX = 3;
 
 /**
  * Reads a damaged paper.
@@ -27,7 +25,7 @@ export async function readDamaged(desk) {
   if (fit === null) return;
   const { index, kind } = fit;
   await writeAndTypeBack(desk, { index, name: kind.name, takes: saidTakesAlone(kind) }, kind.words);
-  const what = { title: say("damaged.check.title"), intro: say("damaged.check.intro"), repaired: kind.name };
+  const what = { title: say("damaged.check.title"), intro: say("damaged.check.intro"), drill: say("damaged.drill"), repaired: kind.name };
   await collectAndCheck(desk, what, () => [paragraph(say("damaged.too_few"), "note")]);
 }
 
@@ -41,15 +39,6 @@ function askWhatIsRead(desk) {
   return new Promise((resolve) => new Damaged(desk, resolve).show());
 }
 
-/**
- * Whether a backup can have a paper: its group is one of the groups that it says the backup has.
- *
- * @param {Kind} kind
- */
-function isPossible({ name, groupCount }) {
-  return Number(name.split(".")[0]) < groupCount;
-}
-
 /** @param {Kind} kind */
 function saidImpossible({ name, groupCount }) {
   return say("damaged.impossible", { name, groups: counted(groupCount, "group") });
@@ -61,10 +50,13 @@ function saidImpossible({ name, groupCount }) {
  * @param {Kind[]} kinds
  */
 function answerOf(kinds) {
-  const possible = kinds.filter(isPossible);
+  const possible = kinds.filter((kind) => kind.isPossible);
   if (possible.length === 0) return { isFault: true, text: saidImpossible(kinds[0]) };
   return { isFault: false, text: say(possible.length > 1 ? "damaged.two" : "damaged.one", { name: possible[0].name }) };
 }
+
+/** @type {Answer} */
+const OUTDATED = { isTaken: false, text: "" };
 
 class Damaged {
   #desk;
@@ -81,12 +73,12 @@ class Damaged {
   constructor(desk, onChosen) {
     this.#desk = desk;
     this.#onChosen = onChosen;
-    this.#entry = new PaperEntry(desk.begun.words, USUAL_WORDS, (line) => this.#take(line), () => this.#changed());
+    this.#entry = new PaperEntry(desk.begun.words, USUAL_WORDS[0], (line) => this.#take(line), () => this.#changed());
   }
 
   show() {
     const marks = element("ul", {}, ...["letters", "nothing"].map((key) => element("li", {}, say(`damaged.${key}`))));
-    const back = element("div", { class: "buttons" }, button(say("back"), () => this.#onChosen(null)));
+    const back = element("div", { class: "buttons" }, button(say("back"), () => leaveEntry(this.#entry, () => this.#onChosen(null))));
     show(say("damaged.title"), paragraph(say("damaged.intro")), marks, paragraph(say("damaged.first")), this.#entry.element, this.#found, back);
     this.#entry.focus();
   }
@@ -105,9 +97,11 @@ class Damaged {
     const [marks, changes] = [this.#entry.words, this.#changes];
     try {
       const kinds = await this.#desk.ask("repair", { line }, [line.buffer]);
-      if (changes === this.#changes) await this.#tell(kinds, marks);
+      if (changes !== this.#changes) return OUTDATED;
+      await this.#tell(kinds, marks);
       return { isTaken: false, ...answerOf(kinds) };
     } catch (error) {
+      if (changes !== this.#changes) return OUTDATED;
       return { isTaken: false, text: saidError(error, "damaged"), words: wordsToLookAt(error) };
     }
   }
@@ -120,9 +114,8 @@ class Damaged {
    */
   async #tell(kinds, marks) {
     setTouched(true);
-    // A fourth mark that is taken stands behind the four letters that make a word.
-    const open = Math.min(OPEN_MAX, marks.filter((mark) => mark.endsWith("?")).length);
-    const [possible, impossible] = [kinds.filter(isPossible), kinds.filter((kind) => !isPossible(kind))];
+    const open = marks.filter((mark) => isOpen(this.#desk.begun.words, mark)).length;
+    const [possible, impossible] = [kinds.filter((kind) => kind.isPossible), kinds.filter((kind) => !kind.isPossible)];
     const isOneOfTwo = possible.length > 1;
     const fits = possible.map((kind) => this.#fit({ index: kinds.indexOf(kind), kind }, marks, { isOneOfTwo, isOpen: open > 0 }));
     const heading = element("h2", { tabindex: "-1" }, say("damaged.found"));
@@ -153,11 +146,10 @@ class Damaged {
     const row = (/** @type {string} */ word, /** @type {number} */ at) =>
       word === marks[at] ? [] : [element("li", {}, element("span", {}, say("entry.word", { number: at + 1 })), element("strong", {}, word))];
     const none = () => [element("li", {}, say("damaged.whole"))];
-    const { fill, empty, again } = shownWords(this.#desk, index, list, (words) => {
+    const { fill, again } = shownWords(this.#desk, index, list, (words) => {
       const rows = words.flatMap(row);
       return rows.length ? rows : none();
     });
-    concealLater(empty);
     const which = isOneOfTwo ? element("h3", {}, say("damaged.which", { number: index + 1, name: kind.name })) : null;
     const write = button(say(isOneOfTwo ? "damaged.write.which" : "damaged.write", { number: index + 1, name: kind.name }), () => this.#onChosen(fit), isOneOfTwo ? "" : "primary");
     const sure = isOpen ? paragraph(say("damaged.sure", { name: kind.name })) : null;

@@ -1,19 +1,18 @@
-// The task 'Recover': papers are typed, and the secret is compared by its fingerprint. Its digits show only while a button is
-// pressed.
+// The task 'Recover': papers are typed, and the secret is compared by its fingerprint. A button shows its digits, and hides them again.
+import { Code } from "../bindings/js/refusal.js";
+import { shownText, zero } from "./bytes.js";
 import { saidLeftOut } from "./check_papers.js";
 import { Declined, Stopped } from "./client.js";
 import { askForMore, askWhatNext, collectPapers } from "./collect.js";
-import { element, paragraph, shownText, zero } from "./dom.js";
+import { button, concealLater, element, paragraph } from "./dom.js";
 import { warnedTime } from "./drill.js";
 import { askPassphrase } from "./passphrase.js";
 import { saidError } from "./refusals.js";
 import { say } from "./say.js";
-import { concealLater, setTouched, showWork } from "./screen.js";
+import { setTouched, showWork } from "./screen.js";
 
 /** @typedef {import("./client.js").Desk} Desk */
 /** @typedef {import("./desk.js").Kind} Kind */
-
-const PASSPHRASE = 41;
 
 /**
  * Recovers a secret.
@@ -47,8 +46,8 @@ async function recoverFrom(desk, kind) {
     const given = await askPassphrase(desk, { title: say("recover.passphrase"), fault, noted });
     if (given === null) return "papers";
     noted = given;
-    const { fingerprint, refused, text } = await recovered(desk, kind);
-    fault = refused === PASSPHRASE ? text : "";
+    const { fingerprint, refused, text } = await recovered(desk, kind, noted);
+    fault = refused === Code.PASSPHRASE ? text : "";
     if (fault !== "") continue;
     const failed = [paragraph(text, "bad"), paragraph(say("close"))];
     const answer = fingerprint === "" ? await askWhatNext(say("recover.failed"), failed, refused ? "papers" : "again") : await tell(desk, noted, fingerprint);
@@ -61,14 +60,16 @@ async function recoverFrom(desk, kind) {
  *
  * @param {Desk} desk
  * @param {Kind} kind
+ * @param {string} noted
  */
-async function recovered(desk, kind) {
+async function recovered(desk, kind, noted) {
   showWork(say("recover.work"), warnedTime(desk, kind) ?? say("time.moment"), () => desk.stop());
   try {
-    return { fingerprint: /** @type {string} */ (await desk.askLong("recover")), refused: 0, text: "" };
+    return { fingerprint: /** @type {string} */ (await desk.askLong("recover", { noted })), refused: 0, text: "" };
   } catch (error) {
-    const text = error instanceof Stopped ? say("recover.stopped") : saidError(error);
-    return { fingerprint: "", refused: error instanceof Declined ? error.refused.code : 0, text };
+    if (error instanceof Stopped) return { fingerprint: "", refused: 0, text: say("recover.stopped") };
+    if (!(error instanceof Declined)) throw error;
+    return { fingerprint: "", refused: error.refused.code, text: saidError(error) };
   }
 }
 
@@ -89,29 +90,33 @@ async function tell(desk, noted, fingerprint) {
     ...offered,
     paragraph(say("close")),
   ];
-  return askWhatNext(say(`recover.done.${which}`), children, which === "other" ? "again" : "end", which === "same");
+  const answer = await askWhatNext(say(`recover.done.${which}`), children, which === "other" ? "again" : "end", which === "same");
+  await desk.ask("forgetSecret");
+  return answer;
 }
 
 /**
- * Makes the button that shows the digits while it is pressed.
+ * Makes the button that shows the digits, and that hides them again.
  *
  * @param {Desk} desk
  */
 function digits(desk) {
   const shown = element("p", { class: "digits", translate: "no" });
-  const toggle = element("button", { type: "button", "aria-pressed": "false" }, say("digits.show"));
-  const set = async (/** @type {boolean} */ isShown) => {
-    toggle.setAttribute("aria-pressed", String(isShown));
-    toggle.textContent = say(isShown ? "digits.hide" : "digits.show");
+  let isShown = false;
+  const hide = () => {
+    isShown = false;
     shown.textContent = "";
-    if (!isShown) return;
+    toggle.textContent = say("digits.show");
+  };
+  const reveal = async () => {
+    isShown = true;
+    toggle.textContent = say("digits.hide");
     setTouched(true);
     const bytes = await desk.ask("digits");
-    if (toggle.getAttribute("aria-pressed") === "true" && !document.hidden) shown.textContent = shownText(bytes).replace(/(.{8})/g, "$1 ").trim();
+    if (isShown && !document.hidden) shown.textContent = shownText(bytes).replace(/(.{8})/g, "$1 ").trim();
     zero(bytes);
   };
-  toggle.addEventListener("click", () => set(toggle.getAttribute("aria-pressed") !== "true"));
-  // What a screen shows is emptied after the screen was shown, so this waits until then.
-  setTimeout(() => concealLater(() => set(false)));
+  const toggle = button(say("digits.show"), () => (isShown ? hide() : reveal()));
+  concealLater(shown, hide);
   return element("div", {}, toggle, shown);
 }

@@ -1,17 +1,16 @@
 // What a refusal of the engine means to an owner, and what to do.
+import { Code, OF_GROUPS } from "../bindings/js/refusal.js";
 import { Declined } from "./client.js";
 import { counted, hasText, say } from "./say.js";
 
 /** @typedef {import("./desk.js").Refused} Refused */
 
-const UNKNOWN_WORD = 11;
-const WRONG_WORD = 18;
-// The first and the last number of refusals of papers that aren't of one backup.
-const [FOREIGN_FIRST, FOREIGN_LAST] = [21, 28];
-const DIGEST_MISMATCH = 51;
-const UNDETERMINED = 66;
-/** The number that stands for the group shares in place of a group. */
-const OF_GROUPS = 16;
+/**
+ * The refusals whose details are the places of words.
+ *
+ * @type {number[]}
+ */
+const LOCATED = [Code.UNKNOWN_WORD, Code.WRONG_WORD];
 
 /**
  * Says what a paper that isn't determined takes: papers of its group, or complete groups besides it and one paper fewer.
@@ -38,7 +37,7 @@ export function saidRefusal({ code, details, text }, task = "") {
   const [first, second] = details;
   const name = `refused.${code}${formOf(code, details)}`;
   const key = [`${task}.${name}`, name, "refused.other"].find(hasText) ?? "";
-  const told = code === UNDETERMINED ? saidUndetermined(details, task) : say(key, { first, second, text });
+  const told = code === Code.UNDETERMINED ? saidUndetermined(details, task) : say(key, { first, second, text });
   return say("refused.number", { told, code });
 }
 
@@ -49,8 +48,8 @@ export function saidRefusal({ code, details, text }, task = "") {
  * @param {number[]} details
  */
 function formOf(code, [first, second]) {
-  if (code === DIGEST_MISMATCH && first === OF_GROUPS) return ".groups";
-  return code === WRONG_WORD && second !== 0 ? ".two" : "";
+  if (code === Code.DIGEST_MISMATCH && first === OF_GROUPS) return ".groups";
+  return code === Code.WRONG_WORD && second !== 0 ? ".two" : "";
 }
 
 /**
@@ -72,7 +71,8 @@ export function saidError(error, task = "") {
 export function saidForeign(error, repaired) {
   if (!(error instanceof Declined) || repaired.length === 0) return saidError(error);
   const { code } = error.refused;
-  if (code < FOREIGN_FIRST || code > FOREIGN_LAST) return saidError(error);
+  // These refusals, and those between them, are of papers that aren't of one backup.
+  if (code < Code.OTHER_IDENTIFIER || code > Code.CONFLICTING_SHARE) return saidError(error);
   return say("refused.number", { told: say("refused.repaired.one", { names: repaired[0] }), code });
 }
 
@@ -82,6 +82,6 @@ export function saidForeign(error, repaired) {
  * @param {unknown} error
  */
 export function wordsToLookAt(error) {
-  if (!(error instanceof Declined) || ![UNKNOWN_WORD, WRONG_WORD].includes(error.refused.code)) return [];
+  if (!(error instanceof Declined) || !LOCATED.includes(error.refused.code)) return [];
   return error.refused.details.filter((number) => number > 0).map((number) => number - 1);
 }

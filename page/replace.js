@@ -1,9 +1,10 @@
 // The task 'Replace a paper': papers that were destroyed are computed from the others, written down, typed back and drilled.
+import { Code } from "../bindings/js/refusal.js";
 import { drillWithPassphrase, saidLeftOut } from "./check_papers.js";
 import { Declined } from "./client.js";
 import { askForMore, collectPapers } from "./collect.js";
 import { choice, element, labelled, paragraph } from "./dom.js";
-import { planNames, planText, saidTakesAlone } from "./plan.js";
+import { MEMBERS_MAX, planNames, planText, saidTakesAlone } from "./plan.js";
 import { saidError } from "./refusals.js";
 import { counted, say } from "./say.js";
 import { ask } from "./screen.js";
@@ -15,9 +16,6 @@ import { writeAndTypeBack } from "./show_paper.js";
 /** @typedef {import("./plan.js").Plan} Plan */
 /** @typedef {{name: string, index: number, text: string}} Missing `index` is -1 if the rest don't determine the paper */
 /** @typedef {{plan: Plan, wanted: number[]}} Wanted a plan, and the groups whose papers are to be written */
-
-const MEMBERS_MAX = 16;
-const UNDETERMINED = 66;
 
 /**
  * Replaces papers.
@@ -183,9 +181,9 @@ async function askWhy() {
   let why = null;
   const options = /** @type {const} */ (["destroyed", "other"]).map((key) => ({ key, label: say(`replace.${key}`), hint: say(`replace.${key}.hint`) }));
   const asked = choice(say("replace.why"), options, null, (key) => (why = key));
-  const isReady = () => (why === null ? say("replace.why.missing") : null);
+  const take = () => (why === null ? say("replace.why.missing") : null);
   const answer = await ask(say("replace.title"), [asked], [
-    { key: "go", label: say("continue"), kind: "primary", isReady },
+    { key: "go", label: say("continue"), kind: "primary", take },
     { key: "back", label: say("back") },
   ]);
   return answer === "back" ? answer : /** @type {any} */ (why);
@@ -229,14 +227,14 @@ async function askPlan(status, kind, before, fault) {
     wanted: rows.flatMap((row, group) => (row.isWanted() ? [group] : [])),
   });
   let answered = read();
-  const isReady = () => {
+  const take = () => {
     answered = read();
-    return answered.wanted.length && answered.plan.groups.every(isGroup) ? saidFew(status, answered.plan) : say("replace.members.wrong");
+    return answered.wanted.length && answered.plan.groups.every(isGroup) ? saidBeyond(status, answered.plan) : say("replace.members.wrong");
   };
-  const told = [kind.groupCount > 1 ? paragraph(say("replace.groups")) : null, paragraph(say("replace.plan")), paragraph(say("replace.forgotten"))];
+  const told = [kind.groupCount > 1 ? paragraph(say("replace.groups")) : null, paragraph(say(kind.groupCount > 1 ? "replace.plan.groups" : "replace.plan")), paragraph(say("replace.forgotten"))];
   const children = [fault ? paragraph(fault, "fault") : null, ...told, ...rows.map(({ box }) => box)];
   const answer = await ask(say("replace.plan.title"), children, [
-    { key: "go", label: say("continue"), kind: "primary", isReady },
+    { key: "go", label: say("continue"), kind: "primary", take },
     { key: "papers", label: say("collect.back") },
   ]);
   return answer === "go" ? answered : null;
@@ -262,7 +260,9 @@ function groupFields(status, { groupCount }, group, before) {
   });
   const legend = groupCount === 1 ? say("status.only") : say("status.group", { group });
   const box = element("fieldset", {}, element("legend", {}, legend), needed?.box ?? null, members.box);
-  const isWanted = () => groupCount === 1 || members.field.value !== "" || (needed !== null && needed.field.value !== "");
+  // Firefox gives an empty value for a text that is no number.
+  const isTyped = (/** @type {HTMLInputElement} */ field) => field.value !== "" || field.validity.badInput;
+  const isWanted = () => groupCount === 1 || isTyped(members.field) || (needed !== null && isTyped(needed.field));
   const typed = () => ({ needed: found ? found.threshold : Number(needed?.field.value), members: Number(members.field.value) });
   const unasked = { needed: found?.threshold ?? 1, members: (found?.threshold ?? 1) === 1 ? 1 : MEMBERS_MAX };
   return { box, isWanted, read: () => (isWanted() ? typed() : unasked) };
@@ -274,7 +274,7 @@ function groupFields(status, { groupCount }, group, before) {
  * @param {Status} status
  * @param {Plan} plan
  */
-function saidFew(status, { groups }) {
+function saidBeyond(status, { groups }) {
   for (const { group, names } of status.groups) {
     const last = Math.max(...names.map((name) => Number(name.split(".")[1])));
     const key = groups.length === 1 ? "replace.members.few.only" : "replace.members.few";
@@ -308,7 +308,7 @@ async function findMissing(desk, { plan, wanted }, status) {
       missing.push({ name, index, text: "" });
     } catch (error) {
       // Any other refusal is about the plan or the papers, so it is the same for each name.
-      if (!(error instanceof Declined) || error.refused.code !== UNDETERMINED) return { missing: [], fault: saidError(error) };
+      if (!(error instanceof Declined) || error.refused.code !== Code.UNDETERMINED) return { missing: [], fault: saidError(error) };
       missing.push({ name, index: -1, text: saidError(error, task) });
     }
   }

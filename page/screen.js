@@ -1,5 +1,5 @@
 // The one screen that the page shows at a time, what a screen reader is told, and what leaves the page's elements with it.
-import { button, element, paragraph } from "./dom.js";
+import { button, concealIn, element, paragraph } from "./dom.js";
 import { say } from "./say.js";
 
 /** @typedef {import("./dom.js").Child} Child */
@@ -7,12 +7,6 @@ import { say } from "./say.js";
 const main = /** @type {HTMLElement} */ (document.getElementById("main"));
 const live = /** @type {HTMLElement} */ (document.getElementById("live"));
 
-/**
- * What empties the elements that show a secret.
- *
- * @type {Set<() => void>}
- */
-const shown = new Set();
 let touched = false;
 // The key of what is said before half written papers are cleared.
 let unfinished = "";
@@ -59,24 +53,14 @@ export function tellNext(text) {
   news = text;
 }
 
-/**
- * Takes what empties an element that shows a secret: it is called when the tab is hidden and when the screen changes.
- *
- * @param {() => void} empty
- */
-export function concealLater(empty) {
-  shown.add(empty);
-}
-
 /** Empties all elements that show a secret. */
 export function conceal() {
-  for (const empty of shown) empty();
+  concealIn(main);
 }
 
 /** Empties each field of the screen, and removes the screen. */
 function leave() {
   conceal();
-  shown.clear();
   for (const field of main.querySelectorAll("input")) field.value = "";
   main.replaceChildren();
 }
@@ -102,26 +86,29 @@ export function show(title, ...children) {
 }
 
 /**
- * Shows a screen with buttons, and waits until one of them is pressed. A button whose `isReady` gives a text isn't taken: the text
- * says what is missing.
+ * Shows a screen with buttons, and waits until one of them is pressed. The `take` of a button takes what was typed. If it returns a
+ * text, which says what is missing, the screen stays.
  *
  * @template {string} K
  * @param {string} title
  * @param {Child[]} children
- * @param {{key: K, label: string, kind?: string, isReady?: () => string | null}[]} answers
+ * @param {{key: K, label: string, kind?: string, take?: () => string | null}[]} answers
  * @returns {Promise<K>}
  */
 export function ask(title, children, answers) {
   return new Promise((resolve) => {
     const fault = element("p", { class: "fault", role: "alert" });
-    const buttons = answers.map(({ key, label, kind = "", isReady = () => null }) =>
+    let isAnswered = false;
+    const buttons = answers.map(({ key, label, kind = "", take = () => null }) =>
       button(
         label,
         () => {
+          if (isAnswered) return;
           // What an earlier try was refused for doesn't stay beside what this one lacks.
           for (const it of main.querySelectorAll(":scope > .fault")) if (it !== fault) it.remove();
-          fault.textContent = isReady() ?? "";
-          if (fault.textContent === "") resolve(key);
+          fault.textContent = take() ?? "";
+          isAnswered = fault.textContent === "";
+          if (isAnswered) resolve(key);
         },
         kind,
       ),

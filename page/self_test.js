@@ -1,5 +1,6 @@
 // What the engine must give before a task begins: published vectors of SLIP-0039, and a creation from fixed bytes.
 import { Refusal } from "../bindings/js/shamir.js";
+import { hex, shownText } from "./bytes.js";
 
 /** @typedef {import("../bindings/js/shamir.js").Engine} Engine */
 
@@ -36,7 +37,7 @@ const CREATED_FINGERPRINT = "2282bae5";
 
 /** @param {Uint8Array} bytes */
 function digitsOf(bytes) {
-  return [...bytes].map((byte) => byte.toString(16).padStart(2, "0")).join("");
+  return shownText(hex(bytes));
 }
 
 /**

@@ -1,16 +1,17 @@
 // A paper on the screen, to be written down, and typed back from what was written.
-import { button, element, paragraph, shownText, zero } from "./dom.js";
+import { shownText, zero } from "./bytes.js";
+import { button, concealLater, element, paragraph } from "./dom.js";
 import { PaperEntry } from "./paper_entry.js";
 import { saidError, wordsToLookAt } from "./refusals.js";
 import { say } from "./say.js";
-import { ask, concealLater, setTouched, setUnfinished, show, tellNext } from "./screen.js";
+import { ask, setTouched, setUnfinished, show, tellNext } from "./screen.js";
 
 /** @typedef {import("./client.js").Desk} Desk */
 /** @typedef {{index: number, name: string, takes: string}} Shown the number of a paper that the worker keeps to be shown */
 
 /**
- * Shows words of a paper in a list, until the tab is hidden or the screen changes. Returns what fills the list, what empties it,
- * and the button that shows the words again.
+ * Shows words of a paper in a list, until the tab is hidden or the screen changes. Returns what fills the list, and the button that
+ * shows the words again.
  *
  * @param {Desk} desk
  * @param {number} index the number of a paper that the worker keeps to be shown
@@ -18,19 +19,27 @@ import { ask, concealLater, setTouched, setUnfinished, show, tellNext } from "./
  * @param {(words: string[]) => HTMLElement[]} rows makes the list's elements of the paper's words
  */
 export function shownWords(desk, index, list, rows) {
+  let isWanted = false;
   const again = button(say("paper.show"), () => fill(), "hide");
   const empty = () => {
+    isWanted = false;
     list.replaceChildren();
     again.classList.remove("hide");
   };
   const fill = async () => {
-    again.classList.add("hide");
+    isWanted = true;
     const line = await desk.ask("paper", { index });
-    if (document.hidden) empty();
-    else list.replaceChildren(...rows(shownText(line).split(" ")));
+    // By now the list may have been emptied, or may be gone.
+    if (isWanted && list.isConnected && !document.hidden) {
+      list.replaceChildren(...rows(shownText(line).split(" ")));
+      if (document.activeElement === again) list.focus();
+      again.classList.add("hide");
+    } else empty();
     zero(line);
   };
-  return { fill, empty, again };
+  list.tabIndex = -1;
+  concealLater(list, empty);
+  return { fill, again };
 }
 
 /**
@@ -42,11 +51,10 @@ export function shownWords(desk, index, list, rows) {
  */
 export async function showPaper(desk, { index, name, takes }, place) {
   const list = element("ol", { class: "paper", translate: "no" });
-  const { fill, empty, again } = shownWords(desk, index, list, (words) => words.map((word) => element("li", {}, word)));
+  const { fill, again } = shownWords(desk, index, list, (words) => words.map((word) => element("li", {}, word)));
   setTouched(true);
   const children = [paragraph(place, "place"), paragraph(takes), paragraph(say("paper.how"), "hint"), list, again];
   const written = ask(say("paper.title", { name }), children, [{ key: "written", label: say("paper.written"), kind: "primary" }]);
-  concealLater(empty);
   await fill();
   await written;
 }

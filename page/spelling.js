@@ -52,6 +52,16 @@ export function isMark(list, mark) {
 }
 
 /**
+ * Whether a mark stands for more than one word.
+ *
+ * @param {readonly string[]} list
+ * @param {string} mark
+ */
+export function isOpen(list, mark) {
+  return mark.endsWith("?") && beginning(list, mark.slice(0, -1)).length > 1;
+}
+
+/**
  * Letters that may still come of a word that is complete: a typist may type four letters of each word, or whole words. `toFour` is
  * how many of them are missing to four letters.
  *
@@ -62,15 +72,41 @@ export function isMark(list, mark) {
 export const NO_REST = { letters: "", toFour: 0 };
 
 /**
+ * What a typist who types no space goes on with after the letters that make a word: nothing, letters up to four, or the whole word. It is
+ * null as long as it isn't known.
+ *
+ * @typedef {"none" | "four" | "whole" | null} Habit
+ */
+
+/**
+ * Returns the habit of a typist who typed so many letters of the rest, as far as it shows.
+ *
+ * @param {number} count
+ * @param {Rest} rest
+ * @param {Habit} before
+ * @returns {Habit}
+ */
+export function habitOf(count, { letters, toFour }, before) {
+  if (count < toFour) return "none";
+  if (count > toFour) return "whole";
+  if (count < letters.length) return count === 0 && before === "none" ? before : "four";
+  return before === "none" ? null : before;
+}
+
+/**
  * Returns the words of the list that the letters of a field may be the beginning of. The first of these letters may still belong to
- * the word before.
+ * the word before: if the typist's habit gives any word, only as many as the habit says.
  *
  * @param {readonly string[]} list
  * @param {string} letters
  * @param {Rest} rest
+ * @param {Habit} [habit]
  */
-export function readings(list, letters, rest) {
+export function readings(list, letters, rest, habit = null) {
   const counts = [0, rest.toFour, rest.letters.length].filter((count) => count === 0 || (count < letters.length && letters.startsWith(rest.letters.slice(0, count))));
+  const usual = { none: 0, four: rest.toFour, whole: rest.letters.length }[habit ?? "none"];
+  const likely = habit !== null && counts.includes(usual) ? beginning(list, letters.slice(usual)) : [];
+  if (likely.length) return likely;
   const found = new Set(counts.flatMap((count) => beginning(list, letters.slice(count))));
   return [...found];
 }
@@ -85,7 +121,11 @@ export function readings(list, letters, rest) {
  */
 export function isRestWhole(list, letters, rest, isEnded) {
   if (letters === "") return false;
-  if (letters === rest.letters) return isEnded || beginning(list, letters).length === 0;
+  if (letters === rest.letters) {
+    // After four letters of a word, what follows them may be the next word.
+    const mayBegin = [0, rest.toFour].filter((count) => count < letters.length);
+    return isEnded || mayBegin.every((count) => beginning(list, letters.slice(count)).length === 0);
+  }
   if (!isEnded || !rest.letters.startsWith(letters)) return false;
   return letters.length === rest.toFour || beginning(list, letters).length !== 1;
 }
@@ -101,6 +141,21 @@ export function isRestWhole(list, letters, rest, isEnded) {
  */
 export function endsBefore(list, letters, whole, rest) {
   return letters === whole || isRestWhole(list, letters, rest, true);
+}
+
+// So many letters may be wrong in the rest of a word.
+const MISTYPED_MAX = 2;
+
+/**
+ * Whether letters that are ended, and that make no word, are most likely the rest of the word before, mistyped.
+ *
+ * @param {readonly string[]} list
+ * @param {string} letters
+ * @param {Rest} rest
+ */
+export function isMistypedRest(list, letters, rest) {
+  if (letters === "" || rest.letters === "" || beginning(list, letters).length === 1) return false;
+  return distance(letters, rest.letters) <= MISTYPED_MAX;
 }
 
 /**
@@ -142,8 +197,9 @@ export function nearest(list, word, count = 5) {
   return rows.slice(0, count).map(({ it }) => it);
 }
 
-// A BIP-39 backup most often has one of these numbers of words.
+// A BIP-39 backup most often has one of these numbers of words, and at least a quarter of them aren't in the list.
 const BIP39_COUNTS = [12, 24];
+const BIP39_FOREIGN = 0.25;
 
 /**
  * Whether words are likely to be a BIP-39 backup.
@@ -152,5 +208,6 @@ const BIP39_COUNTS = [12, 24];
  * @param {readonly string[]} words
  */
 export function seemsBip39(list, words) {
-  return BIP39_COUNTS.includes(words.length) && !words.every((word) => word.endsWith("?") || list.includes(word));
+  const foreign = words.filter((word) => !word.endsWith("?") && !list.includes(word)).length;
+  return BIP39_COUNTS.includes(words.length) && foreign >= BIP39_FOREIGN * words.length;
 }

@@ -88,7 +88,7 @@ export const TEXTS = {
 
   "entry.count": "Number of words",
   "entry.words": "{count} words",
-  "entry.hint": "The page completes a word as soon as only one word of the list begins so, and goes on to the next field. You can also paste a whole paper.",
+  "entry.hint": "The page completes a word as soon as only one word of the list begins so, and goes on to the next field. You may still type a space or Enter after the letters of a word. You can also paste a whole paper.",
   "entry.word": "Word {number}",
   "entry.read": "Read this paper",
   "entry.empty": "Empty the fields",
@@ -96,6 +96,9 @@ export const TEXTS = {
   "entry.several": "Word {number} isn't complete. Some of the words that begin so:",
   "entry.missing": "Word {number} is missing: {count} of {fields} words are typed. If the paper has another number of words, change it above.",
   "entry.nothing": "No word is typed yet.",
+  "entry.mistyped": "The letters that you typed after word {number} make no word, and look like its end. So the page left them out. Compare word {number} with your paper.",
+  "entry.lost": "The fields still hold words that you typed. If you go back now, the page forgets them.",
+  "entry.lost.go": "Forget these words",
   "entry.bip39": "These {count} words aren't all in the list of SLIP-0039. They are probably a BIP-39 backup, which is another standard. This page doesn't convert it: type such words into a wallet that knows BIP-39.",
 
   "collect.end": "Go on with these papers",

@@ -1,11 +1,13 @@
-// The field of one word. A word is complete when only one word of the list begins so. Nothing that was typed is changed into
-// another word unless the owner chooses it.
+// The field of one word. A word is complete when only one word of the list begins with its letters. What is typed after these is left
+// out if it is the rest of that word. If it is nearly the rest, it is left out too, and the owner is told to look at that word. No other
+// letters are changed into a word unless the owner chooses it.
 //
 // In a field of a damaged paper, a question mark stands for letters that can't be read. There the owner ends each word, since a
 // question mark may still follow its letters.
 import { button, element, input } from "./dom.js";
 import { say } from "./say.js";
-import { beginning, endsBefore, isMark, isRestWhole, marksOf, nearest, NO_REST, readings, wordsOf } from "./spelling.js";
+import { announce, setTouched } from "./screen.js";
+import { beginning, endsBefore, habitOf, isMark, isMistypedRest, isRestWhole, marksOf, nearest, NO_REST, readings, wordsOf } from "./spelling.js";
 
 /**
  * @typedef {object} Events
@@ -13,6 +15,7 @@ import { beginning, endsBefore, isMark, isRestWhole, marksOf, nearest, NO_REST, 
  * @property {(at: number) => void} back Backspace in an empty field
  * @property {(at: number, words: string[]) => void} spread several words came
  * @property {() => void} ended Enter
+ * @property {() => void} mistyped what was typed here is the rest of the word before, mistyped, and is left out
  */
 
 const OFFERED = 8;
@@ -28,6 +31,15 @@ let rest = NO_REST;
  * @type {WordField | null}
  */
 let arrived = null;
+
+/** @type {import("./spelling.js").Habit} */
+let habit = null;
+
+/** Forgets the letters that may still come of the last word. */
+export function forgetRest() {
+  rest = NO_REST;
+  arrived = null;
+}
 
 export class WordField {
   #at;
@@ -136,8 +148,12 @@ export class WordField {
     }
     const letters = words[0] ?? "";
     const isEnded = letters !== value;
+    const isRest = isRestWhole(this.#list, letters, rest, isEnded);
+    if (isEnded && !isRest && this.#isMistyped(letters)) return;
     if (isEnded) arrived = null;
-    if (isRestWhole(this.#list, letters, rest, isEnded)) {
+    if (isEnded && letters === "") rest = NO_REST;
+    if (isRest) {
+      if (!isEnded) habit = habitOf(letters.length, rest, habit);
       rest = NO_REST;
       this.set("");
     } else if (letters === "") {
@@ -149,6 +165,19 @@ export class WordField {
     } else {
       this.#grown(letters, !event.inputType.startsWith("delete"));
     }
+  }
+
+  /**
+   * Whether the letters of this field, which are ended, are the rest of the word before, mistyped. Then they are left out.
+   *
+   * @param {string} letters
+   */
+  #isMistyped(letters) {
+    if (arrived !== this || !isMistypedRest(this.#list, letters, rest)) return false;
+    forgetRest();
+    this.set("");
+    this.#events.mistyped();
+    return true;
   }
 
   /**
@@ -185,7 +214,7 @@ export class WordField {
       this.#mark(false);
       return;
     }
-    const found = readings(this.#list, letters, rest);
+    const found = readings(this.#list, letters, rest, habit);
     this.#mark(found.length === 0 || (found.length > 1 && letters.length > 4));
     if (found.length === 1 && isAdded) this.#complete(found[0], letters, true);
   }
@@ -199,6 +228,7 @@ export class WordField {
     this.set(word);
     let count = Math.min(letters.length, word.length);
     while (!letters.endsWith(word.slice(0, count))) count -= 1;
+    if (isBySpelling && arrived === this && rest.letters !== "") habit = habitOf(letters.length - count, rest, habit);
     arrived = null;
     rest = { letters: word.slice(count), toFour: Math.max(0, 4 - count) };
     this.#events.completed(this.#at, isBySpelling);
@@ -232,6 +262,7 @@ export class WordField {
   #mark(isWrong) {
     // The focus may be on its way to one of the offers, so these stay as they are.
     if (isWrong && this.#marked === this.word) return;
+    const isNew = isWrong && this.#marked === "";
     this.#marked = isWrong ? this.word : "";
     this.field.toggleAttribute("aria-invalid", false);
     this.box.classList.toggle("right", this.isRight);
@@ -243,8 +274,10 @@ export class WordField {
     const found = readings(this.#list, this.word, rest);
     const offered = found.length ? found.slice(0, OFFERED) : this.#nearest();
     const key = found.length ? "entry.several" : this.word.includes("?") && this.#isDamaged ? "damaged.mark" : "entry.unknown";
+    const told = say(key, { number: this.#at + 1 });
+    if (isNew) announce(told);
     this.#offers.append(
-      element("p", {}, say(key, { number: this.#at + 1 })),
+      element("p", {}, told),
       ...offered.map((word) => button(word, () => this.#complete(word, word, false), "small offer")),
     );
     if (this.#isDamaged) this.#offers.append(this.#unread(found.length ? `${this.word}?` : "?"));
@@ -271,6 +304,8 @@ export class WordField {
       // This key ends the word before, from which the focus has already come here.
       event.preventDefault();
       if (this.word !== this.#whole) this.set("");
+    } else if (isEnding && this.#isMistyped(this.word)) {
+      event.preventDefault();
     } else if (event.key === "Backspace" && this.field.value === "") {
       event.preventDefault();
       this.#events.back(this.#at);
@@ -292,6 +327,8 @@ export class WordField {
   #pasted(event) {
     event.preventDefault();
     this.#moved();
+    // No field hears of this as of typing.
+    setTouched(true);
     const text = event.clipboardData?.getData("text") ?? "";
     const words = this.#isDamaged ? marksOf(text) : wordsOf(text);
     if (words.length) this.#events.spread(this.#at, words);

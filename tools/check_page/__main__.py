@@ -2,7 +2,7 @@
 
     python3 tools/check_page [--build] [--browser NAME] [--page FILE] [--cases N] [--faults] [PART..]
 
-PART is one of sources, tasks, refusals, entry, astray, long, looks, agreement, privacy and ways; without one, all of them run.
+PART is one of sources, tasks, refusals, entry, astray, hasty, long, looks, agreement, privacy and ways; without one, all of them run.
 `agreement` compares N backups, 20 if it isn't given. The pictures of each screen go to page/out. `--faults` plants faults in copies of the
 sources instead, and checks that each is found. `--build` first builds the page with `make`. The status is 1 if something fails.
 If a browser, or what the page is built with, isn't installed, the check says so and does nothing. A part that fails beside others
@@ -26,6 +26,7 @@ import astray  # noqa: E402
 import browsers  # noqa: E402
 import entry  # noqa: E402
 import faults  # noqa: E402
+import hasty  # noqa: E402
 import long_drill  # noqa: E402
 import looks  # noqa: E402
 import privacy  # noqa: E402
@@ -37,7 +38,7 @@ import ways_out  # noqa: E402
 from hands import Page  # noqa: E402
 from texts import ROOT, say  # noqa: E402
 
-PARTS = ["sources", "tasks", "refusals", "entry", "astray", "long", "looks", "agreement", "privacy", "ways"]
+PARTS = ["sources", "tasks", "refusals", "entry", "astray", "hasty", "long", "looks", "agreement", "privacy", "ways"]
 # The parts that take longest, and how many parts run side by side.
 LONG, AT_ONCE = ["privacy", "refusals", "tasks", "entry", "looks"], min(4, os.cpu_count() or 1)
 PICTURES = ROOT / "page/out"
@@ -93,6 +94,7 @@ def parts_of(name, url, modules, cases):
         "refusals": lambda: in_browser(name, url, refusals.CHECKS),
         "entry": lambda: in_browser(name, url, entry.CHECKS + steps.CHECKS),
         "astray": lambda: in_browser(name, url, astray.CHECKS),
+        "hasty": lambda: in_browser(name, url, hasty.CHECKS),
         "long": lambda: in_browser(name, url, long_drill.CHECKS),
         "looks": lambda: check_looks(name, url),
         "agreement": lambda: in_browser(name, url, [lambda page, _: agreement.check(page, modules, cases), lambda page, _: agreement.check_memory(page)]),

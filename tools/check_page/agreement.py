@@ -149,8 +149,11 @@ LOOK = """
   await ask("leaveOut", { line: bytes(given.lines[1]) });
   await ask("drill", { limit: 0, expect: "" });
   await ask("drill", { limit: 0, expect: "df41d8fe" });
-  await ask("recover");
-  await ask("digits");
+  await ask("recover", { noted: "" });
+  if ((await ask("digits")).length !== 32) throw new Error("the secret isn't held to be shown");
+  await ask("forgetSecret");
+  await ask("recover", { noted: "01234567" });
+  if ((await ask("digits")).length) throw new Error("another secret than the noted one is held");
   await ask("make", { plan: "2of3", bytes: 16, digits: bytes("00112233445566778899aabbccddeeff"), exponent: 0, extendable: true });
   for (const digits of ["00112233445566778899aabbccddeeff", "00112233445566778899aabbccddeef", "wrong"]) {
     await ask("make", { plan: "2of3", bytes: 16, digits: bytes(digits), noted: "01234567", exponent: 0, extendable: true });

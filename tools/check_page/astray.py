@@ -134,7 +134,48 @@ def check_repaired(page, see):
     page.push(say("continue"))
     page.wait_title(say("check.done.some"))
     page.wait_text(say("damaged.keep"))
+    silent(page, "Most likely paper 0.0 is wrong: words of it")
     end(page)
+
+
+def repair(page, line):
+    """Reads a damaged paper of which one word is open, writes it anew, and types it back."""
+    name = name_of(line)
+    begin(page, "damaged")
+    paste(page, with_words(line, {6: "?"}))
+    page.push(say("damaged.write", name=name))
+    page.wait_title(say("paper.title", name=name))
+    page.push(say("paper.written"))
+    page.wait_title(say("back.title", name=name))
+    paste(page, line)
+    page.wait_title(say("damaged.check.title"))
+
+
+def check_untried(page, see):
+    """Only a drill that has a repaired paper, and that gives the noted fingerprint, shows that the damaged one isn't needed any more."""
+    papers = papers_of("1/2of3,2of3")
+    noted, wrong = fingerprint_of(papers[:2], ""), changed(papers[3], value=bytes(16))
+    right, keep = say("damaged.right.one", names="1.0"), say("damaged.keep")
+    for line, others, fingerprint, title, wanted, unwanted in [
+        (wrong, papers[:2], noted, "check.done.left_out", [keep, say("verdict.papers.none", names="1.0")], [right]),
+        (wrong, papers[4:5], noted, "check.done.some", [keep, say("damaged.suspect.one", names="1.0")], [right]),
+        (papers[3], papers[4:5], None, "check.done.same", [keep], [right]),
+        (papers[3], papers[4:5], noted, "check.done.good", [right], [keep]),
+    ]:
+        repair(page, line)
+        take(page, others)
+        page.push(say("collect.end"))
+        page.wait_title(say("damaged.drill"))
+        answer_passphrase(page, None, fingerprint)
+        page.push(say("drill.start"))
+        page.push(say("continue"))
+        page.wait_title(say(title))
+        for text in wanted:
+            page.wait_text(text)
+        for text in unwanted:
+            silent(page, text)
+        see(f"what a drill shows of a repaired paper {title}")
+        end(page)
 
 
 def fill(page, fields):
@@ -153,7 +194,7 @@ def check_lost(page, see):
     begin(page, "replace")
     page.choose(say("replace.other"))
     page.push(say("continue"))
-    page.wait_text("Destroy the old papers too, but only if no wallet uses them without a passphrase, or with another one")
+    page.wait_text("But keep the old papers if a wallet uses them with another passphrase than the new backup has")
     page.wait_text("or if you don't have enough of them to recover it. Then make a new wallet while the old one still works")
     page.push(say("back"))
     page.choose(say("replace.destroyed"))
@@ -197,8 +238,8 @@ def check_lost(page, see):
 def check_without(page, see):
     """A passphrase that wasn't typed isn't said to be mistyped. A paper of another backup is known by its first words."""
     for task, title, text in [
-        ("check", "check.done.other.none", "You typed no passphrase: most likely the backup has one."),
-        ("recover", "recover.done.other", "Most likely the backup has a passphrase: try again, and type it."),
+        ("check", "check.done.other.none", "the backup most likely has a passphrase, and you typed none."),
+        ("recover", "recover.done.other", "the backup most likely has a passphrase: try again, and type it."),
     ]:
         begin(page, task)
         take(page, THREE_GROUPS[:1])
@@ -218,4 +259,4 @@ def check_without(page, see):
         end(page)
 
 
-CHECKS = [check_left_out, check_impossible, check_repaired, check_lost, check_without]
+CHECKS = [check_left_out, check_impossible, check_repaired, check_untried, check_lost, check_without]

@@ -1,7 +1,7 @@
 """The entry of a paper: keys that end a word, words that were not read, and what can be read of a damaged paper."""
 from browsers import Failed
 from refusals import BAD_CHECKSUM, BAD_PADDING, EXCHANGED, SOUND, changed, paste, said
-from tasks import begin, end, example, found_words, type_damaged
+from tasks import begin, end, example, found_words, plain, type_damaged
 from texts import counted, say
 
 
@@ -57,6 +57,89 @@ def check_keys(page, _):
     page.wait_title(say("home.title"))
 
 
+# Papers whose words run together if only four letters of each are typed, or only as many as make a word.
+CLOSE = [
+    "national taught academic agency biology drift envy educate antenna often craft testify pumps laden artwork length system intimate alpha regret",
+    "skin pink academic agency dismiss software traveler darkness prisoner elephant depend climate reaction evaluate observe ceiling devote testify adequate survive",
+]
+
+
+def check_habits(page, _):
+    """Four letters of each word, as many as make a word, and whole words, with nothing between them."""
+    words = page.evaluate("in_client.Desk.launch().then((it) => it.end().then(() => it.begun.words.join(' ')))").split()
+    begin(page, "check")
+    least = {word: next(word[:count] for count in range(1, len(word) + 1) if sum(it.startswith(word[:count]) for it in words) == 1) for word in words}
+    for line in CLOSE:
+        name = "{group}.{member}".format(**plain.parse(line.encode()))
+        for what, short in [("four letters", lambda word: word[:4]), ("whole words", lambda word: word), ("a part", least.get)]:
+            page.go_to("textbox", say("entry.word", number=1))
+            page.type("".join(short(word) for word in line.split()))
+            page.wait(lambda: say("collect.taken", name=name) in page.text(), f"the paper {line!r}, of which {what} of each word were typed")
+            page.push(say("collect.drop", name=name))
+            page.wait_text(say("collect.dropped", name=name))
+    page.push(say("clear"))
+    page.wait_title(say("home.title"))
+
+
+def check_mistyped(page, see):
+    """A wrong letter in the rest of a word that is complete goes into no other field. The page says at which word to look."""
+    words = SOUND.split()
+    begin(page, "check")
+    for key in (" ", "Enter", "Tab"):
+        page.go_to("textbox", say("entry.word", number=1))
+        page.type(" ".join(words[:7]) + (" soluton" if key != "Tab" else " solutios") + (key if key == " " else ""))
+        if key != " ":
+            page.press(key)
+        page.wait_text(say("entry.mistyped", number=8))
+        if not page.has_focus(page.node("textbox", say("entry.word", number=9))) or page.evaluate("document.activeElement.value") != "":
+            raise Failed("the end of a word that was mistyped goes into the next field")
+        if page.evaluate("[...document.querySelectorAll('.word')].map((it, at) => it.classList.contains('doubt') ? at + 1 : '').join('')") != "8":
+            raise Failed("the word whose end was mistyped isn't marked, or another word is")
+        see("a mistyped end of a word")
+        page.type(" ".join(words[8:]) + " ")
+        page.wait_text(say("collect.taken", name="0.0"))
+        page.push(say("collect.drop", name="0.0"))
+        page.wait_text(say("collect.dropped", name="0.0"))
+    page.push(say("clear"))
+    page.wait_title(say("home.title"))
+
+
+LEAVING = """
+(() => {
+  const it = document.createEvent('BeforeUnloadEvent');
+  it.initEvent('beforeunload', false, true);
+  window.dispatchEvent(it);
+  return it.defaultPrevented && it.returnValue !== '';
+})()
+"""
+
+
+def check_kept(page, see):
+    """Words that were typed aren't lost without a question: when there are fewer fields, on the way back, and when the page is left."""
+    filled = "[...document.querySelectorAll('.word:not([hidden]) input')].filter((it) => it.value !== '').length"
+    for task in ("check", "damaged"):
+        begin(page, task)
+        if page.evaluate(LEAVING):
+            raise Failed("leaving a page with nothing on it asks")
+        page.push(say("entry.words", count=33))
+        paste(page, " ".join((SOUND + " " + SOUND).split()[:25]))
+        if not page.evaluate(LEAVING):
+            raise Failed("leaving a page on which words were pasted asks nothing")
+        for count, number in [(20, 20), (33, 25)]:
+            page.push(say("entry.words", count=count))
+            page.wait(lambda: page.evaluate(filled) == number, f"{number} words in {count} fields")
+        page.push(say("back"))
+        page.wait_text(say("entry.lost"))
+        see(f"words that would be lost, {task}")
+        page.push(say("collect.unread.stay"))
+        page.wait(lambda: say("entry.lost") not in page.text(), "the end of the question")
+        if page.evaluate(filled) != 25:
+            raise Failed("the answer that goes back to the words loses them")
+        page.push(say("back"))
+        page.push(say("entry.lost.go"))
+        page.wait_title(say("home.title"))
+
+
 def with_words(changes):
     """Returns the sound paper with other marks at some places, counted from 1."""
     words = SOUND.split()
@@ -107,6 +190,9 @@ def check_damaged(page, see):
         if len(found) == 2:
             page.wait_text(say("damaged.two.which"))
     page.push(say("entry.empty"))
+    paste(page, with_words({5: "?", 7: "leng?"}))
+    page.wait_text(say("damaged.limits.1"))
+    page.push(say("entry.empty"))
     paste(page, "slip39\nPaper 0.0\n" + with_words({7: "lend"}))
     page.wait_text(say("damaged.refused.18", first=7))
     page.type("leng ")
@@ -126,4 +212,4 @@ def check_damaged(page, see):
     page.wait_title(say("home.title"))
 
 
-CHECKS = [check_unread, check_keys, check_damaged]
+CHECKS = [check_unread, check_keys, check_habits, check_mistyped, check_kept, check_damaged]

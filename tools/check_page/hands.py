@@ -93,6 +93,13 @@ class Page:
         self.go_to("button", name)
         self.press("Enter")
 
+    def double_click(self, name):
+        """Presses a button with the mouse, twice. Between the presses, what the first one calls for has time to come."""
+        press = [{"type": kind, "button": 0} for kind in ("pointerDown", "pointerUp")]
+        there = {"type": "pointerMove", "x": 0, "y": 0, "origin": {"type": "element", "element": {"sharedId": self.node("button", name)}}}
+        actions = [there, *press, {"type": "pause", "duration": 250}, *press]
+        self.call("input.performActions", actions=[{"type": "pointer", "id": "mouse", "actions": actions}])
+
     def tick(self, name):
         """Ticks a box, unless it is ticked."""
         self.go_to("checkbox", name)

@@ -84,6 +84,7 @@ def check_words(page, see):
     words[2] = "acdemic"
     type_paper(page, " ".join(words))
     page.wait_text(say("entry.unknown", number=3))
+    page.wait(lambda: page.evaluate("document.getElementById('live').textContent") != "", "what a screen reader is told of an unknown word")
     see("an unknown word")
     if page.evaluate("document.querySelectorAll('.word input')[2].value") != "acdemic":
         raise Failed(f"a word was put in the place of an unknown one: {page.text()[:700]!r}")
@@ -107,6 +108,9 @@ def check_words(page, see):
         raise Failed("Backspace in an empty field doesn't go back")
     paste(page, BIP39)
     page.wait_text(say("entry.bip39", count=12))
+    page.push(say("entry.empty"))
+    paste(page, " ".join(["duckl1ng", *SOUND.split()[1:12]]).replace("1", "x"))
+    page.wait_text(say("entry.missing", number=13, count=12, fields=20))
     page.push(say("entry.empty"))
     paste(page, BAD_CHECKSUM)
     page.wait_text(said(18, first=20))
@@ -134,12 +138,7 @@ def check_values(page, see):
     """Plans, secrets and passphrases that are refused."""
     begin(page, "make")
     page.choose(say("plan.own"))
-    for _ in range(2):
-        page.push(f"{say('plan.more')}: {say('plan.needed', group=0)}")
-    page.push(say("continue"))
-    page.wait_text(said(33, first=0))
-    for _ in range(3):
-        page.push(f"{say('plan.fewer')}: {say('plan.needed', group=0)}")
+    page.push(f"{say('plan.fewer')}: {say('plan.needed', group=0)}")
     page.push(say("continue"))
     page.wait_text(said(34, first=0))
     see("a plan that is refused")
@@ -241,13 +240,21 @@ def check_mixed(page, see):
     end(page)
 
 
+ONLINE = "Object.defineProperty(navigator, 'onLine', { configurable: true, get: () => %s });"
+
+
 def check_prepare(page, _):
-    """The question before the first task: a machine that seems online is asked twice, and one that seems offline once."""
+    """The question before the first task: a machine that seems online is asked twice, and one that seems offline once. A change shows."""
     for is_online in (True, False):
-        page.evaluate(f"Object.defineProperty(navigator, 'onLine', {{ configurable: true, get: () => {str(is_online).lower()} }}); null")
+        page.evaluate(ONLINE % str(is_online).lower() + " null")
         page.push(say("home.check"))
         page.wait_title(say("prepare.title"))
         page.wait_text(say("prepare.online" if is_online else "prepare.offline"))
+        if is_online:
+            page.evaluate(ONLINE % "false" + " window.dispatchEvent(new Event('offline')); null")
+            page.wait_text(say("prepare.offline"))
+            page.evaluate(ONLINE % "true" + " window.dispatchEvent(new Event('online')); null")
+            page.wait_text(say("prepare.online"))
         page.push(say("prepare.ready"))
         if is_online:
             page.wait_text(say("prepare.still_online"))
@@ -357,6 +364,7 @@ def check_unreachable(page, _):
         ("plan", {"plan": "two of three", "bytes": 16}, said(31)),
         ("plan", {"plan": "3/1of1,1of1", "bytes": 16}, said(32)),
         ("plan", {"plan": "1/" + ",".join(["1of1"] * 17), "bytes": 16}, said(32)),
+        ("plan", {"plan": "3of2", "bytes": 16}, said(33, first=0)),
         ("add", {"line": THREE_GROUPS[0]}, ""),
         ("recover", {}, said(30, first=0, second=2)),
         ("reissue", {"plan": "2/2of3,1of1,1of1", "name": "0.9"}, said(64, first=0, second=9)),

@@ -1,7 +1,7 @@
 """The ways back, what Enter does in a field that isn't a word's, and the questions for the plan of papers."""
 from browsers import Failed
 from refusals import fill_plan, paste
-from tasks import FINGERPRINT, PASSPHRASE, SOUND_PAPER, THREE_GROUPS, begin, example, plain
+from tasks import FINGERPRINT, PASSPHRASE, SOUND_PAPER, THREE_GROUPS, begin, example, plain, read_paper
 from texts import counted, say
 
 
@@ -116,9 +116,15 @@ def check_wanted(page, see):
     page.wait_text(say("replace.groups"))
     page.push(say("continue"))
     page.wait_text(say("replace.members.wrong"))
-    fill_plan(page, "3", {})
-    page.push(say("continue"))
-    page.wait_text(say("replace.found", names="0.2"))
+    # A field of a number has no value if that is no number.
+    for members, others, text in [("3e", {}, say("replace.members.wrong")), ("3", {1: "3e"}, say("replace.members.wrong")), ("3", {}, say("replace.found", names="0.2"))]:
+        for name in [say(f"replace.{it}", group=1) for it in ("needed", "members")] + [say("replace.members", group=0)]:
+            page.go_to("spinbutton", name)
+            page.evaluate("document.activeElement.select()")
+            page.press("Backspace")
+        fill_plan(page, members, others)
+        page.push(say("continue"))
+        page.wait_text(text)
     for members, names in [("5", "0.2, 0.3, 0.4"), ("2", ""), ("3", "0.2")]:
         page.push(say("back"))
         page.wait_title(say("replace.plan.title"))
@@ -154,4 +160,40 @@ def check_one_group(page, _):
     page.wait_title(say("home.title"))
 
 
-CHECKS = [check_first_steps, check_make, check_passphrase, check_plan_of_papers, check_wanted, check_one_group]
+def check_chosen(page, see):
+    """What was chosen for the secret stays on the way back to the plan. Buttons that change a plan keep the focus near them."""
+    begin(page, "make")
+    page.choose(say("plan.own"))
+    fewer, more = [f"{say(key)}: {say('plan.needed', group=0)}" for key in ("plan.fewer", "plan.more")]
+    add, drop = say("plan.add"), say("plan.drop")
+    for name, focused in [(add, add), (drop, drop), (drop, drop), (drop, add), (more, fewer)]:
+        page.push(name)
+        if not page.has_focus(page.node("button", focused)):
+            raise Failed(f"after {name!r}, the focus is lost")
+    page.push(f"{say('plan.fewer')}: {say('plan.members', group=0)}")
+    page.wait_text(say("plan.sentence.each", members=2))
+    page.push(say("continue"))
+    page.wait_title(say("make.secret"))
+    page.evaluate("document.querySelector('details').open = true; null")
+    page.go_to("checkbox", say("more.extendable"))
+    page.press("Space")
+    page.go_to("spinbutton", say("more.exponent"))
+    page.evaluate("document.activeElement.select()")
+    page.type("3")
+    page.choose(say("secret.new32"))
+    go_back(page, say("make.plan"))
+    page.push(say("continue"))
+    page.wait_title(say("make.secret"))
+    see("what was chosen stays")
+    page.tick(say("passphrase.none"))
+    page.push(say("make.create"))
+    page.wait_title(say("paper.title", name="0.0"))
+    share = plain.parse(read_paper(page).encode())
+    if share["extendable"] or share["exponent"] != 3 or len(share["value"]) != 32:
+        raise Failed(f"on the way back, what was chosen for the secret is lost: {share}")
+    page.push(say("clear"))
+    page.push(say("clear.yes"))
+    page.wait_title(say("home.title"))
+
+
+CHECKS = [check_first_steps, check_make, check_chosen, check_passphrase, check_plan_of_papers, check_wanted, check_one_group]

@@ -44,7 +44,7 @@ def begin(page, task):
 def type_paper(page, line, is_by_four=False):
     """Types a paper's words. Each word is followed by a space, or only its first four letters are typed."""
     page.go_to("textbox", say("entry.word", number=1))
-    if len(line.split()) != page.evaluate("document.querySelectorAll('.word').length"):
+    if len(line.split()) != page.evaluate("document.querySelectorAll('.word:not([hidden])').length"):
         page.push(say("entry.words", count=len(line.split())))
         page.go_to("textbox", say("entry.word", number=1))
     page.type("".join(f"{word[:4]} " for word in line.split()) if is_by_four else line + " ")
@@ -127,12 +127,16 @@ def make(page, plan_label, words, passphrase, see, digits=None):
     see("drill of a new backup")
     page.wait_text("A quorum is a set of papers that is just enough.")
     page.push(say("continue"))
-    page.wait_title(say("noted.title"))
+    page.wait_title(say("noted.title" if digits is None else "noted.title.own"))
     see("fingerprint")
+    if (say("noted.apart") in page.text()) != (passphrase is not None):
+        raise Failed("the page tells of a passphrase that there isn't, or doesn't tell of the one that there is")
     fingerprint = page.evaluate("document.querySelector('.fingerprint').textContent")
     page.push(say("noted.done"))
     page.wait_title(say("make.done"))
     page.wait_text(say("make.with" if passphrase else "make.without"))
+    if (say("make.own") in page.text()) != (digits is not None):
+        raise Failed("the page doesn't say what becomes of digits on paper, or says it of a secret that it drew")
     page.wait_text(say("make.note", plan="@").split("@")[0])
     see("backup is made")
     end(page)
@@ -209,12 +213,12 @@ def check_papers(page, see):
     page.push(say("collect.end"))
     answer_passphrase(page, "TREZOr", FINGERPRINT)
     page.push(say("drill.start"))
-    page.wait_text(say("verdict.other", quorums=counted(7, "quorum")))
+    page.wait_text(say("verdict.other", quorums=counted(7, "quorum"), noted=FINGERPRINT))
     page.wait_text(say("drill.other"))
     see("drill with a wrong passphrase")
     page.push(say("continue"))
     page.wait_title(say("check.done.other"))
-    page.wait_text(say("verdict.other", quorums=counted(7, "quorum")))
+    page.wait_text(say("verdict.other", quorums=counted(7, "quorum"), noted=FINGERPRINT))
     page.wait_text(say("check.other"))
     see("end of a check with a wrong passphrase")
     page.push(say("again"))
@@ -358,6 +362,12 @@ SHOW_AS = "for (const it of document.styleSheets[0].cssRules) if (it.media?.medi
 def check_blank(page, see):
     page.evaluate("window.print = () => { window.printed = true }; null")
     begin(page, "blank")
+    page.choose(say("plan.own"))
+    page.push(f"{say('plan.fewer')}: {say('plan.needed', group=0)}")
+    page.push(say("blank.print"))
+    page.wait_text(say("refused.34", first=0))
+    if page.evaluate("Boolean(window.printed) || document.getElementById('sheet').children.length > 0"):
+        raise Failed("forms of a plan that the engine refuses are printed")
     page.choose(say("plan.home"))
     page.choose(say("entry.words", count=33))
     see("blank forms")

@@ -1,4 +1,40 @@
-// Hexadecimal digits, as bytes.
+// Bytes: those of a text, those of hexadecimal digits, and how they are overwritten.
+
+/**
+ * Overwrites byte arrays with zeros.
+ *
+ * @param {Uint8Array[]} arrays
+ */
+export function zero(...arrays) {
+  for (const array of arrays) array.fill(0);
+}
+
+/**
+ * Returns the bytes of a text that was typed.
+ *
+ * @param {string} text
+ */
+export function bytesOf(text) {
+  return new TextEncoder().encode(text);
+}
+
+/**
+ * Returns bytes as a text, which is made only to be shown.
+ *
+ * @param {Uint8Array} bytes
+ */
+export function shownText(bytes) {
+  return new TextDecoder().decode(bytes);
+}
+
+/**
+ * Returns digits as they were typed, in small letters and without spaces.
+ *
+ * @param {string} text
+ */
+export function typedDigits(text) {
+  return text.replace(/\s/g, "").toLowerCase();
+}
 
 /**
  * Returns what a hexadecimal digit stands for, or -1.

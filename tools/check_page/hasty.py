@@ -1,0 +1,124 @@
+"""What an owner does in haste, or while the page is slow: a double click, 'Clear everything' or 'Stop' at a bad moment, a start that fails."""
+import time
+
+from browsers import Failed
+from looks import words_shown
+from refusals import SOUND, changed, paste
+from tasks import answer_passphrase, begin, end
+from texts import say
+
+# Lets what the page starts, or what it asks the worker for, come late or not at all. `UNDO` is run after a check.
+LATE = "new Promise((resolve) => setTimeout(resolve, %d))"
+LAUNCH = "{ const given = in_client.Desk.launch; window.undo = () => { in_client.Desk.launch = given; }; in_client.Desk.launch = %s; } null"
+ASK = """
+{
+  const given = in_client.Desk.prototype.ask;
+  window.undo = () => { in_client.Desk.prototype.ask = given; };
+  in_client.Desk.prototype.ask = async function (call, ...more) {
+    const answer = await given.call(this, call, ...more);
+    if (call === "%s") await %s;
+    return answer;
+  };
+}
+null
+"""
+UNDO = "window.undo(); null"
+
+
+def clear(page):
+    page.push(say("clear"))
+    page.wait_title(say("home.title"))
+
+
+def check_launch(page, see):
+    """A task whose worker doesn't start, or whose engine isn't right, says so. One that is cleared while it starts doesn't begin."""
+    begin(page, "check")
+    clear(page)
+    for launch, text in [
+        ("() => Promise.reject(new Error('none'))", say("lacks.engine")),
+        ("() => given.call(in_client.Desk).then((it) => { it.begun.fault = 'recover'; return it; })", say("lacks.wrong", fault="recover")),
+    ]:
+        page.evaluate(LAUNCH % launch)
+        page.push(say("home.check"))
+        page.wait_title(say("lacks.title"))
+        page.wait_text(text)
+        see("a task that doesn't start")
+        page.evaluate(UNDO)
+        clear(page)
+    page.evaluate(LAUNCH % f"() => {LATE % 1000}.then(() => given.call(in_client.Desk))")
+    page.push(say("home.check"))
+    page.push(say("clear"))
+    time.sleep(2)
+    page.evaluate(UNDO)
+    if page.title() != say("home.title"):
+        raise Failed(f"a task that was cleared while it started begins all the same: {page.title()!r}")
+
+
+def check_double_click(page, _):
+    """A double click presses one button, and not one of the next screen too."""
+    begin(page, "make")
+    page.push(say("continue"))
+    page.wait_title(say("make.secret"))
+    page.tick(say("passphrase.none"))
+    page.push(say("make.create"))
+    page.wait_title(say("paper.title", name="0.0"))
+    page.wait(lambda: words_shown(page) == 20, "the words")
+    page.double_click(say("paper.written"))
+    page.wait(lambda: page.title() != say("paper.title", name="0.0"), "the end of a paper")
+    time.sleep(0.5)
+    if page.title() != say("paper.title", name="0.1"):
+        raise Failed(f"a double click skips a paper: {page.title()!r}")
+    check_late_words(page)
+
+
+def check_late_words(page):
+    """Words that come late aren't shown while the page asks whether to clear them."""
+    page.evaluate(ASK % ("paper", LATE % 1500))
+    page.push(say("paper.written"))
+    page.wait_title(say("paper.title", name="0.2"))
+    page.push(say("clear"))
+    page.wait_text(say("clear.unfinished"))
+    time.sleep(2)
+    page.evaluate(UNDO)
+    if words_shown(page):
+        raise Failed("words that come late are shown while the page asks whether to clear them")
+    page.push(say("clear.stay"))
+    page.push(say("paper.show"))
+    page.wait(lambda: words_shown(page) == 20, "the words again")
+    if page.evaluate("document.activeElement === document.body"):
+        raise Failed("the button that shows the words takes the focus with it")
+    page.push(say("clear"))
+    page.push(say("clear.yes"))
+    page.wait_title(say("home.title"))
+
+
+def begin_long(page):
+    """Begins a recovery that takes long."""
+    answer_passphrase(page, "TREZOR", None)
+    page.wait_text(say("time.long", exponent=14, time="@").split("@")[0])
+
+
+def check_stop(page, see):
+    """'Stop' works before the page has its copy of what the worker holds, and if no other worker starts."""
+    begin(page, "recover")
+    paste(page, changed(SOUND, exponent=14))
+    page.wait_text(say("collect.taken", name="0.0"))
+    page.push(say("collect.end"))
+    page.evaluate(ASK % ("keep", LATE % 1500))
+    begin_long(page)
+    page.push(say("stop"))
+    page.wait_text(say("recover.stopped"))
+    page.evaluate(UNDO)
+    page.push(say("again"))
+    begin_long(page)
+    time.sleep(0.5)
+    page.evaluate("{ const given = Worker; window.undo = () => { window.Worker = given; }; window.Worker = function () { throw new Error('none'); }; } null")
+    page.push(say("stop"))
+    page.wait_title(say("fault.title"))
+    page.wait_text(say("fault.other"))
+    page.evaluate(UNDO)
+    see("no other worker starts")
+    end(page)
+
+
+CHECKS = [check_launch, check_double_click, check_stop]
