@@ -140,10 +140,11 @@ function saidTried({ result, names }, status) {
  * @param {string} noted
  * @param {string} name the name of the repaired paper, or an empty text if there is none
  */
-function saidRepaired({ result, names, isAnyRight }, noted, name) {
+function saidRepaired({ result, names, right }, noted, name) {
   if (name === "") return [];
   const isTried = names.includes(name);
   if (isTried && result === "good" && noted !== "") return [paragraph(say("damaged.right.one", { names: name }), "good")];
-  const suspect = isTried && !isAnyRight ? [paragraph(say("damaged.suspect.one", { names: name }), "bad")] : [];
+  const isSuspect = isTried && ["none", "some"].includes(result) && !right.includes(name);
+  const suspect = isSuspect ? [paragraph(say("damaged.suspect.one", { names: name }), "bad")] : [];
   return [...suspect, paragraph(say("damaged.keep"), "note")];
 }

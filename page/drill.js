@@ -12,10 +12,10 @@ import { announce, ask, show } from "./screen.js";
 /** @typedef {import("./desk.js").Kind} Kind */
 /**
  * What a drill found: no fault, or that it was stopped, or that all quorums give another secret than the expected one, that none
- * gives it, that some don't, or that they give several secrets. With it the sentences that say so, the papers that were tried, whether
- * any quorum is right, and whether a passphrase was typed.
+ * gives it, that some don't, or that they give several secrets. With it the sentences that say so, the papers that were tried, those of
+ * them that are in a right quorum, and whether a passphrase was typed.
  *
- * @typedef {{result: "good" | "stopped" | "other" | "none" | "some" | "several", fingerprint: string | null, sentences: string[], names: string[], isAnyRight: boolean, hasPassphrase: boolean}} Verdict
+ * @typedef {{result: "good" | "stopped" | "other" | "none" | "some" | "several", fingerprint: string | null, sentences: string[], names: string[], right: string[], hasPassphrase: boolean}} Verdict
  */
 
 /** @typedef {{noted: string, isOwn: boolean, hasPassphrase: boolean}} Asked the fingerprint that is expected, and what else a verdict depends on */
@@ -193,7 +193,7 @@ class Table {
    */
   end(isStopped, isOwn, hasPassphrase) {
     this.#bar.remove();
-    const { result, isAnyRight, sentences } = verdictOf(this.tried, this.#total, { noted: this.#noted, isOwn, hasPassphrase });
+    const { result, right, sentences } = verdictOf(this.tried, this.#total, { noted: this.#noted, isOwn, hasPassphrase });
     if (this.tried.length === 0) {
       sentences.length = 0;
       this.#scroll.remove();
@@ -201,7 +201,7 @@ class Table {
     const isWhole = !isStopped && BigInt(this.tried.length) === this.#total;
     if (!isWhole) sentences.unshift(say("drill.part", { tried: said(this.tried.length), total: said(this.#total) }));
     /** @type {Verdict} */
-    const verdict = { result: isStopped ? "stopped" : result, fingerprint: fingerprints(this.tried)[0]?.[0] ?? null, sentences, names: namesOf(this.tried), isAnyRight, hasPassphrase };
+    const verdict = { result: isStopped ? "stopped" : result, fingerprint: fingerprints(this.tried)[0]?.[0] ?? null, sentences, names: namesOf(this.tried), right, hasPassphrase };
     this.#verdict.append(...sentences.map((text) => paragraph(text, verdict.result === "good" ? "good" : "bad")));
     this.#progress.textContent = "";
     announce(sentences.join(" "));
@@ -229,7 +229,7 @@ function namesOf(tried) {
  * @param {Tried[]} tried
  * @param {bigint} total
  * @param {Asked} asked
- * @returns {Pick<Verdict, "result" | "isAnyRight" | "sentences">}
+ * @returns {Pick<Verdict, "result" | "right" | "sentences">}
  */
 function verdictOf(tried, total, asked) {
   const { noted, isOwn } = asked;
@@ -241,10 +241,10 @@ function verdictOf(tried, total, asked) {
   if (tried.length > 0 && wrong.length === 0) {
     const whole = BigInt(tried.length) === total ? "all" : "tried";
     const which = noted === "" ? "same" : isOwn ? "own" : "noted";
-    return { result: "good", isAnyRight: true, sentences: [say(`verdict.${whole}.${which}`, { quorums, fingerprint })] };
+    return { result: "good", right: namesOf(right), sentences: [say(`verdict.${whole}.${which}`, { quorums, fingerprint })] };
   }
-  if (right.length === 0) return { ...noneVerdict(wrong, asked, quorums), isAnyRight: false };
-  return { ...wrongVerdict(right, wrong, found.length, noted, quorums), isAnyRight: true };
+  const verdict = right.length ? wrongVerdict(right, wrong, found.length, noted, quorums) : noneVerdict(wrong, asked, quorums);
+  return { ...verdict, right: namesOf(right) };
 }
 
 /**

@@ -9,8 +9,6 @@ from shamir.papers.desk import Paper, paper_of
 from shamir.papers.screen import Screen
 from shamir.papers.texts import counted, say
 
-OPEN_MAX = 3
-
 
 def ask_paper(screen: Screen, marks: List[str], typed: Mapping[int, str] = {}) -> Optional[Paper]:
     """Returns the paper of marks. If words were left open, the owner says whether those that were found are right; if not, None. `typed`
@@ -26,7 +24,7 @@ def ask_paper(screen: Screen, marks: List[str], typed: Mapping[int, str] = {}) -
         if len(fits) > 1:
             screen.tell(say("damaged.which", number=number, name=fit.name))
         show_found(screen, fit, marks, typed)
-    screen.tell(said_limits(marks))
+    tell_limits(screen, marks)
     tell_miswritten(screen, marks, typed)
     if len(fits) == 1:
         return fits[0] if screen.agree(say("damaged.sure", name=fits[0].name)) else None
@@ -52,10 +50,16 @@ def repaired(fit: str) -> Paper:
     return dataclasses.replace(paper_of(fit), is_repaired=True)
 
 
-def said_limits(marks: Sequence[str]) -> str:
-    """Says what isn't noticed if so many words are open. A fourth mark stands behind the four letters that make a word."""
-    opened = min(OPEN_MAX, sum(mark.endswith("?") for mark in marks))
-    return say("damaged.limits", case=say(f"damaged.limits.{opened}"))
+def opened(marks: Sequence[str]) -> int:
+    """Returns how many words are open: their marks stand for more than one word."""
+    return sum(mark.endswith("?") and len(shamir.words(mark[:-1])) > 1 for mark in marks)
+
+
+def tell_limits(screen: Screen, marks: Sequence[str]) -> None:
+    """Says what isn't noticed if so many words are open."""
+    count = opened(marks)
+    if count:
+        screen.tell(say("damaged.limits", case=say(f"damaged.limits.{count}")))
 
 
 def show_found(screen: Screen, fit: Paper, marks: Sequence[str], typed: Mapping[int, str] = {}) -> None:

@@ -7,7 +7,7 @@ import shamir
 from shamir.papers.check import collect_and_check
 from shamir.papers.desk import Desk, Paper, paper_of
 from shamir.papers.entry import Entry
-from shamir.papers.found import possible, repaired, said_limits, show_found, tell_miswritten
+from shamir.papers.found import opened, possible, repaired, show_found, tell_limits, tell_miswritten
 from shamir.papers.plan import said_takes_alone
 from shamir.papers.screen import Screen
 from shamir.papers.shown import write_and_type_back
@@ -68,10 +68,10 @@ def _tell(screen: Screen, fits: List[Paper], marks: List[str], typed: Mapping[in
         if is_two:
             screen.tell(say("damaged.which", number=number, name=fit.name), "strong")
         show_found(screen, fit, marks, typed)
-    is_open = any("?" in mark for mark in marks)
+    is_open = opened(marks) > 0
     if is_open:
         screen.tell(say("damaged.compare"))
-        screen.tell(said_limits(marks))
+        tell_limits(screen, marks)
         tell_miswritten(screen, marks, typed)
     else:
         screen.tell(say("damaged.whole"))
