@@ -134,7 +134,7 @@ def check_repaired(page, see):
     page.push(say("continue"))
     page.wait_title(say("check.done.some"))
     page.wait_text(say("damaged.keep"))
-    silent(page, "Most likely paper 0.0 is wrong: words of it")
+    page.wait_text(say("damaged.suspect.one", names="0.0"))
     end(page)
 
 
