@@ -6,11 +6,8 @@ use Rattle.std.proofs.Math.Bridge.{le_prop}
 use Rattle.hex.specs.Hex.{encode_lower}
 use Rattle.s39_kdf.specs.Fingerprint.{fingerprint_of}
 use Rattle.std.specs.Prelude.{◌↔◌}
-use Rattle.std.proofs.lemmas.Bool.{cases_lt, cases_Bool}
+use Rattle.std.proofs.lemmas.Bool.{cases_Bool}
 use Rattle.s39_kdf.specs.Limits.{exponent_bits}
-use Rattle.s39_words.specs.declared.ShareFields.{ShareFields}
-use Rattle.s39_words.specs.declared.word_error.WordError.{WordError}
-use Rattle.s39_words.specs.Reading.{Reads}
 use Rattle.std.specs.Fmt.{decimal}
 use Rattle.s39_set.specs.Names.{Names}
 use Rattle.s39_set.specs.Written.{name_text, quorum_text, IsWrittenForm}
@@ -30,9 +27,7 @@ use Rattle.s39_input.specs.Create.{IsCreateOutput}
 use Rattle.s39_drilling.specs.Drill.{IsDrillOutput}
 use Rattle.s39_drilling.specs.Slices.{Lists}
 use Rattle.s39_c.specs.declared.answer.ShamirAnswer.{ShamirAnswer}
-use Rattle.s39_c.specs.declared.parsing.ShamirShare.{ShamirShare}
-use Rattle.s39_c.specs.Answers.{GivesAs, Gives, done, created, number, plan_refused, word_refused, refused, unwritten, listed}
-use Rattle.s39_c.specs.Parsing.{HasHeader, GivesShare}
+use Rattle.s39_c.specs.Answers.{GivesAs, Gives, done, created, number, plan_refused, refused, unwritten, listed}
 use Rattle.s39_c.specs.Creating.{Wanted, Asks, GivesMnemonics, GivesBackup, GivesNumber}
 use Rattle.s39_c.specs.Drilling.{form_of, IsCursor, GivesListing, GivesDrillIn, GivesDrillAfter, GivesDrill}
 use Rattle.s39_c.specs.Fingerprinting.{GivesFingerprint}
@@ -57,50 +52,6 @@ fingerprint_once secret old new other answer another (inl (bad, is, says)) (inr 
 fingerprint_once secret old new other answer another (inr (right, gives)) (inl (bad, is, says)) = absurd (bad right)
 fingerprint_once secret old new other answer another (inr (right, gives)) (inr (also, given)) =
     gives_once (encode_lower (fingerprint_of secret)) old new other answer another gives given
-
--- ---- a share
-
-module _ (one_reading : (text : List ℕ) (r s : Result ShareFields WordError) → Reads text r → Reads text s → r ≡ s) where
-  same_header : (fields : ShareFields) (room : List ℕ) (old new other : ShamirShare) → HasHeader fields room old new → HasHeader fields room old other
-      → new ≡ other
-  same_header fields room old new other is also = elim (cases_lt (length room) (length fields.value.items)) [
-    | inl short ↦ is.1 short ∙ sym (also.1 short)
-    | inr fits ↦ is.0 fits ∙ sym (also.0 fits)
-  ]
-
-  abbrev read : ShareFields → Result ShareFields WordError
-  read x = Ok x
-
-  abbrev unread : WordError → Result ShareFields WordError
-  unread e = Err e
-
-  same_fields : (x y : ShareFields) → read x ≡ read y → x ≡ y
-  same_fields x y same = cc
-
-  same_error : (x y : WordError) → unread x ≡ unread y → x ≡ y
-  same_error x y same = cc
-
-  not_both : (x : ShareFields) (y : WordError) → Ok x ≡ Err y → ⊥
-  not_both x y same = absurd (cc)
-
-  pub share_once : (line : List ℕ) (header first second : ShamirShare) (old new other : List ℕ) (answer another : ShamirAnswer)
-      → GivesShare line header first old new answer → GivesShare line header second old other another
-      → (first ≡ second) × (new ≡ other) × (answer ≡ another)
-  share_once line header first second old new other answer another (inl (f, reads, has, gives)) (inl (g, reads', has', gives')) =
-      let same : g ≡ f = same_fields g f (one_reading line (Ok g) (Ok f) reads' reads) in
-      let given =
-      gives_once f.value.items old new other answer another gives (subst (λ (h : ShareFields). Gives h.value.items old other another) same gives') in (
-        same_header f old header first second has (subst (λ (h : ShareFields). HasHeader h old header second) same has'),
-        given.0,
-        given.1,
-      )
-  share_once line header first second old new other answer another (inl (f, reads, has, gives)) (inr (e, reads', same, is, says)) =
-      absurd (not_both f e (one_reading line (Ok f) (Err e) reads reads'))
-  share_once line header first second old new other answer another (inr (e, reads', same, is, says)) (inl (f, reads, has, gives)) =
-      absurd (not_both f e (one_reading line (Ok f) (Err e) reads reads'))
-  share_once line header first second old new other answer another (inr (e, reads, same, is, says)) (inr (d, reads', same', is', says')) =
-      let errors : e ≡ d = same_error e d (one_reading line (Err e) (Err d) reads reads') in
-      (same ∙ sym same', is ∙ sym is', says ∙ ap word_refused errors ∙ sym says')
 
 -- ---- a plan
 

@@ -1,20 +1,17 @@
--- What `shamir_reissue` and `shamir_status` give of the same things is one answer and one memory.
-use Rattle.std.proofs.Common.{◌≡◌, ℕ, ◌<◌, ◌≤◌, List, [], ◌++◌, length, drop, sym, ap, ap₂, ◌∙◌, subst, inl, inr, arith}
+-- What `shamir_reissue` gives of the same things is one answer and one memory.
+use Rattle.std.proofs.Common.{◌≡◌, ℕ, List, [], sym, ap, ◌∙◌, subst, inl, inr}
 use Rattle.std.proofs.Common.{Result, Ok, Err}
 use Rattle.s39_set.specs.Names.{Names}
 use Rattle.s39_set.specs.Written.{IsWrittenForm}
-use Rattle.s39_set.specs.declared.status.Status.{Status}
 use Rattle.s39_backup.specs.declared.plan.Members.{Members}
 use Rattle.s39_backup.specs.declared.plan_error.PlanError.{PlanError}
 use Rattle.s39_backup.specs.Plan.{IsPlan, IsPlanReading}
 use Rattle.s39_input.specs.declared.fault.Fault.{Fault}
 use Rattle.s39_input.specs.Input.{Input, whole}
 use Rattle.s39_creating.specs.Reissue.{IsReissueOutput}
-use Rattle.s39_reading.specs.Status.{IsStatusOutput}
 use Rattle.s39_c.specs.declared.answer.ShamirAnswer.{ShamirAnswer}
-use Rattle.s39_c.specs.Answers.{Gives, GivesOutput, counted, too_short, plan_refused, refused}
+use Rattle.s39_c.specs.Answers.{Gives, GivesOutput, plan_refused, refused}
 use Rattle.s39_c.specs.Reissuing.{GivesNamed, GivesReissued}
-use Rattle.s39_c.specs.Status.{GivesStatus}
 use Rattle.s39_c.proofs.OneAnswer.{gives_once}
 
 -- ---- an output
@@ -91,50 +88,3 @@ module _ (one_plan_reading : (text : List ℕ) (reading other : Result (ℕ × L
       (λ names text other answer another. one_reissue_output t gs names (whole lines) text other answer another reads.1)
       listed old new other answer another gives
       (subst (λ (p : ℕ × List Members). GivesNamed (IsOutput p.0 p.1) listed old other another) plans gives')
-
--- ---- a status
-
-module _ (one_status_output : (input : Input) (text other : List ℕ) (answer another : Result Status Fault)
-    → IsStatusOutput input text answer → IsStatusOutput input other another → (text ≡ other) × (answer ≡ another)) (lines : List ℕ) where
-  abbrev Is : List ℕ → Result Status Fault → Type 0
-  Is = IsStatusOutput (whole lines)
-
-  same_text : (text other : List ℕ) (s r : Status) → Is text (Ok s) → Is other (Ok r) → (text ≡ other) × (s ≡ r)
-  same_text text other s r is also =
-      let both = one_status_output (whole lines) text other (Ok s) (Ok r) is also in
-      let answers = both.1 in
-      (both.0, cc)
-
-  not_refused : (text : List ℕ) (s : Status) (fault : Fault) → Is text (Ok s) → Is [] (Err fault) → ⊥
-  not_refused text s fault is also =
-      let differ = (one_status_output (whole lines) text [] (Ok s) (Err fault) is also).1 in
-      absurd (cc)
-
-  not_both : (old text other : List ℕ) (s r : Status) → Is text (Ok s) → length text ≤ length old → Is other (Ok r) → length old < length other → ⊥
-  not_both old text other s r is fits also long =
-      let size : length text ≡ length other = ap length (same_text text other s r is also).0 in
-      absurd (omega (arith, fits, long, size))
-
-  pub status_once : (old new other : List ℕ) (answer another : ShamirAnswer) → GivesStatus Is old new answer → GivesStatus Is old other another
-      → (new ≡ other) × (answer ≡ another)
-  status_once old new other answer another (inl (text, s, is, front, says)) (inl (text', s', is', front', says')) =
-      let same = same_text text text' s s' is is' in (
-        front.bytes ∙ ap (λ t. t ++ drop (length t) old) same.0 ∙ sym front'.bytes,
-        says ∙ ap₂ (λ (t : List ℕ) (r : Status). counted (length t) r) same.0 same.1 ∙ sym says',
-      )
-  status_once old new other answer another (inl (text, s, is, front, says)) (inr (inl (text', s', is', long, same, says'))) =
-      absurd (not_both old text text' s s' is front.fits is' long)
-  status_once old new other answer another (inl (text, s, is, front, says)) (inr (inr (fault, is', same, says'))) = absurd (not_refused text s fault is is')
-  status_once old new other answer another (inr (inl (text', s', is', long, same, says'))) (inl (text, s, is, front, says)) =
-      absurd (not_both old text text' s s' is front.fits is' long)
-  status_once old new other answer another (inr (inl (text, s, is, long, same, says))) (inr (inl (text', s', is', long', same', says'))) =
-      (same ∙ sym same', says ∙ ap (λ (t : List ℕ). too_short (length t)) (same_text text text' s s' is is').0 ∙ sym says')
-  status_once old new other answer another (inr (inl (text, s, is, long, same, says))) (inr (inr (fault, is', same', says'))) =
-      absurd (not_refused text s fault is is')
-  status_once old new other answer another (inr (inr (fault, is', same, says))) (inl (text, s, is, front, says')) = absurd (not_refused text s fault is is')
-  status_once old new other answer another (inr (inr (fault, is', same, says))) (inr (inl (text, s, is, long, same', says'))) =
-      absurd (not_refused text s fault is is')
-  status_once old new other answer another (inr (inr (fault, is, same, says))) (inr (inr (fault', is', same', says'))) =
-      let answers = (one_status_output (whole lines) [] [] (Err fault) (Err fault') is is').1 in
-      let faults : fault ≡ fault' = cc in
-      (same ∙ sym same', says ∙ ap refused faults ∙ sym says')

@@ -26,12 +26,10 @@ ghost use Rattle.s39_c.specs.Words.{GivesWords};
 use s39_backup::laws::one_plan_reading;
 use s39_creating::laws::{one_create_output, one_reissue_output};
 use s39_drilling::laws::one_listing_in_a_slice;
-use s39_reading::laws::{
-    every_exponent_is_at_most_15, one_exponent, one_recover_output, one_status_output,
-};
+use s39_reading::laws::{every_exponent_is_at_most_15, one_exponent, one_recover_output};
 use s39_repair::laws::one_answer;
 use s39_set::laws::written_forms;
-use s39_words::laws::{one_printed_form, one_reading};
+use s39_words::laws::one_printed_form;
 
 /// A line determines the fields, the buffer of the value and the answer of `shamir_parse`.
 pub fn one_share()
@@ -39,9 +37,7 @@ pub fn one_share()
         (answer another : Answer) → GivesShare line header first old new answer
         → GivesShare line header second old other another
         → (first ≡ second) × (new ≡ other) × (answer ≡ another) }
-{
-    one_reading();
-}
+{}
 
 /// The text of a plan and the length of a secret determine the answer of `shamir_random_needed`.
 pub fn one_number()
@@ -128,9 +124,7 @@ pub fn one_status()
         → GivesStatus (IsStatusOutput (whole lines)) old new answer
         → GivesStatus (IsStatusOutput (whole lines)) old other another
         → (new ≡ other) × (answer ≡ another) }
-{
-    one_status_output();
-}
+{}
 
 /// A line determines the buffer of mnemonics and the answer of `shamir_repair`.
 pub fn one_repair()
