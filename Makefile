@@ -57,7 +57,8 @@ SONAME = libshamir.so.1
 override PREFIX := $(abspath $(PREFIX))
 override LIBDIR := $(abspath $(LIBDIR))
 override INCLUDEDIR := $(abspath $(INCLUDEDIR))
-# Plain x86-64 lets the program and the library run on every such processor. Old machines without a network suit secrets well.
+# Plain x86-64 lets the program and the library run on every such processor. Old machines without a network suit secrets well. On an
+# earlier state, a drill and a recovery took 0.3% more instructions than with x86-64-v2.
 CPU = x86-64
 # The logic of the kit decides what is proved. `rt version` prints its sum, and README.md names it.
 LOGIC = dac8208d650f15bf
