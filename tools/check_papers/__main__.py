@@ -26,7 +26,8 @@ AT_ONCE = min(4, os.cpu_count() or 1)
 
 def check_entry(_):
     """Runs the unit tests of the entry of words, which need no terminal."""
-    words = [sys.executable, "-B", "-m", "unittest", str(ROOT / "bindings" / "python" / "tests" / "test_papers.py")]
+    tests = ROOT / "bindings" / "python" / "tests"
+    words = [sys.executable, "-B", "-m", "unittest", str(tests / "test_papers.py"), str(tests / "test_papers_keys.py")]
     done = subprocess.run(words, cwd=ROOT, capture_output=True, text=True)
     if done.returncode:
         raise AssertionError(done.stderr)

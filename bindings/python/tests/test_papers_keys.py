@@ -1,0 +1,130 @@
+"""Tests the line editor and the questions of `shamir.papers` with a terminal whose keys are known."""
+import contextlib
+import pathlib
+import sys
+import unittest
+
+sys.path.insert(0, str(pathlib.Path(__file__).resolve().parent.parent))
+
+if sys.version_info < (3, 10):
+    raise unittest.SkipTest("shamir.papers needs Python 3.10")
+
+import shamir  # noqa: E402
+from shamir.papers.line import Line, first_key  # noqa: E402
+from shamir.papers.screen import Screen  # noqa: E402
+from shamir.papers.terminal import Ended  # noqa: E402
+
+WORDS = shamir.words("")
+
+
+class Keys:
+    """A terminal whose keys are known."""
+
+    def __init__(self, keys, is_plain=False):
+        self.keys, self.is_plain, self.shown = list(keys), is_plain, ""
+
+    def key(self):
+        return self.keys.pop(0)
+
+    def is_typed(self, seconds):
+        return bool(self.keys)
+
+    def write(self, text):
+        self.shown += text
+
+    @property
+    def size(self):
+        return type("Size", (), {"columns": 40, "lines": 24})
+
+
+class LineTests(unittest.TestCase):
+    def typed(self, keys, complete=None, **how):
+        terminal = Keys(keys)
+        return Line(terminal, "? ", complete, **how).read().decode(), terminal
+
+    def complete(self, letters):
+        return [word for word in WORDS if word.startswith(letters)]
+
+    def test_keys(self):
+        for keys, wanted in [
+            (b"acid\n", "acid"),
+            (b"acix\x7fd\r", "acid"),
+            (b"x\x08acid\n", "acid"),
+            (b"wrong\x15acid\n", "acid"),
+            (b"acid bad\x17adult\n", "acid adult"),
+            (b"ac\x1b[Did\n", "acid"),
+            (b"ac\x1bOCid\x1b[3~\n", "acid"),
+            (b"a\x04cid\n", "acid"),
+            ("aé\x7fcid\n".encode(), "acid"),
+            (b"\x7f\x15\x17acid\n", "acid"),
+        ]:
+            with self.subTest(keys=keys):
+                self.assertEqual(self.typed(keys)[0], wanted)
+
+    def test_completion(self):
+        for keys, wanted in [
+            (b"shad pist\n", "shadow pistol"),
+            (b"SHAD,pist \n", "SHADow,pistol "),
+            (b"shad\tpis\t\n", "shadow pistol "),
+            (b"aci\t\n", "acid "),
+            (b"em? emer\n", "em? emerald"),
+            (b"alwys acid\n", "alwys acid"),
+        ]:
+            with self.subTest(keys=keys):
+                self.assertEqual(self.typed(keys, self.complete)[0], wanted)
+
+    def test_several_are_shown(self):
+        typed, terminal = self.typed(b"aca\x7f\x7f\tquired\n", self.complete)
+        self.assertIn("academic", terminal.shown)
+        self.assertTrue(typed.startswith("a"))
+
+    def test_hidden(self):
+        typed, terminal = self.typed(b"secret\x7ft\x15TREZOR\n", is_hidden=True)
+        self.assertEqual((typed, terminal.shown), ("TREZOR", "? \n"))
+
+    def test_begun(self):
+        self.assertEqual(self.typed(b"id\n", begun=b"ac")[0], "acid")
+        typed, terminal = self.typed(b"\x7fx\n", begun=b"a", is_hidden=True)
+        self.assertEqual((typed, terminal.shown), ("x", "? \n"))
+        self.assertEqual(self.typed(b"\n", begun=b"2")[1].shown, "? 2\n")
+
+    def test_first_key(self):
+        for keys, wanted, rest in [(b"\n2", b"", b"2"), (b"2\n", b"2", b"\n"), (b"\x1b[A\tx", b"x", b""), (b"\x7f\r", b"", b"")]:
+            terminal = Keys(keys)
+            self.assertEqual((first_key(terminal), bytes(terminal.keys)), (wanted, rest))
+        with self.assertRaises(Ended):
+            first_key(Keys(b"\x04"))
+
+    def test_end(self):
+        with self.assertRaises(Ended):
+            self.typed(b"\x04")
+        with self.assertRaises(Ended):
+            self.typed(b"ac\x15\x04")
+
+
+class KeysAside(Keys):
+    """A terminal that notes whether Ctrl-C was held back when it showed again what was there before a question."""
+
+    is_held = tells_size = was_held = False
+
+    def drop_typed(self):
+        pass
+
+    @contextlib.contextmanager
+    def aside(self):
+        yield
+        self.was_held = self.is_held
+
+
+class ScreenTests(unittest.TestCase):
+    def test_who_stays_is_asked_again(self):
+        terminal = KeysAside(b"\x04n\nacid\n")
+        screen = Screen(terminal)
+        screen.hold("Two papers would be lost.")
+        self.assertEqual(screen.ask("Word 1?"), "acid")
+        self.assertIn("Two papers would be lost.", terminal.shown)
+        self.assertTrue(terminal.was_held)
+
+
+if __name__ == "__main__":
+    unittest.main()
