@@ -25,15 +25,15 @@ def ask_paper(screen: Screen, marks: List[str], typed: Mapping[int, str] = {}) -
             screen.tell(say("damaged.which", number=number, name=fit.name))
         show_found(screen, fit, marks, typed)
     tell_limits(screen, marks)
-    tell_miswritten(screen, marks, typed)
+    tell_miswritten(screen, fits, marks, typed)
     if len(fits) == 1:
         return fits[0] if screen.agree(say("damaged.sure", name=fits[0].name)) else None
     return screen.choose(say("entry.take.which"), {"0": None, "1": fits[0], "2": fits[1]})
 
 
-def tell_miswritten(screen: Screen, marks: Sequence[str], typed: Mapping[int, str]) -> None:
-    """Says what it means if the paper says what was typed before at an open place."""
-    if any(mark.endswith("?") and number in typed for number, mark in enumerate(marks, 1)):
+def tell_miswritten(screen: Screen, fits: Sequence[Paper], marks: Sequence[str], typed: Mapping[int, str]) -> None:
+    """Says what it means if the paper says what was typed before at an open place, and another word was found there."""
+    if any(marks[number - 1].endswith("?") and fit.words[number - 1] != word for fit in fits for number, word in typed.items()):
         screen.tell(say("entry.miswritten"))
 
 
@@ -63,9 +63,9 @@ def tell_limits(screen: Screen, marks: Sequence[str]) -> None:
 
 
 def show_found(screen: Screen, fit: Paper, marks: Sequence[str], typed: Mapping[int, str] = {}) -> None:
-    """Shows the words of a paper where they differ from what was typed, and what was typed there before."""
+    """Shows the words of a paper where they differ from what was typed, and what else was typed there before."""
     found = [(number, word) for number, (word, mark) in enumerate(zip(fit.words, marks), 1) if word != mark]
     for number, word in found:
-        before = f" {say('entry.place.typed', word=typed[number])}" if number in typed else ""
+        before = f" {say('entry.place.typed', word=typed[number])}" if typed.get(number, word) != word else ""
         screen.item(f"{say('entry.place', number=number)}: {word}{before}")
     screen.gap()

@@ -72,7 +72,7 @@ def _tell(screen: Screen, fits: List[Paper], marks: List[str], typed: Mapping[in
     if is_open:
         screen.tell(say("damaged.compare"))
         tell_limits(screen, marks)
-        tell_miswritten(screen, marks, typed)
+        tell_miswritten(screen, fits, marks, typed)
     else:
         screen.tell(say("damaged.whole"))
     screen.tell(say("damaged.next"))
