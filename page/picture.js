@@ -37,14 +37,16 @@ function boxes({ threshold, names }) {
  * @param {string} [task]
  */
 export function picture(status, groupCount, task = "") {
-  const rows = Array.from({ length: groupCount }, (_, group) => {
+  // A paper can be of a group beyond those that it says there are.
+  const numbers = new Set([...Array(groupCount).keys(), ...status.groups.map((it) => it.group)]);
+  const rows = Array.from(numbers, (group) => {
     const found = status.groups.find((it) => it.group === group);
     const isComplete = found !== undefined && found.names.length >= found.threshold;
-    const told = found ? saidGroup(found, groupCount === 1) : say("status.none");
+    const told = found ? saidGroup(found, numbers.size === 1) : say("status.none");
     return element(
       "li",
       { class: isComplete ? "group complete" : "group" },
-      element("strong", {}, groupCount === 1 ? say("status.only") : say("status.group", { group })),
+      element("strong", {}, numbers.size === 1 ? say("status.only") : say("status.group", { group })),
       found ? boxes(found) : null,
       element("span", {}, told),
     );

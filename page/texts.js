@@ -284,8 +284,8 @@ export const TEXTS = {
   "verdict.some": "Some quorums don't give a secret with the fingerprint that you noted: {wrong} of {quorums}. The table marks them. The others give your secret.",
   "verdict.some.unnoted": "Some quorums give no secret: {wrong} of {quorums}. The table marks them. The others all give the same secret.",
   "verdict.several": "The quorums give {secrets} (tried: {quorums}), so they don't agree. At least one paper is wrong, or isn't of this backup.",
-  "verdict.suspects.one": "Paper {names} is in each of these quorums, and in none of the right ones. So it is most likely wrong, or of another backup.",
-  "verdict.suspects.many": "The papers {names} are in each of these quorums, and in none of the right ones. So at least one of them is most likely wrong, or of another backup.",
+  "verdict.suspects.one": "Paper {names} is in each wrong quorum, and in no right one. So it is most likely wrong, or of another backup.",
+  "verdict.suspects.many": "The papers {names} are in each wrong quorum, and in no right one. So at least one of them is most likely wrong, or of another backup.",
 
   "check.title": "Check papers",
   "check.intro": "Type the papers that you have at hand, one after the other. You don't need all of them: the page says what is complete and what is missing. Have the passphrase at hand too, if there is one, and the fingerprint that you noted.",

@@ -93,7 +93,8 @@ def check_left_out(page, see):
 
 
 def check_impossible(page, see):
-    """A paper that no backup has is never offered, though its words fit. A line stands for what can't be read."""
+    """A paper that no backup has is never offered, though its words fit. If it is typed, its group is shown. A line stands for what can't
+    be read."""
     line = changed(SOUND_PAPER, group=12, group_count=10, group_threshold=7)
     begin(page, "damaged")
     paste(page, with_words(line, {5: "?", 6: "?", 7: "?"}))
@@ -101,6 +102,12 @@ def check_impossible(page, see):
     silent(page, say("damaged.write", name="12.0"))
     silent(page, say("damaged.one", name="12.0"))
     see("a paper that no backup has")
+    clear(page)
+    begin(page, "check")
+    take(page, [line])
+    page.wait_text(say("status.group", group=12))
+    clear(page)
+    begin(page, "damaged")
     type_damaged(page, of_sound({7: "_", 9: "fr__"}))
     page.wait_text(say("damaged.sure", name="0.0"))
     page.wait(lambda: "length" in found_words(page) and "fridge" in found_words(page), "the words in place of lines")

@@ -1,5 +1,7 @@
 """Where an owner who reads only the screen could go astray: papers that don't work, results that say too much, and questions whose honest
 answer must lead on."""
+import os
+
 from hands import END, Failed, counted, say
 from refusals import NUMBERED, changed, end_by_keys, started, word_prompt
 from slips import papers_of, sure
@@ -82,6 +84,80 @@ def check_refused():
         end_by_keys(owner)
 
 
+def check_refused_repaired():
+    """A paper of which words were found, and that is refused beside sound ones, is left out itself. A sound one is never blamed for it."""
+    with started("check") as owner:
+        owner.type_paper(paper_prompt(1), THREE_GROUPS[1])
+        owner.answer(paper_prompt(2), with_words(changed(THREE_GROUPS[0], exponent=3), {6: "?"}))
+        owner.answer(sure("0.0"), "y")
+        owner.wait(paper_prompt(2))
+        owner.expect("Most likely it is wrong, since words of it were found and not read. It is left out.")
+        silent(owner, "To take a paper out again")
+        owner.answer(paper_prompt(2), with_words(THREE_GROUPS[0], {6: "?"}))
+        owner.answer(sure("0.0"), "y")
+        owner.answer(paper_prompt(3), with_words(changed(THREE_GROUPS[0], value=bytes(16)), {6: "?"}))
+        owner.answer(sure("0.0"), "y")
+        owner.wait(paper_prompt(3))
+        owner.expect(say("entry.drop", sign=SIGN, name="0.0"))
+        end_by_keys(owner)
+
+
+def check_read_later():
+    """A paper that is typed with a question mark, and then in full, isn't damaged."""
+    papers = papers_of("1of1")
+    with started("check") as owner:
+        owner.answer(paper_prompt(1), with_words(papers[0], {6: "?"}))
+        owner.answer(sure("0.0"), "y")
+        owner.type_paper(paper_prompt(2), papers[0])
+        owner.wait(paper_prompt(2))
+        owner.expect(say("collect.repeated", name="0.0"))
+        owner.forget()
+        owner.answer(paper_prompt(2), "")
+        owner.passphrase("", fingerprint_of(papers, ""))
+        owner.wait(say("next.good"))
+        owner.expect(say("check.done.good"))
+        silent(owner, "Write it anew")
+        owner.answer(say("next.good"), "")
+        owner.end(0)
+
+
+def check_pasted_papers():
+    """Papers that are pasted with empty lines between them are all taken, however their lines end, and none answers the question for the
+    passphrase."""
+    papers = papers_of("2of3")
+    for end in ("\n", "\r\n"):
+        with started("check") as owner:
+            owner.wait(paper_prompt(1))
+            owner.type("".join(f"{end}{line}{end}" for line in papers))
+            owner.wait(paper_prompt(4))
+            for name in ("0.0", "0.1", "0.2"):
+                owner.expect(say("collect.taken", name=name))
+            silent(owner, say("collect.none"))
+            end_by_keys(owner)
+
+
+def check_replace_again():
+    """After a paper was written, the owner may go back to all tasks, and begin with other papers."""
+    papers = papers_of("2of3")
+    with started("replace") as owner:
+        owner.answer(say("replace.how"), "1")
+        owner.collect(papers[:2])
+        owner.answer(say("replace.ask", needed=2), "3")
+        owner.answer(say("replace.choose"), "0.2")
+        owner.answer(say("new.write"), "")
+        owner.type_paper(say("back.ask", name="0.2"), papers[2])
+        owner.answer(say("replace.choose"), "b")
+        owner.answer(say("replace.ask", needed=2), "b")
+        for number in (4, 3, 2):
+            owner.answer(paper_prompt(number), f"{SIGN}0.{number - 2}")
+        owner.answer(paper_prompt(1), "b")
+        owner.answer(say("home.choose"), "replace")
+        owner.answer(say("replace.how"), "1")
+        owner.wait(paper_prompt(1))
+        owner.type("\x04")
+        owner.end(130, "ended.replaced")
+
+
 def check_too_few():
     """Too few papers: those that were left out are told. A paper that is typed at the question whether to type more is the next one."""
     papers = papers_of(PLAN)
@@ -94,7 +170,9 @@ def check_too_few():
             owner.wait(say("more.papers"))
             owner.expect(counted(2, "left"))
             owner.answer(say("more.papers"), "perhaps")
-            owner.answer(say("more.papers"), papers[1])
+            # Here each word stands in a line of its own.
+            owner.answer(say("more.papers"), papers[1].split()[0])
+            owner.type(papers[1].partition(" ")[2].replace(" ", "\n") + "\n")
             owner.wait(paper_prompt(3))
             owner.expect(say("collect.taken", name="0.1"))
             end_by_keys(owner)
@@ -156,6 +234,9 @@ def check_letter():
         owner.answer(first, "b")
         owner.answer(back, "b")
         owner.answer(say("new.secret"), "")
+        owner.answer(first, "x" * 2001)
+        owner.wait(first)
+        owner.expect(say("screen.long", most="2,000"))
         owner.answer(first, "B")
         owner.answer(back, "n")
         owner.answer(first, "TREZOR ")
@@ -195,6 +276,10 @@ def check_letter():
 
 def check_without():
     """A backup without a passphrase says so. 'quorum' is explained, a paper is said to be typed back in one way, and plans have examples."""
+    with started("new", os.fsdecode(b"2of3\xff")) as owner:
+        owner.wait(say("new.plan.choose"))
+        owner.expect(say("refused.31"))
+        end_by_keys(owner)
     with started("new", "3/5") as owner:
         for plan in ("2-of-3", "2/3OF5,1of1"):
             owner.wait(say("new.plan.choose"))
@@ -261,7 +346,7 @@ def check_end():
 
 
 def check_impossible():
-    """A paper that no backup has is never offered, though its words fit."""
+    """A paper that no backup has is never offered, though its words fit. If it is typed, its group is shown."""
     line = changed(SOUND_PAPER, group=12, group_count=10, group_threshold=7)
     told = say("damaged.impossible", name="12.0", groups="10 groups")
     marks = with_words(line, {5: "?", 6: "?", 7: "?"})
@@ -277,6 +362,11 @@ def check_impossible():
         owner.answer(paper_prompt(1), marks)
         owner.wait(NUMBERED)
         owner.expect(told)
+        end_by_keys(owner)
+    with started("check") as owner:
+        owner.type_paper(paper_prompt(1), line)
+        owner.wait(paper_prompt(2))
+        owner.expect(say("status.group", group=12))
         end_by_keys(owner)
 
 
@@ -324,7 +414,8 @@ def check_untried():
         owner.expect(say("check.done.left_out"))
         owner.expect(say("damaged.keep"))
         silent(owner, "is right: the drill gave your secret with it")
-        end_by_keys(owner)
+        owner.answer(say("next.good"), "")
+        owner.end(0, "closed.repaired")
 
 
 def check_back():
@@ -466,6 +557,10 @@ def check_size():
 CHECKS = [
     check_left_out,
     check_refused,
+    check_refused_repaired,
+    check_read_later,
+    check_pasted_papers,
+    check_replace_again,
     check_too_few,
     check_miswritten,
     check_instead,

@@ -6,6 +6,7 @@ import re
 import signal
 import subprocess
 import sys
+import termios
 
 from hands import BINDING, END, PATIENCE, Failed, Interrupted, Session, environment, habits, say
 from tasks import FINGERPRINT, PASSPHRASE, THREE_GROUPS, Owner, check_check, check_new, check_recover, check_repair, check_replace, paper_prompt
@@ -13,6 +14,8 @@ from tasks import FINGERPRINT, PASSPHRASE, THREE_GROUPS, Owner, check_check, che
 import plain
 
 AT_ONCE = 4
+# The fields of a paper that is a quorum alone, and takes long.
+SLOW = {"id": 7, "extendable": 0, "exponent": 9, "group_threshold": 1, "group_count": 4, "group": 0, "member": 0, "member_threshold": 1, "value": bytes(16)}
 
 
 def end_at(task, number, keys):
@@ -116,10 +119,9 @@ def check_work():
 
 def check_stopped_drill():
     """Enter stops a drill, which then says of no quorum that it is right. Each of these papers is a quorum with a secret of its own."""
-    fields = {"id": 7, "extendable": 0, "exponent": 9, "group_threshold": 1, "group_count": 4, "member": 0, "member_threshold": 1}
     with Owner("check") as owner:
         owner.prepare()
-        owner.collect([plain.mnemonic({**fields, "group": group, "value": bytes([group]) * 16}) for group in range(4)])
+        owner.collect([plain.mnemonic({**SLOW, "group": group, "value": bytes([group]) * 16}) for group in range(4)])
         owner.passphrase("", "01234567")
         while "so far" not in owner.screen():
             owner.pull(1)
@@ -130,6 +132,61 @@ def check_stopped_drill():
         owner.expect(say("time.long", exponent=9, time="").split("about")[0])
         owner.answer(say("next.again"), "e")
         owner.end(0)
+
+
+def check_unproved():
+    """A new backup whose drill was stopped is no finished one, and the program says so at its end."""
+    with Owner("new", "1of1") as owner:
+        owner.prepare()
+        owner.answer(say("new.secret"), "m")
+        owner.answer(say("new.flag"), "y")
+        owner.answer(say("new.exponent"), "9")
+        owner.answer("Is that right? (y/n)", "y")
+        line = first_paper(owner)
+        owner.answer(say("new.write"), "")
+        owner.answer(say("screen.next"), "")
+        owner.answer(say("back.ask", name="0.0"), line)
+        while "so far" not in owner.screen():
+            owner.pull(1)
+        owner.type("\n")
+        owner.wait(say("make.failed.again"))
+        owner.expect(say("make.unproved"))
+        owner.answer(say("make.failed.again"), "e")
+        owner.end(0, "closed.unfinished")
+
+
+def check_two_signals():
+    """A second signal doesn't keep the terminal from being restored. The stop lets both come at once."""
+    with Owner("check") as owner:
+        owner.prepare()
+        owner.collect([plain.mnemonic({**SLOW, "exponent": 15})])
+        owner.passphrase("", "01234567")
+        while "so far" not in owner.screen():
+            owner.pull(1)
+        for number in (signal.SIGSTOP, signal.SIGTERM, signal.SIGHUP, signal.SIGCONT):
+            owner.send(number)
+        owner.end(-signal.SIGHUP)
+
+
+def check_stopped():
+    """After a stop that the program couldn't notice, the screen is shown again, and the echo is off."""
+    with Owner("check") as owner:
+        owner.prepare()
+        owner.collect([THREE_GROUPS[3], THREE_GROUPS[4]])
+        owner.wait(say("passphrase.ask"))
+        shown, modes = owner.screen(), termios.tcgetattr(owner.theirs)
+        owner.send(signal.SIGSTOP)
+        os.waitid(os.P_PID, owner.run.pid, os.WSTOPPED | os.WNOWAIT)
+        termios.tcsetattr(owner.theirs, termios.TCSANOW, owner.modes)
+        os.write(owner.theirs, b"\x1b[H\x1b[2J$ ")
+        while owner.screen() != "$":
+            owner.pull(0.1)
+        owner.send(signal.SIGCONT)
+        owner.wait(say("passphrase.ask"))
+        if (owner.screen(), termios.tcgetattr(owner.theirs)) != (shown, modes):
+            raise Failed(f"after a stop the screen shows {owner.screen()!r}, and not {shown!r}, or the modes are others")
+        owner.type("\x04")
+        owner.end(130)
 
 
 def check_closed():
@@ -307,6 +364,9 @@ CHECKS = [
     check_signals,
     check_work,
     check_stopped_drill,
+    check_unproved,
+    check_two_signals,
+    check_stopped,
     check_closed,
     check_no_terminal,
     check_menu,

@@ -125,6 +125,23 @@ def check_stop(terminal):
     terminal.wait("status 130 $")
 
 
+def check_killed(terminal):
+    """A program that is stopped ends when it is told to, and leaves the terminal to the shell."""
+    before = terminal.modes()
+    terminal.command("clear; " + shlex.join([*PROGRAM, "check"]))
+    terminal.answer(say("safety.go"), "")
+    terminal.answer(paper_prompt(1), THREE_GROUPS[0])
+    terminal.wait(paper_prompt(2))
+    terminal.keys("C-z")
+    terminal.wait("$")
+    terminal.command("clear; echo begun; it=$(jobs -p); kill %1; while kill -0 $it; do sleep 0.1; done 2>/dev/null; echo gone")
+    terminal.wait("gone $")
+    if "begun" not in terminal.shown():
+        raise Failed(f"a program that is stopped clears the shell's screen when it ends: {terminal.shown()!r}")
+    if terminal.modes() != before:
+        raise Failed("after a program that was stopped, stty -a isn't as before")
+
+
 def check(see):
     if not shutil.which("tmux"):
         return ["tmux isn't here, so the scrollback of a real terminal isn't looked at"]
@@ -132,6 +149,7 @@ def check(see):
         with Terminal(folder) as terminal:
             check_kept(terminal)
             check_stop(terminal)
+            check_killed(terminal)
         history = pathlib.Path(folder, "history")
         if history.exists() and words_in(history.read_text()):
             raise Failed(f"the shell's history has words of papers: {history.read_text()!r}")

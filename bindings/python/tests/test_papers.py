@@ -1,5 +1,6 @@
 """Tests parts of `shamir.papers` without a terminal: the entry of words over generated typing, plans, quorums, what
 outcomes say together, and the sentences. tools/check_papers tests the program at a terminal."""
+import dataclasses
 import pathlib
 import random
 import re
@@ -22,7 +23,7 @@ from shamir.papers.entry import Entry, said_count  # noqa: E402
 from shamir.papers.found import ask_paper  # noqa: E402
 from shamir.papers.plan import plan_of, said_plan, said_risks, said_takes  # noqa: E402
 from shamir.papers.quorums import Tried, count, quorum_with, suspects  # noqa: E402
-from shamir.papers.spelling import Misplaced, continued, has_idle_number, nearest, numbers_of, parts_of, placed, said_empty, seems_bip39, without  # noqa: E402
+from shamir.papers.spelling import Misplaced, continued, has_idle_number, nearest, numbers_of, parts_of, placed, said_empty, seems_bip39  # noqa: E402
 from shamir.papers.texts import OWN, TABLE, TASKS, _page, say  # noqa: E402
 
 # The first vector whose paper has 33 words.
@@ -66,6 +67,10 @@ class Scripted:
 
     def drop_typed(self):
         pass
+
+    def is_pasted(self):
+        # What follows an empty line of a script is pasted.
+        return bool(self.answers)
 
 
 def by_rows(line, height):
@@ -233,6 +238,41 @@ class EntryTests(unittest.TestCase):
         self.assertEqual(screen.told[-2:], [say("entry.over.numbers", count=22)] * 2)
         self.assertEqual(self.read(f"acid {ONE} acid", "22", "1", wanted=20)[0], ONE)
 
+    def test_all_are_too_many(self):
+        """An owner who takes out each word begins the paper again."""
+        self.assertEqual(self.read(" ".join(WORDS[:21]), " ".join(map(str, range(1, 22))), ONE)[0], ONE)
+
+    def test_no_such_number(self):
+        """Words of which none has a place leave nothing to compare, and the paper is asked for again."""
+        for wrong in ("0 academic", "111 acid", "2024 acid 111 acne", "1 acid 1 acne"):
+            with self.subTest(typed=wrong):
+                found, screen = self.read(wrong, ONE)
+                self.assertEqual((found, screen.asked), (ONE, ["Paper 1:"] * 2))
+        self.assertEqual(self.read("acid", "1 acne", "", ONE)[0], ONE)
+
+    def test_empty_line_of_a_paste(self):
+        self.assertEqual(self.read("", "  ", ONE)[0], ONE)
+
+    def test_unread_word_before_one_is_taken_out(self):
+        """What a question mark took the place of keeps its place if a word before it is taken out, and is forgotten with the paper."""
+        words = ONE.split()
+        screen = Scripted(" ".join([*words[:7], *words[6:-1], "xyzt"]), "?", "8", True)
+        entry = Entry(screen, None)
+        self.assertEqual(entry.paper(entry.read("Paper 1:")).line, ONE)
+        self.assertIn(f"Word 20: {words[-1]} (you typed xyzt)", screen.told)
+        self.assertEqual((entry.replaced, screen.answers), ({20: "xyzt"}, []))
+        screen = Scripted(" ".join(["xyzt", *words[1:18], "acid", "acid"]), "?", ONE)
+        entry = Entry(screen, None)
+        self.assertEqual((entry.read("Paper 1:"), entry.replaced, screen.answers), (words, {}, []))
+
+    def test_other_list_in_rows(self):
+        """Words of another list are told from a few of them on, once, and not while a paper is typed back."""
+        row = "abandon zoo letter advice"
+        for show, times in [(None, 1), (lambda: None, 0)]:
+            screen = Scripted(row, "acid", "academic", "-", ONE)
+            self.assertEqual(Entry(screen, None, show=show).read("Paper 1:"), ONE.split())
+            self.assertEqual(screen.told.count(say("entry.other_list")), times)
+
     def test_bip39(self):
         words = "legal winner thank year wave sausage worth useful legal winner thank yellow"
         found, screen = self.read(words, ONE)
@@ -302,6 +342,20 @@ class DeskTests(unittest.TestCase):
         self.assertEqual(desk.left_out, 0)
 
 
+    def test_read_in_full(self):
+        """A paper that is read in full takes the place of the same one of which words were found, unless that one was written anew."""
+        for is_rewritten, damaged, is_repaired in [(False, [], False), (True, [], True)]:
+            desk = Desk()
+            desk.add(dataclasses.replace(paper_of(FIVE[0]), is_repaired=True, is_rewritten=is_rewritten))
+            self.assertEqual(desk.damaged, [] if is_rewritten else ["0.0"])
+            self.assertFalse(desk.add(paper_of(FIVE[0])))
+            self.assertEqual((desk.damaged, [it.is_repaired for it in desk.papers]), (damaged, [is_repaired]))
+        desk = Desk()
+        desk.add(paper_of(FIVE[0]))
+        self.assertFalse(desk.add(dataclasses.replace(paper_of(FIVE[0]), is_repaired=True)))
+        self.assertEqual(desk.damaged, [])
+
+
 class SpellingTests(unittest.TestCase):
     def test_marks(self):
         self.assertEqual([mark for _, mark in parts_of("1. Shadow 2) PISTOL,acad ? em?? 3shadow")], ["shadow", "pistol", "acad", "?", "em?", "shadow"])
@@ -317,10 +371,9 @@ class SpellingTests(unittest.TestCase):
     def test_numbers(self):
         for text, wanted in [("21", [21]), (" 3, 7. ", [3, 7]), ("", []), ("3 acid", []), ("3x", [])]:
             self.assertEqual(numbers_of(text), wanted)
-        self.assertEqual(without(["shadow", "acid", "pistol"], [1, 3, 7]), ["acid"])
 
     def test_idle_numbers(self):
-        for text, is_idle in [("7 acid", False), ("7. ?, 12) acid", False), ("acid", False), ("", False), ("7", True), ("7 acid 8", True), ("6 6 acid", True), ("12.", True)]:
+        for text, is_idle in [("7 acid", False), ("7. ?, 12) acid", False), ("acid", False), ("", False), ("7", True), ("7 acid 8", True), ("6 6 acid", True), ("12.", True), ("SLIP-0039 Paper 0.1 acid", False)]:
             self.assertEqual(has_idle_number(text), is_idle, text)
 
     def test_continued(self):

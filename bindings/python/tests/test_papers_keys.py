@@ -82,6 +82,12 @@ class LineTests(unittest.TestCase):
         typed, terminal = self.typed(b"secret\x7ft\x15TREZOR\n", is_hidden=True)
         self.assertEqual((typed, terminal.shown), ("TREZOR", "? \n"))
 
+    def test_too_long(self):
+        """A line that is cut says so until it is emptied."""
+        for keys, is_cut in [(b"x" * 2000, False), (b"x" * 2001, True), (b"x" * 2001 + b"\x7f", True), (b"x" * 2001 + b"\x15y", False)]:
+            line = Line(Keys(keys + b"\n"), "? ", is_hidden=True)
+            self.assertEqual((len(line.read()) <= 2000, line.is_cut), (True, is_cut))
+
     def test_begun(self):
         self.assertEqual(self.typed(b"id\n", begun=b"ac")[0], "acid")
         typed, terminal = self.typed(b"\x7fx\n", begun=b"a", is_hidden=True)
@@ -124,6 +130,13 @@ class ScreenTests(unittest.TestCase):
         self.assertEqual(screen.ask("Word 1?"), "acid")
         self.assertIn("Two papers would be lost.", terminal.shown)
         self.assertTrue(terminal.was_held)
+
+
+    def test_too_long_a_line_is_not_taken(self):
+        terminal = KeysAside(b"x" * 2001 + b"\nTREZOR\n")
+        self.assertEqual(Screen(terminal).ask_hidden("Passphrase?"), b"TREZOR")
+        self.assertIn("2,000", terminal.shown)
+        self.assertEqual(terminal.shown.count("Passphrase? "), 2)
 
 
 if __name__ == "__main__":

@@ -37,6 +37,11 @@ RUN: Dict[str, Callable[[Screen, Desk], None]] = {
 DESCRIPTION = "Makes paper backups of a wallet's secret (SLIP-0039), checks them, recovers from them, and replaces papers. It asks step by step."
 
 
+def readable(word: str) -> str:
+    """Returns a word of the command as a text. What isn't UTF-8 in it can't be a plan, and stands as a sign for that."""
+    return os.fsencode(word).decode("utf-8", "replace")
+
+
 def words_of_command() -> argparse.ArgumentParser:
     parser = argparse.ArgumentParser(prog="shamir-papers", description=DESCRIPTION, allow_abbrev=False)
     parser.add_argument("-V", "--version", action="version", version=f"shamir-papers {shamir.__version__}")
@@ -44,7 +49,7 @@ def words_of_command() -> argparse.ArgumentParser:
     for name, key in TASKS.items():
         task = tasks.add_parser(name, help=say(f"{key}.hint"), description=say(f"{key}.hint"), allow_abbrev=False)
         if name == "new":
-            task.add_argument("plan", metavar="PLAN", nargs="?", help="which papers are enough, such as 2of3, or 2/3of5,1of1 with groups")
+            task.add_argument("plan", metavar="PLAN", nargs="?", type=readable, help="which papers are enough, such as 2of3, or 2/3of5,1of1 with groups")
     return parser
 
 
@@ -106,8 +111,9 @@ def said_end(written: str) -> str:
 
 
 def said_close(written: str) -> str:
-    """Says that the task ended. A damaged paper is to be kept until a drill has shown that the new words are right."""
-    return say("closed.repaired" if written == "repaired" else "closed")
+    """Says that the task ended. New papers are no backup, and a damaged paper is to be kept, until a drill has shown that the words are
+    right."""
+    return say(f"closed.{written}" if written in ("repaired", "unfinished") else "closed")
 
 
 def told(terminal: Terminal, text: str) -> None:

@@ -67,7 +67,7 @@ def _tell(screen: Screen, desk: Desk, verdict: Verdict, noted: str) -> str:
     _tell_repaired(screen, desk, verdict, result)
     if result not in FAULTY:
         tell_damaged(screen, desk)
-    if result == "good":
+    if result == "good" and all(paper.name in verdict.names for paper in desk.papers if paper.is_repaired):
         screen.hold("")
         desk.written = desk.written and "replaced"
     return ask_next(screen, NEXT[result])

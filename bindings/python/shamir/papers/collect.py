@@ -59,12 +59,13 @@ def _take(screen: Screen, desk: Desk, title: str, paper: Paper, task: str) -> No
 
 
 def _refuse(screen: Screen, desk: Desk, paper: Paper, refusal: shamir.Refusal) -> None:
-    """Says why a paper doesn't belong to the others, and how to take one of these out."""
+    """Says why a paper doesn't belong to the others, and how to take one of these out if it may be wrong."""
     desk.leave_out(paper.words)
     screen.drop_typed()
-    screen.tell(said_foreign(refusal, [it.name for it in [*desk.papers, paper] if it.is_repaired]), "bad")
-    likely = [it.name for it in desk.papers if it.is_repaired] or [desk.papers[-1].name]
-    screen.tell(say("entry.drop", sign=DROP, name=likely[-1]))
+    repaired = [it.name for it in desk.papers if it.is_repaired]
+    screen.tell(said_foreign(refusal, repaired, paper.is_repaired), "bad")
+    if repaired or not paper.is_repaired:
+        screen.tell(say("entry.drop", sign=DROP, name=(repaired or [desk.papers[-1].name])[-1]))
 
 
 def _drop(screen: Screen, desk: Desk, name: str, task: str) -> None:
@@ -84,9 +85,11 @@ def show_status(screen: Screen, desk: Desk, task: str = "") -> None:
 
 def _rows(status: shamir.Status, count: int) -> Iterator[str]:
     found = {group.group: group for group in status.groups}
-    for group in range(count):
-        told = _group(found[group], count == 1) if group in found else say("status.none")
-        yield say("status.line", group=say("status.only") if count == 1 else say("status.group", group=group), told=told)
+    # A paper can be of a group beyond those that it says there are.
+    numbers = sorted({*range(count), *found})
+    for group in numbers:
+        told = _group(found[group], len(numbers) == 1) if group in found else say("status.none")
+        yield say("status.line", group=say("status.only") if len(numbers) == 1 else say("status.group", group=group), told=told)
 
 
 def _group(group: shamir.GroupStatus, is_only: bool) -> str:
@@ -146,6 +149,7 @@ def _ask_more(screen: Screen) -> Optional[str]:
         typed = screen.ask(say("more.papers"), lambda letters: beginning(words, letters)).strip()
         if typed.lower() == "e":
             return None
-        if not typed or len(parts_of(typed)) > 1:
+        parts = parts_of(typed)
+        if not typed or len(parts) > 1 or any(mark in words for _, mark in parts):
             return typed
         screen.tell(say("screen.answers", answers="Enter, e"), "bad")

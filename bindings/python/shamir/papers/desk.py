@@ -2,6 +2,8 @@
 from __future__ import annotations
 
 import ctypes
+import dataclasses
+import threading
 from dataclasses import dataclass, field
 from typing import Iterator, List, Optional, Sequence, Tuple
 
@@ -103,10 +105,14 @@ class Desk:
         return [paper.line for paper in self.papers]
 
     def add(self, paper: Paper) -> bool:
-        """Takes a paper, or raises the refusal of a paper that doesn't belong to the others. Returns whether it is a new one."""
+        """Takes a paper, or raises the refusal of a paper that doesn't belong to the others. Returns whether it is a new one. One that is
+        read in full takes the place of the same one of which words were found."""
         shamir.status([*self.lines, paper.line])
-        if any(is_same(paper, it) for it in self.papers):
-            return False
+        for at, it in enumerate(self.papers):
+            if is_same(paper, it):
+                if not it.is_rewritten:
+                    self.papers[at] = dataclasses.replace(it, is_repaired=it.is_repaired and paper.is_repaired)
+                return False
         self.papers.append(paper)
         return True
 
@@ -152,11 +158,11 @@ class Desk:
         for it in shamir.drill(lines, passphrase=self.passphrase, fingerprints=not expect, expect=expect or None):
             yield Tried(tuple(it.names.split("+")), it.fingerprint, it.mismatch, it.expected)
 
-    def try_all(self, tried: List[Tried], expect: str, limit: Optional[int] = None) -> None:
-        """Tries every quorum, or the first `limit`, and adds what they give to a list."""
+    def try_all(self, tried: List[Tried], expect: str, stopped: threading.Event, limit: Optional[int] = None) -> None:
+        """Tries every quorum, or the first `limit`, and adds what they give to a list, until it is stopped."""
         for outcome in self._outcomes(self.lines, expect):
             tried.append(outcome)
-            if len(tried) == limit:
+            if len(tried) == limit or stopped.is_set():
                 return
 
     def try_one(self, names: Sequence[str], expect: str) -> Tried:

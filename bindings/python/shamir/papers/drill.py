@@ -2,6 +2,7 @@
 from __future__ import annotations
 
 import functools
+import threading
 import time
 from dataclasses import dataclass
 from typing import Iterable, List, Optional, Sequence, Tuple
@@ -24,7 +25,6 @@ class Verdict:
     the papers that were tried, and of those that are in a right quorum, and whether a passphrase was typed."""
 
     result: str
-    fingerprint: Optional[str]
     sentences: List[str]
     names: Tuple[str, ...] = ()
     right: Tuple[str, ...] = ()
@@ -71,7 +71,11 @@ def _try(screen: Screen, desk: Desk, status: shamir.Status, tried: List[Tried], 
     def progress() -> str:
         return say("drill.tried", tried=f"{len(tried):,}", total=f"{total:,}")
 
-    screen.work(lambda: desk.try_all(tried, noted, None if is_whole else TRIED_FIRST), progress, is_stoppable=True)
+    stopped = threading.Event()
+    try:
+        screen.work(lambda: desk.try_all(tried, noted, stopped, None if is_whole else TRIED_FIRST), progress, is_stoppable=True)
+    finally:
+        stopped.set()
     known = {it.names for it in tried}
     for name in [name for group in status.groups for name in group.names if not is_whole]:
         names = quorum_with(status, name)
@@ -83,14 +87,18 @@ def _try(screen: Screen, desk: Desk, status: shamir.Status, tried: List[Tried], 
 def verdict_of(tried: Sequence[Tried], total: int, noted: str, is_own: bool, is_stopped: bool, has_passphrase: bool = True) -> Verdict:
     """Returns what the outcomes of a drill say together."""
     found = fingerprints(tried)
-    fingerprint = found[0][0] if found else None
     result, sentences = _verdict(tried, total, noted, is_own, found) if tried else ("none", list[str]())
     if result == "other" and not has_passphrase:
         sentences = [say("verdict.other.none", quorums=counted(len(tried), "quorum"), noted=noted)]
     if is_stopped or len(tried) != total:
         sentences.insert(0, say("drill.part", tried=f"{len(tried):,}", total=f"{total:,}"))
-    right = _names(it for it in tried if gives(it, noted or fingerprint or ""))
-    return Verdict("stopped" if is_stopped else result, fingerprint, sentences, _names(tried), right, has_passphrase)
+    right = _names(it for it in tried if gives(it, _wanted(noted, found)))
+    return Verdict("stopped" if is_stopped else result, sentences, _names(tried), right, has_passphrase)
+
+
+def _wanted(noted: str, found: List[Tuple[str, int]]) -> str:
+    """Returns the fingerprint of the right secret: the noted one, or else the one that most quorums give."""
+    return noted or (found[0][0] if found else "")
 
 
 def _names(tried: Iterable[Tried]) -> Tuple[str, ...]:
@@ -99,7 +107,7 @@ def _names(tried: Iterable[Tried]) -> Tuple[str, ...]:
 
 
 def _verdict(tried: Sequence[Tried], total: int, noted: str, is_own: bool, found: List[Tuple[str, int]]) -> Tuple[str, List[str]]:
-    wanted = noted or (found[0][0] if found else "")
+    wanted = _wanted(noted, found)
     right = [it for it in tried if gives(it, wanted)]
     wrong = [it for it in tried if not gives(it, wanted)]
     quorums = counted(len(tried), "quorum")
@@ -132,7 +140,7 @@ def _named(wrong: Sequence[Tried]) -> str:
     """Names the quorums that are wrong, or the first of them."""
     names = ", ".join("+".join(it.names) for it in wrong[:NAMED_MAX])
     more = len(wrong) - NAMED_MAX
-    return say("verdict.wrong.more", names=names, more=more) if more > 0 else say("verdict.wrong", names=names)
+    return say("verdict.wrong.more", names=names, more=more) if more > 0 else say(f"verdict.wrong.{one_or_many(wrong)}", names=names)
 
 
 def _gave(tried: Sequence[Tried], found: List[Tuple[str, int]]) -> List[str]:

@@ -12,13 +12,15 @@ from shamir.papers.desk import Paper, find_fault, paper_of
 from shamir.papers.found import ask_paper
 from shamir.papers.refusals import said_refusal, wrong_word
 from shamir.papers.screen import Screen
-from shamir.papers.spelling import DROP, Part, beginning, continued, has_idle_number, nearest, numbers_of, parts_of, placed, read, said_empty, seems_bip39, taken_out, without
+from shamir.papers.spelling import DROP, Part, beginning, continued, has_idle_number, nearest, numbers_of, parts_of, placed, read, said_empty, seems_bip39, taken_out
 from shamir.papers.texts import counted, say
 
 # Most papers have one of these numbers of words.
 FEW, MANY = 20, 33
-# If more words than this part of them aren't in the list, they are asked for all again.
+# If more words than this part of them aren't in the list, they are of another list.
 UNKNOWN_PART = 3
+# From so many words on, that can be told.
+TOLD_LEAST = 4
 
 
 class Begun(Exception):
@@ -43,11 +45,14 @@ class Entry:
         self._marks: List[str] = []
         self.replaced: Dict[int, str] = {}
         self._list = shamir.words("")
+        # Whether the owner was told that many words aren't in the list.
+        self._is_told = False
         # Whether the owner was asked for words that follow, and typed some.
         self._is_continued = False
 
     def read(self, prompt: str, typed: str = "", has_back: bool = False) -> List[str]:
-        """Returns the marks of a paper that the library found sound or can repair, or nothing if Enter alone is typed.
+        """Returns the marks of a paper that the library found sound or can repair, or nothing if Enter alone is typed. An empty line of a
+        paste is no Enter.
 
         If a paper is to be taken out, returns the sign for that with its name. `typed` was typed before, as an answer to this question.
         `has_back` says that the owner may go back instead.
@@ -57,14 +62,18 @@ class Entry:
             name = taken_out(text)
             if name is not None:
                 return [DROP + name]
-            parts, self._is_continued = parts_of(text), False
+            parts, self._is_continued, self._is_told = parts_of(text), False, False
             self._marks, self.replaced = [], {}
-            if not parts and not text.strip():
+            if not text.strip():
+                if self._screen.is_pasted():
+                    continue
                 return []
             try:
-                if parts:
-                    return self._whole(self._placed([], parts))
-                self._fault(say("entry.wordless"))
+                marks = self._placed([], parts)
+                if marks:
+                    return self._whole(marks)
+                if not parts:
+                    self._fault(say("entry.wordless"))
             except Begun:
                 self._dropped()
 
@@ -178,12 +187,14 @@ class Entry:
 
     def _more(self, marks: List[str]) -> List[str]:
         """Asks for the words that follow. If there are none, the owner sees what was typed. If there may be too many, a number alone takes
-        that word out."""
+        that word out. If all are taken out, the paper is begun again."""
+        if not marks:
+            raise Begun
         key = "entry.on.many" if not self.wanted and len(marks) > FEW else "entry.on"
         text = self._asked(say(key, typed=said_count(len(marks), self.wanted), number=len(marks) + 1, sign=DROP))
         parts, numbers = parts_of(text), numbers_of(text)
         if numbers and key == "entry.on.many":
-            return without(marks, numbers)
+            return self._without(marks, numbers)
         if not parts:
             self._tell_typed(marks)
             self._screen.tell(say("entry.compare", sign=DROP))
@@ -198,11 +209,22 @@ class Entry:
             text = self._asked(say("entry.over", sign=DROP))
             parts = parts_of(text)
             if len(parts) == self.wanted:
-                return self._placed([], parts)
-            shorter = without(marks, numbers_of(text))
+                return self._anew(parts)
+            shorter = self._without(marks, numbers_of(text))
             if len(shorter) < len(marks):
                 return shorter
             self._fault(say("entry.over.numbers", count=len(marks)))
+
+    def _without(self, marks: Sequence[str], numbers: Sequence[int]) -> List[str]:
+        """Returns marks without those that have these numbers. Those after them get other numbers."""
+        kept = [number for number in range(1, len(marks) + 1) if number not in numbers]
+        self.replaced = {at: self.replaced[number] for at, number in enumerate(kept, 1) if number in self.replaced}
+        return [marks[number - 1] for number in kept]
+
+    def _anew(self, parts: Sequence[Part]) -> List[str]:
+        """Returns marks that take the place of all that was typed."""
+        self.replaced = {}
+        return self._placed([], parts)
 
     def _tell_typed(self, marks: List[str]) -> None:
         self._screen.tell(say("entry.typed"))
@@ -210,16 +232,25 @@ class Entry:
 
     def _spelled(self, marks: List[str]) -> List[str]:
         """Returns the words that marks stand for. Each that stands for none is asked for again, and nothing else."""
-        if "" not in marks and seems_bip39(self._list, marks):
-            self._fault(say("entry.bip39", count=len(marks)))
-            if [self._read(mark) for mark in marks].count(None) * UNKNOWN_PART > len(marks):
-                raise Begun
+        if "" not in marks:
+            self._tell_standard(marks)
         while True:
             found = [self._read(mark) for mark in marks]
             marks = [mark if word is None else word for mark, word in zip(marks, found)]
             if None not in found:
                 return marks
             marks = self._mended(marks, found.index(None) + 1)
+
+    def _tell_standard(self, marks: List[str]) -> None:
+        """Says if marks are likely to be of a BIP-39 backup."""
+        is_other = [self._read(mark) for mark in marks].count(None) * UNKNOWN_PART > len(marks)
+        if seems_bip39(self._list, marks):
+            self._fault(say("entry.bip39", count=len(marks)))
+            if is_other:
+                raise Begun
+        elif is_other and len(marks) >= TOLD_LEAST and self._show is None and not self._is_told:
+            self._is_told = True
+            self._screen.tell(say("entry.other_list"), "bad")
 
     def _read(self, mark: str) -> Optional[str]:
         """Returns the word of a mark, or None if it stands for none. A place that is still empty stays so."""
@@ -277,7 +308,7 @@ class Entry:
             self._note_replaced(marks, new)
             return [new.get(number, mark) for number, mark in enumerate(marks, 1)]
         if len(parts) == count:
-            return self._placed([], parts)
+            return self._anew(parts)
         if parts and count != self.wanted and numbers[0] in (None, count + 1) and all(self._read(mark) for _, mark in parts):
             return self._placed(marks, parts)
         return None

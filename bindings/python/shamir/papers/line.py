@@ -54,6 +54,8 @@ class Line:
         self._complete, self._is_hidden = complete, is_hidden
         self._typed = bytearray(begun)
         self._is_asked = False
+        # Whether more was typed than a line can have.
+        self.is_cut = False
 
     def read(self) -> bytearray:
         """Returns what is typed, without its end. After Ended, it may be called again, and goes on."""
@@ -82,7 +84,9 @@ class Line:
             skip_sequence(self._terminal)
         elif key == TAB:
             self._offer()
-        elif key >= SPACE and len(self._typed) < LENGTH_MAX:
+        elif key >= SPACE and len(self._typed) >= LENGTH_MAX:
+            self.is_cut = True
+        elif key >= SPACE:
             if key in b" ,":
                 self._end_word()
             self._add(bytes([key]))
@@ -103,6 +107,7 @@ class Line:
         cut = len(self._typed) - length
         if cut <= 0:
             return
+        self.is_cut = self.is_cut and length > 0
         before = len(self._prompt) + len(_shown(self._typed))
         kept = self._typed[:length]
         wipe(self._typed)

@@ -25,11 +25,12 @@ def _form(refusal: shamir.Refusal) -> str:
     return ".two" if refusal.code == shamir.Code.WRONG_WORD and second else ""
 
 
-def said_foreign(refusal: shamir.Refusal, repaired: Sequence[str]) -> str:
-    """Says why a paper doesn't belong to the others. If words of some of them were found and not read, most likely these are wrong."""
-    if not repaired:
+def said_foreign(refusal: shamir.Refusal, repaired: Sequence[str], is_repaired: bool = False) -> str:
+    """Says why a paper doesn't belong to the others. If words of it or of some of them were found and not read, most likely these are
+    wrong."""
+    if not repaired and not is_repaired:
         return said_refusal(refusal)
-    told = say(f"refused.repaired.{one_or_many(repaired)}", names=", ".join(repaired))
+    told = say("refused.repaired.new") if is_repaired else say(f"refused.repaired.{one_or_many(repaired)}", names=", ".join(repaired))
     return say("refused.number", told=told, code=int(refusal.code))
 
 

@@ -11,7 +11,7 @@ import threading
 import time
 from typing import Callable, Dict, Generic, Iterable, List, Optional, Sequence, TypeVar
 
-from shamir.papers.line import Completer, Line, first_key, wipe
+from shamir.papers.line import LENGTH_MAX, Completer, Line, first_key, wipe
 from shamir.papers.terminal import Ended, Terminal
 from shamir.papers.texts import said_time, say
 
@@ -23,6 +23,8 @@ COLUMNS_MAX = 4
 STACK_BYTES = 1 << 20
 # From this time on, the screen shows how long a work takes already.
 SHOWN_AFTER = 1.0
+# Within this time after a line, only a paste has another.
+PASTE_SECONDS = 0.05
 # Where a question says so, this answer goes back to the question before.
 BACK = "b"
 
@@ -169,11 +171,21 @@ class Screen:
 
     def _read(self, prompt: str, complete: Optional[Completer], is_hidden: bool) -> bytearray:
         *above, last = wrapped(prompt, self._width - 1) or [""]
-        self.rows(above)
-        begun, self._begun = self._begun, bytearray()
-        typed = self._held_on(Line(self._terminal, last + " ", complete, is_hidden, begun).read)
-        self._rows = 0
-        return typed
+        while True:
+            self.rows(above)
+            begun, self._begun = self._begun, bytearray()
+            line = Line(self._terminal, last + " ", complete, is_hidden, begun)
+            typed = self._held_on(line.read)
+            self._rows = 0
+            if not line.is_cut:
+                return typed
+            wipe(typed)
+            self.drop_typed()
+            self.tell(say("screen.long", most=f"{LENGTH_MAX:,}"), "bad")
+
+    def is_pasted(self) -> bool:
+        """Whether more is typed already, as only a paste can be so soon."""
+        return self._terminal.is_typed(PASTE_SECONDS)
 
     def choose(self, prompt: str, answers: Dict[str, T], default: Optional[str] = None, has_back: bool = False, is_hidden: bool = False) -> T:
         """Asks until one of the answers is given, or none if there is a default. A hidden answer doesn't show."""

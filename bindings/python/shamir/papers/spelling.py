@@ -85,11 +85,6 @@ def continued(marks: Sequence[str], number: int, parts: Sequence[Part]) -> Optio
     return _row(found) if parts else None
 
 
-def without(marks: Sequence[str], numbers: Sequence[int]) -> List[str]:
-    """Returns marks without those that have these numbers."""
-    return [mark for number, mark in enumerate(marks, 1) if number not in numbers]
-
-
 def _row(found: Dict[int, str]) -> List[str]:
     return [found.get(at, "") for at in range(1, max(found, default=0) + 1)]
 
@@ -101,8 +96,8 @@ def numbers_of(text: str) -> List[int]:
 
 
 def has_idle_number(text: str) -> bool:
-    """Whether a number of a text stands before no word."""
-    return re.search(r"\b\d+(?!\w)[^\w?]*(\d|$)", text) is not None
+    """Whether a number of a text stands before no word, apart from a heading."""
+    return re.search(r"\b\d+(?!\w)[^\w?]*(\d|$)", HEADING.sub(" ", text.lower())) is not None
 
 
 def said_empty(marks: Sequence[str]) -> str:

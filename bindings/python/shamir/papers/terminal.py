@@ -16,6 +16,8 @@ from typing import Iterator, List, Optional
 ENDING = (signal.SIGINT, signal.SIGTERM, signal.SIGHUP, signal.SIGQUIT)
 SIZE_UNKNOWN = os.terminal_size((80, 24))
 
+RETURN, LINE_FEED = 13, 10
+
 ENTER_SCREEN, LEAVE_SCREEN = "\x1b[?1049h", "\x1b[?1049l"
 CLEAR = "\x1b[0m\x1b[H\x1b[2J"
 # The console of Linux has no alternate screen. This clears what it keeps of lines that left the screen.
@@ -45,7 +47,8 @@ class Terminal:
         self.is_plain = kind in ("", "dumb", "unknown")
         self._is_console = kind.startswith("linux")
         self._saved = termios.tcgetattr(source)
-        self._is_open = False
+        # Whether the program still writes, whether its screen is shown, and whether a signal has ended it already.
+        self._is_open = self._is_shown = self._is_ending = False
         # A signal writes a byte here, so that one which comes just before a wait for a key ends that wait.
         self._woken, self._waking = os.pipe2(os.O_NONBLOCK | os.O_CLOEXEC)
         # What was written since the screen was cleared, to be written again after a stop.
@@ -53,6 +56,7 @@ class Terminal:
         # Whether Ctrl-C ends only a wait for a key or for a work, so that the owner can be asked.
         self.is_held = False
         self._is_interrupted = False
+        self._was_return = False
         # Whether another size ends a wait for a key. If not, what was written is written again.
         self.tells_size = False
         self._is_resized = False
@@ -63,28 +67,43 @@ class Terminal:
         for number in ENDING:
             signal.signal(number, self._end)
         signal.signal(signal.SIGTSTP, self._stop)
+        signal.signal(signal.SIGCONT, self._go_on)
         signal.signal(signal.SIGWINCH, self._resize)
         self._is_open = True
         self._enter()
 
     def close(self) -> None:
-        """Clears the screen, leaves it, and restores the terminal's modes. What was typed and not read is dropped."""
-        for number in ENDING + (signal.SIGTSTP,):
+        """Clears the screen, leaves it, and restores the terminal's modes. What was typed and not read is dropped. If the program was
+        stopped and not continued, the terminal is another program's."""
+        self._is_ending = True
+        for number in ENDING + (signal.SIGTSTP, signal.SIGCONT):
             signal.signal(number, signal.SIG_IGN)
-        if self._is_open:
-            self._is_open = False
+        self._is_open = False
+        if self._is_shown:
             self._leave()
         self._written.clear()
 
     def _enter(self) -> None:
+        """Shows the alternate screen, with what was written to it."""
+        self._is_shown = True
+        try:
+            self._set_modes()
+        except termios.error:
+            # The terminal is no longer there.
+            raise Ended(signal.SIGHUP) from None
+        if not self.is_plain:
+            self._put(ENTER_SCREEN + CLEAR)
+        for text in self._written:
+            self._put(text)
+
+    def _set_modes(self) -> None:
         modes = termios.tcgetattr(self._source)
+        modes[0] &= ~termios.ICRNL
         modes[3] &= ~(termios.ECHO | termios.ECHONL | termios.ICANON | termios.IEXTEN)
         modes[3] |= termios.ISIG
         modes[6] = [*modes[6]]
         modes[6][termios.VMIN], modes[6][termios.VTIME] = 1, 0
         termios.tcsetattr(self._source, termios.TCSADRAIN, modes)
-        if not self.is_plain:
-            self._put(ENTER_SCREEN + CLEAR)
 
     def _leave(self) -> None:
         try:
@@ -98,9 +117,14 @@ class Terminal:
             except termios.error:
                 # The terminal is no longer there.
                 pass
+        self._is_shown = False
 
     def _end(self, number: int, frame: Optional[FrameType]) -> None:
+        """Ends the program. A second signal changes nothing: it must not keep the terminal from being restored."""
+        if self._is_ending:
+            return
         if number != signal.SIGINT or not self.is_held:
+            self._is_ending = True
             raise Ended(number)
         self._is_interrupted = True
 
@@ -126,22 +150,34 @@ class Terminal:
     @contextlib.contextmanager
     def aside(self) -> Iterator[None]:
         """Clears the screen for something else, and then shows again what was there."""
-        written, self._written = self._written, []
+        (written, self._written), size = (self._written, []), self.size
         self.clear()
         yield
         self.clear()
         for text in written:
             self.write(text)
+        self._note_size(size)
+
+    def _note_size(self, before: os.terminal_size) -> None:
+        """Ends a wait for a key if the terminal has another size than before."""
+        if self.size != before:
+            self._is_resized = True
+            os.write(self._waking, b"\0")
 
     def _stop(self, number: int, frame: Optional[FrameType]) -> None:
         """Hides the screen, stops as the signal asks, and shows the screen again when the program goes on."""
+        size = self.size
         self._leave()
         signal.signal(signal.SIGTSTP, signal.SIG_DFL)
         os.kill(os.getpid(), signal.SIGTSTP)
         signal.signal(signal.SIGTSTP, self._stop)
         self._enter()
-        for text in self._written:
-            self._put(text)
+        self._note_size(size)
+
+    def _go_on(self, number: int, frame: Optional[FrameType]) -> None:
+        """Shows the screen again after a stop that hid nothing (SIGSTOP), in which another program may have changed the modes."""
+        if self._is_shown and not self._is_ending:
+            self._enter()
 
     def _put(self, text: str) -> None:
         data = text.encode("ascii", "replace")
@@ -170,7 +206,15 @@ class Terminal:
         return size if size.columns and size.lines else SIZE_UNKNOWN
 
     def key(self) -> int:
-        """Returns the next byte that is typed."""
+        """Returns the next byte that is typed. What a paste has from another system ends each line with a return and a line feed: then
+        the line feed isn't a key."""
+        typed = self._byte()
+        if self._was_return and typed == LINE_FEED:
+            typed = self._byte()
+        self._was_return = typed == RETURN
+        return typed
+
+    def _byte(self) -> int:
         while self._source not in select.select([self._source, self._woken], [], [])[0]:
             os.read(self._woken, 64)
             self.heed_interrupt()
