@@ -505,6 +505,10 @@ shamir_answer shamir_text(const shamir_answer *answer, char *text, size_t text_b
  * The version goes to the start of text. SHAMIR_TEXT_BYTES_MAX bytes are enough for it.
  *
  * The only refusal is 1.
+ *
+ *     char text[SHAMIR_TEXT_BYTES_MAX];
+ *     shamir_answer told = shamir_version(text, sizeof text);
+ *     printf("%.*s\n", (int)told.written, text);
  */
 SHAMIR_CALL
 shamir_answer shamir_version(char *text, size_t text_bytes);

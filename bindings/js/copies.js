@@ -34,6 +34,18 @@ export function copied(bytes) {
 }
 
 /**
+ * Returns whether a string holds half of a surrogate pair. A regular expression would leave the string in `RegExp.input`.
+ * @param {string} text
+ */
+function isHalved(text) {
+  for (const sign of text) {
+    const point = Number(sign.codePointAt(0));
+    if (point >= 0xd800 && point <= 0xdfff) return true;
+  }
+  return false;
+}
+
+/**
  * @param {unknown} value
  * @param {string} what
  * @param {number} most
@@ -99,7 +111,7 @@ export class Copies {
    */
   text(value, what) {
     if (typeof value === "string") {
-      if (/[\uD800-\uDFFF]/u.test(value)) throw new RangeError(`${what} holds half of a surrogate pair, which UTF-8 can't encode`);
+      if (isHalved(value)) throw new RangeError(`${what} holds half of a surrogate pair, which UTF-8 can't encode`);
       return this.keep(new TextEncoder().encode(value));
     }
     if (!isBytes(value)) throw new TypeError(`${what} is neither a string nor a Uint8Array`);
@@ -109,7 +121,7 @@ export class Copies {
   /** @param {unknown} lines */
   lines(lines) {
     if (typeof lines === "string" || isBytes(lines)) return this.text(lines, "the text of lines");
-    if (typeof lines !== "object" || lines === null || !(Symbol.iterator in lines)) {
+    if (typeof lines !== "object" || lines === null || lines instanceof String || !(Symbol.iterator in lines)) {
       throw new TypeError("the lines are neither a text nor an iterable of texts");
     }
     const all = Array.from(/** @type {Iterable<unknown>} */ (lines), (line, index) => this.#line(line, `line ${index + 1} of the list`));

@@ -43,7 +43,7 @@ export class Engine {
     /**
      * Creates a backup of a secret, and returns its mnemonics in the order of groups and members.
      *
-     *     const mnemonics = shamir.create("2of3", secret, { passphrase: "TREZOR" });
+     *     const mnemonics = shamir.create("2of3", secret, { passphrase: "TREZOR", exponent: 1, extendable: true });
      *
      * `plan` is TofN for one group, or GT/T1ofN1,T2ofN2,.. for up to 16 groups. GT is the group threshold, each T is the member
      * threshold of a group, and each N is its number of members. Each number is from 1 to 16. T may be 1 only if N is 1.
@@ -91,7 +91,8 @@ export class Engine {
      * Returns an iterator over what each quorum of mnemonics recovers, in ascending order of their names.
      *
      *     for (const outcome of shamir.drill(mnemonics, { passphrase: "TREZOR", fingerprints: true })) {
-     *       console.log(outcome.names, outcome.fingerprint ?? `digest mismatch in ${outcome.mismatch}`);
+     *       const where = outcome.mismatch === OF_GROUPS ? "groups" : outcome.mismatch;
+     *       console.log(outcome.names, outcome.fingerprint ?? `digest mismatch ${where}`);
      *     }
      *
      * `lines`, `passphrase` and `maxExponent` are as for `recover`. An empty `after` is refused (61). If `expect` is given, outcomes

@@ -6,7 +6,7 @@
  *
  *     const shamir = await load(await readFile("shamir32.wasm"));
  *     const secret = crypto.getRandomValues(new Uint8Array(16));
- *     const mnemonics = shamir.create("2of3", secret, { passphrase: "TREZOR" });
+ *     const mnemonics = shamir.create("2of3", secret, { passphrase: "TREZOR", exponent: 1, extendable: true });
  *     const recovered = shamir.recover(mnemonics.slice(1), { passphrase: "TREZOR" }); // the bytes of the secret
  *
  * A backup consists of mnemonics, which are lines of words. Each mnemonic is a member of a group. Groups and members are
@@ -18,8 +18,9 @@
  *
  * Each method passes its arguments to the engine, and throws a `Refusal` if the engine refuses them. A text is a string, which
  * is encoded as UTF-8, or a Uint8Array. A secret and random bytes are a Uint8Array. Another type, an option that the call
- * doesn't know, and an array whose buffer was transferred throw a TypeError. A number out of range, a string that UTF-8 can't
- * encode, and a line feed inside a line of a list throw a RangeError.
+ * doesn't know, two options that can't stand together, and an array whose buffer was transferred throw a TypeError. A number out
+ * of range, a string that UTF-8 can't encode, and a line feed inside a line of a list throw a RangeError. If random bytes are left
+ * out and the host has no `crypto`, `create` throws an Error.
  *
  * Arguments are copied into the memory of the module. After each call, also after a refusal, everything that the call may have
  * written there is cleared, and so are the copies of the arguments. If a call traps, the whole memory is cleared, and the next
@@ -61,6 +62,8 @@ const FORM_EXPECTED = 2;
 const SHARE_BYTES = 10;
 const NUMBER_MAX = 2 ** 32 - 1;
 const MORE = "more after ";
+// Each version that begins so has the calls of this package.
+const VERSION = "1.";
 
 /**
  * Returns a text that may be left out. For the engine an empty text is one that was left out. So one that was given, and is empty,
@@ -81,6 +84,8 @@ export class Engine {
   /** @param {WebAssembly.Module} module */
   constructor(module) {
     this.#calls = new Calls(module);
+    const version = this.version();
+    if (!version.startsWith(VERSION)) throw new TypeError(`this module has version ${version} of the engine, and this package needs ${VERSION}x`);
   }
 
   /**
@@ -128,7 +133,7 @@ export class Engine {
   /**
    * Creates a backup of a secret, and returns its mnemonics in the order of groups and members.
    *
-   *     const mnemonics = shamir.create("2of3", secret, { passphrase: "TREZOR" });
+   *     const mnemonics = shamir.create("2of3", secret, { passphrase: "TREZOR", exponent: 1, extendable: true });
    *
    * `plan` is TofN for one group, or GT/T1ofN1,T2ofN2,.. for up to 16 groups. GT is the group threshold, each T is the member
    * threshold of a group, and each N is its number of members. Each number is from 1 to 16. T may be 1 only if N is 1.
@@ -196,7 +201,8 @@ export class Engine {
    * Returns an iterator over what each quorum of mnemonics recovers, in ascending order of their names.
    *
    *     for (const outcome of shamir.drill(mnemonics, { passphrase: "TREZOR", fingerprints: true })) {
-   *       console.log(outcome.names, outcome.fingerprint ?? `digest mismatch in ${outcome.mismatch}`);
+   *       const where = outcome.mismatch === OF_GROUPS ? "groups" : outcome.mismatch;
+   *       console.log(outcome.names, outcome.fingerprint ?? `digest mismatch ${where}`);
    *     }
    *
    * `lines`, `passphrase` and `maxExponent` are as for `recover`. An empty `after` is refused (61). If `expect` is given, outcomes
@@ -245,7 +251,8 @@ export class Engine {
   status(lines) {
     return withCopies((own) => {
       const { output, first, second } = this.#checked("shamir_status", [own.lines(lines), new Room(STATUS_BYTES_MAX)]);
-      return { complete: first, required: second, enough: first >= second, groups: linesOf(output).slice(1).map(groupStatus) };
+      const groups = linesOf(own.keep(output)).slice(1).map(groupStatus);
+      return { complete: first, required: second, enough: first >= second, groups };
     });
   }
 
@@ -326,7 +333,7 @@ export class Engine {
    * @returns {string}
    */
   fingerprint(secret) {
-    return withCopies((own) => decoded(this.#output("shamir_fingerprint", [own.data(secret, "the secret")], FINGERPRINT_BYTES_MAX)));
+    return withCopies((own) => taken(this.#output("shamir_fingerprint", [own.data(secret, "the secret")], FINGERPRINT_BYTES_MAX)));
   }
 
   /**

@@ -62,6 +62,10 @@ export interface Status {
   groups: GroupStatus[];
 }
 
+/**
+ * Set the extendable flag of a new backup, unless a wallet that has to read it doesn't know the flag. With a passphrase, give a new
+ * backup an exponent of 1 or more: without one, the exponent protects nothing.
+ */
 export interface CreateOptions {
   /** An additional secret of printable ASCII, which a recovery needs too. If it is left out, there is none. */
   passphrase?: Text | undefined;

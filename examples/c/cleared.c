@@ -1,7 +1,8 @@
 /*
- * This program does what recover.c does, and keeps its memory to itself. The library clears its own stack, and recover.c clears its
+ * This program does what recover.c does, and keeps its buffers to itself. The library clears its own stack, and recover.c clears its
  * buffers. Before that, the system could write these buffers to a swap area or to a core file, and other programs of the same
- * user could read them. This program asks the system not to.
+ * user could read them. This program asks the system not to. The stack can still be written to a swap area during a call, and the
+ * passphrase is a word of the command, which others can see.
  *
  *   cc -std=c99 -Iinclude examples/c/cleared.c libshamir.a -o cleared
  *   ./cleared FILE [PASSPHRASE]

@@ -202,6 +202,9 @@ test("load takes bytes and a compiled module", async () => {
   }
   await assert.rejects(load(bytes.subarray(0, 1000)), WebAssembly.CompileError);
   await assert.rejects(load(counting(0)), WebAssembly.CompileError);
+  // This one has the version of another interface.
+  const at = bytes.indexOf(shamir.version());
+  await assert.rejects(load(Uint8Array.from(bytes).fill(50, at, at + 1)), /^TypeError: this module has version 2\./);
   // This module is empty.
   await assert.rejects(load(Uint8Array.from([0, 97, 115, 109, 1, 0, 0, 0])), /^TypeError: this module isn't the engine/);
 });

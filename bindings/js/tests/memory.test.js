@@ -148,6 +148,8 @@ test("copies of arguments and of the output are cleared", () => {
   const created = cleared(() => shamir.create(PLAN, SECRET, { passphrase, random: counting(26) }));
   for (const bytes of [SECRET, counting(26)]) assert.ok(created.includes(Buffer.from(bytes).toString("latin1")));
   for (const text of ["TREZOR", FIVE.join("\n") + "\n", ...FIVE]) assert.ok(created.includes(text));
+  assert.ok(cleared(() => shamir.fingerprint(SECRET)).includes("df41d8fe"));
+  assert.ok(cleared(() => shamir.status(FIVE)).some((text) => text.includes("group 0 members 3 of 2 0.0+0.1+0.2\n")));
   const refusals = cleared(() => assert.throws(() => shamir.recover(FIVE, { passphrase: "TREZOR\x07" }), Refusal));
   for (const text of ["TREZOR\x07", FIVE[0]]) assert.ok(refusals.includes(text));
   const wrong = cleared(() => assert.throws(() => shamir.create(PLAN, SECRET, { passphrase, random: 7 }), TypeError));

@@ -41,6 +41,7 @@ test("wrong types are TypeErrors", () => {
     () => shamir.recover([6]),
     () => shamir.recover([ONE, null]),
     () => shamir.recover({ 0: ONE, length: 1 }),
+    () => shamir.recover(new String(ONE)),
     () => shamir.recover(new Uint16Array(2)),
     () => shamir.parse(20),
     () => shamir.parse([ONE]),
@@ -130,6 +131,12 @@ test("a string that UTF-8 can't encode is a RangeError", () => {
     }
   }
   refused(41, null, [1, 0], () => shamir.recover(ONE, { passphrase: "\ud83d\udd11" }));
+});
+
+test("a string that is refused can't be read from RegExp afterwards", () => {
+  assert.ok(/^seen before$/.test("seen before"));
+  assert.throws(() => shamir.recover(ONE, { passphrase: "TREZOR\ud83d" }), RangeError);
+  assert.equal(RegExp.input, "seen before");
 });
 
 test("an item of a list is one line", () => {

@@ -2,7 +2,7 @@
 
     >>> import os, shamir
     >>> secret = os.urandom(16)
-    >>> mnemonics = shamir.create("2of3", secret, passphrase="TREZOR")
+    >>> mnemonics = shamir.create("2of3", secret, passphrase="TREZOR", exponent=1, extendable=True)
     >>> shamir.recover(mnemonics[1:], passphrase="TREZOR") == secret
     True
 
@@ -28,8 +28,8 @@ library isn't there, lacks a call, or has another first version number than the 
 
 Calls share no data, so any number of threads can make calls at once. A call uses at most 512 KiB of stack. A call in a
 thread with a smaller `threading.stack_size` can crash the program; 1,048,576 is enough for every call. The library
-clears the stack that a call used, and the package the buffer of its output. It doesn't clear what Python keeps: the
-arguments, their copies and the results.
+clears the stack of each call that gets a secret, and the package the buffer of its output. It doesn't clear what Python
+keeps: the arguments, their copies, the random bytes that it draws, and the results.
 """
 from __future__ import annotations
 
@@ -341,12 +341,17 @@ def _checked(answer: _Answer) -> _Answer:
 
 
 def _answered(call: _Call, room: int) -> Tuple[bytes, _Answer]:
-    """Return what a call writes into a buffer of this length, and its answer. The buffer is cleared."""
+    """Return what a call writes into a buffer of this length, and its answer.
+
+    The buffer is cleared, also if a signal such as Ctrl-C came during the call: its handler runs when the call returns, and may
+    raise an exception.
+    """
     buffer = ctypes.create_string_buffer(room)
-    answer = _checked(call(buffer, room))
-    output = ctypes.string_at(buffer, answer.written)
-    _library.shamir_wipe(buffer, answer.written)
-    return output, answer
+    try:
+        answer = _checked(call(buffer, room))
+        return ctypes.string_at(buffer, answer.written), answer
+    finally:
+        _library.shamir_wipe(buffer, room)
 
 
 def _filled(call: _Call, room: int) -> bytes:

@@ -9,6 +9,7 @@ import mmap
 import os
 import pathlib
 import re
+import signal
 import subprocess
 import sys
 import threading
@@ -411,6 +412,24 @@ class WorkedExamples(unittest.TestCase):
         self.assertRaises(TypeError, shamir.create, "1of1", SECRET, exponent=1.0)
         flags = [shamir.parse(shamir.create("1of1", SECRET, extendable=flag)[0]).extendable for flag in (False, True)]
         self.assertEqual(flags, [False, True])
+
+    def test_interrupted(self):
+        """The output is cleared, although a handler raises an exception when a signal comes during the call."""
+        rooms = []
+
+        def interrupt(*given):
+            answer = recover(*given)
+            rooms.append(given[-2])
+            self.assertEqual(bytes(given[-2])[: answer.written], SECRET)
+            signal.raise_signal(signal.SIGINT)
+            return answer
+
+        recover = shamir._library.shamir_recover
+        # A background job of a shell ignores the signal.
+        self.addCleanup(signal.signal, signal.SIGINT, signal.signal(signal.SIGINT, signal.default_int_handler))
+        with mock.patch.object(shamir._library, "shamir_recover", interrupt):
+            self.assertRaises(KeyboardInterrupt, shamir.recover, FIVE, passphrase="TREZOR")
+        self.assertEqual([bytes(room) for room in rooms], [bytes(shamir.SECRET_BYTES_MAX)])
 
     def test_long_numbers(self):
         """A number that is too long to be printed raises an OverflowError too, and the message doesn't have the number."""

@@ -46,7 +46,7 @@
 //! # Secrets in memory
 //!
 //! A [`Secret`] clears itself when it is dropped. So do mnemonics, drills and random bytes that the crate keeps. Each call of the
-//! library clears the stack that it used, which is tested. The caller clears its own texts.
+//! library that gets a secret clears the stack that it used, which is tested. The caller clears its own texts.
 //!
 //! # Stack and threads
 //!

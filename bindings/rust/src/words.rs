@@ -45,5 +45,7 @@ pub fn words_into(letters: impl AsRef<[u8]>, room: &mut [u8]) -> Result<&str, Er
 pub fn words(letters: impl AsRef<[u8]>) -> alloc::vec::Vec<alloc::string::String> {
     let mut room = [0; WORDS_BYTES_MAX];
     let text = words_into(letters, &mut room).expect("the room is enough for all words");
-    text.lines().map(Into::into).collect()
+    let found = text.lines().map(Into::into).collect();
+    ffi::wipe(&mut room);
+    found
 }
