@@ -25,9 +25,9 @@ AT_ONCE = min(4, os.cpu_count() or 1)
 
 
 def check_entry(_):
-    """Runs the unit tests of the entry of words, which need no terminal."""
-    tests = ROOT / "bindings" / "python" / "tests"
-    words = [sys.executable, "-B", "-m", "unittest", str(tests / "test_papers.py"), str(tests / "test_papers_keys.py")]
+    """Runs the unit tests, which need no terminal."""
+    tests = sorted(map(str, (ROOT / "bindings" / "python" / "tests").glob("test_papers*.py")))
+    words = [sys.executable, "-B", "-m", "unittest", *tests]
     done = subprocess.run(words, cwd=ROOT, capture_output=True, text=True)
     if done.returncode:
         raise AssertionError(done.stderr)
