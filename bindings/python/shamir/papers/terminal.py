@@ -16,6 +16,8 @@ from typing import Iterator, List, Optional
 ENDING = (signal.SIGINT, signal.SIGTERM, signal.SIGHUP, signal.SIGQUIT)
 SIZE_UNKNOWN = os.terminal_size((80, 24))
 
+# What no key sends.
+NO_KEY = 0
 RETURN, LINE_FEED = 13, 10
 
 ENTER_SCREEN, LEAVE_SCREEN = "\x1b[?1049h", "\x1b[?1049l"
@@ -207,12 +209,11 @@ class Terminal:
 
     def key(self) -> int:
         """Returns the next byte that is typed. What a paste has from another system ends each line with a return and a line feed: then
-        the line feed isn't a key."""
+        the line feed is no key."""
         typed = self._byte()
-        if self._was_return and typed == LINE_FEED:
-            typed = self._byte()
+        is_end = self._was_return and typed == LINE_FEED
         self._was_return = typed == RETURN
-        return typed
+        return NO_KEY if is_end else typed
 
     def _byte(self) -> int:
         while self._source not in select.select([self._source, self._woken], [], [])[0]:
