@@ -64,7 +64,7 @@ export interface Status {
 
 /**
  * Set the extendable flag of a new backup, unless a wallet that has to read it doesn't know the flag. With a passphrase, give a new
- * backup an exponent of 1 or more: without one, the exponent protects nothing.
+ * backup an exponent of 1 or more. Without a passphrase, the exponent protects nothing.
  */
 export interface CreateOptions {
   /** An additional secret of printable ASCII, which a recovery needs too. If it is left out, there is none. */

@@ -125,21 +125,44 @@ def check_stop(terminal):
     terminal.wait("status 130 $")
 
 
-def check_killed(terminal):
-    """A program that is stopped ends when it is told to, and leaves the terminal to the shell."""
-    before = terminal.modes()
+def stopped(terminal, is_behind):
+    """Begins to type papers, and stops the program. It may then go on in the background, where it stops again."""
     terminal.command("clear; " + shlex.join([*PROGRAM, "check"]))
     terminal.answer(say("safety.go"), "")
     terminal.answer(paper_prompt(1), THREE_GROUPS[0])
     terminal.wait(paper_prompt(2))
     terminal.keys("C-z")
     terminal.wait("$")
-    terminal.command("clear; echo begun; it=$(jobs -p); kill %1; while kill -0 $it; do sleep 0.1; done 2>/dev/null; echo gone")
-    terminal.wait("gone $")
-    if "begun" not in terminal.shown():
-        raise Failed(f"a program that is stopped clears the shell's screen when it ends: {terminal.shown()!r}")
+    if is_behind:
+        terminal.command("clear; bg; while [ \"$(jobs -r)\" ]; do sleep 0.1; done; echo behind")
+        terminal.wait("behind $")
+
+
+def check_killed(terminal):
+    """A program that is stopped ends when it is told to, and leaves the terminal to the shell."""
+    before = terminal.modes()
+    for is_behind in (False, True):
+        stopped(terminal, is_behind)
+        terminal.command("clear; echo begun; it=$(jobs -p); kill %1; while kill -0 $it; do sleep 0.1; done 2>/dev/null; echo gone")
+        terminal.wait("gone $")
+        if "begun" not in terminal.shown():
+            raise Failed(f"a program that is stopped clears the shell's screen when it ends: {terminal.shown()!r}")
+        if terminal.modes() != before:
+            raise Failed("after a program that was stopped, stty -a isn't as before")
+
+
+def check_behind(terminal):
+    """After 'bg', which a program at a terminal can't follow, 'fg' goes on with the papers that were typed."""
+    before = terminal.modes()
+    stopped(terminal, True)
+    terminal.command("clear; fg")
+    terminal.answer(paper_prompt(2), THREE_GROUPS[1])
+    terminal.wait(paper_prompt(3))
+    terminal.keys("C-c")
+    terminal.answer(f"{say('end.ask')} (y/n)", "y")
+    terminal.wait(f"{say('ended')} {say('ended.close')} $")
     if terminal.modes() != before:
-        raise Failed("after a program that was stopped, stty -a isn't as before")
+        raise Failed("after a program that was in the background, stty -a isn't as before")
 
 
 def check(see):
@@ -150,6 +173,7 @@ def check(see):
             check_kept(terminal)
             check_stop(terminal)
             check_killed(terminal)
+            check_behind(terminal)
         history = pathlib.Path(folder, "history")
         if history.exists() and words_in(history.read_text()):
             raise Failed(f"the shell's history has words of papers: {history.read_text()!r}")

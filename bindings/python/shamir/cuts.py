@@ -9,9 +9,9 @@ one.
 The module decrypts nothing. It counts the quorums from the fields of the mnemonics: their groups, members and
 thresholds.
 
-The exit status is 0 if all lines were printed, or the help with `--help`. It is 1 if the mnemonics are refused, or need
-more than N runs, 2 if the words of the command are wrong, and 3 if the input can't be read or the output can't be written. With each status
-except 0, standard error says why if it can be written.
+The exit status is 0 if all lines were printed, or the help with `--help`. It is 1 if the mnemonics are refused, or
+need more than N runs, 2 if the words of the command are wrong, and 3 if the input can't be read or the output can't
+be written. With each status except 0, standard error says why if it can be written.
 """
 import argparse
 import errno

@@ -68,9 +68,9 @@ class Scripted:
     def drop_typed(self):
         pass
 
-    def is_pasted(self):
+    def is_pasted(self, seconds):
         # What follows an empty line of a script is pasted.
-        return bool(self.answers)
+        return seconds > 0 and bool(self.answers)
 
 
 def by_rows(line, height):

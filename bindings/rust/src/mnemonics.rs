@@ -11,7 +11,8 @@ use crate::text::text_of;
 ///
 /// `Debug` says how many there are. The text is cleared when it is dropped. It is what the calls take that take lines.
 ///
-/// Mnemonics can be collected from lines. An item with a line feed inside it is several lines. So [`recover`](crate::recover()) gets a part of a backup:
+/// Mnemonics can be collected from lines. An item with a line feed inside it is several lines. So [`recover`](crate::recover())
+/// gets a part of a backup:
 ///
 /// ```
 /// use shamir::{CreateOptions, Mnemonics, Plan, RecoverOptions, Secret, create, recover};

@@ -21,6 +21,8 @@ FEW, MANY = 20, 33
 UNKNOWN_PART = 3
 # From so many words on, that can be told.
 TOLD_LEAST = 4
+# Within this time after a line, only a paste has another.
+PASTE_SECONDS = 0.05
 
 
 class Begun(Exception):
@@ -58,6 +60,7 @@ class Entry:
         `has_back` says that the owner may go back instead.
         """
         while True:
+            is_pasted = self._screen.is_pasted(0)
             text, typed = typed or self._ask(prompt, has_back=has_back), ""
             name = taken_out(text)
             if name is not None:
@@ -65,7 +68,7 @@ class Entry:
             parts, self._is_continued, self._is_told = parts_of(text), False, False
             self._marks, self.replaced = [], {}
             if not text.strip():
-                if self._screen.is_pasted():
+                if is_pasted or self._screen.is_pasted(PASTE_SECONDS):
                     continue
                 return []
             try:

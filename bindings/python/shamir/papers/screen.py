@@ -11,7 +11,7 @@ import threading
 import time
 from typing import Callable, Dict, Generic, Iterable, List, Optional, Sequence, TypeVar
 
-from shamir.papers.line import LENGTH_MAX, Completer, Line, first_key, wipe
+from shamir.papers.line import Completer, Line, first_key, wipe
 from shamir.papers.terminal import Ended, Terminal
 from shamir.papers.texts import said_time, say
 
@@ -23,8 +23,6 @@ COLUMNS_MAX = 4
 STACK_BYTES = 1 << 20
 # From this time on, the screen shows how long a work takes already.
 SHOWN_AFTER = 1.0
-# Within this time after a line, only a paste has another.
-PASTE_SECONDS = 0.05
 # Where a question says so, this answer goes back to the question before.
 BACK = "b"
 
@@ -181,11 +179,11 @@ class Screen:
                 return typed
             wipe(typed)
             self.drop_typed()
-            self.tell(say("screen.long", most=f"{LENGTH_MAX:,}"), "bad")
+            self.tell(say("screen.long"), "bad")
 
-    def is_pasted(self) -> bool:
-        """Whether more is typed already, as only a paste can be so soon."""
-        return self._terminal.is_typed(PASTE_SECONDS)
+    def is_pasted(self, seconds: float) -> bool:
+        """Whether more is typed within this time, as only a paste can be so soon."""
+        return self._terminal.is_typed(seconds)
 
     def choose(self, prompt: str, answers: Dict[str, T], default: Optional[str] = None, has_back: bool = False, is_hidden: bool = False) -> T:
         """Asks until one of the answers is given, or none if there is a default. A hidden answer doesn't show."""

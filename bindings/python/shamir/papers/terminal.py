@@ -6,12 +6,13 @@ line editor shows what may be shown.
 from __future__ import annotations
 
 import contextlib
+import errno
 import os
 import select
 import signal
 import termios
 from types import FrameType
-from typing import Iterator, List, Optional
+from typing import Any, Iterator, List, Optional
 
 ENDING = (signal.SIGINT, signal.SIGTERM, signal.SIGHUP, signal.SIGQUIT)
 SIZE_UNKNOWN = os.terminal_size((80, 24))
@@ -59,6 +60,8 @@ class Terminal:
         self.is_held = False
         self._is_interrupted = False
         self._was_return = False
+        # A byte that was read to see whether it is the rest of a line's end.
+        self._kept: Optional[int] = None
         # Whether another size ends a wait for a key. If not, what was written is written again.
         self.tells_size = False
         self._is_resized = False
@@ -81,7 +84,7 @@ class Terminal:
         for number in ENDING + (signal.SIGTSTP, signal.SIGCONT):
             signal.signal(number, signal.SIG_IGN)
         self._is_open = False
-        if self._is_shown:
+        if self._is_shown and self._is_ours():
             self._leave()
         self._written.clear()
 
@@ -105,7 +108,24 @@ class Terminal:
         modes[3] |= termios.ISIG
         modes[6] = [*modes[6]]
         modes[6][termios.VMIN], modes[6][termios.VTIME] = 1, 0
-        termios.tcsetattr(self._source, termios.TCSADRAIN, modes)
+        self._set(termios.TCSADRAIN, modes)
+
+    def _set(self, when: int, modes: List[Any]) -> None:
+        """Sets modes, also if a signal comes meanwhile, such as the one that lets a program in the background go on."""
+        while True:
+            try:
+                termios.tcsetattr(self._source, when, modes)
+                return
+            except termios.error as error:
+                if error.args[0] != errno.EINTR:
+                    raise
+
+    def _is_ours(self) -> bool:
+        """Whether the program isn't in the background, where the terminal is another program's."""
+        try:
+            return os.tcgetpgrp(self._source) == os.getpgrp()
+        except OSError:
+            return True
 
     def _leave(self) -> None:
         try:
@@ -115,7 +135,7 @@ class Terminal:
                 self._put(CLEAR + (CLEAR_KEPT if self._is_console else "") + LEAVE_SCREEN)
         finally:
             try:
-                termios.tcsetattr(self._source, termios.TCSAFLUSH, self._saved)
+                self._set(termios.TCSAFLUSH, self._saved)
             except termios.error:
                 # The terminal is no longer there.
                 pass
@@ -216,6 +236,9 @@ class Terminal:
         return NO_KEY if is_end else typed
 
     def _byte(self) -> int:
+        if self._kept is not None:
+            kept, self._kept = self._kept, None
+            return kept
         while self._source not in select.select([self._source, self._woken], [], [])[0]:
             os.read(self._woken, 64)
             self.heed_interrupt()
@@ -229,9 +252,14 @@ class Terminal:
         return typed[0]
 
     def is_typed(self, seconds: float) -> bool:
-        """Whether something is typed within this time."""
-        return bool(select.select([self._source], [], [], seconds)[0])
+        """Whether something is typed within this time, apart from the rest of a line's end."""
+        if self._kept is None and self._was_return and select.select([self._source], [], [], seconds)[0]:
+            self._was_return = False
+            typed = self._byte()
+            self._kept = None if typed == LINE_FEED else typed
+        return self._kept is not None or bool(select.select([self._source], [], [], seconds)[0])
 
     def drop_typed(self) -> None:
         """Drops what was typed and not read, such as the rest of a paste that the owner doesn't see."""
+        self._kept = None
         termios.tcflush(self._source, termios.TCIFLUSH)

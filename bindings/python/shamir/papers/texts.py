@@ -36,7 +36,7 @@ def _of_terminal(text: str, named: Dict[str, str]) -> str:
 OWN: Dict[str, str] = {
     "home.choose": "Number or word (Ctrl-C ends):",
     "screen.more": "(Enter: more)",
-    "screen.long": "This line has more than {most} characters, so it isn't taken. Type it again.",
+    "screen.long": "More was typed than a line can have, so it isn't taken. Type it again.",
     "screen.answers": "Type one of these: {answers}.",
     "screen.yes": "(y/n)",
     "screen.yes.back": "(y/n; b: back)",
