@@ -95,7 +95,8 @@ def expected_verdict(case, lines):
         return say("verdict.all.noted", quorums=quorums, fingerprint=case.noted)
     if right:
         return say("verdict.some", wrong=len(found) - len(right), quorums=quorums)
-    return say("verdict.other" if len(others) == len(found) else "verdict.none" if others else "verdict.nothing", quorums=quorums, noted=case.noted)
+    other = "verdict.other" if case.passphrase else "verdict.other.none"
+    return say(other if len(others) == len(found) else "verdict.none" if others else "verdict.nothing", quorums=quorums, noted=case.noted)
 
 
 def compare_check(case):
