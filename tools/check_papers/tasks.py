@@ -5,6 +5,7 @@ import re
 from hands import BINDING, ROOT, Failed, Session, counted, say
 
 import plain
+from shamir.papers.screen import BACK
 
 PASSPHRASE = "TREZOR"
 
@@ -69,9 +70,11 @@ class Owner(Session):
         self.prompts.append(prompt)
         self.answer(prompt, text)
 
-    def hide(self, prompt, passphrase):
-        """Types a passphrase. A space at its beginning or end is meant."""
+    def hide(self, prompt, passphrase, has_back=True):
+        """Types a passphrase. A space at its beginning or end is meant, and so is the letter that goes back elsewhere."""
         self.hidden(prompt, passphrase)
+        if passphrase.lower() == BACK:
+            self.reply(f"{say('passphrase.back')} {say('screen.yes.back' if has_back else 'screen.yes')}", "y")
         for key, edge in [("passphrase.space.first", passphrase[:1]), ("passphrase.space.last", passphrase[-1:])]:
             if edge == " ":
                 self.reply(f"{say(key)} (y/n)", "y")
@@ -117,7 +120,7 @@ def make(owner, passphrase, names, secret=None, known=""):
         owner.hidden(say("new.secret.digits"), secret)
         owner.hidden(say("new.secret.again"), secret)
         owner.reply(say("noted.ask"), known)
-    owner.hide(say("new.passphrase"), passphrase)
+    owner.hide(say("new.passphrase"), passphrase, has_back=secret is None)
     if passphrase:
         owner.hidden(say("new.passphrase.again"), passphrase)
     else:
