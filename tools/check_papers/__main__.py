@@ -2,7 +2,8 @@
 
     python3 tools/check_papers [--cases N] [--faults] [PART..]
 
-PART is one of entry, tasks, refusals, steps, slips, astray, ends, traces, scrollback, looks and agreement; without one, all of them run.
+PART is one of entry, tasks, refusals, steps, slips, astray, repaired, ends, traces, scrollback, looks and agreement; without one, all of
+them run.
 `agreement` compares N generated backups with ./shamir, 20 if N isn't given. `--faults` plants faults in copies of the program instead, and checks
 that each is found. A part whose tool is missing says so. The status is 1 if something fails. A part that fails beside others is tried
 once more, by itself.
@@ -20,7 +21,7 @@ sys.dont_write_bytecode = True
 sys.path.insert(0, str(pathlib.Path(__file__).resolve().parent))
 ROOT = pathlib.Path(__file__).resolve().parent.parent.parent
 LIBRARY = ROOT / "bindings" / "python" / "shamir" / "libshamir.so"
-PARTS = ["looks", "ends", "refusals", "slips", "astray", "steps", "tasks", "traces", "scrollback", "entry", "agreement"]
+PARTS = ["looks", "ends", "refusals", "slips", "astray", "repaired", "steps", "tasks", "traces", "scrollback", "entry", "agreement"]
 AT_ONCE = min(4, os.cpu_count() or 1)
 
 
@@ -40,13 +41,14 @@ def parts(cases):
     import ends
     import looks
     import refusals
+    import repaired
     import scrollback
     import slips
     import steps
     import tasks
     import traces
 
-    of_modules = {it.__name__: it.check for it in (tasks, refusals, steps, slips, astray, ends, traces, scrollback, looks)}
+    of_modules = {it.__name__: it.check for it in (tasks, refusals, steps, slips, astray, repaired, ends, traces, scrollback, looks)}
     return {**of_modules, "entry": check_entry, "agreement": lambda see: agreement.check(see, cases)}
 
 

@@ -84,43 +84,6 @@ def check_refused():
         end_by_keys(owner)
 
 
-def check_refused_repaired():
-    """A paper of which words were found, and that is refused beside sound ones, is left out itself. A sound one is never blamed for it."""
-    with started("check") as owner:
-        owner.type_paper(paper_prompt(1), THREE_GROUPS[1])
-        owner.answer(paper_prompt(2), with_words(changed(THREE_GROUPS[0], exponent=3), {6: "?"}))
-        owner.answer(sure("0.0"), "y")
-        owner.wait(paper_prompt(2))
-        owner.expect("Most likely it is wrong, since words of it were found and not read. It is left out.")
-        silent(owner, "To take a paper out again")
-        owner.answer(paper_prompt(2), with_words(THREE_GROUPS[0], {6: "?"}))
-        owner.answer(sure("0.0"), "y")
-        owner.answer(paper_prompt(3), with_words(changed(THREE_GROUPS[0], value=bytes(16)), {6: "?"}))
-        owner.answer(sure("0.0"), "y")
-        owner.wait(paper_prompt(3))
-        owner.expect(say("entry.drop", sign=SIGN, name="0.0"))
-        end_by_keys(owner)
-
-
-def check_read_later():
-    """A paper that is typed with a question mark, and then in full, isn't damaged."""
-    papers = papers_of("1of1")
-    with started("check") as owner:
-        owner.answer(paper_prompt(1), with_words(papers[0], {6: "?"}))
-        owner.answer(sure("0.0"), "y")
-        owner.type_paper(paper_prompt(2), papers[0])
-        owner.wait(paper_prompt(2))
-        owner.expect(say("collect.repeated", name="0.0"))
-        owner.forget()
-        owner.answer(paper_prompt(2), "")
-        owner.passphrase("", fingerprint_of(papers, ""))
-        owner.wait(say("next.good"))
-        owner.expect(say("check.done.good"))
-        silent(owner, "Write it anew")
-        owner.answer(say("next.good"), "")
-        owner.end(0)
-
-
 def check_pasted_papers():
     """Papers that are pasted with empty lines between them are all taken, however their lines end, and none answers the question for the
     passphrase."""
@@ -182,37 +145,6 @@ def check_too_few():
             owner.wait(paper_prompt(3))
             owner.expect(say("collect.taken", name="0.1"))
             end_by_keys(owner)
-
-
-def check_miswritten():
-    """A word that the paper says wrongly: the found word is taken, beside the one that the paper says."""
-    papers = papers_of(PLAN)
-    with started("check") as owner:
-        owner.answer(paper_prompt(1), with_words(papers[3], {17: "acid"}))
-        owner.answer(word_prompt(17), "?")
-        owner.wait(sure("0.3"))
-        owner.expect(f"{say('entry.place', number=17)}: {papers[3].split()[16]} {say('entry.place.typed', word='acid')}")
-        owner.expect(say("entry.miswritten"))
-        owner.answer(sure("0.3"), "y")
-        owner.wait(paper_prompt(2))
-        owner.expect(say("collect.row.repaired", name="0.3", words=20))
-        owner.answer(paper_prompt(2), swapped(papers[4], 9))
-        owner.answer(NUMBERED, "9 ? 10 ?")
-        owner.answer(sure("0.4"), "y")
-        owner.answer(paper_prompt(3), with_words(papers[0], {11: "emrald"}))
-        owner.answer(word_prompt(11), "?")
-        owner.wait(sure("0.0"))
-        owner.expect(say("entry.place.typed", word="emrald"))
-        owner.answer(sure("0.0"), "y")
-        owner.type_paper(paper_prompt(4), papers[5])
-        owner.forget()
-        owner.answer(paper_prompt(5), "")
-        owner.passphrase("", fingerprint_of(papers, ""))
-        owner.wait(say("next.good"))
-        owner.expect(say("check.done.damaged"))
-        owner.expect("The papers 0.3, 0.4, 0.0 can't be read in full, or are miswritten.")
-        silent(owner, say("check.done.good"))
-        end_by_keys(owner)
 
 
 def check_instead():
@@ -349,97 +281,6 @@ def check_end():
         owner.answer(END, "n")
         owner.answer(say("damaged.menu"), "e")
         owner.end(0)
-
-
-def check_impossible():
-    """A paper that no backup has is never offered, though its words fit. If it is typed, its group is shown."""
-    line = changed(SOUND_PAPER, group=12, group_count=10, group_threshold=7)
-    told = say("damaged.impossible", name="12.0", groups="10 groups")
-    marks = with_words(line, {5: "?", 6: "?", 7: "?"})
-    with started("repair") as owner:
-        owner.answer(say("damaged.ask"), marks)
-        owner.answer(say("damaged.menu.none"), "w")
-        owner.expect(told)
-        owner.answer(say("damaged.menu.none"), "c")
-        owner.answer(NUMBERED, SOUND_PAPER)
-        owner.answer(say("damaged.menu"), "e")
-        owner.end(0)
-    with started("check") as owner:
-        owner.answer(paper_prompt(1), marks)
-        owner.wait(NUMBERED)
-        owner.expect(told)
-        end_by_keys(owner)
-    with started("check") as owner:
-        owner.type_paper(paper_prompt(1), line)
-        owner.wait(paper_prompt(2))
-        owner.expect(say("status.group", group=12))
-        end_by_keys(owner)
-
-
-def check_repaired():
-    """A repaired paper that is wrong: it's blamed, and not the good ones. If no drill shows that it is right, the damaged one is to be kept."""
-    line = changed(THREE_GROUPS[0], value=bytes(16))
-    with started("repair") as owner:
-        owner.answer(say("damaged.ask"), with_words(line, {6: "?"}))
-        owner.answer(say("damaged.menu"), "w")
-        owner.answer(sure("0.0"), "n")
-        owner.answer(say("damaged.menu"), "w")
-        owner.answer(sure("0.0"), "y")
-        owner.answer(say("new.write"), "")
-        owner.type_paper(say("back.ask", name="0.0"), line)
-        owner.type_paper(paper_prompt(2), changed(THREE_GROUPS[1], exponent=3))
-        owner.wait(paper_prompt(2))
-        owner.expect("Most likely paper 0.0 is wrong, of which words were found and not read.")
-        silent(owner, "is of another backup, or forged")
-        for number, one in enumerate(THREE_GROUPS[1:4], 2):
-            owner.type_paper(paper_prompt(number), one)
-        owner.answer(paper_prompt(5), "")
-        owner.passphrase(PASSPHRASE, FINGERPRINT)
-        owner.wait(say("next.papers"))
-        owner.expect(say("damaged.drill"))
-        owner.expect(say("damaged.suspect.one", names="0.0"))
-        owner.expect(say("damaged.keep"))
-        owner.answer(say("next.papers"), "e")
-        owner.end(0, "closed.repaired")
-
-
-def check_untried():
-    """A repaired paper that is in no quorum: nothing says that it's right, and the damaged one is to be kept."""
-    papers = papers_of("1/2of3,2of3")
-    with started("repair") as owner:
-        owner.answer(say("damaged.ask"), with_words(papers[3], {6: "?"}))
-        owner.answer(say("damaged.menu"), "w")
-        owner.answer(sure("1.0"), "y")
-        owner.answer(say("new.write"), "")
-        owner.type_paper(say("back.ask", name="1.0"), papers[3])
-        for number, line in enumerate(papers[:2], 2):
-            owner.type_paper(paper_prompt(number), line)
-        owner.answer(paper_prompt(4), "")
-        owner.passphrase("", fingerprint_of(papers[:2], ""))
-        owner.wait(say("next.good"))
-        owner.expect(say("check.done.left_out"))
-        owner.expect(say("damaged.keep"))
-        silent(owner, "is right: the drill gave your secret with it")
-        owner.answer(say("next.good"), "")
-        owner.end(0, "closed.repaired")
-
-
-def check_taken_out():
-    """A paper that was written anew and taken out again: a good drill of the others doesn't show that its words are right."""
-    papers = papers_of("2of3")
-    with started("repair") as owner:
-        owner.answer(say("damaged.ask"), with_words(papers[0], {6: "?"}))
-        owner.answer(say("damaged.menu"), "w")
-        owner.answer(sure("0.0"), "y")
-        owner.answer(say("new.write"), "")
-        owner.type_paper(say("back.ask", name="0.0"), papers[0])
-        owner.answer(paper_prompt(2), f"{SIGN}0.0")
-        owner.collect(papers[1:])
-        owner.passphrase("", fingerprint_of(papers, ""))
-        owner.wait(say("next.good"))
-        owner.expect(say("damaged.keep"))
-        owner.answer(say("next.good"), "")
-        owner.end(0, "closed.repaired")
 
 
 def check_back():
@@ -581,20 +422,13 @@ def check_size():
 CHECKS = [
     check_left_out,
     check_refused,
-    check_refused_repaired,
-    check_read_later,
     check_pasted_papers,
     check_replace_again,
     check_too_few,
-    check_miswritten,
     check_instead,
     check_letter,
     check_without,
     check_end,
-    check_impossible,
-    check_repaired,
-    check_untried,
-    check_taken_out,
     check_back,
     check_lost,
     check_unsaid,

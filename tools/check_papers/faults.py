@@ -8,6 +8,7 @@ import ends
 import hands
 import looks
 import refusals
+import repaired
 import scrollback
 import slips
 import steps
@@ -57,26 +58,26 @@ FAULTS = [
     ("a plan without the number of groups isn't explained", "new", "if GROUPS.fullmatch(text) and", "if False and", lambda see: slips.check_plans()),
     ("a wrong digit is shown", "secret", 'say("secret.not_hex", place=wrong)', 'say("secret.not_hex", place=typed.decode())', lambda see: steps.check_new()),
     ("a paper that was left out is forgotten", "entry", "        self._leave([mark for mark in self._marks if mark])\n", "", lambda see: astray.check_left_out()),
-    ("a repaired paper that no quorum has counts as right", "check", 'tried = [paper for paper in repaired if paper.name in verdict.names]', "tried = repaired", lambda see: astray.check_untried()),
-    ("a wrong repaired paper isn't blamed", "check", 'if paper.name not in verdict.right]', "if False]", lambda see: astray.check_repaired()),
+    ("a repaired paper that no quorum has counts as right", "check", 'tried = [paper for paper in repaired if paper.name in verdict.names]', "tried = repaired", lambda see: repaired.check_untried()),
+    ("a wrong repaired paper isn't blamed", "check", 'if paper.name not in verdict.right]', "if False]", lambda see: repaired.check_repaired()),
     ("a long exponent is taken at once", "secret", "if exponent < LONG_EXPONENT or", "if True or", lambda see: steps.check_new()),
     ("a paper that is refused beside others is forgotten", "collect", "    desk.leave_out(paper.words)\n", "", lambda see: astray.check_refused()),
-    ("a word that the paper says isn't told", "found", 'if typed.get(number, word) != word else ""', 'if False else ""', lambda see: astray.check_miswritten()),
+    ("a word that the paper says isn't told", "found", 'if typed.get(number, word) != word else ""', 'if False else ""', lambda see: repaired.check_miswritten()),
     ("a letter is taken for a passphrase", "questions", "if typed.lower() == BACK.encode() and", "if False and", lambda see: astray.check_letter()),
     ("what is typed in place of an answer shows", "questions", "if edge == b\" \" and not screen.agree(say(key), is_hidden=True):", "if edge == b\" \" and not screen.agree(say(key)):", lambda see: astray.check_letter()),
-    ("a paper that no backup has is offered", "desk", "return self.group < self.group_count", "return True", lambda see: astray.check_impossible()),
-    ("a good paper is blamed for a repaired one", "refusals", "    if not repaired and not is_repaired:\n", "    if True:\n", lambda see: astray.check_repaired()),
-    ("the damaged paper isn't kept", "__main__", 'in ("repaired", "unfinished")', 'in ("unfinished",)', lambda see: astray.check_repaired()),
+    ("a paper that no backup has is offered", "desk", "return self.group < self.group_count", "return True", lambda see: repaired.check_impossible()),
+    ("a good paper is blamed for a repaired one", "refusals", "    if not repaired and not is_repaired:\n", "    if True:\n", lambda see: repaired.check_repaired()),
+    ("the damaged paper isn't kept", "__main__", 'in ("repaired", "unfinished")', 'in ("unfinished",)', lambda see: repaired.check_repaired()),
     ("a backup without a whole drill is called done", "__main__", 'in ("repaired", "unfinished")', 'in ("repaired",)', lambda see: ends.check_unproved()),
     ("a second signal keeps the terminal as it is", "terminal", "            self._is_ending = True\n            raise", "            raise", lambda see: ends.check_two_signals()),
     ("after a stop, what is typed shows", "terminal", "        if self._is_shown and not self._is_ending:\n", "        if False:\n", lambda see: ends.check_stopped()),
     ("a program that is stopped clears the shell's screen", "terminal", "        if self._is_shown and self._is_ours():\n", "        if True:\n", scrollback.check),
     ("an empty line of a paste ends the papers", "entry", "if is_pasted or self._screen.is_pasted(PASTE_SECONDS):", "if False:", lambda see: astray.check_pasted_papers()),
-    ("a sound paper is blamed for a new one", "collect", "said_foreign(refusal, repaired, paper.is_repaired)", "said_foreign(refusal, repaired)", lambda see: astray.check_refused_repaired()),
-    ("a paper that is read in full stays damaged", "desk", "is_repaired=it.is_repaired and paper.is_repaired", "is_repaired=it.is_repaired", lambda see: astray.check_read_later()),
+    ("a sound paper is blamed for a new one", "collect", "said_foreign(refusal, repaired, paper.is_repaired)", "said_foreign(refusal, repaired)", lambda see: repaired.check_refused_repaired()),
+    ("a paper that is read in full stays damaged", "desk", "is_repaired=it.is_repaired and paper.is_repaired", "is_repaired=it.is_repaired", lambda see: repaired.check_read_later()),
     ("a passphrase is cut", "line", "            self.is_cut = True\n", "            pass\n", lambda see: astray.check_letter()),
-    ("a drill without the repaired paper counts for it", "check", "return is_there and all(paper.name in verdict.names for paper in repaired)", "return is_there", lambda see: astray.check_untried()),
-    ("a drill without a paper that was taken out counts for it", "check", 'is_there = desk.written != "repaired" or', "is_there = True or", lambda see: astray.check_taken_out()),
+    ("a drill without the repaired paper counts for it", "check", "return is_there and all(paper.name in verdict.names for paper in repaired)", "return is_there", lambda see: repaired.check_untried()),
+    ("a drill without a paper that was taken out counts for it", "check", 'is_there = desk.written != "repaired" or', "is_there = True or", lambda see: repaired.check_taken_out()),
     ("a program in the background loses its papers", "terminal", "if error.args[0] != errno.EINTR:", "if True:", scrollback.check),
     ("the last empty line of a paste ends the papers", "entry", "if is_pasted or self._screen", "if self._screen", lambda see: astray.check_pasted_papers()),
     ("complete groups are asked for that there can't be", "replace", '"all" if plan.needed == len(plan.groups) else ""', '""', lambda see: astray.check_lost()),

@@ -143,7 +143,7 @@ def check_killed(terminal):
     before = terminal.modes()
     for is_behind in (False, True):
         stopped(terminal, is_behind)
-        terminal.command("clear; echo begun; it=$(jobs -p); kill %1; while kill -0 $it; do sleep 0.1; done 2>/dev/null; echo gone")
+        terminal.command("clear; echo begun; it=$(jobs -p); kill %1; while kill -0 $it; do sleep 0.1; done 2>/dev/null; jobs > /dev/null; echo gone")
         terminal.wait("gone $")
         if "begun" not in terminal.shown():
             raise Failed(f"a program that is stopped clears the shell's screen when it ends: {terminal.shown()!r}")
