@@ -134,7 +134,7 @@ def stopped(terminal, is_behind):
     terminal.keys("C-z")
     terminal.wait("$")
     if is_behind:
-        terminal.command("clear; bg; while [ \"$(jobs -r)\" ]; do sleep 0.1; done; echo behind")
+        terminal.command("clear; bg; while [ \"$(jobs -r)\" ]; do sleep 0.1; done; jobs > /dev/null; echo behind")
         terminal.wait("behind $")
 
 
