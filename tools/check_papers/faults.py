@@ -76,7 +76,7 @@ FAULTS = [
     ("a sound paper is blamed for a new one", "collect", "said_foreign(refusal, repaired, paper.is_repaired)", "said_foreign(refusal, repaired)", lambda see: repaired.check_refused_repaired()),
     ("a paper that is read in full stays damaged", "desk", "is_repaired=it.is_repaired and paper.is_repaired", "is_repaired=it.is_repaired", lambda see: repaired.check_read_later()),
     ("a passphrase is cut", "line", "            self.is_cut = True\n", "            pass\n", lambda see: astray.check_letter()),
-    ("a drill without the repaired paper counts for it", "check", "return is_there and all(paper.name in verdict.names for paper in repaired)", "return is_there", lambda see: repaired.check_untried()),
+    ("a drill without the repaired paper counts for it", "check", "is_there and all(paper.name in verdict.names for paper in repaired)", "is_there", lambda see: repaired.check_untried()),
     ("a drill without a paper that was taken out counts for it", "check", 'is_there = desk.written != "repaired" or', "is_there = True or", lambda see: repaired.check_taken_out()),
     ("a program in the background loses its papers", "terminal", "if error.args[0] != errno.EINTR:", "if True:", scrollback.check),
     ("the last empty line of a paste ends the papers", "entry", "if is_pasted or self._screen", "if self._screen", lambda see: astray.check_pasted_papers()),

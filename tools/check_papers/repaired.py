@@ -148,7 +148,8 @@ def check_untried():
 
 
 def check_taken_out():
-    """A paper that was written anew and taken out again: a good drill of the others doesn't show that its words are right."""
+    """A paper that was written anew and taken out again: a good drill of the others doesn't show that its words are right. If
+    it is typed once more, it does."""
     papers = papers_of("2of3")
     with started("repair") as owner:
         owner.answer(say("damaged.ask"), with_words(papers[0], {6: "?"}))
@@ -161,8 +162,15 @@ def check_taken_out():
         owner.passphrase("", fingerprint_of(papers, ""))
         owner.wait(say("next.good"))
         owner.expect(say("damaged.keep"))
+        owner.answer(say("next.good"), "p")
+        owner.type_paper(paper_prompt(3), papers[0])
+        owner.forget()
+        owner.answer(paper_prompt(4), "")
+        owner.passphrase("", fingerprint_of(papers, ""))
+        owner.wait(say("next.good"))
+        owner.expect(say("damaged.right.one", names="0.0"))
         owner.answer(say("next.good"), "")
-        owner.end(0, "closed.repaired")
+        owner.end(0, "closed")
 
 
 CHECKS = [

@@ -38,7 +38,7 @@ DESCRIPTION = "Makes paper backups of a wallet's secret (SLIP-0039), checks them
 
 
 def readable(word: str) -> str:
-    """Returns a word of the command as a text. What isn't UTF-8 in it can't be a plan, and stands as a sign for that."""
+    """Returns a word of the command as a text. Bytes that aren't UTF-8 become a sign that no plan has."""
     return os.fsencode(word).decode("utf-8", "replace")
 
 

@@ -67,7 +67,7 @@ def _tell(screen: Screen, desk: Desk, verdict: Verdict, noted: str) -> str:
     _tell_repaired(screen, desk, verdict, result)
     if result not in FAULTY:
         tell_damaged(screen, desk)
-    if result == "good" and _is_proved(desk, verdict):
+    if _is_proved(desk, verdict, result):
         screen.hold("")
         desk.written = desk.written and "replaced"
     return ask_next(screen, NEXT[result])
@@ -81,16 +81,15 @@ def _tell_repaired(screen: Screen, desk: Desk, verdict: Verdict, result: str) ->
     if result in ("none", "some"):
         _tell_names(screen, "damaged.suspect", [paper for paper in tried if paper.name not in verdict.right], "strong")
     _tell_names(screen, "damaged.right", [paper for paper in right if paper.is_rewritten], "good")
-    is_proved = result == "good" and _is_proved(desk, verdict)
-    if not is_proved and (repaired or desk.written == "repaired"):
+    if not _is_proved(desk, verdict, result) and (repaired or desk.written == "repaired"):
         screen.tell(say("damaged.keep"), "strong")
 
 
-def _is_proved(desk: Desk, verdict: Verdict) -> bool:
-    """Whether a good drill shows that all words that were found are right. A paper that was written anew may have been taken out."""
+def _is_proved(desk: Desk, verdict: Verdict, result: str) -> bool:
+    """Whether a drill shows that all words that were found are right. A paper that was written anew may have been taken out."""
     repaired = [paper for paper in desk.papers if paper.is_repaired]
     is_there = desk.written != "repaired" or any(paper.is_rewritten for paper in repaired)
-    return is_there and all(paper.name in verdict.names for paper in repaired)
+    return result == "good" and is_there and all(paper.name in verdict.names for paper in repaired)
 
 
 def _tell_names(screen: Screen, key: str, papers: List[Paper], style: str) -> None:

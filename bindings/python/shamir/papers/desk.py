@@ -83,6 +83,8 @@ class Desk:
         self.passphrase = bytearray()
         # The words of papers that were begun, and that weren't taken.
         self._left: List[List[str]] = []
+        # The papers that were written anew. One that is taken out and typed once more is still such a paper.
+        self._anew: List[Paper] = []
         # What the papers are that were shown to be written: 'unfinished' (of a new backup), 'made', 'replaced' or 'repaired'.
         self.written = ""
 
@@ -92,6 +94,7 @@ class Desk:
         self.passphrase = bytearray()
         self.papers = []
         self._left = []
+        self._anew = []
 
     def set_passphrase(self, passphrase: bytearray) -> None:
         wipe(self.passphrase)
@@ -108,6 +111,9 @@ class Desk:
         """Takes a paper, or raises the refusal of a paper that doesn't belong to the others. Returns whether it is a new one. One that is
         read in full takes the place of the same one of which words were found."""
         shamir.status([*self.lines, paper.line])
+        paper = next((it for it in self._anew if is_same(paper, it)), paper)
+        if paper.is_rewritten:
+            self._anew = [*self._anew, paper]
         for at, it in enumerate(self.papers):
             if is_same(paper, it):
                 if not it.is_rewritten:
