@@ -14,6 +14,11 @@ def listed() -> dict[str, list[str]]:
     return uses
 
 
+def static() -> list[str]:
+    """Returns the crates that are static libraries."""
+    return [line.split()[0] for line in LIST.read_text().splitlines() if line.partition("#")[0].partition(":")[0].endswith(" staticlib")]
+
+
 def below(name: str, uses: dict[str, list[str]]) -> list[str]:
     """Returns the crates of the repository that this one uses, directly or indirectly, each after those that it uses itself."""
     found: list[str] = []

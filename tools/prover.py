@@ -1,0 +1,52 @@
+"""The kit's command `rattle`, for a crate of this repository over the crates that it uses as they are in out/rlib."""
+import functools
+import os
+import pathlib
+import subprocess
+
+import crates
+
+ROOT = pathlib.Path(__file__).resolve().parent.parent
+
+
+@functools.cache
+def kit() -> pathlib.Path:
+    doc = [os.environ.get("RT", "rt"), "doc"]
+    return pathlib.Path(subprocess.run(doc, capture_output=True, text=True, check=True).stdout.strip()).parent
+
+
+@functools.cache
+def uses() -> dict[str, list[str]]:
+    return crates.listed()
+
+
+def built(name: str) -> pathlib.Path:
+    return ROOT / "crates" / name / "out" / "rlib" / f"{name}.rlib"
+
+
+def are_newer(since: pathlib.Path, names: list[str]) -> bool:
+    """Returns whether out/rlib has each of these crates, newer than the file `since`."""
+    made = [built(it) / "format" for it in names]
+    return all(it.is_file() and it.stat().st_mtime_ns >= since.stat().st_mtime_ns for it in made)
+
+
+def root_file(name: str) -> str:
+    """Returns the file that a crate begins with: that of a program, or that of a library."""
+    return "src/main.rt" if (ROOT / "crates" / name / "src" / "main.rt").exists() else "src/lib.rt"
+
+
+def words(verb: str, name: str, *options: str) -> list[str]:
+    """Returns the command that checks or builds a crate. It runs in a folder that has the crate's src, specs and proofs."""
+    given = [f"{kit()}/bin/rattle", verb, "--crate-name", name, root_file(name)]
+    of_kit = ["std", *(it for it in uses()[name] if it not in uses())]
+    given += [word for it in of_kit for word in ("--extern", f"{it}={kit()}/rlibs/{it}.rlib")]
+    given += ["-L", f"dependency={kit()}/rlibs"]
+    given += [word for it in uses()[name] if it in uses() for word in ("--extern", f"{it}={built(it)}")]
+    given += [word for it in crates.below(name, uses()) for word in ("-L", f"dependency={built(it).parent}")]
+    given += ["--antt-project", f"{kit()}/rattle/logic/antt-project.json", "--logic-built", f"{kit()}/logic_built"]
+    return [*given, "--links", f"{name}=", *options]
+
+
+def kind(name: str) -> list[str]:
+    """Returns the options that say what kind of crate this is: a static library, or nothing."""
+    return ["--crate-type", "staticlib"] if name in crates.static() else []
