@@ -1,5 +1,7 @@
 """What crates.txt lists: the crates of this repository, and the crates and libraries that each uses."""
+import os
 import pathlib
+import subprocess
 
 LIST = pathlib.Path(__file__).resolve().parent.parent / "crates.txt"
 
@@ -26,3 +28,12 @@ def below(name: str, uses: dict[str, list[str]]) -> list[str]:
         if it in uses:
             found += [crate for crate in [*below(it, uses), it] if crate not in found]
     return found
+
+
+def bring_up_to_date(names: list[str]) -> None:
+    """Sees that out/rlib has the crates below these, by `rt lib`, which leaves those as they are that haven't changed."""
+    uses = listed()
+    under = {it for name in names for it in below(name, uses)}
+    covered = {it for name in under for it in below(name, uses)}
+    for name in sorted(under - covered):
+        subprocess.run([os.environ.get("RT", "rt"), "lib"], cwd=LIST.parent / "crates" / name, check=True, stdout=subprocess.DEVNULL)

@@ -7,6 +7,14 @@ import subprocess
 import crates
 
 ROOT = pathlib.Path(__file__).resolve().parent.parent
+# A check takes one to two and a half gigabytes.
+BYTES_OF_A_CHECK = 3_000_000_000
+
+
+def lanes() -> int:
+    """Returns how many checks the machine can run at a time."""
+    free = next(int(line.split()[1]) * 1024 for line in open("/proc/meminfo") if line.startswith("MemAvailable"))
+    return max(1, min(len(os.sched_getaffinity(0)), free // BYTES_OF_A_CHECK))
 
 
 @functools.cache
@@ -50,3 +58,26 @@ def words(verb: str, name: str, *options: str) -> list[str]:
 def kind(name: str) -> list[str]:
     """Returns the options that say what kind of crate this is: a static library, or nothing."""
     return ["--crate-type", "staticlib"] if name in crates.static() else []
+
+
+def ran(name: str, command: list[str]) -> str:
+    """Runs a command in the folder of a crate, and returns what it prints. If the command fails, exits with status 2."""
+    done = subprocess.run(command, cwd=ROOT / "crates" / name, stdout=subprocess.PIPE, stderr=subprocess.STDOUT, text=True)
+    if done.returncode:
+        print(done.stdout, f"{' '.join(command[:2])} ended with status {done.returncode}", sep="\n", flush=True)
+        raise SystemExit(2)
+    return done.stdout
+
+
+def compiled(name: str, to: str, *options: str) -> None:
+    """Proves a crate and compiles it into a file."""
+    toolchain = ["--toolchain", f"{kit()}/toolchain", "--backend", "llvm"]
+    said = ran(name, words("build", name, *kind(name), *options, *toolchain, "-o", to))
+    if not any(line.startswith("logic=proved ") for line in said.splitlines()):
+        print(said, f"{name} isn't proved", sep="\n", flush=True)
+        raise SystemExit(2)
+
+
+def linked(name: str, target: str, to: str, *given: str) -> None:
+    link = [f"{kit()}/bin/rattle-link", "--target", target, "--toolchain", f"{kit()}/toolchain"]
+    ran(name, [*link, "-o", to, *given])
