@@ -120,8 +120,8 @@ $(SONAME): libshamir.so
 test:
 	@RT=$(RT) tools/gate
 
-# The checks, those that take longest first. Each sum of checks first builds what its checks need. Then it runs them side by side: as
-# many as JOBS says, or as many as -j says. tools/part writes the name of a check before each of its lines.
+# Each sum of checks first builds what its checks need. Then it runs them side by side: as many as JOBS says, or as many as -j says.
+# Those that take longest come first. tools/part writes the name of a check before each of its lines.
 LIBRARY_CHECKS = check-rust check-header check-vectors check-cuts check-js
 PACKAGES_CHECKS = check-debs check-installed
 SECRETS_CHECKS = check-leftovers check-timing
@@ -129,6 +129,7 @@ PAGE_PARTS = privacy refusals tasks entry looks astray hasty long agreement ways
 PAGE_CHECKS = $(foreach part,$(PAGE_PARTS),check-page-firefox-$(part) check-page-chromium-$(part)) check-page-sources
 CHECKS = $(LIBRARY_CHECKS) $(PACKAGES_CHECKS) check-allocations check-terminal check-recipes check-completions check-values \
 	check-examples check-texts check-figures check-manual check-version
+LONGEST = check-page-firefox-privacy check-page-chromium-privacy check-rust check-leftovers check-papers $(PACKAGES_CHECKS)
 PART = @$(PYTHON) tools/part $@
 # Without wasm-opt there is no page, and the checks say what they leave out.
 WASM_OPT := $(shell command -v wasm-opt 2> /dev/null)
@@ -137,7 +138,7 @@ PAGE = $(if $(WASM_OPT),shamir.html)
 .PHONY: checks check-secrets $(CHECKS) $(SECRETS_CHECKS) $(PAGE_CHECKS)
 
 checks: shamir libshamir.so $(SONAME) $(TIMING) shamir.wasm $(PAGE)
-	@$(MAKE) $(SIDE_BY_SIDE) $(PAGE_CHECKS) $(SECRETS_CHECKS) check-papers $(CHECKS)
+	@$(MAKE) $(SIDE_BY_SIDE) $(LONGEST) $(PAGE_CHECKS) $(SECRETS_CHECKS) check-papers $(CHECKS)
 
 check: shamir libshamir.so $(SONAME) shamir.wasm $(PAGE)
 	@$(MAKE) $(SIDE_BY_SIDE) $(CHECKS)
@@ -218,7 +219,7 @@ check-leftovers: shamir libshamir.a
 	$(PART) $(PYTHON) tools/leftovers
 
 $(filter-out %-sources,$(PAGE_CHECKS)): check-page-%: shamir $(PAGE)
-	$(PART) $(PYTHON) tools/check_page --browser $(subst -, ,$*)
+	$(PART) $(PYTHON) tools/check_page --no-pictures --browser $(subst -, ,$*)
 
 check-page-sources:
 	$(PART) $(PYTHON) tools/check_page sources

@@ -1,9 +1,9 @@
 """Checks the page shamir.html in Chromium and in Firefox.
 
-    python3 tools/check_page [--browser NAME] [--page FILE] [--cases N] [--faults] [PART..]
+    python3 tools/check_page [--browser NAME] [--page FILE] [--cases N] [--faults] [--no-pictures] [PART..]
 
 PART is one of sources, tasks, refusals, entry, astray, hasty, long, looks, agreement, privacy and ways; without one, all of them run.
-`agreement` compares N backups, 20 if it isn't given. The pictures of each screen go to page/out. `--faults` plants faults in copies of the
+`agreement` compares N backups, 20 if it isn't given. The pictures of each screen go to page/out, which takes time. `--faults` plants faults in copies of the
 sources instead, and checks that each is found. The status is 1 if something fails.
 If a browser, or what the page is built with, isn't installed, its parts are left out. A part that fails beside others
 is tried once more, by itself.
@@ -14,6 +14,7 @@ import os
 import pathlib
 import re
 import sys
+import threading
 import time
 import traceback
 
@@ -41,7 +42,7 @@ from texts import ROOT, say  # noqa: E402
 PARTS = ["sources", "tasks", "refusals", "entry", "astray", "hasty", "long", "looks", "agreement", "privacy", "ways"]
 # The parts that take longest, and how many parts run side by side.
 LONG, AT_ONCE = ["privacy", "refusals", "tasks", "entry", "looks"], min(4, len(os.sched_getaffinity(0)))
-PICTURES = ROOT / "page/out"
+PICTURES, pictures = ROOT / "page/out", threading.Event()
 # The title, the address, the entries of the history, what is stored, and what was asked for.
 KEPT = """
 (async () => JSON.stringify([
@@ -52,9 +53,11 @@ KEPT = """
 
 
 def seer(page_of, name):
-    """Returns what takes a picture of a screen."""
+    """Returns what takes a picture of a screen, if pictures are wanted."""
 
     def see(what):
+        if not pictures.is_set():
+            return
         PICTURES.mkdir(exist_ok=True)
         (PICTURES / f"{name}-{re.sub('[^a-z0-9]+', '-', what.lower())}.png").write_bytes(page_of().picture())
 
@@ -134,7 +137,8 @@ def checked(given):
     # On a busy machine a browser can miss a deadline. So a part that failed beside others is tried once more, by itself.
     is_beside = len(jobs) > 1
     passed += [good or (is_beside and not browsers.interrupted.is_set() and tried(*job)) for job, good in zip(jobs, first)]
-    print(f"{sum(passed)} passed, {len(passed) - sum(passed)} failed")
+    if len(passed) > 1:
+        print(f"{sum(passed)} passed, {len(passed) - sum(passed)} failed")
     return 0 if all(passed) else 1
 
 
@@ -143,11 +147,14 @@ def main():
     parser.add_argument("--browser", choices=browsers.NAMES, action="append")
     parser.add_argument("--page", type=pathlib.Path, default=ROOT / "shamir.html")
     parser.add_argument("--faults", action="store_true")
+    parser.add_argument("--no-pictures", action="store_true")
     parser.add_argument("--cases", type=int, default=agreement.CASES)
     parser.add_argument("parts", nargs="*", metavar="PART", choices=[[], *PARTS])
     given = parser.parse_args()
     given.browser = given.browser or browsers.NAMES
     given.parts = given.parts or PARTS
+    if not given.no_pictures:
+        pictures.set()
     missing = browsers.missing(given.browser)
     if missing and given.parts != ["sources"]:
         left_out(f"these Debian packages aren't installed, so shamir.html isn't tried: {', '.join(missing)}")

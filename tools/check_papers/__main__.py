@@ -61,11 +61,11 @@ def tried(name, check):
 
     begun = time.monotonic()
     try:
-        left_out = check(None) or []
+        missing = check(None) or []
     except Exception as fault:
         print(f"{name}: {fault if isinstance(fault, Failed) else traceback.format_exc()}", flush=True)
         return False
-    for text in left_out:
+    for text in missing:
         left_out(text)
     print(f"{name}: passed in {time.monotonic() - begun:.0f} seconds", flush=True)
     return True

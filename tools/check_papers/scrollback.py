@@ -188,6 +188,8 @@ def check(see):
             check_killed(terminal)
             check_behind(terminal)
         history = pathlib.Path(folder, "history")
-        if history.exists() and words_in(history.read_text()):
+        if not history.exists():
+            raise Failed("the shell keeps no history, so this check sees nothing")
+        if words_in(history.read_text()):
             raise Failed(f"the shell's history has words of papers: {history.read_text()!r}")
     return []
