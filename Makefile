@@ -1,12 +1,13 @@
 # `make` proves and builds the program shamir. It proves as many libraries side by side as the machine can, so it needs no -j.
-# `make test` runs the merge gate (`rt ci`), then `make check`, and at last `make check-secrets`, `make check-page` and
-# `make check-papers`. The other targets are:
+# `make test` runs the merge gate (`rt ci`), and then all checks. The other targets are:
 #
 #   make lib         proves and builds the library: libshamir.a and libshamir.so
 #   make prove-NAME  proves a library of crates/, after those that it uses
 #   make wasm        proves and builds the library for WebAssembly: shamir.wasm, with 64-bit memory, and shamir32.wasm, with
 #                    32-bit memory
 #   make page        builds shamir.html, the page with the library in it
+#   make checks      runs all checks below, side by side: as many as there are processors, and as many as get 3 GB of memory each,
+#                    or as -j says. Each tool runs in a target of its own, such as check-recipes, which runs alone too
 #   make check       runs the fast checks. They cover the documents, examples of doc comments, manual pages, completions,
 #                    terminals, values from files, refused allocations, the library and the packages
 #   make check-library   checks the library alone: its header, examples in C, the Python binding, the cuts of a drill, generated
@@ -119,32 +120,112 @@ $(SONAME): libshamir.so
 test:
 	@RT=$(RT) tools/gate
 
-check: shamir check-library check-packages
-	@test "$$(./shamir --version)" = "shamir $(VERSION)"
-	@tools/figures
-	@tools/recipes
-	@tools/texts
-	@tools/examples
-	@tools/manual
-	@tools/completions
-	@tools/terminal
-	@tools/values
-	@tools/faults --allocations
-
-check-library: shamir libshamir.so $(SONAME)
-	@tools/library
-	@tools/cuts
-	@$(PYTHON) tools/vectors
-	@tools/rust
-
+# Each sum of checks first builds what its checks need. Then it runs them side by side: as many as JOBS says, or as many as -j says.
+# Those that take longest come first. tools/part writes the name of a check before each of its lines.
+LIBRARY_CHECKS = check-rust check-header check-vectors check-cuts check-js
+PACKAGES_CHECKS = check-debs check-installed
+SECRETS_CHECKS = check-leftovers check-timing
+PAGE_PARTS = privacy refusals tasks entry looks astray hasty long agreement ways
+PAGE_CHECKS = $(foreach part,$(PAGE_PARTS),check-page-firefox-$(part) check-page-chromium-$(part)) check-page-sources
+CHECKS = $(LIBRARY_CHECKS) $(PACKAGES_CHECKS) check-allocations check-terminal check-recipes check-completions check-values \
+	check-examples check-texts check-figures check-manual check-version
+LONGEST = check-page-firefox-privacy check-page-chromium-privacy check-rust check-leftovers check-papers $(PACKAGES_CHECKS)
+PART = @$(PYTHON) tools/part $@
 # Without wasm-opt there is no page, and the checks say what they leave out.
-check-packages: shamir libshamir.so $(if $(shell command -v wasm-opt 2> /dev/null),shamir.html)
-	@tools/packages
-	@tools/debs
+WASM_OPT := $(shell command -v wasm-opt 2> /dev/null)
+PAGE = $(if $(WASM_OPT),shamir.html)
+
+.PHONY: checks check-secrets $(CHECKS) $(SECRETS_CHECKS) $(PAGE_CHECKS)
+
+checks: shamir libshamir.so $(SONAME) $(TIMING) shamir.wasm $(PAGE)
+	@$(MAKE) $(SIDE_BY_SIDE) $(LONGEST) $(PAGE_CHECKS) $(SECRETS_CHECKS) check-papers $(CHECKS)
+
+check: shamir libshamir.so $(SONAME) shamir.wasm $(PAGE)
+	@$(MAKE) $(SIDE_BY_SIDE) $(CHECKS)
+
+check-library: shamir libshamir.so $(SONAME) shamir.wasm $(PAGE)
+	@$(MAKE) $(SIDE_BY_SIDE) $(LIBRARY_CHECKS)
+
+check-packages: shamir libshamir.so $(SONAME) $(PAGE)
+	@$(MAKE) $(SIDE_BY_SIDE) $(PACKAGES_CHECKS)
 
 check-secrets: shamir libshamir.a $(TIMING)
-	@$(PYTHON) tools/timing
-	@$(PYTHON) tools/leftovers
+	@$(MAKE) $(SIDE_BY_SIDE) $(SECRETS_CHECKS)
+
+check-page: shamir $(PAGE)
+	@$(MAKE) $(SIDE_BY_SIDE) $(PAGE_CHECKS)
+
+# If checks need several of these, one is built after the other: two provers at a time would prove the same crates.
+ifneq ($(filter check%,$(MAKECMDGOALS)),)
+libshamir.a: | shamir
+$(TIMING): | libshamir.so $(if $(filter checks,$(MAKECMDGOALS)),shamir.wasm)
+endif
+
+check-version: shamir
+	$(PART) sh -c 'test "$$(./shamir --version)" = "shamir $(VERSION)" || { echo "./shamir --version says $$(./shamir --version)"; exit 1; }'
+
+check-figures: shamir $(PAGE)
+	$(PART) tools/figures
+
+check-recipes: shamir libshamir.so $(SONAME) $(PAGE)
+	$(PART) tools/recipes
+
+check-texts: shamir
+	$(PART) tools/texts
+
+check-examples:
+	$(PART) tools/examples
+
+check-manual:
+	$(PART) tools/manual
+
+check-completions: shamir libshamir.so
+	$(PART) tools/completions
+
+check-terminal: shamir
+	$(PART) tools/terminal
+
+check-values: shamir
+	$(PART) tools/values
+
+check-allocations: shamir
+	$(PART) tools/faults --allocations
+
+check-header: shamir libshamir.so $(SONAME)
+	$(PART) tools/library
+
+check-cuts: shamir libshamir.so
+	$(PART) tools/cuts
+
+check-vectors: shamir libshamir.so
+	$(PART) $(PYTHON) tools/vectors
+
+check-rust: libshamir.so
+	$(PART) tools/rust
+
+check-js: shamir.wasm $(PAGE)
+	$(PART) tools/javascript
+
+check-installed: shamir libshamir.so $(PAGE)
+	$(PART) tools/packages
+
+check-debs: shamir libshamir.so $(PAGE)
+	$(PART) tools/debs
+
+check-timing: libshamir.a $(TIMING)
+	$(PART) $(PYTHON) tools/timing
+
+check-leftovers: shamir libshamir.a
+	$(PART) $(PYTHON) tools/leftovers
+
+$(filter-out %-sources,$(PAGE_CHECKS)): check-page-%: shamir $(PAGE)
+	$(PART) $(PYTHON) tools/check_page --no-pictures --browser $(subst -, ,$*)
+
+check-page-sources:
+	$(PART) $(PYTHON) tools/check_page sources
+
+check-papers: shamir libshamir.so
+	$(PART) $(PYTHON) tools/check_papers
 
 # Proves and builds the program that tools/timing looks at, beside the library.
 $(TIMING): $(SOURCES)
@@ -248,17 +329,6 @@ page: shamir.html
 
 shamir.html: shamir32.wasm tools/page $(wildcard page/*.js page/*.html page/*.css bindings/js/*.js)
 	@tools/page
-
-check-library: check-js
-
-check-js: shamir.wasm
-	@tools/javascript
-
-check-page: shamir
-	@$(PYTHON) tools/check_page --build
-
-check-papers: shamir libshamir.so
-	@$(PYTHON) tools/check_papers
 
 clean:
 	rm -rf shamir libshamir.a libshamir.so $(SONAME) shamir.wasm shamir32.wasm shamir.html page/out bindings/python/shamir/libshamir.so bindings/python/NOTICE shamir-$(VERSION).tar.gz shamir-$(VERSION).sha256 shamir-$(VERSION).txt shamir-*.whl *.deb crates/*/out

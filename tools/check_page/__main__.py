@@ -1,11 +1,11 @@
 """Checks the page shamir.html in Chromium and in Firefox.
 
-    python3 tools/check_page [--build] [--browser NAME] [--page FILE] [--cases N] [--faults] [PART..]
+    python3 tools/check_page [--browser NAME] [--page FILE] [--cases N] [--faults] [--no-pictures] [PART..]
 
 PART is one of sources, tasks, refusals, entry, astray, hasty, long, looks, agreement, privacy and ways; without one, all of them run.
-`agreement` compares N backups, 20 if it isn't given. The pictures of each screen go to page/out. `--faults` plants faults in copies of the
-sources instead, and checks that each is found. `--build` first builds the page with `make`. The status is 1 if something fails.
-If a browser, or what the page is built with, isn't installed, the check says so and does nothing. A part that fails beside others
+`agreement` compares N backups, 20 if it isn't given. The pictures of each screen go to page/out, which takes time. `--faults` plants faults in copies of the
+sources instead, and checks that each is found. The status is 1 if something fails.
+If a browser, or what the page is built with, isn't installed, its parts are left out. A part that fails beside others
 is tried once more, by itself.
 """
 import argparse
@@ -13,8 +13,8 @@ import concurrent.futures
 import os
 import pathlib
 import re
-import subprocess
 import sys
+import threading
 import time
 import traceback
 
@@ -36,12 +36,13 @@ import steps  # noqa: E402
 import tasks  # noqa: E402
 import ways_out  # noqa: E402
 from hands import Page  # noqa: E402
+from left_out import left_out  # noqa: E402
 from texts import ROOT, say  # noqa: E402
 
 PARTS = ["sources", "tasks", "refusals", "entry", "astray", "hasty", "long", "looks", "agreement", "privacy", "ways"]
 # The parts that take longest, and how many parts run side by side.
-LONG, AT_ONCE = ["privacy", "refusals", "tasks", "entry", "looks"], min(4, os.cpu_count() or 1)
-PICTURES = ROOT / "page/out"
+LONG, AT_ONCE = ["privacy", "refusals", "tasks", "entry", "looks"], min(4, len(os.sched_getaffinity(0)))
+PICTURES, pictures = ROOT / "page/out", threading.Event()
 # The title, the address, the entries of the history, what is stored, and what was asked for.
 KEPT = """
 (async () => JSON.stringify([
@@ -52,9 +53,11 @@ KEPT = """
 
 
 def seer(page_of, name):
-    """Returns what takes a picture of a screen."""
+    """Returns what takes a picture of a screen, if pictures are wanted."""
 
     def see(what):
+        if not pictures.is_set():
+            return
         PICTURES.mkdir(exist_ok=True)
         (PICTURES / f"{name}-{re.sub('[^a-z0-9]+', '-', what.lower())}.png").write_bytes(page_of().picture())
 
@@ -122,21 +125,20 @@ def checked(given):
     """Runs what was asked for, and returns the status."""
     if given.faults:
         return 0 if tried("chromium", "faults", lambda: faults.check(ROOT / "shamir32.wasm", lambda text: print(text, flush=True))) else 1
-    wanted = given.parts or PARTS
-    passed = [tried("page", "sources", lambda: sources.check(ROOT / "page"))] if "sources" in wanted else []
-    left_out = sources.check_types(ROOT / "page") if "sources" in wanted else ""
-    if left_out:
-        print(f"left out: {left_out}")
+    wanted = given.parts
+    passed = [tried("page", "sources", lambda: (sources.check(ROOT / "page"), sources.check_types(ROOT / "page")))] if "sources" in wanted else []
     modules = [ROOT / "shamir32.wasm", ROOT / "shamir.wasm"]
     url = given.page.resolve().as_uri()
-    jobs = [(name, part, check) for name in given.browser or browsers.NAMES for part, check in parts_of(name, url, modules, given.cases).items() if part in wanted]
+    jobs = [(name, part, check) for name in given.browser for part, check in parts_of(name, url, modules, given.cases).items() if part in wanted]
     # What takes longest begins first. `privacy` mostly waits.
     jobs.sort(key=lambda job: LONG.index(job[1]) if job[1] in LONG else len(LONG))
     with concurrent.futures.ThreadPoolExecutor(AT_ONCE) as pool:
         first = list(pool.map(lambda job: tried(*job), jobs))
     # On a busy machine a browser can miss a deadline. So a part that failed beside others is tried once more, by itself.
-    passed += [good or (not browsers.interrupted.is_set() and tried(*job)) for job, good in zip(jobs, first)]
-    print(f"{sum(passed)} passed, {len(passed) - sum(passed)} failed")
+    is_beside = len(jobs) > 1
+    passed += [good or (is_beside and not browsers.interrupted.is_set() and tried(*job)) for job, good in zip(jobs, first)]
+    if len(passed) > 1:
+        print(f"{sum(passed)} passed, {len(passed) - sum(passed)} failed")
     return 0 if all(passed) else 1
 
 
@@ -145,16 +147,20 @@ def main():
     parser.add_argument("--browser", choices=browsers.NAMES, action="append")
     parser.add_argument("--page", type=pathlib.Path, default=ROOT / "shamir.html")
     parser.add_argument("--faults", action="store_true")
-    parser.add_argument("--build", action="store_true")
+    parser.add_argument("--no-pictures", action="store_true")
     parser.add_argument("--cases", type=int, default=agreement.CASES)
     parser.add_argument("parts", nargs="*", metavar="PART", choices=[[], *PARTS])
     given = parser.parse_args()
-    missing = browsers.missing()
-    if missing:
-        print(f"make check-page: nothing was checked, because these Debian packages aren't installed: {', '.join(missing)}")
-        return 0
-    if given.build and subprocess.run(["make", "-s", "shamir.html"], cwd=ROOT).returncode:
-        return 1
+    given.browser = given.browser or browsers.NAMES
+    given.parts = given.parts or PARTS
+    if not given.no_pictures:
+        pictures.set()
+    missing = browsers.missing(given.browser)
+    if missing and given.parts != ["sources"]:
+        left_out(f"these Debian packages aren't installed, so shamir.html isn't tried: {', '.join(missing)}")
+        given.parts = [it for it in given.parts if it == "sources"]
+        if given.faults:
+            return 0
     with browsers.workplace():
         return checked(given)
 

@@ -6,9 +6,9 @@ import contextlib
 import json
 import os
 import pathlib
+import re
 import shutil
 import signal
-import socket
 import subprocess
 import sys
 import tempfile
@@ -43,16 +43,12 @@ class Failed(Exception):
     """The page, or the browser, did something else than it should."""
 
 
-def missing():
-    """Returns the Debian packages of the programs that aren't installed."""
-    programs = {"chromium": "chromium", "chromedriver": "chromium-driver", "firefox": "firefox-esr", "wasm-opt": "binaryen"}
+def missing(names):
+    """Returns the Debian packages of the programs that these browsers and the page need, and that aren't installed."""
+    programs = {"wasm-opt": "binaryen"}
+    programs |= {"chromium": "chromium", "chromedriver": "chromium-driver"} if "chromium" in names else {}
+    programs |= {"firefox": "firefox-esr"} if "firefox" in names else {}
     return [package for program, package in programs.items() if not shutil.which(program)]
-
-
-def free_port():
-    with socket.socket() as found:
-        found.bind(("127.0.0.1", 0))
-        return found.getsockname()[1]
 
 
 class Session:
@@ -155,12 +151,14 @@ def workplace():
 
 
 def started(words, home):
-    """Starts a browser, whose home and whose other files are in the folder `home`: the user's own may be missing or closed."""
+    """Starts a browser, whose home and whose other files are in the folder `home`: the user's own may be missing or closed. What it
+    says goes to the file `said` there."""
     if interrupted.is_set():
         raise Failed("the check is interrupted")
     own = {"HOME": str(home), "TMPDIR": str(home), "XDG_RUNTIME_DIR": str(home), "MOZ_CRASHREPORTER_DISABLE": "1"}
     environment = {name: value for name, value in os.environ.items() if not name.startswith("XDG_")} | own
-    process = subprocess.Popen(words, stdin=subprocess.DEVNULL, stdout=subprocess.DEVNULL, stderr=subprocess.DEVNULL, start_new_session=True, env=environment)
+    with open(home / "said", "wb") as said:
+        process = subprocess.Popen(words, stdin=subprocess.DEVNULL, stdout=said, stderr=subprocess.DEVNULL, start_new_session=True, env=environment)
     running[process] = home
     return process
 
@@ -171,21 +169,29 @@ def connected(make):
     while True:
         try:
             return make()
-        except (OSError, Closed):
+        except (OSError, Closed, LookupError):
             if time.monotonic() > deadline:
                 raise
             time.sleep(0.1)
 
 
+def told(file, pattern):
+    """Returns the port that a browser tells in a file. Each chooses a free one, so that no two runs of the check have the same."""
+    found = re.search(pattern, file.read_text())
+    if found is None:
+        raise LookupError(f"{file} tells no port")
+    return int(found[1])
+
+
 def start_chromium(profile, is_dark):
-    port = free_port()
-    driver = started(["chromedriver", f"--port={port}"], profile.parent)
+    driver = started(["chromedriver", "--port=0"], profile.parent)
     arguments = ["--headless=new", "--no-sandbox", "--disable-gpu", f"--user-data-dir={profile}", "--window-size=1200,900", "--no-first-run"]
     arguments += ["--force-dark-mode", "--blink-settings=preferredColorScheme=0"] if is_dark else ["--blink-settings=preferredColorScheme=1"]
     options = {"binary": shutil.which("chromium"), "args": arguments}
     asked = {"capabilities": {"alwaysMatch": {"browserName": "chrome", "webSocketUrl": True, "goog:chromeOptions": options}}}
 
     def session():
+        port = told(profile.parent / "said", r"started successfully on port (\d+)")
         request = urllib.request.Request(f"http://127.0.0.1:{port}/session", json.dumps(asked).encode(), {"Content-Type": "application/json"})
         with urllib.request.urlopen(request, timeout=PATIENCE) as answer:
             return json.load(answer)["value"]["capabilities"]["webSocketUrl"]
@@ -197,11 +203,13 @@ def start_firefox(profile, is_dark):
     preferences = {**FIREFOX_PREFERENCES, "layout.css.prefers-color-scheme.content-override": 0 if is_dark else 1}
     lines = [f'user_pref("{name}", {json.dumps(value)});\n' for name, value in preferences.items()]
     (profile / "user.js").write_text("".join(lines))
-    port = free_port()
-    firefox = started(["firefox", "--headless", "--no-remote", "--profile", str(profile), "--remote-debugging-port", str(port)], profile.parent)
+    firefox = started(["firefox", "--headless", "--no-remote", "--profile", str(profile), "--remote-debugging-port", "0"], profile.parent)
+
+    def port():
+        return told(profile / "WebDriverBiDiServer.json", r'"ws_port": *(\d+)')
 
     def session():
-        found = connected(lambda: Session(f"ws://127.0.0.1:{port}/session"))
+        found = connected(lambda: Session(f"ws://127.0.0.1:{port()}/session"))
         found.call("session.new", capabilities={})
         return found
 

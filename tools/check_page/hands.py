@@ -62,6 +62,10 @@ class Page:
         found = self.session.call("script.callFunction", functionDeclaration=script, arguments=arguments, target={"context": self.tab}, awaitPromise=False)
         return found["result"]["value"]
 
+    def way_to(self, node):
+        """Returns 0 if this has the focus, and else 1 if it comes after what has it, or -1."""
+        return self.is_true("(it) => (document.activeElement === it ? 0 : document.activeElement.compareDocumentPosition(it) & 2 ? -1 : 1)", node)
+
     def has_focus(self, node):
         return self.is_true("(it) => document.activeElement === it", node)
 
@@ -80,9 +84,10 @@ class Page:
         """Presses Tab, or Shift and Tab, until this has the focus. Beyond the page's end, Tab would leave the page."""
         node = self.node(role, name)
         for _ in range(TABS_MAX):
-            if self.has_focus(node):
+            way = self.way_to(node)
+            if way == 0:
                 return
-            if self.is_true("(it) => Boolean(document.activeElement.compareDocumentPosition(it) & 2)", node):
+            if way < 0:
                 self.press_with("Shift", "Tab")
             else:
                 self.press("Tab")

@@ -4,11 +4,14 @@ import pathlib
 import re
 import shutil
 import subprocess
+import sys
 import tempfile
 
 from browsers import Failed
 
 ROOT = pathlib.Path(__file__).resolve().parent.parent.parent
+sys.path.append(str(ROOT / "tools"))
+from left_out import left_out  # noqa: E402
 
 # What lets something out of the page, or keeps it in the browser. A policy doesn't stop all of these.
 FORBIDDEN = [
@@ -65,9 +68,9 @@ def check_texts(page):
 
 
 def check_types(page):
-    """Returns what was left out, or nothing."""
+    """Checks the types of the sources, if tsc is here."""
     if not shutil.which("tsc"):
-        return "types of page/ (tsc isn't installed)"
+        return left_out("tsc isn't here, so the types of page/ aren't checked")
     options = {"checkJs": True, "allowJs": True, "noEmit": True, "strict": True, "target": "es2022", "module": "es2022", "moduleResolution": "node"}
     options |= {"lib": ["es2022", "dom", "dom.iterable"], "types": []}
     with tempfile.NamedTemporaryFile("w", suffix=".json") as file:
@@ -76,7 +79,7 @@ def check_types(page):
         done = subprocess.run(["tsc", "-p", file.name], capture_output=True, text=True)
     if done.returncode:
         raise Failed(f"types: {done.stdout}")
-    return ""
+    return None
 
 
 def check(page):

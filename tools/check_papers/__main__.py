@@ -18,20 +18,23 @@ import time
 import traceback
 
 sys.dont_write_bytecode = True
-sys.path.insert(0, str(pathlib.Path(__file__).resolve().parent))
 ROOT = pathlib.Path(__file__).resolve().parent.parent.parent
+sys.path[:0] = [str(ROOT / "tools" / "check_papers"), str(ROOT / "tools")]
+from left_out import left_out, say_skipped  # noqa: E402
+
 LIBRARY = ROOT / "bindings" / "python" / "shamir" / "libshamir.so"
 PARTS = ["looks", "ends", "refusals", "slips", "astray", "repaired", "steps", "tasks", "traces", "scrollback", "entry", "agreement"]
-AT_ONCE = min(4, os.cpu_count() or 1)
+AT_ONCE = min(4, len(os.sched_getaffinity(0)))
 
 
 def check_entry(_):
     """Runs the unit tests, which need no terminal."""
     tests = sorted(map(str, (ROOT / "bindings" / "python" / "tests").glob("test_papers*.py")))
-    words = [sys.executable, "-B", "-m", "unittest", *tests]
+    words = [sys.executable, "-B", "-m", "unittest", "--verbose", *tests]
     done = subprocess.run(words, cwd=ROOT, capture_output=True, text=True)
     if done.returncode:
         raise AssertionError(done.stderr)
+    say_skipped(done.stderr)
     return []
 
 
@@ -58,12 +61,12 @@ def tried(name, check):
 
     begun = time.monotonic()
     try:
-        left_out = check(None) or []
+        missing = check(None) or []
     except Exception as fault:
         print(f"{name}: {fault if isinstance(fault, Failed) else traceback.format_exc()}", flush=True)
         return False
-    for text in left_out:
-        print(f"{name}: left out: {text}", flush=True)
+    for text in missing:
+        left_out(text)
     print(f"{name}: passed in {time.monotonic() - begun:.0f} seconds", flush=True)
     return True
 

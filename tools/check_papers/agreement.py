@@ -13,7 +13,7 @@ from tasks import Owner, make, name_of, paper_prompt
 import plain
 
 CASES = 20
-AT_ONCE = min(4, os.cpu_count() or 1)
+AT_ONCE = min(4, len(os.sched_getaffinity(0)))
 PLANS = ["2of3", "3of5", "1of1", "2/2of3,1of1,1of1", "2/3of5,1of1", "3/2of2,3of4,1of1,2of3"]
 PROGRAM = str(ROOT / "shamir")
 

@@ -18,15 +18,28 @@ class Terminal:
         self.tmux = ["tmux", "-S", f"{folder}/socket", "-f", "/dev/null"]
         given = {**environment(), "PS1": "$ ", "HISTFILE": f"{folder}/history"}
         given.pop("TERM")
-        start = [*self.tmux, "new-session", "-d", "-s", "it", "-x", str(columns), "-y", str(rows), "env 'PS1=$ ' bash --norc --noprofile"]
+        start = [*self.tmux, "new-session", "-d", "-s", "it", "-x", str(columns), "-y", str(rows), "exec env 'PS1=$ ' bash --norc --noprofile"]
         subprocess.run(start, env=given, check=True)
+        told = subprocess.run([*self.tmux, "display-message", "-p", "-t", "it", "#{pane_pid}"], check=True, capture_output=True, text=True)
+        self.shell = pathlib.Path(f"/proc/{int(told.stdout)}/stat")
         self.wait("$")
 
     def __enter__(self):
         return self
 
     def __exit__(self, *_):
+        """Ends tmux, and waits until bash has ended: it writes its history at its end."""
         subprocess.run([*self.tmux, "kill-server"], capture_output=True)
+        deadline = time.monotonic() + PATIENCE
+        while self.runs() and time.monotonic() < deadline:
+            time.sleep(0.02)
+
+    def runs(self):
+        """Whether bash runs. One that has ended may still be listed, with the state Z."""
+        try:
+            return self.shell.read_text().rpartition(")")[2].split()[0] != "Z"
+        except OSError:
+            return False
 
     def shown(self, *options):
         return subprocess.run([*self.tmux, "capture-pane", "-p", "-t", "it", *options], check=True, capture_output=True, text=True).stdout
@@ -175,6 +188,8 @@ def check(see):
             check_killed(terminal)
             check_behind(terminal)
         history = pathlib.Path(folder, "history")
-        if history.exists() and words_in(history.read_text()):
+        if not history.exists():
+            raise Failed("the shell keeps no history, so this check sees nothing")
+        if words_in(history.read_text()):
             raise Failed(f"the shell's history has words of papers: {history.read_text()!r}")
     return []

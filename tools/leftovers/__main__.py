@@ -41,6 +41,7 @@ import cases  # noqa: E402
 import ends  # noqa: E402
 import exits  # noqa: E402
 import frames  # noqa: E402
+from left_out import left_out  # noqa: E402
 
 COMPILER = os.environ.get("CC", "cc").split()
 STRICT = ["-std=c11", "-O1", "-Wall", "-Wextra", "-Werror", "-pedantic", f"-I{ROOT}/include"]
@@ -107,13 +108,13 @@ def too_deep(archive: pathlib.Path) -> List[str]:
 def of_calls(archive: pathlib.Path) -> List[str]:
     """Checks the calls of the library. Returns what is wrong."""
     if not shutil.which(COMPILER[0]):
-        print(f"tools/leftovers: there is no {COMPILER[0]}, so the calls of the library aren't checked")
+        left_out(f"{COMPILER[0]} isn't here, so nothing looks for what the calls of the library leave on the stack")
         return []
     told, count, deepest = all_leftovers(archive)
     if shutil.which("objdump"):
         told += too_deep(archive)
     else:
-        print("tools/leftovers: objdump isn't there, so nothing says how far down a call can reach")
+        left_out("objdump isn't here, so nothing says how far down a call can reach")
     if not told:
         print(f"after each of {count} calls of the library, nothing secret is left on its stack; below {deepest} bytes, all of it is 0")
     return told
@@ -122,7 +123,7 @@ def of_calls(archive: pathlib.Path) -> List[str]:
 def shim_in(folder: str) -> str:
     """Compiles what refuses allocations. Returns where it is, or nothing without a compiler."""
     if not shutil.which(COMPILER[0]):
-        print(f"tools/leftovers: there is no {COMPILER[0]}, so the program isn't run without memory")
+        left_out(f"{COMPILER[0]} isn't here, so the program isn't run without memory")
         return ""
     shim = f"{folder}/faults.so"
     subprocess.run([*COMPILER, "-O1", "-shared", "-fPIC", "-o", shim, str(ROOT / "tools" / "faults.c"), "-ldl"], check=True)
@@ -132,7 +133,7 @@ def shim_in(folder: str) -> str:
 def of_runs(program: pathlib.Path) -> List[str]:
     """Checks the runs of the program. Returns what is wrong."""
     if not exits.can_trace():
-        print("tools/leftovers: programs can't be traced here, so the runs of the program aren't checked")
+        left_out("programs can't be traced here, so nothing looks for what the program leaves in its memory")
         return []
     with tempfile.TemporaryDirectory() as folder:
         told, count, deepest = ends.all_leftovers(program, shim_in(folder))
@@ -147,7 +148,7 @@ def main() -> None:
     words.add_argument("--program", type=pathlib.Path, default=ROOT / "shamir")
     given = words.parse_args()
     if platform.machine() != "x86_64":
-        print("tools/leftovers: this isn't x86-64, so nothing is checked")
+        left_out("this isn't x86-64, so nothing looks for what the library and the program leave in memory")
         return
     told = of_calls(given.archive) + of_runs(given.program)
     if told:

@@ -2,9 +2,11 @@
 import collections
 import json
 import re
+import subprocess
 import sys
 
 import plain
+from left_out import left_out, python_with
 
 import data
 import readers
@@ -13,6 +15,15 @@ from case import differs
 PAGE = data.FOLDER / "README.md"
 # Another Electrum may answer in another way, and the page doesn't speak of it.
 ELECTRUM = "4.3.4"
+# Compares a file with its schema.
+VALIDATE = """
+import json, sys
+from jsonschema import Draft202012Validator as Validator
+
+schema, given = (json.load(open(name)) for name in sys.argv[1:])
+Validator.check_schema(schema)
+Validator(schema).validate(given)
+"""
 
 
 def rows(text, heading):
@@ -49,14 +60,13 @@ def check_keys():
 
 
 def check_schema():
-    try:
-        import jsonschema
-    except ImportError:
-        print("tools/vectors: Python's jsonschema isn't here, so vectors.json isn't compared with its schema")
+    python = python_with("jsonschema")
+    if python is None:
+        left_out("no Python here has jsonschema, so vectors.json isn't compared with its schema")
         return
-    schema = json.loads((data.FOLDER / "schema.json").read_text())
-    jsonschema.Draft202012Validator.check_schema(schema)
-    jsonschema.Draft202012Validator(schema).validate(json.loads((data.FOLDER / "vectors.json").read_text()))
+    done = subprocess.run([python, "-c", VALIDATE, "schema.json", "vectors.json"], cwd=data.FOLDER, capture_output=True, text=True)
+    if done.returncode:
+        sys.exit(f"vectors.json isn't what its schema says: {done.stderr}")
 
 
 def has_flag(case):
@@ -71,12 +81,12 @@ def check_electrum():
     asked = [(case, right) for _, case, right in data.cases() if case.asks in ("parse", "recover")]
     found = readers.of_electrum([case for case, _ in asked])
     if found is None:
-        print("tools/vectors: Electrum isn't here (Debian: python3-electrum), so it isn't asked")
+        left_out("Electrum isn't here (Debian: python3-electrum), so it isn't asked")
         return
     version, answers = found
     other = {case.id: has_flag(case) for (case, right), answer in zip(asked, answers) if differs(answer, right)}
     if version != ELECTRUM:
-        print(f"tools/vectors: Electrum {version} differs in {len(other)} of {len(asked)} cases, and the page speaks of Electrum {ELECTRUM}")
+        left_out(f"Electrum {version} is here, so its answers aren't compared with what vectors/README.md says of Electrum {ELECTRUM}")
         return
     text = PAGE.read_text()
     told = set(re.findall(r"`([a-z0-9-]+)`", " ".join(cells[1] for cells in rows(text, "What Electrum answers"))))

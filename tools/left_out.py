@@ -1,0 +1,25 @@
+"""Says in one form what a check leaves out. Whoever runs checks can count the lines that begin with `left out: `."""
+import re
+import shutil
+import subprocess
+import sys
+
+
+def left_out(what):
+    """Says what is left out, and why."""
+    print(f"left out: {what}", flush=True)
+
+
+def say_skipped(verbose):
+    """Says which tests Python's unittest skipped, by what it writes if it is told to be verbose."""
+    for why in re.findall(r" \.\.\. skipped ['\"](.*)['\"]$", verbose, re.MULTILINE):
+        left_out(f"{why}, so a test of bindings/python isn't run")
+
+
+def python_with(*modules):
+    """Returns a Python that has these modules, or None. Debian's modules are those of /usr/bin/python3."""
+    words = "import " + ", ".join(modules)
+    for python in dict.fromkeys([sys.executable, "/usr/bin/python3"]):
+        if shutil.which(python) and subprocess.run([python, "-c", words], capture_output=True).returncode == 0:
+            return python
+    return None
