@@ -1,8 +1,11 @@
 # `make` proves and builds the program shamir. It proves as many libraries side by side as the machine can, so it needs no -j.
-# `make test` runs the merge gate (`rt ci`), and then all checks. The other targets are:
+# `make test` runs all checks, and `make quick` those that a change concerns. The other targets are:
 #
 #   make lib         proves and builds the library: libshamir.a and libshamir.so
 #   make prove-NAME  proves a library of crates/, after those that it uses
+#   make test-NAME   proves and runs the tests of a library, after the libraries that it uses
+#   make edits       tries the wrong bodies of wrong-bodies/ in rounds, as `make test` does
+#   make twins       tries the twins of all wrong bodies
 #   make wasm        proves and builds the library for WebAssembly: shamir.wasm, with 64-bit memory, and shamir32.wasm, with
 #                    32-bit memory
 #   make page        builds shamir.html, the page with the library in it
@@ -87,7 +90,7 @@ SOURCES = $(shell find crates -path '*/out' -prune -o -type f -print) crates.txt
 
 TIMING = crates/s39_timing/out/timing
 
-.PHONY: all lib wasm page test check check-library check-js check-page check-papers check-packages check-secrets bench faults compare install install-bin install-lib install-page uninstall wheel deb dist clean
+.PHONY: all lib wasm page test quick edits twins check check-library check-js check-page check-papers check-packages check-secrets bench faults compare install install-bin install-lib install-page uninstall wheel deb dist clean
 
 all: shamir
 
@@ -119,6 +122,15 @@ $(SONAME): libshamir.so
 
 test:
 	@RT=$(RT) tools/gate
+
+quick:
+	@RT=$(RT) tools/quick
+
+edits:
+	@RT=$(RT) tools/edits
+
+twins:
+	@RT=$(RT) tools/edits --twins
 
 # Each sum of checks first builds what its checks need. Then it runs them side by side: as many as JOBS says, or as many as -j says.
 # Those that take longest come first. tools/part writes the name of a check before each of its lines.
@@ -336,6 +348,9 @@ clean:
 # prove-NAME proves the library NAME once those are proved that it uses. `rt` looks at the contents of all files, and proves only
 # what changed.
 .SECONDEXPANSION:
-.PHONY: $(CRATES:%=prove-%)
+.PHONY: $(CRATES:%=prove-%) $(CRATES:%=test-%)
 $(CRATES:%=prove-%): prove-%: $$(addprefix prove-,$$(call uses,$$*))
 	@RT=$(RT) tools/prove $*
+
+$(CRATES:%=test-%): test-%: $$(addprefix prove-,$$(call uses,$$*))
+	@RT=$(RT) tools/prove --tests $*
