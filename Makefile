@@ -141,7 +141,7 @@ PAGE_PARTS = privacy refusals tasks entry looks astray hasty long agreement ways
 PAGE_CHECKS = $(foreach part,$(PAGE_PARTS),check-page-firefox-$(part) check-page-chromium-$(part)) check-page-sources
 CHECKS = $(LIBRARY_CHECKS) $(PACKAGES_CHECKS) check-allocations check-terminal check-recipes check-completions check-values \
 	check-examples check-texts check-figures check-manual check-version
-LONGEST = check-page-firefox-privacy check-page-chromium-privacy check-rust check-leftovers check-papers $(PACKAGES_CHECKS)
+LONGEST = check-page-firefox-privacy check-page-chromium-privacy check-header check-rust check-leftovers check-papers check-vectors $(PACKAGES_CHECKS)
 PART = @$(PYTHON) tools/part $@
 # Without wasm-opt there is no page, and the checks say what they leave out.
 WASM_OPT := $(shell command -v wasm-opt 2> /dev/null)
