@@ -78,6 +78,7 @@ def compiled(name: str, to: str, *options: str) -> None:
         raise SystemExit(2)
 
 
-def linked(name: str, target: str, to: str, *given: str) -> None:
+def linked(name: str, target: str, to: str, files: list[str], *options: str) -> None:
+    """Links what was compiled into a file."""
     link = [f"{kit()}/bin/rattle-link", "--target", target, "--toolchain", f"{kit()}/toolchain"]
-    ran(name, [*link, "-o", to, *given])
+    ran(name, [*link, *options, "-o", to, *files])
