@@ -1,17 +1,9 @@
-//! Tests of the crates of backups: the set of shares, plans, creation and recovery, the runs, and what the theorems about secrecy
-//! say. They stand on these crates alone.
+//! Tests of the set of shares and of backups: plans, creation, recovery, missing shares, and what the theorems about secrecy say.
+//! They stand on the crates that they test, and on no others.
 #![tactic(auto)]
 
 #[cfg(test)]
 mod backup;
-#[cfg(test)]
-mod creating;
-#[cfg(test)]
-mod drilling;
-#[cfg(test)]
-mod input;
-#[cfg(test)]
-mod reading;
 #[cfg(test)]
 mod reissue;
 #[cfg(test)]
