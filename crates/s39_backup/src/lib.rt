@@ -37,10 +37,3 @@ pub use outcome::{RecoverError, recover_by, recover_quorum};
 pub use plan::{Members, Plan};
 pub use plan_error::PlanError;
 pub use reissue_error::{ReissueError, TooFew};
-
-#[cfg(test)]
-mod examples;
-#[cfg(test)]
-mod reissue_tests;
-#[cfg(test)]
-mod tests;

@@ -14,6 +14,3 @@ mod round_trips;
 
 pub use creating::{create_lines, run_create};
 pub use reissuing::{reissue_lines, run_reissue};
-
-#[cfg(test)]
-mod examples;

@@ -14,6 +14,3 @@ mod round_trips;
 
 pub use drill::{Done, Undrilled, run_drill};
 pub use listing::{Listing, drill_lines};
-
-#[cfg(test)]
-mod examples;

@@ -26,8 +26,3 @@ pub use operations::Field;
 pub use polynomial::eval;
 pub use rows::{lanes, scaled_sum};
 pub use word::{Gf1024, NotTenBits};
-
-#[cfg(test)]
-mod examples;
-#[cfg(test)]
-mod tests;

@@ -37,8 +37,3 @@ pub use s39_kdf::SecretForm;
 pub use secret_form::{is_unexpected, push_secret};
 pub use show::run_show;
 pub use slices::{TooShort, Unwritten, WrittenLines, put};
-
-#[cfg(test)]
-mod examples;
-#[cfg(test)]
-mod repair_tests;

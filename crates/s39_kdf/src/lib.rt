@@ -36,8 +36,3 @@ pub use limits::{
 pub use noted::{BadFingerprint, NotedFingerprint, parse_fingerprint};
 pub use params::{MAX_EXPONENT, Params};
 pub use secret_form::SecretForm;
-
-#[cfg(test)]
-mod examples;
-#[cfg(test)]
-mod tests;

@@ -15,6 +15,3 @@ mod status;
 pub use exponent::exponent_in;
 pub use recover::{recover_secret, run_recover};
 pub use status::{WrittenStatus, run_status, status_lines};
-
-#[cfg(test)]
-mod examples;

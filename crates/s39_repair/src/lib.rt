@@ -15,8 +15,3 @@ mod wrong_words;
 pub use answer::repair;
 pub use repair_error::RepairError;
 pub use repaired::Repaired;
-
-#[cfg(test)]
-mod examples;
-#[cfg(test)]
-mod tests;

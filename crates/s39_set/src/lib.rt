@@ -26,8 +26,3 @@ pub use set_lack::SetLack;
 pub use share_set::{ShareSet, are_a_share_set, share_at};
 pub use status::{GroupStatus, Status, group_status_of, status_of};
 pub use texts::{cut_at, small_number};
-
-#[cfg(test)]
-mod next_tests;
-#[cfg(test)]
-mod tests;

@@ -28,8 +28,3 @@ pub use lent_points::Points;
 pub use places::{DIGEST_BYTES, DIGEST_PLACE, MAX_RANDOM_BYTES, MAX_SHARES, SECRET_PLACE};
 pub use recovery::{DigestMismatch, combine};
 pub use sharing::{random_needed, split};
-
-#[cfg(test)]
-mod examples;
-#[cfg(test)]
-mod tests;

@@ -32,8 +32,3 @@ pub use size::{ID_BITS, MAX_GROUPS, MAX_MEMBERS, MAX_TEXT_BYTES, MAX_WORDS};
 pub use spelling::{is_word_count, parse};
 pub use word_error::WordError;
 pub use word_reader::{after_separators, is_separator};
-
-#[cfg(test)]
-mod examples;
-#[cfg(test)]
-mod tests;

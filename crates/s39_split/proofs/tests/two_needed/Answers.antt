@@ -1,5 +1,0 @@
-use Rattle.std.proofs.Common.{rules}
-use Rattle.s39_split.proofs.tests.two_needed.Goals as goal
-
-pub returns : goal.returns
-returns c = c.combine.ensures.length 16 (search rules)

@@ -1,0 +1,62 @@
+//! The examples of the doc comments of `s39_creating`, line for line. The values come from published vectors, or from a plain reading of
+//! the standard in Python.
+use s39_backup::{Options, Plan};
+use s39_creating::{create_lines, reissue_lines, run_create, run_reissue};
+use s39_input::Counting;
+use s39_set::parse_names;
+use std::alloc::AllocGlobal;
+use std::process::Abort;
+use std::test::Fail;
+
+#[test]
+fn examples(rt: HostRuntime) -> Result<(), Fail> {
+    creations(&rt)?;
+    reissues(&rt)
+}
+
+fn creations(rt: &(impl Abort + AllocGlobal)) -> Result<(), Fail> {
+    let plan = Plan::parse("1of1")?;
+    let secret = *b"\xbb\x54\xaa\xc4\xb8\x9d\xc8\x68\xba\x37\xd9\xcc\x21\xb2\xce\xce";
+    let options = Options {
+        exponent: 0,
+        extendable: false,
+    };
+    let mut input = Counting::new(b"\x1f\x09".as_slice());
+    let mut text = Vec::new(rt.alloc());
+    let mut output = Counting::new(&mut text);
+    run_create(&plan, &secret, b"TREZOR", options, &mut input, &mut output)?;
+    assert!(rt; text.starts_with(b"duckling enlarge academic academic agency "));
+
+    let random = b"\x1f\x09";
+    let mut text = [0; 200];
+    let put = create_lines(&plan, &secret, b"TREZOR", options, random, &mut text)?;
+    assert_eq!(rt; (put.written, put.lines), (146, 1));
+    assert!(rt; text.starts_with(b"duckling enlarge academic academic agency "));
+    Ok(())
+}
+
+fn reissues(rt: &(impl Abort + AllocGlobal)) -> Result<(), Fail> {
+    let plan = Plan::parse("2of3")?;
+    let names = parse_names(b"0.1")?;
+    let mut input = Counting::new(
+        b"shadow pistol academic always adequate wildlife fancy gross oasis cylinder mustang \
+        wrist rescue view short owner flip making coding armed\n\
+        shadow pistol academic acid actress prayer class unknown daughter sweater depict flip \
+        twice unkind craft early superior advocate guest smoking\n"
+            .as_slice(),
+    );
+    let mut text = Vec::new(rt.alloc());
+    run_reissue(&plan, &names, &mut input, &mut Counting::new(&mut text))?;
+    assert!(rt; text.starts_with(b"shadow pistol academic agency acid license obtain "));
+
+    let lines =
+        b"shadow pistol academic always adequate wildlife fancy gross oasis cylinder mustang \
+        wrist rescue view short owner flip making coding armed\n\
+        shadow pistol academic acid actress prayer class unknown daughter sweater depict flip \
+        twice unkind craft early superior advocate guest smoking\n";
+    let mut text = [0; 200];
+    let put = reissue_lines(&plan, &names, lines, &mut text)?;
+    assert_eq!(rt; (put.written, put.lines), (145, 1));
+    assert!(rt; text.starts_with(b"shadow pistol academic agency acid license obtain "));
+    Ok(())
+}

@@ -1,0 +1,37 @@
+//! The examples of the doc comments of `s39_drilling`, line for line. The values come from published vectors, or from a plain reading of
+//! the standard in Python.
+use s39_drilling::{drill_lines, run_drill};
+use s39_input::{Counting, SecretForm};
+use std::alloc::AllocGlobal;
+use std::process::Abort;
+use std::test::Fail;
+
+#[test]
+fn examples(rt: HostRuntime) -> Result<(), Fail> {
+    drills(&rt)
+}
+
+fn drills(rt: &(impl Abort + AllocGlobal)) -> Result<(), Fail> {
+    let mut input = Counting::new(
+        b"duckling enlarge academic academic agency result length solution fridge kidney coal \
+        piece deal husband erode duke ajar critical decision keyboard\n"
+            .as_slice(),
+    );
+    let mut text = Vec::new(rt.alloc());
+    let mut output = Counting::new(&mut text);
+    let form = SecretForm::Fingerprint;
+    let done = run_drill(form, b"TREZOR", None, 1000, &mut input, &mut output)?;
+    assert_eq!(rt; done.mismatches, 0);
+    assert_eq!(rt; text.as_slice(), b"0.0 df41d8fe\nend\n".as_slice());
+
+    let line =
+        b"duckling enlarge academic academic agency result length solution fridge kidney coal \
+        piece deal husband erode duke ajar critical decision keyboard\n";
+    let mut text = [0; 100];
+    let form = SecretForm::Digits;
+    let listing = drill_lines(form, b"TREZOR", None, 1000, line, &mut text)?;
+    assert_eq!(rt; (listing.listed, listing.mismatches), (1, 0));
+    assert_eq!(rt; (listing.last, listing.written), (37, 41));
+    assert!(rt; text.starts_with(b"0.0 bb54aac4b89dc868ba37d9cc21b2cece\nend\n"));
+    Ok(())
+}

@@ -1,0 +1,68 @@
+//! The examples of the doc comments of `s39_reading`, line for line. The values come from published vectors, or from a plain reading of
+//! the standard in Python.
+use s39_input::{Counting, SecretForm};
+use s39_kdf::parse_fingerprint;
+use s39_reading::{exponent_in, recover_secret, run_recover, run_status, status_lines};
+use std::alloc::AllocGlobal;
+use std::process::Abort;
+use std::test::Fail;
+
+#[test]
+fn examples(rt: HostRuntime) -> Result<(), Fail> {
+    recoveries(&rt)?;
+    statuses(&rt)?;
+    exponents(&rt)
+}
+
+fn recoveries(rt: &(impl Abort + AllocGlobal)) -> Result<(), Fail> {
+    let mut input = Counting::new(
+        b"duckling enlarge academic academic agency result length solution fridge kidney coal \
+        piece deal husband erode duke ajar critical decision keyboard\n"
+            .as_slice(),
+    );
+    let mut text = Vec::new(rt.alloc());
+    let mut output = Counting::new(&mut text);
+    run_recover(SecretForm::Digits, None, b"TREZOR", &mut input, &mut output)?;
+    assert!(rt; text.starts_with(b"bb54aac4b89dc868ba37d9cc21b2cece\n"));
+
+    let line =
+        b"duckling enlarge academic academic agency result length solution fridge kidney coal \
+        piece deal husband erode duke ajar critical decision keyboard\n";
+    let secret = recover_secret(None, b"TREZOR", line)?;
+    assert!(rt; secret.starts_with(b"\xbb\x54\xaa\xc4\xb8\x9d\xc8\x68"));
+    let expected = Some(parse_fingerprint(b"df41d8fe")?);
+    let fault = recover_secret(expected, b"trezor", line).err();
+    assert_eq!(rt; fault.map(|fault| fault.refusal.cause().code), Some(52));
+    Ok(())
+}
+
+fn statuses(rt: &(impl Abort + AllocGlobal)) -> Result<(), Fail> {
+    let mut input = Counting::new(
+        b"academic aluminum beard leader chest elite grant group club deploy increase divorce \
+        puny cylinder romp frequent crush ruler erode bucket\n"
+            .as_slice(),
+    );
+    let mut text = Vec::new(rt.alloc());
+    let status = run_status(&mut input, &mut Counting::new(&mut text))?;
+    assert!(rt; !status.is_enough());
+    let lines = b"groups 1 of 2\ngroup 1 members 1 of 1 1.0\n";
+    assert_eq!(rt; text.as_slice(), lines.as_slice());
+
+    let line =
+        b"academic aluminum beard leader chest elite grant group club deploy increase divorce \
+        puny cylinder romp frequent crush ruler erode bucket\n";
+    let mut text = [0; 100];
+    let answer = status_lines(line, &mut text)?;
+    assert_eq!(rt; (answer.written, answer.status.is_enough()), (41, false));
+    assert!(rt; text.starts_with(b"groups 1 of 2\ngroup 1 members 1 of 1 1.0\n"));
+    Ok(())
+}
+
+fn exponents(rt: &impl Abort) -> Result<(), Fail> {
+    let line =
+        b"duckling enlarge academic academic agency result length solution fridge kidney coal \
+        piece deal husband erode duke ajar critical decision keyboard\n";
+    assert_eq!(rt; exponent_in(line), Some(0));
+    assert_eq!(rt; exponent_in(b""), None);
+    Ok(())
+}

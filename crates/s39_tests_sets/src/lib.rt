@@ -1,0 +1,14 @@
+//! Tests of the set of shares and of backups: plans, creation, recovery, missing shares, and what the theorems about secrecy say.
+//! They stand on the crates that they test, and on no others.
+#![tactic(auto)]
+
+#[cfg(test)]
+mod backup;
+#[cfg(test)]
+mod reissue;
+#[cfg(test)]
+mod secrecy;
+#[cfg(test)]
+mod set;
+#[cfg(test)]
+mod steps;
