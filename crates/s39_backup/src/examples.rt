@@ -14,7 +14,8 @@ fn examples(rt: HostRuntime) -> Result<(), Fail> {
     recoveries(&rt)?;
     deciphered(&rt)?;
     sets_of_plans(&rt)?;
-    reissues(&rt)
+    reissues(&rt)?;
+    refits(&rt)
 }
 
 fn plans(rt: &impl Abort) -> Result<(), Fail> {
@@ -124,5 +125,24 @@ fn reissues(rt: &impl Abort) -> Result<(), Fail> {
     assert!(rt; plan.has_name(0, 1));
     let share = reissue(&plan, &set, 0, 1)?;
     assert!(rt; print(&share).starts_with(b"shadow pistol academic agency acid license obtain "));
+    Ok(())
+}
+
+fn refits(rt: &impl Abort) -> Result<(), Fail> {
+    let plan = Plan::parse("3of3")?;
+    let options = Options {
+        exponent: 0,
+        extendable: false,
+    };
+    let mut random = [3; 30];
+    assert_eq!(rt; random.len(), plan.random_needed(16));
+    let keep = parse_quorum(b"0.1")?;
+    let fits = refit(&plan, &[1; 16], &[2; 16], b"", options, &keep, &mut random);
+    assert!(rt; fits);
+    let mut created = Created::new();
+    create(&plan, &[2; 16], b"", options, &random, &mut created)?;
+    // The second share is the one that `create` gives from the first secret and the old bytes.
+    assert_eq!(rt; created.shares().len(), 3);
+    assert!(rt; print(&created.shares()[1]).starts_with(b"alarm branch academic agree advocate "));
     Ok(())
 }

@@ -15,9 +15,9 @@ ghost use Rattle.s39_backup.specs.Created.{Asked, asked_for, needed_by, IsCreate
 ghost use Rattle.s39_backup.specs.Outcome.{AreParams};
 ghost use Rattle.s39_backup.specs.declared.options.Options.{Options};
 ghost use Rattle.s39_backup.specs.declared.plan.Members.{Members};
-ghost use Rattle.s39_secrecy.specs.TwoShort.{IsTwoShort};
-ghost use Rattle.s39_secrecy.specs.Fitting.{Fits};
-ghost use Rattle.s39_secrecy.specs.Correspondence.{Correspond};
+ghost use Rattle.s39_backup.specs.TwoShort.{IsTwoShort};
+ghost use Rattle.s39_split.specs.Fitting.{Fits};
+ghost use Rattle.s39_backup.specs.Correspondence.{Correspond};
 ghost use Rattle.s39_secrecy.specs.Secrecy.{CanBeAsked, AreTwoShort, AreRandomBytes, for_secret, HaveTheShare, TellNothing, Give, CorrespondOneToOne, AreDifferent, AreAll, member_points};
 ghost use Rattle.s39_secrecy.specs.Rows.{group_of, one_group, home_and_two, family_and_two, four_groups};
 

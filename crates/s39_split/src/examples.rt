@@ -14,6 +14,17 @@ fn examples_of_completion(rt: HostRuntime) -> Result<(), Fail> {
 }
 
 #[test]
+fn examples_of_fitting(rt: HostRuntime) -> Result<(), Fail> {
+    let secret = Bytes::try_from([7; 16].as_slice())?;
+    let share = Bytes::try_from([9; 16].as_slice())?;
+    let random = fit(3, &secret, &[1; 12], &[(5, &share)]);
+    let mut shares: [Bytes; 16] = Default::default();
+    split(3, &secret, &random, &mut shares);
+    assert_eq!(rt; shares[5], share);
+    Ok(())
+}
+
+#[test]
 fn examples_of_lent_points(rt: HostRuntime) -> Result<(), Fail> {
     let share = Bytes::try_from([7; 16].as_slice())?;
     let mut points = Points::new();
