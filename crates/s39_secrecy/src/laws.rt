@@ -54,14 +54,21 @@ pub fn one_correspondent()
         → Correspond names (for_secret other asked) asked.secret fitted random }
 {}
 
-/// Backups from random bytes that correspond have the same shares with the names.
+/// Backups from random bytes that correspond have the same shares with the names. If there is one backup, there is the
+/// other.
 pub fn corresponding_backups_share()
-    ensures { (asked : Asked) (other : List ℕ) (names : Names) (random fitted : List ℕ)
+    ensures share { (asked : Asked) (other : List ℕ) (names : Names) (random fitted : List ℕ)
         (shares others : List ShareFields)
         → AreTwoShort asked other names → Correspond names asked other random fitted
         → IsCreatedFrom asked random shares
         → IsCreatedFrom (for_secret other asked) fitted others
         → All (HaveTheShare shares others) names }
+    ensures exists { (asked : Asked) (other : List ℕ) (names : Names) (random fitted : List ℕ)
+        (shares : List ShareFields)
+        → IsTwoShort asked.group_threshold asked.groups names
+        → Correspond names asked other random fitted → IsCreatedFrom asked random shares
+        → (others : List ShareFields) × IsCreatedFrom (for_secret other asked) fitted others
+        × All (HaveTheShare shares others) names }
 {}
 
 /// Shares that are two short fit every secret of the same length: each such secret has a backup with these very shares,
