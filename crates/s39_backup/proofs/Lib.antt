@@ -21,3 +21,7 @@ pub mod Points
 pub mod Reissues
 pub mod Reissued
 pub mod LargerPlans
+pub mod Chosen
+pub mod HeldGroups
+pub mod AfterFirst
+pub mod Refitted

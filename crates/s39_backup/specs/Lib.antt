@@ -11,3 +11,6 @@ pub mod Memo
 pub mod Reissue
 pub mod Reissuing
 pub mod LargerPlan
+pub mod TwoShort
+pub mod Correspondence
+pub mod Refitting

@@ -1,6 +1,6 @@
 //! Backups by SLIP-0039: this crate parses plans (`Plan`), creates backups (`create`), combines the shares of a quorum
 //! (`combine_quorum`), recovers its secret (`recover_by`, `recover_quorum`), and computes missing shares from others
-//! (`reissue`).
+//! (`reissue`). `refit` computes random bytes by which a backup of another secret has the same shares.
 //!
 //! A quorum is a set of shares that meets the thresholds, while none of its proper subsets does.
 //!
@@ -23,7 +23,9 @@ mod outcome;
 mod plan;
 mod plan_error;
 mod plan_text;
+mod refitting;
 mod reissue_error;
+mod two_short;
 
 pub use at_hand::is_of_plan;
 pub use combination::{Mismatch, combine_quorum, params_of};
@@ -36,4 +38,5 @@ pub use options::Options;
 pub use outcome::{RecoverError, recover_by, recover_quorum};
 pub use plan::{Members, Plan};
 pub use plan_error::PlanError;
+pub use refitting::refit;
 pub use reissue_error::{ReissueError, TooFew};

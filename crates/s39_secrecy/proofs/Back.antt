@@ -12,17 +12,17 @@ use Rattle.s39_kdf.specs.Cipher.{IsEncryption, SecretsHaveOneEncryption, Encrypt
 use Rattle.s39_split.specs.Shares.{AreDistinct}
 use Rattle.s39_split.specs.Sharing.{digest_length, IsSplit, SplitsTakeTheBytesNeeded, SharesAreAsLong, HaveOneSplit}
 use Rattle.s39_split.specs.Recovery.{AreSharesOf}
-use Rattle.s39_secrecy.proofs.KnownShares.{AreKnown, one_split_by_known}
+use Rattle.s39_split.proofs.FittedPoints.{AreKnown, one_split_by_known}
 use Rattle.s39_set.specs.Names.{Names}
 use Rattle.s39_lists.proofs.Decided.{among_or_not}
 use Rattle.s39_lists.proofs.Sublists.{Contains-head, Contains-cons, same_from_part}
 use Rattle.s39_backup.specs.declared.plan.Members.{Members}
 use Rattle.s39_backup.specs.Created.{Asked, identifier_of}
-use Rattle.s39_secrecy.specs.TwoShort.{is_held, held_groups}
-use Rattle.s39_secrecy.specs.Correspondence.{AreSameAt, AreStaying, StayTheSame, CorrespondAtLevel, CorrespondInGroup, CorrespondInEach, Correspond}
+use Rattle.s39_backup.specs.TwoShort.{is_held, held_groups}
+use Rattle.s39_backup.specs.Correspondence.{AreSameAt, AreStaying, StayTheSame, CorrespondAtLevel, CorrespondInGroup, CorrespondInEach, Correspond}
 use Rattle.s39_backup.proofs.OneRecovery.{same_params}
 use Rattle.s39_backup.proofs.Creations.{same_front}
-use Rattle.s39_secrecy.proofs.Chosen.{lent, lent-distinct, lent-indices, lent-lengths}
+use Rattle.s39_backup.proofs.Chosen.{lent, lent-distinct, lent-indices, lent-lengths}
 
 -- ---- the indices that stay
 

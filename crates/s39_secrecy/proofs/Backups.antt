@@ -21,12 +21,13 @@ use Rattle.s39_backup.specs.Plan.{IsGroup}
 use Rattle.s39_backup.specs.Plan.{IsNameOfPlan}
 use Rattle.s39_backup.specs.Created.{Asked, identifier_of}
 use Rattle.s39_backup.proofs.OneRecovery.{of_fields}
-use Rattle.s39_secrecy.specs.TwoShort.{is_held, held_groups}
-use Rattle.s39_secrecy.specs.Correspondence.{CorrespondInGroup, CorrespondInEach, Correspond}
+use Rattle.s39_backup.specs.TwoShort.{is_held, held_groups}
+use Rattle.s39_backup.specs.Correspondence.{CorrespondInGroup, CorrespondInEach, Correspond}
 use Rattle.s39_secrecy.specs.Secrecy.{AreRandomBytes, AreTwoShort, for_secret}
-use Rattle.s39_secrecy.proofs.Chosen.{kept_stay}
-use Rattle.s39_secrecy.proofs.HeldGroups.{members-ascending, held-ascending, held-below, held-among, member-below, not_less}
-use Rattle.s39_secrecy.proofs.Levels.{AreKept, have_level}
+use Rattle.s39_backup.proofs.Chosen.{kept_stay}
+use Rattle.s39_backup.proofs.HeldGroups.{members-ascending, held-ascending, held-below, held-among, member-below, not_less}
+use Rattle.s39_backup.specs.Refitting.{AreKept}
+use Rattle.s39_secrecy.proofs.Levels.{have_level}
 
 -- each group from this one on has the members of its names
 abbrev pub AreNamesOfGroups : Names → ℕ → List Members → Type 0

@@ -22,11 +22,11 @@ use Rattle.s39_backup.specs.Created.{Asked, AreSplitAmong, created_share, create
 use Rattle.s39_backup.proofs.Creations.{backup_once}
 use Rattle.s39_backup.proofs.Promise.{in_created_groups}
 use Rattle.s39_backup.proofs.WholeBackups.{contains_member}
-use Rattle.s39_secrecy.specs.TwoShort.{is_held}
-use Rattle.s39_secrecy.specs.Correspondence.{CorrespondInGroup, CorrespondInEach, Correspond}
+use Rattle.s39_backup.specs.TwoShort.{is_held}
+use Rattle.s39_backup.specs.Correspondence.{CorrespondInGroup, CorrespondInEach, Correspond}
 use Rattle.s39_secrecy.specs.Secrecy.{HaveTheShare, for_secret}
-use Rattle.s39_secrecy.proofs.Chosen.{kept_stay}
-use Rattle.s39_secrecy.proofs.HeldGroups.{has_members}
+use Rattle.s39_backup.proofs.Chosen.{kept_stay}
+use Rattle.s39_backup.proofs.HeldGroups.{has_members}
 use Rattle.s39_secrecy.proofs.Backups.{HeldAreSame, held-first, held-later, held_same}
 
 -- the shares with these names are the same in each group from this one on

@@ -8,16 +8,12 @@ use Rattle.s39_kdf.specs.Bytes.{AreBytes}
 use Rattle.s39_split.specs.Sharing.{most_shares, digest_length, random_needed}
 use Rattle.s39_split.proofs.SplitLaws.{random_needed-several, shares_are_bytes, have_a_split, first_shares_are_a_split}
 use Rattle.s39_split.proofs.Choices.{length-shares}
-use Rattle.s39_secrecy.specs.Correspondence.{AreStaying, CorrespondAtLevel}
-use Rattle.s39_secrecy.proofs.KnownShares.{AreKnown, have_fitting}
-use Rattle.s39_secrecy.proofs.Chosen.{AreChosen, chosen-nothing, chosen-kept, chosen-other, chosen-without, chosen-all, chosen-kept_all}
-use Rattle.s39_secrecy.proofs.Chosen.{lent, lent-distinct, lent-indices, lent-lengths, same_at, same_in_first, none_stay}
-
--- indices of shares in order, at most the threshold less two of them, or none
-pub record AreKept (threshold count : ℕ) (kept : List ℕ) : Type 0 where
-  pub ascending : AllPairs (λ a b. a < b) kept
-  pub below : All (λ index. index < count) kept
-  pub few : length kept ≤ threshold - 2
+use Rattle.s39_backup.specs.Correspondence.{AreStaying, CorrespondAtLevel}
+use Rattle.s39_backup.specs.Refitting.{AreKept}
+use Rattle.s39_split.proofs.FittedPoints.{AreKnown}
+use Rattle.s39_secrecy.proofs.KnownShares.{have_fitting}
+use Rattle.s39_backup.proofs.Chosen.{AreChosen, chosen-nothing, chosen-kept, chosen-other, chosen-without, chosen-all, chosen-kept_all}
+use Rattle.s39_backup.proofs.Chosen.{lent, lent-distinct, lent-indices, lent-lengths, same_at, same_in_first, none_stay}
 
 -- ---- the indices that stay
 

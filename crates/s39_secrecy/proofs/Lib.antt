@@ -1,5 +1,3 @@
-pub mod Chosen
-pub mod HeldGroups
 pub mod KnownShares
 pub mod Levels
 pub mod Backups

@@ -14,7 +14,7 @@ use Rattle.s39_set.specs.ShareSet.{name_of}
 use Rattle.s39_lists.proofs.Images.{Contains-map}
 use Rattle.s39_backup.specs.Created.{Asked, needed_by, IsCreatedFrom}
 use Rattle.s39_backup.proofs.Creations.{backup_exists}
-use Rattle.s39_secrecy.specs.Correspondence.{Correspond}
+use Rattle.s39_backup.specs.Correspondence.{Correspond}
 use Rattle.s39_secrecy.specs.Secrecy.{CanBeAsked, AreRandomBytes, for_secret, AreTwoShort, HaveTheShare, UndoEachOther}
 use Rattle.s39_secrecy.specs.Secrecy.{CorrespondOneToOne, TellNothing, Give, AreDifferent}
 use Rattle.s39_secrecy.proofs.Back.{bytes_back}

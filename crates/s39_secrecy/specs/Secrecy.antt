@@ -8,7 +8,7 @@ use Rattle.s39_set.specs.Names.{Name, Names, IsAscending}
 use Rattle.s39_set.specs.ShareSet.{name_of}
 use Rattle.s39_backup.specs.Plan.{IsPlan}
 use Rattle.s39_backup.specs.Created.{Asked, needed_by, IsCreatedFrom}
-use Rattle.s39_secrecy.specs.TwoShort.{IsTwoShort}
+use Rattle.s39_backup.specs.TwoShort.{IsTwoShort}
 
 -- a backup of this can be created: by a plan, of bytes that are as many as a secret may have
 pub record CanBeAsked (asked : Asked) : Type 0 where

@@ -15,9 +15,9 @@ ghost use Rattle.s39_backup.specs.Created.{Asked, asked_for, needed_by, IsCreate
 ghost use Rattle.s39_backup.specs.Outcome.{AreParams};
 ghost use Rattle.s39_backup.specs.declared.options.Options.{Options};
 ghost use Rattle.s39_backup.specs.declared.plan.Members.{Members};
-ghost use Rattle.s39_secrecy.specs.TwoShort.{IsTwoShort};
-ghost use Rattle.s39_secrecy.specs.Fitting.{Fits};
-ghost use Rattle.s39_secrecy.specs.Correspondence.{Correspond};
+ghost use Rattle.s39_backup.specs.TwoShort.{IsTwoShort};
+ghost use Rattle.s39_split.specs.Fitting.{Fits};
+ghost use Rattle.s39_backup.specs.Correspondence.{Correspond};
 ghost use Rattle.s39_secrecy.specs.Secrecy.{CanBeAsked, AreTwoShort, AreRandomBytes, for_secret, HaveTheShare, TellNothing, Give, CorrespondOneToOne, AreDifferent, AreAll, member_points};
 ghost use Rattle.s39_secrecy.specs.Rows.{group_of, one_group, home_and_two, family_and_two, four_groups};
 
@@ -54,14 +54,21 @@ pub fn one_correspondent()
         → Correspond names (for_secret other asked) asked.secret fitted random }
 {}
 
-/// Backups from random bytes that correspond have the same shares with the names.
+/// Backups from random bytes that correspond have the same shares with the names. If there is one backup, there is the
+/// other.
 pub fn corresponding_backups_share()
-    ensures { (asked : Asked) (other : List ℕ) (names : Names) (random fitted : List ℕ)
+    ensures share { (asked : Asked) (other : List ℕ) (names : Names) (random fitted : List ℕ)
         (shares others : List ShareFields)
         → AreTwoShort asked other names → Correspond names asked other random fitted
         → IsCreatedFrom asked random shares
         → IsCreatedFrom (for_secret other asked) fitted others
         → All (HaveTheShare shares others) names }
+    ensures exists { (asked : Asked) (other : List ℕ) (names : Names) (random fitted : List ℕ)
+        (shares : List ShareFields)
+        → IsTwoShort asked.group_threshold asked.groups names
+        → Correspond names asked other random fitted → IsCreatedFrom asked random shares
+        → (others : List ShareFields) × IsCreatedFrom (for_secret other asked) fitted others
+        × All (HaveTheShare shares others) names }
 {}
 
 /// Shares that are two short fit every secret of the same length: each such secret has a backup with these very shares,

@@ -11,5 +11,6 @@ pub mod Indices
 pub mod Splits
 pub mod Pieces
 pub mod SplitLaws
+pub mod FittedPoints
 pub mod OneOutcome
 pub mod Completions

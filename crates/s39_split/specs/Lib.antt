@@ -3,3 +3,4 @@ pub mod Sharing
 pub mod Recovery
 pub mod Completion
 pub mod Mismatch
+pub mod Fitting

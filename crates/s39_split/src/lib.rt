@@ -1,5 +1,5 @@
-//! One level of Shamir's secret sharing as SLIP-0039 defines it: splitting a secret, combining shares, and computing
-//! lost shares from others.
+//! One level of Shamir's secret sharing as SLIP-0039 defines it: splitting a secret, combining shares, computing
+//! lost shares from others, and fitting random bytes to known shares.
 //!
 //! ```rust
 //! use s39_kdf::Bytes;
@@ -16,6 +16,7 @@
 
 mod completion;
 mod digest;
+mod fitting;
 mod interpolation;
 pub mod laws;
 mod lent_points;
@@ -24,6 +25,7 @@ mod recovery;
 mod sharing;
 
 pub use completion::complete;
+pub use fitting::fit;
 pub use lent_points::Points;
 pub use places::{DIGEST_BYTES, DIGEST_PLACE, MAX_RANDOM_BYTES, MAX_SHARES, SECRET_PLACE};
 pub use recovery::{DigestMismatch, combine};

@@ -7,6 +7,8 @@ mod cipher;
 #[cfg(test)]
 mod field;
 #[cfg(test)]
+mod fitting;
+#[cfg(test)]
 mod kdf;
 #[cfg(test)]
 mod split;

@@ -5,6 +5,8 @@
 #[cfg(test)]
 mod backup;
 #[cfg(test)]
+mod refitting;
+#[cfg(test)]
 mod reissue;
 #[cfg(test)]
 mod secrecy;

@@ -6,8 +6,9 @@ ghost use Rattle.s39_split.specs.Sharing.{most_shares, secret_place, IsSplit};
 ghost use Rattle.s39_split.specs.Completion.{ArePointsOf};
 ghost use Rattle.s39_split.specs.Shares.{indexed_bytes, AreDistinct, HaveOneLength};
 
-use s39_backup::{Created, Options, Plan, create};
+use s39_backup::{Created, Options, Plan, create, refit};
 use s39_kdf::{Bytes, Params, encrypt};
+use s39_set::parse_quorum;
 use s39_split::{SECRET_PLACE, complete};
 use s39_words::print;
 
@@ -96,11 +97,11 @@ fn have_the_same(first: &Created, second: &Created, names: &[(u8, u8)]) -> bool 
 // With the random bytes themselves, the other secret doesn't have the same mnemonics.
 #[test]
 fn corresponding_bytes_give_the_shares(rt: HostRuntime) {
-    let rows: [(&str, &[(u8, u8)], usize, &[u8]); 4] = [
-        ("3of5", &[(0, 4)], 16, &MEMBER_4),
-        ("2/3of5,1of1,1of1", &[(0, 3)], 32, &ONE_OF_FAMILY),
-        ("3/3of5,2of3,1of1,1of1", &[(0, 2), (1, 1)], 16, &TWO_GROUPS),
-        ("3/3of5,2of3,1of1,1of1", &[(0, 4), (3, 0)], 32, &HELD_GROUP),
+    let rows: [(&str, &[u8], usize, &[u8]); 4] = [
+        ("3of5", b"0.4", 16, &MEMBER_4),
+        ("2/3of5,1of1,1of1", b"0.3", 32, &ONE_OF_FAMILY),
+        ("3/3of5,2of3,1of1,1of1", b"0.2+1.1", 16, &TWO_GROUPS),
+        ("3/3of5,2of3,1of1,1of1", b"0.4+3.0", 32, &HELD_GROUP),
     ];
     let bytes = first_bytes();
     for (text, names, n, fitted) in rows {
@@ -110,11 +111,25 @@ fn corresponding_bytes_give_the_shares(rt: HostRuntime) {
         create(&plan, &SECRET[..n], b"TREZOR", OPTIONS, random, &mut first).expect(&rt, "accepted");
         let mut second = Created::new();
         create(&plan, &OTHER[..n], b"TREZOR", OPTIONS, fitted, &mut second).expect(&rt, "accepted");
-        assert!(rt; has_names(&plan, names));
-        assert!(rt; have_the_same(&first, &second, names));
+        let keep = parse_quorum(names).expect(&rt, "names");
+        assert!(rt; has_names(&plan, keep.pairs()));
+        assert!(rt; have_the_same(&first, &second, keep.pairs()));
         let mut third = Created::new();
         create(&plan, &OTHER[..n], b"TREZOR", OPTIONS, random, &mut third).expect(&rt, "accepted");
-        assert!(rt; !have_the_same(&first, &third, names));
+        assert!(rt; !have_the_same(&first, &third, keep.pairs()));
+        let mut copy = bytes;
+        let refitted = &mut copy[..fitted.len()];
+        let answer = refit(
+            &plan,
+            &SECRET[..n],
+            &OTHER[..n],
+            b"TREZOR",
+            OPTIONS,
+            &keep,
+            refitted,
+        );
+        assert!(rt; answer);
+        assert_eq!(rt; &copy[..fitted.len()], fitted);
     }
 }
 

@@ -11,7 +11,7 @@ use Rattle.std.proofs.lemmas.Option.{slice_get-get_or}
 use Rattle.s39_split.specs.Shares.{AreDistinct}
 use Rattle.s39_lists.proofs.Pairs.{All-from_map, AllPairs-map, AllPairs-nil}
 use Rattle.s39_lists.proofs.Sublists.{Contains-nil}
-use Rattle.s39_secrecy.specs.Correspondence.{AreSameAt, StayTheSame}
+use Rattle.s39_backup.specs.Correspondence.{AreSameAt, StayTheSame}
 
 -- Of the indices below one, these were taken: all that are kept, and others, of which so many are left to take.
 pub record AreChosen (kept : List ℕ) (number index next others : ℕ) (indices : List ℕ) : Type 0 where
@@ -40,6 +40,10 @@ chosen-nothing kept number left few = record {
   lowest = λ i j less among other. absurd (Contains-nil j among);
   filled = λ some i below. absurd (omega arith);
 }
+
+pub chosen-none : (kept : List ℕ) (number left : ℕ) (indices : List ℕ) → left + length kept ≡ number → indices ≡ []
+    → AreChosen kept number 0 0 left indices
+chosen-none kept number left indices few none = subst (AreChosen kept number 0 0 left) (sym none) (chosen-nothing kept number left few)
 
 module _ (kept : List ℕ) (sorted : AllPairs (λ a b. a < b) kept) (number index next others : ℕ) (indices : List ℕ)
     (so_far : AreChosen kept number index next others indices) where

@@ -8,7 +8,7 @@ use Rattle.s39_split.specs.Sharing.{digest_length, IsSplit}
 use Rattle.s39_set.specs.Names.{Names, names_in_group}
 use Rattle.s39_backup.specs.declared.plan.Members.{Members}
 use Rattle.s39_backup.specs.Created.{AreCreatedParams, Asked}
-use Rattle.s39_secrecy.specs.TwoShort.{is_held, held_groups}
+use Rattle.s39_backup.specs.TwoShort.{is_held, held_groups}
 
 -- the shares with these indices are the same
 abbrev pub AreSameAt : List ℕ → List (List ℕ) → List (List ℕ) → Type 0

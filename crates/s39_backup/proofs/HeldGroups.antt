@@ -1,10 +1,14 @@
 -- The groups that names hold, and their members among names.
-use Rattle.std.proofs.Common.{◌≡◌, ℕ, ◌+◌, ◌<◌, ◌≤◌, ◌==◌, List, [], length, get_or, map, filter, All, AllPairs, Contains, Option}
-use Rattle.std.proofs.Common.{Some, None, true, false, ◌&&◌, nat_lt, refl, sym, ap, subst, ◌∙◌, arith}
+use Rattle.std.proofs.Common.{◌≡◌, ℕ, ◌+◌, ◌<◌, ◌≤◌, ◌==◌, List, [], ◌∷◌, ◌++◌, length, get_or, take, map, filter, All, AllPairs, Contains, Option}
+use Rattle.std.proofs.Common.{Some, None, true, false, cond, ◌&&◌, nat_lt, refl, sym, ap, subst, ◌∙◌, arith}
 use Rattle.std.specs.Prelude.{IsSomeAnd}
 use Rattle.std.specs.List.{enumerate_from, slice_get}
 use Rattle.std.specs.declared.cmp.Ordering.TheVariants.{Less}
-use Rattle.std.proofs.lemmas.List.Elements.{All-nil, All-map, All-filter, Contains-get_or}
+use Rattle.std.proofs.lemmas.List.{take_more, map-append, length-take-le, append-nil}
+use Rattle.std.proofs.lemmas.List.Elements.{filter-append, All-nil, All-map, All-filter, Contains-get_or}
+use Rattle.std.proofs.lemmas.List.Sums.{length-filter, count_by_more_yes, sum_by-take-le}
+use Rattle.std.proofs.lemmas.Bool.{eq-eqb}
+use Rattle.s39_lists.proofs.Pushes.{enumerate_from-push}
 use Rattle.std.proofs.lemmas.List.FromFn.{length-enumerate_from, get_or-enumerate_from}
 use Rattle.std.proofs.lemmas.List.Kept.{AllPairs-filter}
 use Rattle.std.proofs.lemmas.Option.{slice_get-get_or}
@@ -16,7 +20,29 @@ use Rattle.s39_set.proofs.MembersOf.{names_in_group-group}
 use Rattle.s39_lists.proofs.Sublists.{AllPairs-sublist, filter_kept, filter-none, Contains-filter}
 use Rattle.s39_backup.specs.declared.plan.Members.{Members}
 use Rattle.s39_backup.specs.Plan.{IsNameOfPlan}
-use Rattle.s39_secrecy.specs.TwoShort.{is_held, held_groups, IsTwoShort}
+use Rattle.s39_backup.specs.TwoShort.{is_held, held_groups, IsTwoShort}
+
+-- one group more
+held_more : (names : Names) (groups : List Members) (i : ℕ) (d : Members) → i < length groups
+    → held_groups names (take (i + 1) groups) ≡ held_groups names (take i groups)
+    ++ map (λ g. g.0) (filter (is_held names) ((i, get_or groups i d) ∷ []))
+held_more names groups i d within =
+    let first = take i groups in
+    let members = get_or groups i d in
+    let place : 0 + length first ≡ i = omega (arith, length-take-le i groups (omega arith)) in
+    ap (held_groups names) (take_more groups i d within)
+    ∙ ap (λ gs. map (λ g. g.0) (filter (is_held names) gs)) (enumerate_from-push 0 first members
+    ∙ ap (λ (p : ℕ). enumerate_from 0 first ++ (p, members) ∷ []) place)
+    ∙ ap (map (λ g. g.0)) (filter-append (is_held names) (enumerate_from 0 first) ((i, members) ∷ []))
+    ∙ map-append (λ g. g.0) (filter (is_held names) (enumerate_from 0 first)) (filter (is_held names) ((i, members) ∷ []))
+
+pub held-with : (names : Names) (groups : List Members) (i : ℕ) (d : Members) → i < length groups → is_held names (i, get_or groups i d) ≡ true
+    → held_groups names (take (i + 1) groups) ≡ held_groups names (take i groups) ++ i ∷ []
+held-with names groups i d within is = rw is at (held_more names groups i d within)
+
+pub held-without : (names : Names) (groups : List Members) (i : ℕ) (d : Members) → i < length groups → is_held names (i, get_or groups i d) ≡ false
+    → held_groups names (take (i + 1) groups) ≡ held_groups names (take i groups)
+held-without names groups i d within is = rw is at (held_more names groups i d within) ∙ append-nil (held_groups names (take i groups))
 
 -- the members of a group stand in order
 pub members-ascending : (names : Names) (group : ℕ) → IsAscending names → AllPairs (λ a b. a < b) (map (λ name. name.1) (names_in_group group names))
@@ -29,6 +55,21 @@ members-ascending names group ascending =
   where
     later : (a b : Name) → a.0 ≡ b.0 → name_cmp a b ≡ Less → a.1 < b.1
     later a b same less = grind (arith, nat_tests)
+
+-- those of the names before one of the group's are fewer
+pub few_before : (names : Names) (group i : ℕ) → i < length names → (get_or names i (0, 0)).0 ≡ group
+    → length (names_in_group group (take i names)) < length (names_in_group group names)
+few_before names group i within here =
+    let count : length (names_in_group group (take (i + 1) names)) ≡ length (names_in_group group (take i names)) + 1 =
+    length-filter (λ name. name.0 == group) (take (i + 1) names)
+    ∙ count_by_more_yes (λ name. name.0 == group) names i (0, 0) within (eq-eqb (get_or names i (0, 0)).0 group here)
+    ∙ ap (λ n. n + 1) (sym (length-filter (λ name. name.0 == group) (take i names))) in
+    omega (
+      arith,
+      length-filter (λ name. name.0 == group) names,
+      length-filter (λ name. name.0 == group) (take (i + 1) names),
+      sum_by-take-le (λ name. cond (name.0 == group) 1 0) names (i + 1),
+    )
 
 -- where a group isn't held
 pub not_less : (a b : ℕ) → (nat_lt 0 b && nat_lt a b) ≡ false → b ≤ a
