@@ -1,5 +1,5 @@
 //! Facts about the definitions. Each is the contract of a function that does nothing.
-ghost use Rattle.std.specs.Prelude.{◌≡◌, ◌≢◌, ◌<◌, ◌≤◌, ◌⊎◌, ℕ, length, List, All, Contains, Bool, true, false, Result, Ok, Err, IfOk, Some, None};
+ghost use Rattle.std.specs.Prelude.{◌≡◌, ◌≢◌, ◌<◌, ◌≤◌, ◌⊎◌, ℕ, length, List, All, Contains, Bool, true, false, Result, Ok, Err, IfOk, Option, Some, None};
 ghost use Rattle.s39_kdf.specs.Causes.{fingerprint_cause};
 ghost use Rattle.s39_words.specs.declared.ShareFields.{ShareFields};
 ghost use Rattle.s39_words.specs.Reading.{Reads};
@@ -18,6 +18,7 @@ ghost use Rattle.s39_input.specs.declared.fault.Stop.TheVariants.{AtLine, ReadFa
 ghost use Rattle.s39_input.specs.declared.lines.TheConstants.{MAX_LINE_BYTES};
 ghost use Rattle.s39_input.specs.declared.fault.Fault.{Fault};
 ghost use Rattle.s39_input.specs.Fault.{cause_of};
+ghost use Rattle.s39_input.specs.Runs.{ReadsAreFew};
 ghost use Rattle.s39_input.specs.Show.{IsShowOutput};
 ghost use Rattle.s39_input.specs.Repair.{IsRepairOutput, TwoFit};
 ghost use Rattle.s39_input.specs.Input.{Input, is_skipped, longest_line, whole, lines_of};
@@ -47,6 +48,12 @@ pub fn number_16_is_free()
     ensures cursors { cursor_cause.code ≢ 16 }
     ensures names { names_cause.code ≢ 16 }
     ensures fingerprints { fingerprint_cause.code ≢ 16 }
+{}
+
+/// A reader that tells its bytes is read at most once for each byte that it loses, and once more. If bytes are left and no read
+/// failed, there is no further read.
+pub fn reads_are_few<R>()
+    ensures { (remaining : R → Option (List ℕ)) → ReadsAreFew remaining }
 {}
 
 /// An input is read as at most one thing: one set of shares, or one refusal.
