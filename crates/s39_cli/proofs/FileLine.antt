@@ -32,13 +32,13 @@ length-cut : (room : ℕ) (text : List ℕ) → 3 ≤ room → length (cut_to ro
 unfolding cut_to
 length-cut room text some = elim (cases_lt room (length text)) [
   | inl long ↦ (
-    let kept = take (floor_char_boundary text (room - 3)) text in
-    let both = length-append kept (dots room) in
-    let front = length-take-most (floor_char_boundary text (room - 3)) text in
-    let low = floor_low text (room - 3) in
-    let end : length (dots room) ≤ 3 = length-take-all room (codes "...") in
-    rw (lt-leb (length text) room long) (omega (arith, both, front, low, end, some))
-  )
+      let kept = take (floor_char_boundary text (room - 3)) text in
+      let both = length-append kept (dots room) in
+      let front = length-take-most (floor_char_boundary text (room - 3)) text in
+      let low = floor_low text (room - 3) in
+      let end : length (dots room) ≤ 3 = length-take-all room (codes "...") in
+      rw (lt-leb (length text) room long) (omega (arith, both, front, low, end, some))
+      )
   | inr short ↦ rw (le-leb (length text) room short) short
 ]
 

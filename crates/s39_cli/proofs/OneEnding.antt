@@ -181,7 +181,7 @@ module _ {R W : Type 0} (files : Text → List ℕ) (remaining : R → Option (L
     one_text text same is also = (
       same,
       λ left right is_left is_right.
-      sym (same_output held written_to text left
+          sym (same_output held written_to text left
           (appended held (contents written_to) text (subst (λ (o : Option (List ℕ)). Appends o (contents written_to) text) held_is is)) is_left)
           ∙ same_output kept given_to text right
           (appended kept (contents given_to) text (subst (λ (o : Option (List ℕ)). Appends o (contents given_to) text) kept_is also)) is_right,
@@ -191,9 +191,9 @@ module _ {R W : Type 0} (files : Text → List ℕ) (remaining : R → Option (L
     nothing same is also = (
       same,
       λ left right is_left is_right.
-      let none = append_cancel_left held left [] (said_same (sym is_left ∙ ap contents is ∙ held_is) ∙ sym (append-nil held)) in
-      let neither = append_cancel_left kept right [] (said_same (sym is_right ∙ ap contents also ∙ kept_is) ∙ sym (append-nil kept)) in
-      none ∙ sym neither,
+          let none = append_cancel_left held left [] (said_same (sym is_left ∙ ap contents is ∙ held_is) ∙ sym (append-nil held)) in
+          let neither = append_cancel_left kept right [] (said_same (sym is_right ∙ ap contents also ∙ kept_is) ∙ sym (append-nil kept)) in
+          none ∙ sym neither,
     )
 
     at_once : (wanted : ℕ) → EndsAtOnce wanted reader writer status read_to written_to → EndsAtOnce wanted first output another last given_to
@@ -285,7 +285,7 @@ module _ {R W : Type 0} (files : Text → List ℕ) (remaining : R → Option (L
         one_job held kept behind behind' writer output held_is kept_is status another read_to last written_to given_to call.job other.job
         (text_of t other.given.secret) (text_of q other.given.passphrase) same.values back.values passphrase.1 sound well
         (subst (λ (x : Text). DoesJob remaining contents call.job x (text_of q other.given.passphrase) behind writer status read_to written_to) texts
-            (subst (λ (y : Text). DoesJob remaining contents call.job (text_of s call.given.secret) y behind writer status read_to written_to) words does))
+        (subst (λ (y : Text). DoesJob remaining contents call.job (text_of s call.given.secret) y behind writer status read_to written_to) words does))
         does'
 
     one_end_of_words : (words : List Text) → (AsksForText words → ⊥)
@@ -301,7 +301,7 @@ module _ {R W : Type 0} (files : Text → List ℕ) (remaining : R → Option (L
         by true taken = elim (ends.taken taken) [
           | inl ((bad, gives), none) ↦ elim (also.taken taken) [
             | inl ((worse, too), neither) ↦
-              at_once held kept reader first writer output held_is kept_is status another read_to last written_to given_to 2 none neither
+                at_once held kept reader first writer output held_is kept_is status another read_to last written_to given_to 2 none neither
             | inr (other, too, does) ↦ absurd (one_fault.no_call words bad other gives too)
           ]
           | inr (call, gives, does) ↦ elim (also.taken taken) [
@@ -329,11 +329,27 @@ some_ending files source words j given input output status taken unasked gives u
   ends = record {
     asked = λ asks. absurd (unasked asks);
     refused = λ refused _. absurd (true≢false (sym taken ∙ refused));
-    taken = λ _. inr (_, gives, inr (inr (untyped, (None, None, input, (input, (refl, refl), (refl, refl)), inr (inr (inr (inr (inr (ready, record {
-      read = (input, sym (append-nil input));
-      done = λ _. (input, refl, (output, outcome, refl));
-      failed = λ three. absurd (sound three);
-    })))))))));
+    taken = λ _. inr (
+      _,
+      gives,
+      inr (inr (
+        untyped,
+        (
+          None,
+          None,
+          input,
+          (input, (refl, refl), (refl, refl)),
+          inr (inr (inr (inr (inr (
+            ready,
+            record {
+              read = (input, sym (append-nil input));
+              done = λ _. (input, refl, (output, outcome, refl));
+              failed = λ three. absurd (sound three);
+            },
+          ))))),
+        ),
+      )),
+    );
   };
   sound = sound;
   output_is = refl;

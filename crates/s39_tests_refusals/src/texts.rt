@@ -209,9 +209,16 @@ const LONGEST: &str =
 
 /// The messages of the refusals with this number at the greatest line are no longer than the longest, whatever their details are.
 fn expect_short(rt: &impl Abort, alloc: Global, number: u8) -> Result<(), Fail> {
-    let greatest = [0, 16, 255, 65535, 4294967295, u64::MAX];
-    for pair in 0..36 {
-        let cause = Cause::new(number, greatest[pair / 6], greatest[pair % 6]);
+    let greatest = [
+        (u64::MAX, 0),
+        (u64::MAX, u64::MAX),
+        (16, 0),
+        (255, 0),
+        (255, 255),
+        (65535, 4294967295),
+    ];
+    for (first, second) in greatest {
+        let cause = Cause::new(number, first, second);
         let told = format!(in alloc; "{}", FaultText::of(Some(u64::MAX), cause))?;
         assert!(rt; told.len() <= LONGEST.len());
     }
