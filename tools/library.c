@@ -367,7 +367,7 @@ static const repair_example repair_examples[] = {
     {ONE "\n", {11, 0, 20, 0, "unknown word 20"}, ""},
     {"duckling ?", {12, 0, 2, 0, "2 words make no share"}, ""},
     {"? enlarge ? academic ? result ? solution fridge kidney coal piece deal husband erode duke ajar critical decision keyboard",
-     {16, 0, 4, 0, "4 unreadable words: at most 3"}, ""},
+     {19, 0, 4, 0, "4 unreadable words: at most 3"}, ""},
     {"duckling enlarge academic academic ? result solution length fridge kidney coal piece deal husband erode duke ajar critical decision keyboard",
      {17, 0, 0, 0, "no mnemonic has these words"}, ""},
     {"duckling enlarge academic academic agency " REST "kidney",

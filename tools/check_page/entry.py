@@ -165,7 +165,7 @@ DAMAGED = [
     (with_words({5: "?", 12: "?"}), [listed([5, 12])], ""),
     (with_words({18: "?", 19: "?", 20: "?"}), [listed([18, 19, 20])], ""),
     (SOUND, [say("damaged.whole")], ""),
-    (with_words({17: "?", 18: "?", 19: "?", 20: "?"}), [], say("damaged.refused.16", first=4)),
+    (with_words({17: "?", 18: "?", 19: "?", 20: "?"}), [], say("damaged.refused.19", first=4)),
     (with_words({7: "lend"}), [], say("damaged.refused.18", first=7)),
     (with_words({20: "kidney"}), [], say("damaged.refused.18", first=20)),
     (EXCHANGED, [], say("damaged.refused.13")),

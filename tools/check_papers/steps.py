@@ -206,7 +206,7 @@ def check_repair():
         words = SOUND_PAPER.split()
         owner.answer(ask, " ".join(["? ? ? ?", *words[4:]]))
         owner.answer(NUMBERED, SIGN)
-        owner.expect(say("damaged.refused.16", first=4))
+        owner.expect(say("damaged.refused.19", first=4))
         owner.answer(ask, " ".join([*words[:2], "acad?", "acax?", *words[4:]]))
         owner.answer(word_prompt(4), "?")
         owner.expect(say("entry.mark", number=4, word="acax?"))

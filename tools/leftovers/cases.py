@@ -146,7 +146,7 @@ def lines_alone(backup: Backup) -> Iterator[Case]:
     two_wrong = wrong_word(wrong_word(line, 7), 9)
     for code, given, room in [
         (0, lost, ROOM), (0, line, ROOM), (1, lost, 100), (11, line + b"x", ROOM), (12, short, ROOM),
-        (13, two_wrong, ROOM), (16, lost.replace(words[9], b"?", 1), ROOM), (17, wrong_word(one_lost, 9), ROOM),
+        (13, two_wrong, ROOM), (19, lost.replace(words[9], b"?", 1), ROOM), (17, wrong_word(one_lost, 9), ROOM),
         (18, wrong_word(line, 7), ROOM),
     ]:
         yield Case("repair", code, [given, room])

@@ -168,7 +168,7 @@ test("repair", () => {
   for (const [line, code, details] of /** @type {[string, number, number[]][]} */ ([
     [at(["zz?"], 7), 11, [7, 0]],
     ["duckling ?", 12, [2, 0]],
-    [at(["?", "?", "?", "?"], 17), 16, [4, 0]],
+    [at(["?", "?", "?", "?"], 17), 19, [4, 0]],
     [at(["?", "result", "solution", "length"], 5), 17, [0, 0]],
     [at(["lend"], 7), 18, [7, 0]],
     [at(["ze?"], 7), 18, [7, 0]],

@@ -96,9 +96,9 @@ class Code(enum.IntEnum):
     BAD_CHECKSUM = 13
     BAD_PADDING = 14
     GROUP_THRESHOLD = 15
-    UNREADABLE_WORDS = 16
     NO_MNEMONIC = 17
     WRONG_WORD = 18
+    UNREADABLE_WORDS = 19
     OTHER_IDENTIFIER = 21
     OTHER_EXTENDABLE = 22
     OTHER_EXPONENT = 23
@@ -605,8 +605,8 @@ def repair(line: Text) -> List[str]:
     Each open place uses up one of the three words of the checksum. With three open places, a wrong word elsewhere isn't
     always found, and the answer may be another mnemonic. So compare the answer with all that can be read.
 
-    Raises `Refusal` with one of the codes 11 to 18. For Code.WRONG_WORD the details are the positions, counted from 1,
-    one of which is that of the wrong word if just one word is wrong. The second is 0 if there is only one.
+    Raises `Refusal` with one of the codes 11 to 15 or 17 to 19. For Code.WRONG_WORD the details are the positions, counted
+    from 1, one of which is that of the wrong word if just one word is wrong. The second is 0 if there is only one.
     """
     given = _slice(_bytes(line))
     return _filled(lambda out, room: _library.shamir_repair(*given, out, room), REPAIRED_BYTES_MAX).decode().splitlines()

@@ -111,11 +111,6 @@ refusals! {
         /// The refused line, counted from 1. It is `None` if the call takes one line.
         line: Option<u64> = line
     };
-    /// More than three places of a line are open.
-    UnreadableWords = 16 {
-        /// How many are.
-        open: u64 = first
-    };
     /// No mnemonic fits a line of marks.
     NoMnemonic = 17;
     /// The checksum is wrong, and another word in one place would make a mnemonic of the line.
@@ -124,6 +119,11 @@ refusals! {
         position: u64 = first,
         /// Another such position, if there are two. It is the greater one.
         or: Option<u64> = second
+    };
+    /// More than three places of a line are open.
+    UnreadableWords = 19 {
+        /// How many are.
+        open: u64 = first
     };
     /// The identifier differs from that of earlier lines.
     OtherIdentifier = 21 {

@@ -88,7 +88,7 @@ fn refusals() -> Vec<(Error, Error, u32, &'static str)> {
         (
             repair(ONE.replacen("duckling enlarge academic academic", "? ? ? ?", 1)),
             Error::UnreadableWords { open: 4 },
-            16,
+            19,
             "4 unreadable words: at most 3",
         ),
         (

@@ -65,7 +65,7 @@ fn refuses_lines(rt: HostRuntime) {
         (
             b"duckling enlarge academic academic agency result length solution fridge kidney \
               coal piece deal husband erode duke ? ? ? ?",
-            answer(16, 4, 0, 0),
+            answer(19, 4, 0, 0),
         ),
         (
             b"duckling enlarge academic academic ? result solution length fridge kidney \

@@ -25,7 +25,7 @@ fn tells(rt: HostRuntime) {
         (refusal(13, 3, 0, 0), b"bad checksum"),
         (refusal(14, 3, 0, 0), b"bad padding"),
         (refusal(15, 3, 0, 0), b"group threshold above group count"),
-        (refusal(16, 0, 4, 0), b"4 unreadable words: at most 3"),
+        (refusal(19, 0, 4, 0), b"4 unreadable words: at most 3"),
         (refusal(17, 0, 0, 0), b"no mnemonic has these words"),
         (
             refusal(18, 0, 7, 0),

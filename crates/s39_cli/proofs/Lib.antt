@@ -18,3 +18,5 @@ pub mod SomeOutcomes
 pub mod Unreadiness
 pub mod Untouched
 pub mod Works
+pub mod OneEnding
+pub mod FileLine

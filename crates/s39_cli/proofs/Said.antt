@@ -30,11 +30,11 @@ use Rattle.s39_cli.specs.declared.work.Work.{Work}
 use Rattle.s39_cli.specs.declared.work.Work.TheVariants as work
 use Rattle.s39_reading.specs.Recover.{WritesSecret}
 use Rattle.s39_drilling.specs.Drill.{WritesDrillOf}
-use Rattle.s39_cli.specs.Ending.{Delivers, HasStatus, IsTyped}
+use Rattle.s39_cli.specs.Ending.{Delivers, HasStatus, IsTyped, OnEnd}
 use Rattle.s39_cli.specs.Outcome.{IsReady, judged, status_of, status_of_refusal, where_done, without_mismatches}
 use Rattle.s39_cli.specs.Said.{IsSaid, IsSaidAs, IsSaidBy, IsSaidOfCall, IsSaidOfJob, IsSaidUnbegun, IsSaidWithoutJob, IsSilentAtNone, IsWithin, OnStatus}
 use Rattle.s39_cli.specs.Said.{Says, SaysAnswer, SaysMessage, longest_message, memory_line}
-use Rattle.s39_cli.specs.Said.{bare_line, is_terminal, line_if, shown_line, tells_of_none, typed_line, types_mnemonics, types_passphrase, typing_line}
+use Rattle.s39_cli.specs.Said.{IsNamedIn, bare_line, is_terminal, line_if, long_line, secret_line, shown_line, tells_of_none, typed_line, types_mnemonics, types_passphrase, typing_line}
 use Rattle.s39_cli.specs.Work.{HasBadPassphrase, IsWorkOutput}
 
 -- ---- exit statuses
@@ -43,6 +43,16 @@ use Rattle.s39_cli.specs.Work.{HasBadPassphrase, IsWorkOutput}
 refusal_some : (refusal : Refusal) → status_of_refusal refusal ≡ 0 → ⊥
 refusal_some (Device failure) none = omega (arith, none)
 refusal_some _ none = omega (arith, none)
+
+-- no run ends with exit status 2
+refusal_two : (refusal : Refusal) → status_of_refusal refusal ≡ 2 → ⊥
+refusal_two (Device failure) two = omega (arith, two)
+refusal_two _ two = omega (arith, two)
+
+never_two : (answer : Result Bool Fault) → status_of answer ≡ 2 → ⊥
+never_two (Ok true) two = omega (arith, two)
+never_two (Ok false) two = omega (arith, two)
+never_two (Err fault) two = refusal_two fault.refusal two
 
 -- ---- what is done with exit status 0 has a printable passphrase
 
@@ -122,6 +132,7 @@ module _ {E : Type 0} (contents : E → Option (List ℕ)) where
     refused = λ one.
         let short = says_shortly answer tells mid new second in
         (asks, short.0, within asked, short.1, (λ comes. (secret, ready)), says_both old mid new (line_if asks typing_line) short.0 first short.2);
+    wrong = λ two. absurd (never_two answer two);
   }
     where
       within : (asks ≡ types) ⊎ ((asks ≡ false) × HasBadPassphrase w) → IsWithin asks types
@@ -171,6 +182,7 @@ module _ {E : Type 0} (contents : E → Option (List ℕ)) where
     done = λ none. absurd (omega (arith, none, is));
     refused = λ one.
         (false, text, (λ comes. absurd (true≢false (sym comes))), short, (λ comes. absurd (true≢false (sym comes))), says);
+    wrong = λ two. absurd (omega (arith, two, is));
   }
 
   pub said_unbegun : {R W : Type 0} (j : Job) (types tells : Bool) (u : Unready) (ended : Ended R W) (old new : Messages E)
@@ -181,6 +193,7 @@ module _ {E : Type 0} (contents : E → Option (List ℕ)) where
   said_unbegun j types tells unready.Secret (With status read_to written_to) old new (is, says) = record {
     done = λ none. absurd (omega (arith, none, is));
     refused = λ one. absurd (omega (arith, one, is));
+    wrong = λ _. says;
   }
   said_unbegun j types tells (unready.Plan error) ended old new says = refused_unbegun j types tells ended old new says
   said_unbegun j types tells (unready.Cursor bad) ended old new says = refused_unbegun j types tells ended old new says
@@ -226,23 +239,33 @@ module _ {E : Type 0} (contents : E → Option (List ℕ)) where
     }
 
     module _ (call : Call) (found : GivesCall words call) (faultless : fault_of shamir_app words ≡ []) where
-      pub said_typed : (ended : Ended R W) (reader : R) (writer : W) → ended ≡ With 2 reader writer → Says contents old new typed_line
-          → IsSaid contents source destination words old new ended
-      said_typed ended reader writer same says =
+      pub said_typed : (ended : Ended R W) (reader : R) (writer : W) → IsTyped source call.job → ended ≡ With 2 reader writer
+          → Says contents old new typed_line → IsSaid contents source destination words old new ended
+      said_typed ended reader writer typed same says =
           subst (IsSaid contents source destination words old new) (sym same) (by_call source destination words old new call found faultless 2 (record {
             done = λ none. absurd (omega (arith, none));
             typed = λ _. says;
             refused = λ one. absurd (omega (arith, one));
+            wrong = λ _. inl typed;
           }))
 
-      pub said_unread : (ended : Ended R W) → (IsTyped source call.job → ⊥) → OnStatus ended (λ status. 2 ≤ status)
+      pub said_unread : (shown : Bool) (mid : Messages E) (name : Text) (ended : Ended R W) → (IsTyped source call.job → ⊥)
+          → OnStatus ended (λ status. 2 ≤ status) → shown ≡ types_passphrase source call.files.passphrase → IsNamedIn call.files name
+          → Says contents old mid (line_if shown shown_line) → OnEnd ended (λ status read_to written_to. status ≡ 2 → Says contents mid new (long_line name))
           → IsSaid contents source destination words old new ended
-      said_unread NoMemory untyped other = absurd other
-      said_unread (With status read_to written_to) untyped other = by_call source destination words old new call found faultless status (record {
-        done = λ none. absurd (omega (arith, none, other));
-        typed = λ typed. absurd (untyped typed);
-        refused = λ one. absurd (omega (arith, one, other));
-      })
+      said_unread shown mid name NoMemory untyped other shown_is named first says = absurd other
+      said_unread shown mid name (With status read_to written_to) untyped other shown_is named first says =
+          by_call source destination words old new call found faultless status (record {
+            done = λ none. absurd (omega (arith, none, other));
+            typed = λ typed. absurd (untyped typed);
+            refused = λ one. absurd (omega (arith, one, other));
+            wrong = λ two. inr (
+              long_line name,
+              inr (name, named, refl),
+              subst (λ (b : Bool). Says contents old new (line_if b shown_line ++ long_line name)) shown_is
+                  (says_both old mid new (line_if shown shown_line) (long_line name) first (says two)),
+            );
+          })
 
       pub said_of_job : (shown types tells : Bool) (mid : Messages E) (ended : Ended R W) → (IsTyped source call.job → ⊥)
           → shown ≡ types_passphrase source call.files.passphrase → types ≡ types_mnemonics source call.job
@@ -275,6 +298,12 @@ module _ {E : Type 0} (contents : E → Option (List ℕ)) where
                   subst (λ (b : Bool). Says contents old new (line_if b shown_line ++ (line_if r.0 typing_line ++ r.1))) shown_is
                       (says_both old mid new (line_if shown shown_line) (line_if r.0 typing_line ++ r.1) first r.5),
                 );
+            wrong = λ two. inr (
+              secret_line,
+              inl refl,
+              subst (λ (b : Bool). Says contents old new (line_if b shown_line ++ secret_line)) shown_is
+                  (says_both old mid new (line_if shown shown_line) secret_line first (says.wrong two)),
+            );
           })
 
 -- ---- nothing is said

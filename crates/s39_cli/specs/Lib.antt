@@ -9,3 +9,4 @@ pub mod Unready
 pub mod Untouched
 pub mod Values
 pub mod Work
+pub mod OneEnding

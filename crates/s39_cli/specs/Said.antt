@@ -2,6 +2,7 @@
 use Rattle.std.specs.Prelude.{◌≡◌, ◌⊎◌, ◌≤◌, ◌++◌, ℕ, Bool, IsFalse, true, false, List, [], Option, Some, Result, Ok, Err, is_some, is_none, bytes_eq, codes}
 use Rattle.std.specs.Prelude.{if◌then◌else◌, length, string_bytes}
 use Rattle.std.specs.Borrow.{Bor}
+use Rattle.std.specs.Fmt.Cut.{cut_to}
 use Rattle.std.specs.Io.KnownBytes.{Appends}
 use Rattle.clap.specs.Words.{Text, takes}
 use Rattle.s39_command.specs.declared.command.Call.{Call}
@@ -11,7 +12,8 @@ use Rattle.s39_command.specs.declared.command.BadValues.{BadValues}
 use Rattle.s39_command.specs.declared.command.NoJob.{NoJob}
 use Rattle.s39_command.specs.declared.command.NoJob.TheVariants.{Help, Refused, Values}
 use Rattle.s39_command.specs.declared.command.NoJob.TheVariants as no_job
-use Rattle.s39_command.specs.Command.{AsksForText, GivesBadValues, GivesCall, bad_text, shamir_app}
+use Rattle.s39_command.specs.declared.command.Texts.{Texts}
+use Rattle.s39_command.specs.Command.{AsksForText, GivesBadValues, GivesCall, bad_text, shamir_app, text_in}
 use Rattle.s39_input.specs.declared.fault.Fault.{Fault}
 use Rattle.s39_cli.specs.declared.messages.Messages.{Messages}
 use Rattle.s39_cli.specs.declared.runner.Destination.{Destination}
@@ -69,6 +71,23 @@ no_text_line = codes "shamir: the arguments aren't UTF-8\n"
 abbrev pub memory_line : Text
 memory_line = codes "shamir: out of memory\n"
 
+-- the most bytes of a file's name that are said
+abbrev pub longest_name : ℕ
+longest_name = 4095
+
+-- the most bytes that are said of why a file's value isn't read
+abbrev pub longest_reason : ℕ
+longest_reason = 128
+
+-- Said if the value of the file of this name isn't read, for this reason. What is longer is cut, and then ends in dots.
+abbrev pub file_line : Text → Text → Text
+file_line name reason =
+    codes "shamir: " ++ cut_to longest_name name ++ codes ": " ++ cut_to longest_reason reason ++ codes "\n"
+
+-- said for a value that is too long, in the file of this name
+abbrev pub long_line : Text → Text
+long_line name = file_line name (codes "the value has more than 1024 bytes")
+
 -- ---- when they are said
 
 -- the passphrase is typed: the input is a terminal, and the passphrase is its first line
@@ -125,16 +144,26 @@ abbrev pub is_terminal : Source → Bool
 is_terminal read_at.Terminal = true
 is_terminal read_at.Elsewhere = false
 
+-- a file of a value has this name
+abbrev pub IsNamedIn : Texts → Text → Type 0
+IsNamedIn files name = (text_in files.secret ≡ Some name) ⊎ (text_in files.passphrase ≡ Some name)
+
+-- said of a value: that the secret isn't hexadecimal, or that the value of a file is too long
+abbrev pub IsValueLine : Texts → Text → Type 0
+IsValueLine files text = (text ≡ secret_line) ⊎ ((name : Text) × IsNamedIn files name × (text ≡ long_line name))
+
 module _ {E : Type 0} (contents : E → Option (List ℕ)) where
   -- With exit status 0, exactly the lines of `said_of` are said. For random bytes that would be typed it is that line. With 1 it is the
   -- line about a passphrase that is typed, the line about mnemonics if the command began to read them, for which its texts had to be right,
-  -- and at most one more message.
+  -- and at most one more message. With 2 it is the line about such a passphrase, and what is wrong with a value.
   pub record IsSaidOfCall (source : Source) (destination : Destination) (call : Call) (old new : Messages E) (status : ℕ) : Type 0 where
     pub done : status ≡ 0 → Says contents old new (said_of source destination call)
     pub typed : IsTyped source call.job → Says contents old new typed_line
     pub refused : status ≡ 1 → (begun : Bool) × (text : Text) × IsWithin begun (types_mnemonics source call.job) × (length text ≤ longest_message)
         × (begun ≡ true → (secret : Text) × IsReady call.job secret)
         × Says contents old new (line_if (types_passphrase source call.files.passphrase) shown_line ++ (line_if begun typing_line ++ text))
+    pub wrong : status ≡ 2 → IsTyped source call.job ⊎ ((text : Text) × IsValueLine call.files text
+        × Says contents old new (line_if (types_passphrase source call.files.passphrase) shown_line ++ text))
 
   -- Nothing is said beside help or the version. Values that are missing or given twice have their text. What is said of a call is as
   -- above.
@@ -178,6 +207,7 @@ module _ {E : Type 0} (contents : E → Option (List ℕ)) where
     pub done : status ≡ 0 → Says contents old new (line_if types_mnemonics typing_line ++ line_if tells_of_none bare_line)
     pub refused : status ≡ 1 → (begun : Bool) × (text : Text) × IsWithin begun types_mnemonics × (length text ≤ longest_message)
         × (begun ≡ true → (secret : Text) × IsReady job secret) × Says contents old new (line_if begun typing_line ++ text)
+    pub wrong : status ≡ 2 → Says contents old new secret_line
 
   -- the same for how it ends
   abbrev pub IsSaidOfJob : {R W : Type 0} → Job → Bool → Bool → Messages E → Messages E → Ended R W → Type 0

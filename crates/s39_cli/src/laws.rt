@@ -1,14 +1,16 @@
 //! Facts about the definitions. Each is the contract of a function that does nothing, or only calls other laws.
-ghost use Rattle.std.specs.Prelude.{◌≡◌, ◌++◌, ℕ, List, [], ◌∷◌, Some, codes, false};
+ghost use Rattle.std.specs.Prelude.{◌≡◌, ◌++◌, ℕ, List, [], ◌∷◌, Option, Some, codes, false, length};
 ghost use Rattle.s39_set.specs.Written.{IsWrittenForm};
 ghost use Rattle.s39_command.specs.declared.command.Call.{Call};
 ghost use Rattle.s39_command.specs.declared.command.Job.{Job};
-ghost use Rattle.s39_cli.specs.Said.{IsSilentAtNone, said_of};
+ghost use Rattle.s39_cli.specs.declared.telling.TheConstants.{MESSAGE_BYTES};
+ghost use Rattle.s39_cli.specs.Said.{IsSilentAtNone, longest_message, said_of};
 ghost use Rattle.s39_cli.specs.Ending.{AreAllOf, HoldsBeginning};
 ghost use Rattle.s39_cli.specs.Outcome.{HasNoCause, IsReady};
 ghost use Rattle.s39_cli.specs.Fewer.{FewCreatedWordsRecover, FewDrillWordsList, FewRecoverWordsRecover, ReissueWordsReissue};
 ghost use Rattle.s39_cli.specs.Headline.{CreatedWordsRecover, DrillWordsList, OneOutcome, RecoverWordsRecover};
 ghost use Rattle.s39_cli.specs.Expecting.{ExpectingDrillWordsCompare, ExpectingRecoverWordsGive};
+ghost use Rattle.s39_cli.specs.OneEnding.{OneEnding, SomeEnding};
 ghost use Rattle.s39_cli.specs.Headline.{RepairsTellOfTwo, SameValuesWriteTheSame, SomeOutcome};
 
 use crate::runner::{Destination, Ended, Source};
@@ -24,6 +26,13 @@ use s39_reading::laws::{
     written_mnemonics_recover,
 };
 use s39_set::laws::written_forms;
+
+/// The room for a message is that of the definitions: enough for the greatest line, the greatest number, and the longest text with
+/// the greatest details.
+pub fn numbers()
+    ensures room { MESSAGE_BYTES ≡ longest_message }
+    ensures longest { longest_message ≡ length (codes "shamir: line 18446744073709551615: 255 cannot tell 255.255: 255 of 255 members, 255 of 255 other groups\n") }
+{}
 
 /// With status 3, a writer that tells its bytes holds what it held and the text up to some place. What a reader that tells its
 /// bytes has is exactly these bytes.
@@ -82,6 +91,20 @@ pub fn one_outcome()
     one_plan_reading();
     written_forms();
 }
+
+/// Files, an input and an output that tell their bytes, and no call of which fails, give one exit status and one output, if the
+/// words don't ask for help or the version.
+pub fn one_ending<R, W>()
+    ensures { (remaining : R → Option (List ℕ)) (contents : W → Option (List ℕ))
+        → OneEnding remaining contents }
+{
+    one_outcome();
+}
+
+/// There is such an ending: words whose job can be begun end as its outcome says.
+pub fn some_ending()
+    ensures { SomeEnding }
+{}
 
 /// If two mnemonics fit a line, the exit status of a repair isn't 0. If its status is 1, two mnemonics fit some line, or it is
 /// refused.

@@ -2,18 +2,19 @@
 ghost use Rattle.std.specs.Prelude.{◌≡◌, ◌≢◌, ◌≤◌, ◌⊎◌, map, false, IsFalse, IsTrue};
 ghost use Rattle.s39_command.specs.Command.{IsInRange};
 ghost use Rattle.s39_cli.specs.Ending.{DoesJob, Ends, EndsUnread, EndsWithoutJob, IsTyped, OnEnd, status_in};
-ghost use Rattle.s39_cli.specs.Said.{IsSaid, IsSaidOfJob, IsSaidWithoutJob, IsSilentAtNone, OnStatus, Says, is_attended, typed_line};
+ghost use Rattle.s39_cli.specs.Said.{IsSaid, IsSaidOfJob, IsSaidWithoutJob, IsSilentAtNone, OnStatus, Says, is_attended, long_line, typed_line};
 ghost use Rattle.s39_cli.specs.Untouched.{IsUntouchedBy, IsUntouchedIfRefused};
 ghost use Rattle.s39_cli.specs.Work.{HasBadPassphrase};
 
 use crate::delivery::{by_buffer, by_lines, show, write_failed};
 use crate::messages::Messages;
 use crate::notes::{Notes, SHOWN, TYPING};
-use crate::telling::{answered, no_memory_left, report, say_of_file, unbegun};
+use crate::telling::{REASON_BYTES, answered, no_memory_left, report, say_of_file, unbegun};
 use crate::values::{NoValue, Secrets, Shelf, Unread, Values};
 use crate::work::Work;
 use s39_command::{Job, NoJob, read_words};
 use std::alloc::Global;
+use std::fmt::InlineText;
 use std::io::{Read, Write};
 
 pub(crate) const DONE: u8 = 0;
@@ -225,6 +226,8 @@ fn without_value<R: Drop, W: Drop, E: Write>(
     ensures failed { unread.entry.cause ≢ NoValue.TooLong
         → OnEnd result (λ status read_to written_to. status ≡ 3) }
     ensures not_begun { OnStatus result (λ status. 2 ≤ status) }
+    ensures said { OnEnd result (λ status read_to written_to. status ≡ 2
+        → Says E.contents errors.old errors.new (long_line unread.entry.name.now)) }
 {
     let Unread { name, cause } = unread;
     let status = match cause {
@@ -233,7 +236,8 @@ fn without_value<R: Drop, W: Drop, E: Write>(
             NO_JOB
         }
         NoValue::Failed(error) => {
-            say_of_file(name, error, errors);
+            let reason: InlineText<REASON_BYTES> = InlineText::of(error);
+            say_of_file(name, reason.as_str(), errors);
             DEVICE_FAILED
         }
     };

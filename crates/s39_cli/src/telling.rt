@@ -3,7 +3,7 @@ ghost use Rattle.std.specs.Prelude.{◌≡◌, ◌≢◌, IfOk, IsFalse};
 ghost use Rattle.std.specs.IoError.{error_kind};
 ghost use Rattle.s39_cli.specs.Ending.{EndsUnbegun};
 ghost use Rattle.s39_cli.specs.Outcome.{status_of, status_of_refusal};
-ghost use Rattle.s39_cli.specs.Said.{IsSaidUnbegun, IsSilentAtNone, Says, SaysAnswer, SaysMessage, memory_line, no_text_line};
+ghost use Rattle.s39_cli.specs.Said.{IsSaidUnbegun, IsSilentAtNone, Says, SaysAnswer, SaysMessage, file_line, memory_line, no_text_line};
 
 use crate::delivery::Finished;
 use crate::messages::Messages;
@@ -13,7 +13,7 @@ use crate::work::Unready;
 use s39_input::{Fault, Refusal};
 use s39_refusal::Cause;
 use s39_text::FaultText;
-use std::fmt::{Display, InlineText};
+use std::fmt::InlineText;
 use std::io;
 use std::io::{ErrorKind, Write};
 
@@ -24,7 +24,7 @@ const MESSAGE_BYTES: usize = 104;
 const NAME_BYTES: usize = 4095;
 
 /// The most bytes that say why a file's value isn't read.
-const REASON_BYTES: usize = 128;
+pub(crate) const REASON_BYTES: usize = 128;
 
 /// More than the most bytes of a message that names a file.
 const FILE_BYTES: usize = NAME_BYTES + REASON_BYTES + 12;
@@ -77,17 +77,15 @@ fn say_fault<E: Write>(line: Option<u64>, cause: Cause, errors: &mut Messages<E>
     errors.say(text.as_str().as_bytes());
 }
 
-/// Says why the value of a file isn't read, in one write. A longer name is cut.
-pub(crate) fn say_of_file<D: Display + Drop, E: Write>(
-    name: &str,
-    reason: D,
-    errors: &mut Messages<E>,
-) {
+/// Says why the value of a file isn't read, in one write. A longer name or reason is cut, and then ends in dots.
+pub(crate) fn say_of_file<E: Write>(name: &str, reason: &str, errors: &mut Messages<E>)
+    ensures { Says E.contents errors.old errors.new (file_line name.now reason.now) }
+{
     let text: InlineText<FILE_BYTES> = InlineText::new()
         .and_str("shamir: ", 8)
         .and_str(name, NAME_BYTES)
         .and_str(": ", 2)
-        .and(reason, REASON_BYTES)
+        .and_str(reason, REASON_BYTES)
         .and_str("\n", 1);
     errors.say(text.as_str().as_bytes());
 }

@@ -5,7 +5,7 @@ ghost use Rattle.std.specs.Io.KnownBytes.{ReadConsumes};
 ghost use Rattle.std.specs.IoError.{error_kind};
 ghost use Rattle.s39_cli.specs.Ending.{OnEnd};
 ghost use Rattle.s39_cli.specs.Said.{Says, rest_line};
-ghost use Rattle.s39_cli.specs.Terminal.{ConsumesMore, EndsAlike};
+ghost use Rattle.s39_cli.specs.Terminal.{ConsumesMore, EndsAlike, HasRest};
 
 use crate::messages::Messages;
 use crate::runner::{Ended, REFUSED};
@@ -94,6 +94,9 @@ pub fn with_rest_dropped<R: Read + Drop, W: Drop, E: Write>(
         → read_to.progress ≢ Progress.Begun) }
     // Nothing else is said than that the rest is dropped.
     ensures said { (errors.new ≡ errors.old) ⊎ Says E.contents errors.old errors.new rest_line }
+    // If there is something to drop, it is said.
+    ensures told { OnEnd ended (λ status read_to written_to. HasRest status read_to.progress
+        → Says E.contents errors.old errors.new rest_line) }
     // After a refusal with status 1, nothing is left of any input.
     ensures refused { OnEnd result (λ status read_to written_to. status ≡ 1
         → read_to.progress ≡ Progress.Ended) }
@@ -121,6 +124,7 @@ fn at_end<R: Read, E: Write>(status: u8, input: Watched<R>, errors: &mut Message
     ensures ended { input.progress ≡ Progress.Ended → (result ≡ input) × (errors.new ≡ errors.old) }
     ensures dropped { status ≢ 0 → result.progress ≢ Progress.Begun }
     ensures said { (errors.new ≡ errors.old) ⊎ Says E.contents errors.old errors.new rest_line }
+    ensures told { HasRest status input.progress → Says E.contents errors.old errors.new rest_line }
     ensures refused { status ≡ 1 → result.progress ≡ Progress.Ended }
 {
     let waits = match input.progress {

@@ -1,5 +1,7 @@
 //! Values of a command that stand in files or in the first lines of the input.
-ghost use Rattle.std.specs.Prelude.{◌≡◌, ◌≢◌, Err, None, IfErr, IfOk, OnErr, option_map};
+ghost use Rattle.std.specs.Prelude.{◌≡◌, ◌≢◌, Err, None, Some, IfErr, IfOk, OnErr, option_map};
+ghost use Rattle.s39_command.specs.Command.{text_in};
+ghost use Rattle.s39_cli.specs.Said.{IsNamedIn};
 ghost use Rattle.s39_cli.specs.Values.{HasLong, HasLongValue, IsInFile, IsInput, IsLongFile, IsPart, IsValueIn, IsValueOf};
 ghost use Rattle.s39_cli.specs.Values.{LacksValue, TakesByte, TakesValue, TakesValues, text_of, without_line_end};
 
@@ -171,6 +173,7 @@ fn in_file<'a, S: Shelf>(shelf: &S, name: Option<&'a str>) -> Result<Option<Valu
     ensures value { IfOk result (λ value. IsInFile (S.told shelf.now) name.entry
         (option_map (λ held. held.items) value)) }
     ensures failed { OnErr result (name.entry ≢ None) }
+    ensures named { IfErr result (λ unread. text_in name.entry ≡ Some unread.name.now) }
     ensures long { IfErr result (λ unread. unread.cause ≡ NoValue.TooLong
         → IsLongFile (S.told shelf.now) name.entry) }
 {
@@ -195,6 +198,7 @@ fn in_line<'a, S: Shelf, R: Read>(
     ensures value { IfOk result (λ value. TakesValue (S.told shelf.now) R.remaining name.entry
         (option_map (λ held. held.items) value) input.old input.new) }
     ensures failed { OnErr result (IsInput name.entry) }
+    ensures named { IfErr result (λ unread. text_in name.entry ≡ Some unread.name.now) }
     ensures long { IfErr result (λ unread. unread.cause ≡ NoValue.TooLong
         → HasLongValue Until.LineEnd (R.remaining input.old)) }
 {
@@ -244,6 +248,7 @@ impl Values {
             (option_map (λ held. held.items) values.secret)
             (option_map (λ held. held.items) values.passphrase) input.old input.new) }
         ensures failed { OnErr result (LacksValue files.entry input.old input.new) }
+        ensures named { IfErr result (λ unread. IsNamedIn files.entry unread.name.now) }
         ensures long { IfErr result (λ unread. unread.cause ≡ NoValue.TooLong
             → HasLong (S.told shelf.now) R.remaining files.entry input.old) }
     {

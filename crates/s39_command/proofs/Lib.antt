@@ -6,3 +6,4 @@ pub mod DrillWords
 pub mod RecoverWords
 pub mod CreateWords
 pub mod ReissueWords
+pub mod Faults

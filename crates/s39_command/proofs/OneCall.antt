@@ -79,7 +79,7 @@ module _ (name : Text) (rows : List Row) where
   same_values job.Repair job.Repair same is also = refl
   same_values _ _ same is also = cc same
 
-one_found : (o : Option (Text × List Row)) (x y : Text × List Row) → o ≡ Some x → o ≡ Some y → x ≡ y
+pub one_found : (o : Option (Text × List Row)) (x y : Text × List Row) → o ≡ Some x → o ≡ Some y → x ≡ y
 one_found o x y is also = cc
 
 same_texts : (secret passphrase : Text) (rows : List Row) (texts other : Texts) → AreFound secret passphrase rows texts

@@ -5,6 +5,7 @@ ghost use Rattle.s39_command.specs.Words.{ApartDrill, AreCreateWords, AreDrillWo
 ghost use Rattle.s39_command.specs.FewerWords.{AreFewCreateWords, AreFewDrillWords, AreFewRecoverWords, AreReissueWords, IsExponent};
 ghost use Rattle.s39_command.specs.FewerWords.{CreateWordsAreFew, DrillWordsAreFew, FewCreateWordsAreTaken, FewDrillWordsAreTaken};
 ghost use Rattle.s39_command.specs.FewerWords.{FewRecoverWordsAreTaken, RecoverWordsAreFew, ReissueWordsAreTaken};
+ghost use Rattle.s39_command.specs.Faults.{FirstFault, OneFault, SomeFault};
 ghost use Rattle.s39_command.specs.Words.{IsLimit, JoinedDrill, drill_apart, limit_of};
 ghost use Rattle.s39_command.specs.Words.{CreateWordsAreTaken, DrillWordsAreTaken, ExpectingDrillWordsAreTaken, ExpectingRecoverWordsAreTaken, OneCall, RecoverWordsAreTaken};
 
@@ -86,4 +87,12 @@ pub fn there_are_fewer_words()
 /// Words give one call: any two calls that they give have the same values and the same files of values.
 pub fn one_call()
     ensures { OneCall }
+{}
+
+/// Of the faults of values the first is told: that of the secret, then that of the passphrase, then that of the form. Values with
+/// a fault have one that is told. Words with such values give no call, so none of their other texts is looked at.
+pub fn first_fault()
+    ensures first { FirstFault }
+    ensures some { SomeFault }
+    ensures one { OneFault }
 {}

@@ -3,3 +3,4 @@ pub mod Taking
 pub mod Sets
 pub mod Texts
 pub mod Runs
+pub mod Codes

@@ -6,3 +6,4 @@ pub mod EachOutput
 pub mod Answered
 pub mod PrintedLines
 pub mod Repaired
+pub mod FewReads

@@ -1,5 +1,5 @@
 -- What a run does with its devices.
-use Rattle.std.specs.Prelude.{◌≡◌, ◌≢◌, ◌⊎◌, ℕ, ◌+◌, ◌<◌, ◌≤◌, List, [], ◌++◌, length, Option, Bool, false, Result, Err}
+use Rattle.std.specs.Prelude.{◌≡◌, ◌≢◌, ◌⊎◌, ℕ, ◌+◌, ◌<◌, ◌≤◌, List, [], ◌++◌, length, Option, Some, Bool, false, Result, Err}
 use Rattle.std.specs.Io.KnownBytes.{Appends, Consumes, IsAtEnd}
 use Rattle.s39_input.specs.declared.fault.DeviceFailure.TheVariants.{Write}
 use Rattle.s39_input.specs.declared.fault.Refusal.TheVariants.{Device}
@@ -37,6 +37,14 @@ module _ {R : Type 0} (remaining : R → Option (List ℕ)) where
     pub came : List ℕ
     pub consumed : Consumes (remaining old.device) (remaining new.device) came
     pub so : Decides old new came Is ⊎ Ends old new came Is ⊎ Fails old new came Is
+
+  -- If a reader tells its bytes, it is read at most once for each byte that it loses, and once more. If bytes are left and no read
+  -- failed, there is no further read.
+  abbrev pub ReadsAreFew : Type 0
+  ReadsAreFew = (old new : Counted R) (bytes left : List ℕ) → remaining old.device ≡ Some bytes → remaining new.device ≡ Some left
+      → OfInput old new (λ input. Unit {0})
+      → (new.reads + length left ≤ old.reads + length bytes + 1)
+      × (left ≢ [] → new.failures ≡ old.failures → new.reads + length left ≤ old.reads + length bytes)
 
 module _ {W T : Type 0} (contents : W → Option (List ℕ)) where
   -- The writer's bytes grow by the text that has this answer. If a write fails, they grow by a beginning of what would

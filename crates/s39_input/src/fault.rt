@@ -24,7 +24,7 @@ pub enum LineRefusal {
 impl LineRefusal {
     ghost use Rattle.s39_input.specs.Fault.{line_cause_of};
 
-    /// Returns the number of the refusal, 11 to 18, 21 to 28, or 71, and the details of the cause.
+    /// Returns the number of the refusal, 11 to 15, 17 to 19, 21 to 28, or 71, and the details of the cause.
     pub fn cause(&self) -> Cause
         ensures { result ≡ line_cause_of self.now }
     {
@@ -120,8 +120,8 @@ pub enum Refusal {
 impl Refusal {
     ghost use Rattle.s39_input.specs.Fault.{cause_of, has_line};
 
-    /// Returns the number of the refusal, 11 to 18, 21 to 30, 41 to 43, 51, 52, 62, 64 to 66, or 71 to 73, and the details
-    /// of the cause.
+    /// Returns the number of the refusal, 11 to 15, 17 to 19, 21 to 30, 41 to 43, 51, 52, 62, 64 to 66, or 71 to 73, and the
+    /// details of the cause.
     pub fn cause(&self) -> Cause
         ensures { result ≡ cause_of self.now }
     {

@@ -1,26 +1,32 @@
 //! Facts about the definitions. Each is the contract of a function that does nothing.
-ghost use Rattle.std.specs.Prelude.{◌≡◌, ◌<◌, ◌≤◌, ◌⊎◌, ℕ, length, List, All, Contains, Bool, true, false, Result, Ok, Err, IfOk, Some, None};
+ghost use Rattle.std.specs.Prelude.{◌≡◌, ◌≢◌, ◌<◌, ◌≤◌, ◌⊎◌, ℕ, length, List, All, Contains, Bool, true, false, Result, Ok, Err, IfOk, Option, Some, None};
+ghost use Rattle.s39_kdf.specs.Causes.{fingerprint_cause};
 ghost use Rattle.s39_words.specs.declared.ShareFields.{ShareFields};
 ghost use Rattle.s39_words.specs.Reading.{Reads};
 ghost use Rattle.s39_words.specs.declared.word_error.WordError.{WordError};
+ghost use Rattle.s39_set.specs.Causes.{cursor_cause, names_cause};
 ghost use Rattle.s39_set.specs.Names.{Names, AreNames};
 ghost use Rattle.s39_set.specs.Written.{quorum_text};
 ghost use Rattle.s39_input.specs.Lengths.{longest_names};
 ghost use Rattle.s39_set.specs.ShareSet.{IsShareSet};
 ghost use Rattle.s39_input.specs.declared.fault.LineRefusal.{LineRefusal};
 ghost use Rattle.s39_input.specs.declared.fault.LineRefusal.TheVariants.{TooLong, Word};
+ghost use Rattle.s39_input.specs.declared.fault.Refusal.{Refusal};
 ghost use Rattle.s39_input.specs.declared.fault.RefusedLine.{RefusedLine};
 ghost use Rattle.s39_input.specs.declared.fault.Stop.{Stop};
 ghost use Rattle.s39_input.specs.declared.fault.Stop.TheVariants.{AtLine, ReadFailed};
 ghost use Rattle.s39_input.specs.declared.lines.TheConstants.{MAX_LINE_BYTES};
 ghost use Rattle.s39_input.specs.declared.fault.Fault.{Fault};
+ghost use Rattle.s39_input.specs.Fault.{cause_of};
+ghost use Rattle.s39_input.specs.Runs.{ReadsAreFew};
 ghost use Rattle.s39_input.specs.Show.{IsShowOutput};
 ghost use Rattle.s39_input.specs.Repair.{IsRepairOutput, TwoFit};
 ghost use Rattle.s39_input.specs.Input.{Input, is_skipped, longest_line, whole, lines_of};
 ghost use Rattle.s39_input.specs.Lines.{Holds, IsReadable, share_in};
 ghost use Rattle.s39_input.specs.Accepted.{IsReadAs, IsSetOf, CheckedSetLaws, shares_in};
 ghost use Rattle.s39_input.specs.Refused.{AreAccepted, IsFirstRefused};
-ghost use Rattle.s39_backup.specs.Plan.{IsPlan};
+ghost use Rattle.s39_backup.specs.Plan.{IsPlan, plan_cause_of};
+ghost use Rattle.s39_backup.specs.declared.plan_error.PlanError.{PlanError};
 ghost use Rattle.s39_backup.specs.Created.{Asked, AreOfBackup};
 ghost use Rattle.s39_input.specs.Create.{IsCreateOutput};
 ghost use Rattle.s39_input.specs.OfBackup.{HoldsMnemonicsOf};
@@ -33,6 +39,21 @@ use s39_words::laws::{every_share_has_a_printed_form, one_printed_form, printed_
 /// The limit of the code is that of the definitions.
 pub fn numbers()
     ensures line { MAX_LINE_BYTES ≡ longest_line }
+{}
+
+/// No refusal has the number 16, which another refusal once had.
+pub fn number_16_is_free()
+    ensures runs { (refusal : Refusal) → (cause_of refusal).code ≢ 16 }
+    ensures plans { (error : PlanError) → (plan_cause_of error).code ≢ 16 }
+    ensures cursors { cursor_cause.code ≢ 16 }
+    ensures names { names_cause.code ≢ 16 }
+    ensures fingerprints { fingerprint_cause.code ≢ 16 }
+{}
+
+/// A reader that tells its bytes is read at most once for each byte that it loses, and once more. If bytes are left and no read
+/// failed, there is no further read.
+pub fn reads_are_few<R>()
+    ensures { (remaining : R → Option (List ℕ)) → ReadsAreFew remaining }
 {}
 
 /// An input is read as at most one thing: one set of shares, or one refusal.

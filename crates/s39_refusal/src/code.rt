@@ -15,15 +15,15 @@ pub const BAD_PADDING: u8 = 14;
 /// The group threshold of a mnemonic is above its group count.
 pub const GROUP_THRESHOLD: u8 = 15;
 
-/// More places of a line are open than a checksum determines. The first detail is their number.
-pub const UNREADABLE_WORDS: u8 = 16;
-
 /// No mnemonic fits what can be read of its words.
 pub const NO_MNEMONIC: u8 = 17;
 
 /// The checksum of a mnemonic is wrong, and if just one word is wrong, it is one of these. The details are the
 /// positions of these words, counted from 1. The second detail is 0 if there is one.
 pub const WRONG_WORD: u8 = 18;
+
+/// More places of a line are open than a checksum determines. The first detail is their number.
+pub const UNREADABLE_WORDS: u8 = 19;
 
 /// A share has another identifier than those before it.
 pub const OTHER_IDENTIFIER: u8 = 21;

@@ -106,7 +106,7 @@ RepairsWhole ranges (Err error) = RefusesWords (firsts ranges) error
 abbrev pub cause_of : RepairError → Cause
 cause_of (UnknownWord at) = cause 11 at 0
 cause_of (WordCount words) = cause 12 words 0
-cause_of (UnreadableWords places) = cause 16 places 0
+cause_of (UnreadableWords places) = cause 19 places 0
 cause_of NoMnemonic = cause 17 0 0
 cause_of (WrongWord first second) = cause 18 first (unwrap_or second 0)
 cause_of BadChecksum = cause 13 0 0

@@ -46,7 +46,7 @@ fn says_why_a_line_has_no_mnemonic(rt: HostRuntime) -> Result<(), Fail> {
     let cases = [
         (
             "duckling enlarge academic academic agency result length solution fridge kidney coal piece deal husband erode duke ? ? ? ?",
-            "16 4 unreadable words: at most 3",
+            "19 4 unreadable words: at most 3",
         ),
         (
             "duckling enlarge academic academic ? result solution length fridge kidney coal piece deal husband erode duke ajar critical decision keyboard",

@@ -1,11 +1,13 @@
 //! The texts of faults.
 
 use s39_backup::{Mismatch, PlanError, TooFew};
+use s39_fixtures::{REPAIR, expect_run};
 use s39_input::{LineRefusal, Refusal};
 use s39_kdf::{BadFingerprint, BadPassphrase};
+use s39_refusal::Cause;
 use s39_repair::RepairError;
 use s39_set::{BadNames, SetError, SetLack};
-use s39_text::FaultText;
+use s39_text::{FaultText, RefusalText};
 use std::alloc::Global;
 use std::process::Abort;
 use std::test::Fail;
@@ -64,7 +66,7 @@ fn names_refusals_of_marks(rt: HostRuntime) -> Result<(), Fail> {
         ),
         (
             RepairError::UnreadableWords { places: 110 },
-            "line 7: 16 110 unreadable words: at most 3",
+            "line 7: 19 110 unreadable words: at most 3",
         ),
         (
             RepairError::NoMnemonic,
@@ -184,4 +186,70 @@ fn names_refusals_of_plans(rt: HostRuntime) -> Result<(), Fail> {
         assert_eq!(rt; told.as_str(), text);
     }
     Ok(())
+}
+
+#[test]
+fn no_refusal_has_a_number_of_none(rt: HostRuntime) -> Result<(), Fail> {
+    for number in 0..=255 {
+        let is_told = RefusalText::of(Cause::of(number)).is_some();
+        // An earlier version gave 16 to another refusal than those of today.
+        let is_refusal = match number {
+            11..=15 | 17..=19 | 21..=34 | 41..=44 | 51 | 52 | 61..=66 | 71..=73 => true,
+            _ => false,
+        };
+        assert_eq!(rt; (number, is_told), (number, is_refusal));
+    }
+    Ok(())
+}
+
+/// The message with the greatest line, the greatest number, and the longest text with the greatest details that it can have.
+/// `numbers` of `s39_cli::laws` has it too, with the line feed behind it.
+const LONGEST: &str =
+    "shamir: line 18446744073709551615: 255 cannot tell 255.255: 255 of 255 members, 255 of 255 other groups";
+
+/// The messages of the refusals with this number at the greatest line are no longer than the longest, whatever their details are.
+fn expect_short(rt: &impl Abort, alloc: Global, number: u8) -> Result<(), Fail> {
+    let greatest = [
+        (u64::MAX, 0),
+        (u64::MAX, u64::MAX),
+        (16, 0),
+        (255, 0),
+        (255, 255),
+        (65535, 4294967295),
+    ];
+    for (first, second) in greatest {
+        let cause = Cause::new(number, first, second);
+        let told = format!(in alloc; "{}", FaultText::of(Some(u64::MAX), cause))?;
+        assert!(rt; told.len() <= LONGEST.len());
+    }
+    Ok(())
+}
+
+#[test]
+fn no_message_is_longer_than_the_longest(rt: HostRuntime) -> Result<(), Fail> {
+    let alloc = rt.alloc();
+    let greatest = FaultText::AtLine {
+        line: u64::MAX,
+        code: 255,
+        text: RefusalText::Undetermined(255, 255, 255, 255, 255, 255),
+    };
+    assert_eq!(rt; format!(in alloc; "{greatest}")?.as_str(), LONGEST);
+    for number in 0..=255 {
+        expect_short(&rt, alloc, number)?;
+    }
+    Ok(())
+}
+
+// Another program made this mnemonic of 110 words, for the value of the bytes 0 to 127. Its last word is `olympic`, which was
+// changed.
+const LAST_OF_110: &str =
+    "academic disaster academic academic academic academic eclipse adult away extra legs aluminum clay pancake satisfy argue disaster usual agency behavior evoke editor employer born garlic military losing busy industry tendency senior ceramic luxury demand amuse clothes oral level escape crisis prune space mansion deal scene chubby slap destroy stick increase auction divorce ultimate says explain early acrobat biology metric email blanket graduate solution episode cover railroad best exercise drove aircraft fiber fantasy failure finance much flexible gray petition staff friendly jewelry visitor brave gesture material endless focus grownup parcel muscle object helpful random together surprise identify sheriff diminish campus install sympathy luck funding jury vampire station paid prayer duckling academic";
+
+#[test]
+fn writes_a_long_message_whole(rt: HostRuntime) -> Result<(), Fail> {
+    let alloc = rt.alloc();
+    let blank = "\n".repeat(alloc, 999)?;
+    let input = format!(in alloc; "{blank}{LAST_OF_110}\n")?;
+    let told = "shamir: line 1000: 18 bad checksum: if one word is wrong, it is word 110\n";
+    expect_run(&REPAIR, input.as_str(), alloc, ("", told, 1))
 }

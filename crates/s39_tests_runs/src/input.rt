@@ -79,7 +79,7 @@ fn lines_are_refused(rt: HostRuntime) -> Result<(), Fail> {
         (
             b"duckling enlarge academic academic agency result length solution fridge kidney coal \
             piece deal husband erode duke ? ? ? ?",
-            (3, 16, 4, 0),
+            (3, 19, 4, 0),
         ),
         (
             b"duckling enlarge academic academic agency result lend solution fridge kidney coal \

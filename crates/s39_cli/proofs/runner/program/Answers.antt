@@ -67,13 +67,16 @@ pub returns-then-is_typed-clause-said : goal.returns-then-is_typed-clause-said
 returns-then-is_typed-clause-said g c =
     let words = map (λ (word : Bor (List ℕ)). word.now) c.args.words.now in
     said_typed g.E.Write.contents c.args.source c.args.destination words c.args.errors.now c.typed.new.errors c.in-Ok.call c.in-Ok.ensures.call
-    c.in-Ok.ensures.faultless c.typed.result c.args.input c.args.output c.typed.ensures.ends c.typed.ensures.said
+    c.in-Ok.ensures.faultless c.typed.result c.args.input c.args.output (c.is_typed.ensures.typed c.if-is_typed.true) c.typed.ensures.ends
+    c.typed.ensures.said
 
 pub returns-in-Err-read-clause-said : goal.returns-in-Err-read-clause-said
 returns-in-Err-read-clause-said g c =
     let words = map (λ (word : Bor (List ℕ)). word.now) c.args.words.now in
     said_unread g.E.Write.contents c.args.source c.args.destination words c.args.errors.now c.without_value.new.errors c.in-Ok.call c.in-Ok.ensures.call
-    c.in-Ok.ensures.faultless c.without_value.result (c.is_typed.ensures.untyped c.if-is_typed.false) c.without_value.ensures.not_begun
+    c.in-Ok.ensures.faultless c.of-notes.result.types_passphrase c.say_if.new.self c.in-Err-read.unread.name.now c.without_value.result
+    (c.is_typed.ensures.untyped c.if-is_typed.false) c.without_value.ensures.not_begun c.of-notes.ensures.passphrase c.in-Err-read.ensures.named
+    c.say_if.ensures.said c.without_value.ensures.said
 
 pub returns-clause-said : goal.returns-clause-said
 returns-clause-said g c =

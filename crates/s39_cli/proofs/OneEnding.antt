@@ -1,0 +1,356 @@
+-- Files, input and output that tell their bytes, and no call of which fails, give one exit status and one output.
+use Rattle.std.proofs.Common.{◌≡◌, ◌≢◌, ◌⊎◌, ◌++◌, ◌∙◌, ◌<◌, ◌≤◌, ℕ, length, Bool, true, false, Bor, List, [], Option, Some, None, IfSome, Result, Ok, Err}
+use Rattle.std.proofs.Common.{ap, append-nil, arith, inl, inr, refl, subst, sym, true≢false, unwrap_or}
+use Rattle.std.proofs.lemmas.List.{append_cancel_left}
+use Rattle.std.specs.Io.KnownBytes.{Appends, Consumes}
+use Rattle.clap.specs.Words.{Text, takes}
+use Rattle.hex.specs.Hex.{decode_of}
+use Rattle.s39_backup.specs.declared.plan_error.PlanError.{PlanError}
+use Rattle.s39_input.specs.Input.{Input, whole}
+use Rattle.s39_command.specs.declared.command.Call.{Call}
+use Rattle.s39_command.specs.declared.command.Job.{Job}
+use Rattle.s39_command.specs.declared.command.Job.TheVariants as job
+use Rattle.s39_command.specs.declared.command.Texts.{Texts}
+use Rattle.s39_command.specs.Command.{AsksForText, AreSameCalls, AreSameTexts, HaveSameValues, shamir_app, text_in}
+use Rattle.s39_command.specs.FewerWords.{or_empty}
+use Rattle.s39_command.proofs.Faults.{one_fault}
+use Rattle.s39_command.proofs.OneCall.{one_call, said_same}
+use Rattle.s39_cli.specs.declared.runner.Source.{Source}
+use Rattle.s39_cli.specs.declared.values.Until.{Until}
+use Rattle.s39_cli.specs.declared.values.Until.TheVariants.{End, LineEnd}
+use Rattle.s39_cli.specs.Ending.{AreAllOf, Delivers, DoesJob, EndsAs, EndsAtOnce, IsOutcome, IsTyped, TakesCall}
+use Rattle.s39_cli.specs.Headline.{OneOutcome}
+use Rattle.s39_cli.specs.OneEnding.{OneEnding, SomeEnding, telling}
+use Rattle.s39_cli.specs.Outcome.{GivesPlan, HasBadSecret, HasBadPlan, HasBadCursor, HasBadFingerprint, HasBadNames, IsNotHexadecimal, IsReady}
+use Rattle.s39_cli.specs.Outcome.{WritesFingerprint, WritesNames}
+use Rattle.s39_cli.specs.Values.{HasLong, HasLongValue, IsLongFile, IsLongLine, IsValueIn, TakesValue, TakesValues, input_name, longest_value, part, text_of}
+use Rattle.s39_cli.specs.Values.{without_line_end}
+use Rattle.s39_cli.proofs.SameValues.{same_values_write_the_same}
+use Rattle.s39_cli.proofs.Works.{no_cause}
+
+-- ---- a value
+
+left_of : (known : List ℕ) (left : Option (List ℕ)) (bytes : List ℕ) → Consumes (Some known) left bytes
+    → (rest : List ℕ) × (left ≡ Some rest) × (known ≡ bytes ++ rest)
+left_of known None bytes gone = absurd gone
+left_of known (Some rest) bytes gone = (rest, refl, gone)
+
+one_rest : (known : List ℕ) (a b : Option (List ℕ)) (bytes : List ℕ) → Consumes (Some known) a bytes → Consumes (Some known) b bytes → a ≡ b
+one_rest known a b bytes first second =
+    let x = left_of known a bytes first in
+    let y = left_of known b bytes second in
+    x.1 ∙ ap (λ (rest : List ℕ). Some rest) (append_cancel_left bytes x.0 y.0 (sym x.2 ∙ y.2)) ∙ sym y.1
+
+module _ (until : Until) (known : List ℕ) where
+  value_of_part : (left : Option (List ℕ)) (value : List ℕ) → IsValueIn until (Some known) left value → value ≡ without_line_end (part until known)
+  value_of_part left value is = is.value_is ∙ ap without_line_end is.all
+
+  -- the bytes have one value, and one rest
+  one_value : (a b : Option (List ℕ)) (v w : List ℕ) → IsValueIn until (Some known) a v → IsValueIn until (Some known) b w → (v ≡ w) × (a ≡ b)
+  one_value a b v w is also = (
+    value_of_part a v is ∙ sym (value_of_part b w also),
+    one_rest known a b (part until known) (subst (Consumes (Some known) a) is.all is.read) (subst (Consumes (Some known) b) also.all also.read),
+  )
+
+  -- a value isn't too long
+  not_long : (left : Option (List ℕ)) (value : List ℕ) → IsValueIn until (Some known) left value → HasLongValue until (Some known) → ⊥
+  not_long left value is long =
+      let fits = is.fits in
+      let same = ap (λ (bytes : List ℕ). length bytes) (value_of_part left value is) in
+      omega (arith, fits, same, long)
+
+-- ---- the values of a call
+
+module _ {R : Type 0} (files : Text → List ℕ) (remaining : R → Option (List ℕ)) where
+  -- the readers have the same bytes left
+  abbrev AreAlike : R → R → Type 0
+  AreAlike one other = (bytes : List ℕ) × (remaining one ≡ Some bytes) × (remaining other ≡ Some bytes)
+
+  one_take : (file given : Option (Bor Text)) (v w : Option (List ℕ)) (old new first last : R) → text_in file ≡ text_in given → AreAlike old first
+      → TakesValue (telling files) remaining file v old new → TakesValue (telling files) remaining given w first last → (v ≡ w) × AreAlike new last
+  one_take None None v w old new first last same alike is also =
+      (is.0 ∙ sym also.0, (alike.0, ap remaining is.1 ∙ alike.1, ap remaining also.1 ∙ alike.2))
+  one_take None (Some b) v w old new first last same alike is also = cc same
+  one_take (Some a) None v w old new first last same alike is also = cc same
+  one_take (Some a) (Some b) v w old new first last same alike (read, is, inl line) (got, also, inl next) =
+      let x = subst (λ (o : Option (List ℕ)). IsValueIn LineEnd o (remaining new) read) alike.1 line.1 in
+      let y = subst (λ (o : Option (List ℕ)). IsValueIn LineEnd o (remaining last) got) alike.2 next.1 in
+      let pair = one_value LineEnd alike.0 (remaining new) (remaining last) read got x y in
+      let left = left_of alike.0 (remaining new) x.bytes x.read in
+      (is ∙ ap (λ (l : List ℕ). Some l) pair.0 ∙ sym also, (left.0, left.1, sym pair.1 ∙ left.1))
+  one_take (Some a) (Some b) v w old new first last same alike (read, is, inl line) (got, also, inr file) =
+      absurd (file.0 (sym (said_same same) ∙ line.0))
+  one_take (Some a) (Some b) v w old new first last same alike (read, is, inr file) (got, also, inl line) = absurd (file.0 (said_same same ∙ line.0))
+  one_take (Some a) (Some b) v w old new first last same alike (read, is, inr file) (got, also, inr next) =
+      let x = subst (λ (name : Text). IsValueIn End (Some (files name)) file.2.0 read) (said_same same) file.2.1 in
+      let pair = one_value End (files b.now) file.2.0 next.2.0 read got x next.2.1 in
+      (is ∙ ap (λ (l : List ℕ). Some l) pair.0 ∙ sym also, (alike.0, ap remaining file.1 ∙ alike.1, ap remaining next.1 ∙ alike.2))
+
+  no_long_file : (file given : Option (Bor Text)) (w : Option (List ℕ)) (first last : R) → text_in file ≡ text_in given → IsLongFile (telling files) file
+      → TakesValue (telling files) remaining given w first last → ⊥
+  no_long_file None given w first last same long takes = long
+  no_long_file (Some a) None w first last same long takes = cc same
+  no_long_file (Some a) (Some b) w first last same long (got, also, inl line) = long.0 (said_same same ∙ line.0)
+  no_long_file (Some a) (Some b) w first last same long (got, also, inr file) =
+      not_long End (files b.now) file.2.0 got file.2.1 (subst (λ (name : Text). HasLongValue End (Some (files name))) (said_same same) long.1)
+
+  no_long_line : (file given : Option (Bor Text)) (w : Option (List ℕ)) (old first last : R) → text_in file ≡ text_in given → AreAlike old first
+      → IsLongLine (telling files) remaining file old → TakesValue (telling files) remaining given w first last → ⊥
+  no_long_line None given w old first last same alike long takes = long.0
+  no_long_line (Some a) None w old first last same alike long takes = cc same
+  no_long_line (Some a) (Some b) w old first last same alike long (got, also, inl line) =
+      not_long LineEnd alike.0 (remaining last) got (subst (λ (o : Option (List ℕ)). IsValueIn LineEnd o (remaining last) got) alike.2 line.1)
+      (subst (HasLongValue LineEnd) alike.1 long.1)
+  no_long_line (Some a) (Some b) w old first last same alike long (got, also, inr file) = file.0 (sym (said_same same) ∙ long.0)
+
+  -- values that are read aren't too long
+  no_long : (texts given : Texts) (v w : Option (List ℕ)) (old first last : R) → AreSameTexts texts given → AreAlike old first
+      → HasLong (telling files) remaining texts old → TakesValues (telling files) remaining given v w first last → ⊥
+  no_long texts given v w old first last same alike (inl (inl long)) takes =
+      no_long_file texts.secret given.secret v first takes.0 same.secret long takes.1
+  no_long texts given v w old first last same alike (inl (inr long)) takes =
+      no_long_file texts.passphrase given.passphrase w takes.0 last same.passphrase long takes.2
+  no_long texts given v w old first last same alike (inr (inl long)) takes =
+      no_long_line texts.secret given.secret v old first takes.0 same.secret alike long takes.1
+  no_long texts given v w old first last same alike (inr (inr (between, (read, is), long))) takes =
+      let next = one_take texts.secret given.secret read v old between first takes.0 same.secret alike is takes.1 in
+      no_long_line texts.passphrase given.passphrase w between takes.0 last same.passphrase next.1 long takes.2
+
+-- ---- whether a job can be begun
+
+same_typed : (source : Source) (j k : Job) → HaveSameValues j k → IsTyped source j → IsTyped source k
+same_typed source (job.Create plan e x) k (p, same, plans) typed = subst (IsTyped source) (sym same) typed
+same_typed source _ k same typed = absurd typed
+
+same_ready : (j k : Job) (s : Text) → HaveSameValues j k → IsReady j s → IsReady k s
+same_ready job.Show k s same ready = subst (λ (other : Job). IsReady other s) (sym same) ready
+same_ready (job.Create plan e x) k s (p, same, plans) ready =
+    subst (λ (other : Job). IsReady other s) (sym same) (ready.0, subst GivesPlan plans ready.1)
+same_ready (job.Recover f e) k s (e', same, noted) ready =
+    subst (λ (other : Job). IsReady other s) (sym same) (subst (λ (t : Option Text). IfSome t WritesFingerprint) noted ready)
+same_ready (job.Drill a l f e) k s (a', e', same, cursors, noted) ready =
+    subst (λ (other : Job). IsReady other s) (sym same) (
+      subst (λ (t : Option Text). IfSome t WritesNames) cursors ready.0,
+      subst (λ (t : Option Text). IfSome t WritesFingerprint) noted ready.1,
+    )
+same_ready job.Status k s same ready = subst (λ (other : Job). IsReady other s) (sym same) ready
+same_ready (job.Reissue t n) k s (t', n', same, plans, names) ready =
+    subst (λ (other : Job). IsReady other s) (sym same) (subst GivesPlan plans ready.0, subst WritesNames names ready.1)
+same_ready job.Repair k s same ready = subst (λ (other : Job). IsReady other s) (sym same) ready
+
+-- a cause other than that of the secret
+abbrev HasOther : Job → Text → Type 0
+HasOther j s = ((error : PlanError) × HasBadPlan j s error) ⊎ HasBadCursor j ⊎ HasBadFingerprint j ⊎ HasBadNames j
+
+other_of_create : (plan : Bor Text) (e : ℕ) (x : Bool) (s : Text) → IsNotHexadecimal s → HasOther (job.Create plan e x) s → ⊥
+other_of_create plan e x s bad (inl (error, both)) = let one = both.0.1 in let two = bad.1 in cc
+other_of_create plan e x s bad (inr (inl cursor)) = cursor
+other_of_create plan e x s bad (inr (inr (inl fingerprint))) = fingerprint
+other_of_create plan e x s bad (inr (inr (inr names))) = names
+
+secret_or_other : (j k : Job) (s : Text) → HaveSameValues j k → HasBadSecret j s → HasOther k s → ⊥
+secret_or_other (job.Create plan e x) k s (p, same, plans) bad other =
+    other_of_create p e x s bad (subst (λ (given : Job). HasOther given s) same other)
+secret_or_other _ k s same bad other = absurd bad
+
+ready_or_other : (j k : Job) (s : Text) → HaveSameValues k j → HasOther j s → IsReady k s → ⊥
+ready_or_other j k s same (inl (error, bad)) ready = (no_cause j s (same_ready k j s same ready)).no_bad_plan error bad
+ready_or_other j k s same (inr (inl bad)) ready = (no_cause j s (same_ready k j s same ready)).no_bad_cursor bad
+ready_or_other j k s same (inr (inr (inl bad))) ready = (no_cause j s (same_ready k j s same ready)).no_bad_fingerprint bad
+ready_or_other j k s same (inr (inr (inr bad))) ready = (no_cause j s (same_ready k j s same ready)).no_bad_names bad
+
+-- ---- a job
+
+appended : (held : List ℕ) (o : Option (List ℕ)) (text : List ℕ) → Appends (Some held) o text → o ≡ Some (held ++ text)
+appended held None text is = absurd is
+appended held (Some now) text is = ap (λ (l : List ℕ). Some l) is
+
+module _ {R W : Type 0} (files : Text → List ℕ) (remaining : R → Option (List ℕ)) (contents : W → Option (List ℕ)) (once : OneOutcome) where
+  -- What went to two writers, which held this and that before, is the same.
+  abbrev IsOne : List ℕ → List ℕ → ℕ → W → ℕ → W → Type 0
+  IsOne held kept status written_to another given_to = (status ≡ another)
+      × ((output other : List ℕ) → contents written_to ≡ Some (held ++ output) → contents given_to ≡ Some (kept ++ other) → output ≡ other)
+
+  same_output : (held : List ℕ) (w : W) (text output : List ℕ) → contents w ≡ Some (held ++ text) → contents w ≡ Some (held ++ output) → text ≡ output
+  same_output held w text output is also = append_cancel_left held text output (said_same (sym is ∙ also))
+
+  module _ (held kept : List ℕ) (reader first : R) (writer output : W) (held_is : contents writer ≡ Some held) (kept_is : contents output ≡ Some kept)
+      (status another : ℕ) (read_to last : R) (written_to given_to : W) where
+    one_text : (text : List ℕ) → status ≡ another → Appends (contents writer) (contents written_to) text
+        → Appends (contents output) (contents given_to) text → IsOne held kept status written_to another given_to
+    one_text text same is also = (
+      same,
+      λ left right is_left is_right.
+          sym (same_output held written_to text left
+          (appended held (contents written_to) text (subst (λ (o : Option (List ℕ)). Appends o (contents written_to) text) held_is is)) is_left)
+          ∙ same_output kept given_to text right
+          (appended kept (contents given_to) text (subst (λ (o : Option (List ℕ)). Appends o (contents given_to) text) kept_is also)) is_right,
+    )
+
+    nothing : (status ≡ another) → written_to ≡ writer → given_to ≡ output → IsOne held kept status written_to another given_to
+    nothing same is also = (
+      same,
+      λ left right is_left is_right.
+          let none = append_cancel_left held left [] (said_same (sym is_left ∙ ap contents is ∙ held_is) ∙ sym (append-nil held)) in
+          let neither = append_cancel_left kept right [] (said_same (sym is_right ∙ ap contents also ∙ kept_is) ∙ sym (append-nil kept)) in
+          none ∙ sym neither,
+    )
+
+    at_once : (wanted : ℕ) → EndsAtOnce wanted reader writer status read_to written_to → EndsAtOnce wanted first output another last given_to
+        → IsOne held kept status written_to another given_to
+    at_once wanted is also = nothing (is.0 ∙ sym also.0) is.2 also.2
+
+    one_delivery : (j k : Job) (s p : Text) → HaveSameValues j k → AreAlike files remaining reader first → status ≢ 3 → another ≢ 3
+        → Delivers remaining contents (IsOutcome j s p) reader writer status read_to written_to
+        → Delivers remaining contents (IsOutcome k s p) first output another last given_to → IsOne held kept status written_to another given_to
+    one_delivery j k s p same alike sound well delivers gives =
+        let x = delivers.done sound in
+        let y = gives.done well in
+        let all = subst (λ (o : Option (List ℕ)). AreAllOf o x.0) alike.1 x.1 in
+        let every = subst (λ (o : Option (List ℕ)). AreAllOf o y.0) alike.2 y.1 in
+        let out = subst (λ (l : List ℕ). IsOutcome j s p (whole l) x.2.0 status) all x.2.1 in
+        let given = subst (λ (l : List ℕ). IsOutcome k s p (whole l) y.2.0 another) every y.2.1 in
+        let one = once k s p (whole alike.0) x.2.0 y.2.0 status another
+        (same_values_write_the_same j k same s p (whole alike.0) x.2.0 status out) given in
+        one_text y.2.0 one.1 (subst (Appends (contents writer) (contents written_to)) one.0 x.2.2) y.2.2
+
+    one_job : (j k : Job) (s p : Text) → HaveSameValues j k → HaveSameValues k j → AreAlike files remaining reader first → status ≢ 3 → another ≢ 3
+        → DoesJob remaining contents j s p reader writer status read_to written_to
+        → DoesJob remaining contents k s p first output another last given_to → IsOne held kept status written_to another given_to
+    one_job j k s p same back alike sound well does gives = by (grouped j reader writer status read_to written_to does)
+        (grouped k first output another last given_to gives)
+      where
+        Grouped : Job → R → W → ℕ → R → W → Type 0
+        Grouped j reader writer status read_to written_to =
+            (HasBadSecret j s × EndsAtOnce 2 reader writer status read_to written_to)
+            ⊎ ((HasOther j s × EndsAtOnce 1 reader writer status read_to written_to)
+            ⊎ (IsReady j s × Delivers remaining contents (IsOutcome j s p) reader writer status read_to written_to))
+
+        grouped : (j : Job) (reader : R) (writer : W) (status : ℕ) (read_to : R) (written_to : W)
+            → DoesJob remaining contents j s p reader writer status read_to written_to → Grouped j reader writer status read_to written_to
+        grouped j reader writer status read_to written_to (inl bad) = inl bad
+        grouped j reader writer status read_to written_to (inr (inl bad)) = inr (inl (inl bad.0, bad.1))
+        grouped j reader writer status read_to written_to (inr (inr (inl bad))) = inr (inl (inr (inl bad.0), bad.1))
+        grouped j reader writer status read_to written_to (inr (inr (inr (inl bad)))) = inr (inl (inr (inr (inl bad.0)), bad.1))
+        grouped j reader writer status read_to written_to (inr (inr (inr (inr (inl bad))))) = inr (inl (inr (inr (inr bad.0)), bad.1))
+        grouped j reader writer status read_to written_to (inr (inr (inr (inr (inr ready))))) = inr (inr ready)
+
+        by : Grouped j reader writer status read_to written_to → Grouped k first output another last given_to
+            → IsOne held kept status written_to another given_to
+        by (inl bad) (inl also) = at_once 2 bad.1 also.1
+        by (inr (inl bad)) (inr (inl also)) = at_once 1 bad.1 also.1
+        by (inr (inr ready)) (inr (inr also)) = one_delivery j k s p same alike sound well ready.1 also.1
+        by (inl bad) (inr (inl also)) = absurd (secret_or_other j k s same bad.0 also.0)
+        by (inr (inl bad)) (inl also) = absurd (secret_or_other k j s back also.0 bad.0)
+        by (inl bad) (inr (inr ready)) = absurd ((no_cause j s (same_ready k j s back ready.0)).no_bad_secret bad.0)
+        by (inr (inr ready)) (inl bad) = absurd ((no_cause k s (same_ready j k s same ready.0)).no_bad_secret bad.0)
+        by (inr (inl bad)) (inr (inr ready)) = absurd (ready_or_other j k s back bad.0 ready.0)
+        by (inr (inr ready)) (inr (inl bad)) = absurd (ready_or_other k j s same bad.0 ready.0)
+
+  -- ---- a call
+
+  same_text : (v w : Option (List ℕ)) (a b : Option (Bor Text)) → v ≡ w → text_in a ≡ text_in b → text_of v a ≡ text_of w b
+  same_text v w a b read given =
+      ap (λ (o : Option (List ℕ)). unwrap_or o (or_empty (text_in a))) read ∙ ap (λ (o : Option Text). unwrap_or w (or_empty o)) given
+
+  module _ (source : Source) (held kept : List ℕ) (reader first : R) (writer output : W) (alike : AreAlike files remaining reader first)
+      (held_is : contents writer ≡ Some held) (kept_is : contents output ≡ Some kept) (status another : ℕ) (sound : status ≢ 3) (well : another ≢ 3)
+      (read_to last : R) (written_to given_to : W) where
+    one_end : (call other : Call) → AreSameCalls call other → AreSameCalls other call
+        → TakesCall (telling files) remaining contents source call reader writer status read_to written_to
+        → TakesCall (telling files) remaining contents source other first output another last given_to
+        → IsOne held kept status written_to another given_to
+    one_end call other same back (inl typed) (inl also) =
+        at_once held kept reader first writer output held_is kept_is status another read_to last written_to given_to 2 typed.1 also.1
+    one_end call other same back (inl typed) (inr (inl also)) = absurd (also.0 (same_typed source call.job other.job same.values typed.0))
+    one_end call other same back (inl typed) (inr (inr also)) = absurd (also.0 (same_typed source call.job other.job same.values typed.0))
+    one_end call other same back (inr (inl also)) (inl typed) = absurd (also.0 (same_typed source other.job call.job back.values typed.0))
+    one_end call other same back (inr (inr also)) (inl typed) = absurd (also.0 (same_typed source other.job call.job back.values typed.0))
+    one_end call other same back (inr (inl (untyped, (lacks, (inr failed, kept_as))))) also = absurd (sound failed)
+    one_end call other same back also (inr (inl (untyped, (lacks, (inr failed, kept_as))))) = absurd (well failed)
+    one_end call other same back (inr (inl (untyped, (lacks, (inl long, kept_as))))) (inr (inl (unlike, (wants, (inl also, left_as))))) =
+        nothing held kept reader first writer output held_is kept_is status another read_to last written_to given_to (long.0 ∙ sym also.0) kept_as
+        left_as
+    one_end call other same back (inr (inl (untyped, (lacks, (inl long, kept_as))))) (inr (inr (unlike, (s, p, behind, takes, does)))) =
+        absurd (no_long files remaining call.files other.files s p reader first behind same.files alike long.1 takes)
+    one_end call other same back (inr (inr (unlike, (s, p, behind, takes, does)))) (inr (inl (untyped, (lacks, (inl long, kept_as))))) =
+        absurd (no_long files remaining other.files call.files s p first reader behind back.files (alike.0, alike.2, alike.1) long.1 takes)
+    one_end call other same back (inr (inr (untyped, (s, p, behind, takes, does)))) (inr (inr (unlike, (t, q, behind', takes', does')))) =
+        let secret = one_take files remaining call.files.secret other.files.secret s t reader takes.0 first takes'.0 same.files.secret alike
+        takes.1 takes'.1 in
+        let passphrase = one_take files remaining call.files.passphrase other.files.passphrase p q takes.0 behind takes'.0 behind'
+        same.files.passphrase secret.1 takes.2 takes'.2 in
+        let texts = same_text s t call.given.secret other.given.secret secret.0 same.given.secret in
+        let words = same_text p q call.given.passphrase other.given.passphrase passphrase.0 same.given.passphrase in
+        one_job held kept behind behind' writer output held_is kept_is status another read_to last written_to given_to call.job other.job
+        (text_of t other.given.secret) (text_of q other.given.passphrase) same.values back.values passphrase.1 sound well
+        (subst (λ (x : Text). DoesJob remaining contents call.job x (text_of q other.given.passphrase) behind writer status read_to written_to) texts
+        (subst (λ (y : Text). DoesJob remaining contents call.job (text_of s call.given.secret) y behind writer status read_to written_to) words does))
+        does'
+
+    one_end_of_words : (words : List Text) → (AsksForText words → ⊥)
+        → EndsAs (telling files) remaining contents source words reader writer status read_to written_to
+        → EndsAs (telling files) remaining contents source words first output another last given_to
+        → IsOne held kept status written_to another given_to
+    one_end_of_words words unasked ends also = by (takes shamir_app words) refl
+      where
+        by : (is : Bool) → takes shamir_app words ≡ is → IsOne held kept status written_to another given_to
+        by false untaken =
+            at_once held kept reader first writer output held_is kept_is status another read_to last written_to given_to 2 (ends.refused untaken unasked)
+            (also.refused untaken unasked)
+        by true taken = elim (ends.taken taken) [
+          | inl ((bad, gives), none) ↦ elim (also.taken taken) [
+            | inl ((worse, too), neither) ↦
+                at_once held kept reader first writer output held_is kept_is status another read_to last written_to given_to 2 none neither
+            | inr (other, too, does) ↦ absurd (one_fault.no_call words bad other gives too)
+          ]
+          | inr (call, gives, does) ↦ elim (also.taken taken) [
+            | inl ((worse, too), neither) ↦ absurd (one_fault.no_call words worse call too gives)
+            | inr (other, too, also) ↦ one_end call other (one_call words call other gives too) (one_call words other call too gives) does also
+          ]
+        ]
+
+pub one_ending : {R W : Type 0} (remaining : R → Option (List ℕ)) (contents : W → Option (List ℕ)) → OneOutcome → OneEnding remaining contents
+one_ending remaining contents once files source words input output other status another unasked is also =
+    let one = one_end_of_words files remaining contents once source is.held also.held is.reader also.reader is.writer also.writer
+    (input, is.input_is, also.input_is) is.held_is also.held_is status another is.sound also.sound is.read_to also.read_to is.written_to
+    also.written_to words unasked is.ends also.ends in
+    (one.0, one.1 output other is.output_is also.output_is)
+
+pub some_ending : SomeEnding
+some_ending files source words j given input output status taken unasked gives untyped ready outcome sound = record {
+  reader = input;
+  writer = [];
+  read_to = [];
+  written_to = output;
+  held = [];
+  input_is = refl;
+  held_is = refl;
+  ends = record {
+    asked = λ asks. absurd (unasked asks);
+    refused = λ refused _. absurd (true≢false (sym taken ∙ refused));
+    taken = λ _. inr (
+      _,
+      gives,
+      inr (inr (
+        untyped,
+        (
+          None,
+          None,
+          input,
+          (input, (refl, refl), (refl, refl)),
+          inr (inr (inr (inr (inr (
+            ready,
+            record {
+              read = (input, sym (append-nil input));
+              done = λ _. (input, refl, (output, outcome, refl));
+              failed = λ three. absurd (sound three);
+            },
+          ))))),
+        ),
+      )),
+    );
+  };
+  sound = sound;
+  output_is = refl;
+}

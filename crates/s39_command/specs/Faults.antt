@@ -1,0 +1,35 @@
+-- Which fault of the values is told.
+use Rattle.std.specs.Prelude.{◌≡◌, ◌≤◌, ℕ, List}
+use Rattle.clap.specs.Words.{Row, Text}
+use Rattle.s39_command.specs.declared.command.Call.{Call}
+use Rattle.s39_command.specs.declared.command.BadValues.{BadValues}
+use Rattle.s39_command.specs.declared.command.BadValues.TheVariants.{NoSecret, TwoSecrets, TwoPassphrases, TwoForms}
+use Rattle.s39_command.specs.Command.{GivesBadValues, GivesCall, HasBadValues, HasTwoForms, HasTwoPassphrases, HasTwoSecrets, LacksSecret}
+
+-- the values of the command of this name have this fault, whatever else is wrong with them
+abbrev pub HasFault : Text → List Row → BadValues → Type 0
+HasFault name rows NoSecret = LacksSecret name rows
+HasFault name rows TwoSecrets = HasTwoSecrets rows
+HasFault name rows TwoPassphrases = HasTwoPassphrases rows
+HasFault name rows TwoForms = HasTwoForms name rows
+
+-- the place of a fault in the order in which faults are told: the secret's, the passphrase's, and that of the form
+abbrev pub place_of : BadValues → ℕ
+place_of NoSecret = 0
+place_of TwoSecrets = 0
+place_of TwoPassphrases = 1
+place_of TwoForms = 2
+
+-- the fault that is told is one of the values, and none of theirs has an earlier place
+abbrev pub FirstFault : Type 0
+FirstFault = (name : Text) (rows : List Row) (bad : BadValues) → HasBadValues name rows bad
+    → HasFault name rows bad × ((other : BadValues) → HasFault name rows other → place_of bad ≤ place_of other)
+
+-- of values with a fault, one is told
+abbrev pub SomeFault : Type 0
+SomeFault = (name : Text) (rows : List Row) (fault : BadValues) → HasFault name rows fault → (bad : BadValues) × HasBadValues name rows bad
+
+-- words with a fault in their values have one that is told, and give no call, whatever the call's values are
+pub record OneFault : Type 0 where
+  pub once : (words : List Text) (bad other : BadValues) → GivesBadValues words bad → GivesBadValues words other → bad ≡ other
+  pub no_call : (words : List Text) (bad : BadValues) (call : Call) → GivesBadValues words bad → GivesCall words call → ⊥
