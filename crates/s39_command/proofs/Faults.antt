@@ -1,12 +1,11 @@
 -- Of the faults of values the first is told, and it is one.
-use Rattle.std.proofs.Common.{◌≡◌, ◌⊎◌, ◌∙◌, ◌≤◌, ℕ, Bool, true, false, List, codes, Option, Some, None, arith, inl, inr, refl, subst, sym}
+use Rattle.std.proofs.Common.{◌≡◌, ◌⊎◌, ◌≤◌, Bool, true, false, List, codes, Option, Some, None, arith, inl, inr, refl, subst}
 use Rattle.std.specs.Str.{bytes_eq}
 use Rattle.std.proofs.lemmas.Slice.Eq.{bytes_eq-Decides}
 use Rattle.clap.specs.Words.{Row, Text, first_of, subcommand_of}
-use Rattle.s39_command.specs.declared.command.Call.{Call}
 use Rattle.s39_command.specs.declared.command.BadValues.{BadValues}
 use Rattle.s39_command.specs.declared.command.BadValues.TheVariants.{NoSecret, TwoSecrets, TwoPassphrases, TwoForms}
-use Rattle.s39_command.specs.Command.{GivesBadValues, GivesCall, HasBadValues, HasTwoPassphrases, HasTwoSecrets, IsGiven, LacksSecret, shamir_app}
+use Rattle.s39_command.specs.Command.{HasBadValues, HasTwoPassphrases, HasTwoSecrets, LacksSecret, shamir_app}
 use Rattle.s39_command.specs.Faults.{FirstFault, HasFault, OneFault, SomeFault, place_of}
 use Rattle.s39_command.proofs.OneCall.{one_found, other_text}
 

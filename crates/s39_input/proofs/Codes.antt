@@ -1,5 +1,5 @@
 -- No refusal has the number 16.
-use Rattle.std.proofs.Common.{◌≡◌, ◌≢◌, ◌==◌, ℕ, false, refl, arith}
+use Rattle.std.proofs.Common.{◌≢◌, arith}
 use Rattle.s39_words.specs.declared.word_error.WordError.{WordError}
 use Rattle.s39_words.specs.declared.word_error.WordError.TheVariants as word
 use Rattle.s39_words.specs.Reading.{cause_of as word_cause_of}
