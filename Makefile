@@ -82,7 +82,7 @@ LIBRARIES = $(call uses,$(PROGRAM)) $(filter-out $(PROGRAM) $(STATIC) $(TOOLS) s
 # Libraries are proved side by side: as many as there are processors, and as many as get 3 GB of memory each.
 JOBS = $(shell awk -v most="$$(nproc)" '/^MemAvailable/ { n = int($$2 / 3000000); print n < 1 ? 1 : n < most ? n : most }' /proc/meminfo)
 SIDE_BY_SIDE = $(if $(filter -j%,$(MAKEFLAGS)),,-j$(JOBS)) --no-print-directory
-DOCUMENTS = README.md CHANGELOG.md CONTRIBUTING.md SECURITY.md NOTICE
+DOCUMENTS = README.md CHANGELOG.md CONTRIBUTING.md SECURITY.md LICENSE NOTICE
 # This command prints the name of each call of the library. `make install-lib` makes a link with each of these names to the
 # manual page shamir(3).
 CALLS = sed -n 's/^\(shamir_answer\|void\) \(shamir_[a-z_]*\).*/\2/p' include/shamir.h
