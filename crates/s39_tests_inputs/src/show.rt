@@ -12,9 +12,9 @@ use s39_words::{WordError, parse, print};
 use std::alloc::{AllocError, Global};
 use std::test::Fail;
 
-/// `ONE_OF_ONE` with capitals, and with other separators.
+/// `ONE_OF_ONE` in capitals, and with other separators.
 const SPACED: &str =
-    "\tDUCKLING  enlarge ACADEMIC academic agency\t\tRESULT length solution fridge kidney coal piece deal husband erode duke ajar critical decision keyboard \r";
+    "\tDUCKLING  ENLARGE ACADEMIC ACADEMIC AGENCY\t\tRESULT LENGTH SOLUTION FRIDGE KIDNEY COAL PIECE DEAL HUSBAND ERODE DUKE AJAR CRITICAL DECISION KEYBOARD \r";
 
 /// A mnemonic with `zero` in place of the words at these places, counted from 0.
 fn with_zeros(alloc: Global, mnemonic: &str, places: &[usize]) -> Result<String, AllocError> {

@@ -143,23 +143,30 @@ fn refused_creations(rt: HostRuntime) {
     assert_eq!(rt; created.shares().len(), 0);
 }
 
+/// The encrypted secret of the backup of three groups that is created from `SECRET`, with the passphrase `TREZOR`.
+const ENCRYPTED: [u8; 16] = *b"\xae\x32\x83\x67\x0d\x82\x26\xe1\x04\x44\x7f\xf0\xa4\xa3\x2f\x69";
+
+/// The share value of a published mnemonic.
+const VALUE: [u8; 16] = *b"\x11\xbc\x60\x9d\x21\x74\x7c\x49\xba\x78\xc0\x70\x12\x93\xe4\x17";
+
 #[test]
 fn values_deciphered_once(rt: HostRuntime) {
-    let rows: [(&[u8], u64); 4] = [
-        (&[0, 0, 0, 0, 0, 0, 0], 1),
-        (&[0, 1, 0, 1], 2),
-        (&[0, 1, 2, 3, 4, 0], 6),
-        (&[0, 1, 2, 3, 4, 1], 5),
+    let [a, b, c] = [[0; 16], [1; 16], [2; 16]];
+    let rows: [(&[[u8; 16]], u64); 4] = [
+        (&[ENCRYPTED; 7], 1),
+        (&[VALUE, a, VALUE, a], 2),
+        (&[ENCRYPTED, VALUE, a, b, c, ENCRYPTED], 6),
+        (&[ENCRYPTED, VALUE, a, b, c, VALUE], 5),
     ];
     let params = Params {
-        id: 0,
+        id: 1,
         extendable: false,
         exponent: 0,
     };
     for (values, made) in rows {
         let mut memo = Memo::new(b"TREZOR", params);
         for value in values {
-            let encrypted = Bytes::try_from([*value; 16].as_slice()).unwrap();
+            let encrypted = Bytes::try_from(value.as_slice()).unwrap();
             let _ = memo.secret(&encrypted);
         }
         assert_eq!(rt; memo.made(), made);

@@ -14,6 +14,9 @@ const MEMBER_0: &[u8] =
 const MEMBER_2: &[u8] =
     b"shadow pistol academic always adequate wildlife fancy gross oasis cylinder mustang wrist rescue view short owner flip making coding armed";
 
+/// The share value of `MEMBER_2`.
+const VALUE_2: &[u8] = b"\x08\xfb\x14\xb6\x6e\x69\x2e\x25\xdf\xe2\xed\xf5\x32\x89\xed\x62";
+
 fn share(fields: ShareFields) -> Result<Share, Fail> {
     match Share::new(fields) {
         Some(share) => Ok(share),
@@ -150,8 +153,8 @@ fn a_share_again_is_a_repeat(rt: HostRuntime) -> Result<(), Fail> {
 #[test]
 fn refused_shares(rt: HostRuntime) -> Result<(), Fail> {
     let mut set = ShareSet::new();
-    set.add(share(member_2(&[7; 16])?)?)?;
-    let fields = || member_2(&[0; 16]);
+    set.add(parse(MEMBER_2)?)?;
+    let fields = || member_2(VALUE_2);
     for (fields, error) in [
         (
             ShareFields {
@@ -192,7 +195,7 @@ fn refused_shares(rt: HostRuntime) -> Result<(), Fail> {
             SetError::OtherMemberThreshold { group: 0 },
         ),
         (
-            member_2(b"\x07\x07\x07\x07\x07\x07\x07\x07\x07\x07\x07\x07\x07\x07\x07\x06")?,
+            member_2(b"\x08\xfb\x14\xb6\x6e\x69\x2e\x25\xdf\xe2\xed\xf5\x32\x89\xed\x63")?,
             SetError::ConflictingShare {
                 group: 0,
                 member: 2,
@@ -201,7 +204,7 @@ fn refused_shares(rt: HostRuntime) -> Result<(), Fail> {
     ] {
         assert_eq!(rt; set.add(share(fields)?), Err(error));
     }
-    assert_eq!(rt; set.add(share(member_2(&[7; 16])?)?), Ok(Added::Repeat));
+    assert_eq!(rt; set.add(share(fields()?)?), Ok(Added::Repeat));
     Ok(())
 }
 
