@@ -1,13 +1,12 @@
 //! The worked examples, and the runs of theirs that stand below the program.
 ghost use Rattle.std.specs.Prelude.{◌<◌};
 
-use s39_backup::{Options, Plan};
-use s39_creating::{run_create, run_reissue};
-use s39_drilling::run_drill;
-use s39_input::{Counting, Fault, SecretForm, run_repair, run_show};
 use s39_kdf::check_secret;
-use s39_reading::{run_recover, run_status};
 use s39_set::parse_names;
+use s39_tool::{
+    Counting, Fault, Options, Plan, SecretForm, run_create, run_drill, run_recover, run_reissue,
+    run_repair, run_show, run_status,
+};
 use std::io::{Read, Write};
 
 /// A vector of SLIP-0039, whose passphrase is `TREZOR`.

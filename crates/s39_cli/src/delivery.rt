@@ -11,7 +11,7 @@ ghost use Rattle.s39_cli.specs.Work.{IsWorkOutput};
 use crate::patient::Patient;
 use crate::work::Work;
 use s39_clearing::Cleared;
-use s39_input::{Counting, DeviceFailure, Fault, Refusal};
+use s39_tool::{Counting, DeviceFailure, Fault, Refusal};
 use std::alloc::Global;
 use std::io::{BufWriter, Read, Write};
 

@@ -10,15 +10,14 @@ ghost use Rattle.s39_cli.specs.Unready.{IsNoReissue, IsUnready};
 use crate::runner::Destination;
 use crate::secret_text::secret_of;
 use crate::values::Secrets;
-use s39_backup::{Options, Plan, PlanError};
 use s39_clearing::Cleared;
 use s39_command::Job;
-use s39_creating::{run_create, run_reissue};
-use s39_drilling::{Done, run_drill};
-use s39_input::{Counting, Fault, SecretForm, run_repair, run_show};
 use s39_kdf::{BadFingerprint, NotedFingerprint, check_passphrase, parse_fingerprint};
-use s39_reading::{run_recover, run_status};
 use s39_set::{BadCursor, BadNames, Quorum, Status, parse_names, parse_quorum};
+use s39_tool::{
+    Counting, Done, Fault, Options, Plan, PlanError, SecretForm, run_create, run_drill,
+    run_recover, run_reissue, run_repair, run_show, run_status,
+};
 use std::alloc::Global;
 use std::io::{Read, Write};
 

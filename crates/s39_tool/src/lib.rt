@@ -1,0 +1,12 @@
+//! The engine by one name, for callers that name one crate: plans, creation, recovery, the memo of a drill, and the commands over
+//! any devices. This crate has no code of its own.
+#![tactic(auto)]
+
+pub use s39_backup::{
+    CreateError, Created, Members, Memo, Mismatch, Options, Plan, PlanError, RecoverError, create,
+    recover_by, refit,
+};
+pub use s39_creating::{run_create, run_reissue};
+pub use s39_drilling::{Done, run_drill};
+pub use s39_input::{Counting, DeviceFailure, Fault, Refusal, SecretForm, run_repair, run_show};
+pub use s39_reading::{run_recover, run_status};
