@@ -85,7 +85,7 @@ wrong_word_named line words mnemonic share place answer h is bad =
     (bad_names line words h.whole bad answer is)
 
 -- the flag of a wrong word's mnemonic is that of the words, if the second word is right
-flag_stays : (words : List ℕ) (at : ℕ) → (w : IsWrongWord words at) → at ≢ 2 → flag_of words ≡ w.share.extendable
+pub flag_stays : (words : List ℕ) (at : ℕ) → (w : IsWrongWord words at) → at ≢ 2 → flag_of words ≡ w.share.extendable
 flag_stays words at w off =
     let n = w.same_count in
     let two = two_at_least (length w.mnemonic) (spelled_count w.mnemonic w.share w.in_list w.spells) in

@@ -175,3 +175,12 @@ pub fn at_most_two_wrong_words()
         → ((share : ShareFields) → ¬ Spells (spelling words) share)
         → AreWrongWords words positions → length positions ≤ 2 }
 {}
+
+/// At most one position is named, so no answer has a second one.
+pub fn no_second_position()
+    ensures words { (words positions : List ℕ) → All IsIndex words → length words ≤ most_words
+        → ((share : ShareFields) → ¬ Spells (spelling words) share)
+        → AreWrongWords words positions → length positions ≤ 1 }
+    ensures lines { (line : List ℕ) (first : ℕ) (second : Option ℕ)
+        → Repairs line (Err (RepairError.WrongWord first second)) → second ≡ None }
+{}
