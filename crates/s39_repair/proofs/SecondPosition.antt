@@ -1,10 +1,12 @@
--- No second position is named. Two mnemonics with different flags that differ in the second word and in one other word alone would differ
--- in a word behind the last one.
+-- No second position is named. It would take two mnemonics that differ in the second word and in one other word alone. They would have
+-- different flags, and the other word would be at place 788.
 use Rattle.std.proofs.Common.{◌≡◌, ◌≢◌, ℕ, zero, suc, ◌+◌, ◌-◌, ◌<◌, ◌≤◌, ◌⊎◌, inl, inr, Bool, true, false, List, [], ◌∷◌, ◌++◌, length, get_or}
-use Rattle.std.proofs.Common.{Option, Some, None, Err, refl, sym, ap, ap₂, subst, ◌∙◌, ⊎_elim, arith}
-use Rattle.std.specs.Prelude.{All, bit_xor}
+use Rattle.std.proofs.Common.{Option, Some, None, Result, Err, refl, sym, ap, ap₂, subst, ◌∙◌, ⊎_elim, arith}
+use Rattle.std.specs.Prelude.{All, Contains, bit_xor}
+use Rattle.std.specs.Option.{option_to_list}
 use Rattle.std.proofs.lemmas.Bool.{cases_eq, cases_lt}
 use Rattle.std.proofs.lemmas.List.{get_or_default}
+use Rattle.s39_lists.proofs.Sublists.{Contains-nil, Contains-cases}
 use Rattle.s39_field.specs.Field.{IsField}
 use Rattle.s39_field.specs.FieldProduct.{word_field, product_modulo}
 use Rattle.s39_field.specs.Polynomial.{power, value_from, value_at}
@@ -16,30 +18,34 @@ use Rattle.s39_field.proofs.Values.{add_of_sums, distributes_left, mul-zero_left
 use Rattle.s39_words.specs.Checksum.{one_added_to_last}
 use Rattle.s39_words.specs.Layout.{IsIndex, most_words}
 use Rattle.s39_words.specs.Mistyping.{most_wrong_words}
-use Rattle.s39_words.specs.Reading.{IsWordCount}
+use Rattle.s39_words.specs.Reading.{IsWordCount, Reads}
 use Rattle.s39_words.specs.Spelling.{words_of, Spells}
 use Rattle.s39_words.specs.declared.share.ShareFields.{ShareFields}
+use Rattle.s39_words.specs.declared.word_error.WordError.TheVariants.{BadChecksum}
 use Rattle.s39_words.proofs.Indices.{at_most_words}
 use Rattle.s39_words.proofs.WrongWords.{front, half-element}
+use Rattle.s39_repair.specs.declared.repaired.Repaired.{Repaired}
+use Rattle.s39_repair.specs.declared.repair_error.RepairError.{RepairError}
 use Rattle.s39_repair.specs.declared.repair_error.RepairError.TheVariants.{WrongWord}
 use Rattle.s39_repair.specs.Answer.{AreWrongWords, IsWhole, IsWrongWord, Repairs}
 use Rattle.s39_repair.specs.Marks.{spelling}
+use Rattle.s39_repair.specs.Misread.{HasWrongWords}
 use Rattle.s39_repair.specs.Sums.{half, locator, sum_with, value_of_sums}
 use Rattle.s39_repair.proofs.Candidates.{spelled_checksum}
 use Rattle.s39_repair.proofs.ComesBack.{chosen_below, chosen_length}
 use Rattle.s39_repair.proofs.Flags.{plain_or_not}
 use Rattle.s39_repair.proofs.LostWords.{sum_is}
 use Rattle.s39_repair.proofs.Misread.{bad_isn't_spelled}
-use Rattle.s39_repair.proofs.OneWrongWord.{flag_stays}
+use Rattle.s39_repair.proofs.OneWrongWord.{flag_stays, wrong_word_named}
 use Rattle.s39_repair.proofs.ThreePlaces.{value_is}
 use Rattle.s39_repair.proofs.WrongPlaces.{two_alike}
 
 axioms : IsField word_field
 axioms = word_field_is_field
 
--- ---- the place that would explain both flags
+-- ---- the place of the other word
 
--- it is behind the last word: its locator is this power of 2, or the power of a half with the exponent 18 + 788
+-- its locator: a half to the power of 18 + 788, which is 2 to the power of 217
 abbrev far : ℕ
 far = 281
 
@@ -61,13 +67,13 @@ far_from n low same =
     ∙ ap (λ x. power word_field x n) half_of_two
     ∙ power-one word_field axioms n))
 
--- the sums in which the two customization strings differ
+-- what the two customization strings add to the sums, one moved to the place of the other
 abbrev strings_sum : ℕ → ℕ
 strings_sum m =
     let x = power word_field half m in
     bit_xor (value_at word_field (front true) x) (word_field.mul (value_at word_field (front false) x) (power word_field x 11))
 
--- the changes of the second word and of the word at that place that have these sums
+-- the changes of the second word and of that word that have these sums
 explained : (m : ℕ) → 1 ≤ m → m ≤ most_wrong_words
     → bit_xor (word_field.mul 877 (power word_field far m)) (word_field.mul 268 (power word_field (locator true 1) m)) ≡ strings_sum m
 unfolding product_modulo
@@ -77,7 +83,7 @@ explained (suc (suc zero)) low high = refl
 explained (suc (suc (suc zero))) low high = refl
 explained (suc (suc (suc (suc m)))) low high = absurd (omega arith)
 
--- only words behind the last one have a sum of this place
+-- no word of a mnemonic has such a change beside the second, since three sums determine the changes at three places
 only_far : (i b a : ℕ) → i ≤ most_words
     → ((m : ℕ) → 1 ≤ m → m ≤ most_wrong_words
     → strings_sum m ≡ bit_xor (word_field.mul b (power word_field (locator true 1) m)) (word_field.mul a (power word_field (locator true i) m)))
@@ -98,9 +104,9 @@ only_far i b a low sums =
     ∙ explained m from to
     ∙ sums m from to
     ∙ sym (
-      ap (λ t. bit_xor t (bit_xor v' (bit_xor w 0))) (mul-zero_left word_field axioms (power word_field far m))
-      ∙ zero_add word_field axioms (bit_xor v' (bit_xor w 0))
-      ∙ ap (bit_xor v') (axioms.add_zero w)
+    ap (λ t. bit_xor t (bit_xor v' (bit_xor w 0))) (mul-zero_left word_field axioms (power word_field far m))
+    ∙ zero_add word_field axioms (bit_xor v' (bit_xor w 0))
+    ∙ ap (bit_xor v') (axioms.add_zero w)
     ) in
     let value = λ (s₁ s₂ s₃ : ℕ). value_of_sums word_field s₁ s₂ s₃ far y z in
     let first = λ (c d e : ℕ) (ec : word_field.IsElement c).
@@ -148,7 +154,7 @@ sum_of_parts extendable [] m some = absurd (omega arith)
 sum_of_parts true (w ∷ ws) m some = value_from-append (front true) (one_added_to_last (w ∷ ws)) 0 (power word_field half m)
 sum_of_parts false (w ∷ ws) m some = value_from-append (front false) (one_added_to_last (w ∷ ws)) 0 (power word_field half m)
 
--- the sums with both flags together don't depend on the words
+-- both together don't depend on the words
 both_sums : (ws : List ℕ) (m : ℕ) → 0 < length ws
     → strings_sum m ≡ bit_xor (sum_with true ws m) (word_field.mul (sum_with false ws m) (power word_field (power word_field half m) 11))
 both_sums ws m some =
@@ -160,11 +166,11 @@ both_sums ws m some =
     let w = value_from word_field (one_added_to_last ws) 18 x in
     let later : w ≡ word_field.mul v q = value_from-later (one_added_to_last ws) 7 11 x (power-element word_field axioms half m half-element) in
     sym (
-      ap₂ (λ s t. bit_xor s (word_field.mul t q)) (sum_of_parts true ws m some) (sum_of_parts false ws m some)
-      ∙ ap (bit_xor (bit_xor b w)) (distributes_left word_field axioms a v q)
-      ∙ add_of_sums word_field axioms b w (word_field.mul a q) (word_field.mul v q)
-      ∙ ap (bit_xor (bit_xor b (word_field.mul a q))) (ap (λ s. bit_xor s (word_field.mul v q)) later ∙ axioms.add_self (word_field.mul v q))
-      ∙ axioms.add_zero (bit_xor b (word_field.mul a q))
+    ap₂ (λ s t. bit_xor s (word_field.mul t q)) (sum_of_parts true ws m some) (sum_of_parts false ws m some)
+    ∙ ap (bit_xor (bit_xor b w)) (distributes_left word_field axioms a v q)
+    ∙ add_of_sums word_field axioms b w (word_field.mul a q) (word_field.mul v q)
+    ∙ ap (bit_xor (bit_xor b (word_field.mul a q))) (ap (λ s. bit_xor s (word_field.mul v q)) later ∙ axioms.add_self (word_field.mul v q))
+    ∙ axioms.add_zero (bit_xor b (word_field.mul a q))
     )
 
 -- a term with one flag, as one with the other
@@ -175,9 +181,9 @@ other_term a i m =
     let exponent : (7 + i) + 11 ≡ 18 + i = omega arith in
     axioms.mul_associates a (power word_field x m) (power word_field (power word_field half m) 11)
     ∙ ap (word_field.mul a) (
-      ap (word_field.mul (power word_field x m)) (power-exchanges word_field axioms half m 11)
-      ∙ sym (power-product word_field axioms x (power word_field half 11) m)
-      ∙ ap (λ y. power word_field y m) (sym (power_of_sum word_field axioms half (7 + i) 11 half-element) ∙ ap (power word_field half) exponent)
+    ap (word_field.mul (power word_field x m)) (power-exchanges word_field axioms half m 11)
+    ∙ sym (power-product word_field axioms x (power word_field half 11) m)
+    ∙ ap (λ y. power word_field y m) (sym (power_of_sum word_field axioms half (7 + i) 11 half-element) ∙ ap (power word_field half) exponent)
     )
 
 -- ---- two positions
@@ -234,7 +240,7 @@ module _ (ws : List ℕ) (all : All IsIndex ws) (short : length ws ≤ most_word
         (plain_or_not q.share.extendable))
         (plain_or_not p.share.extendable)
 
-    one_at_most : (xs : List ℕ) → AreWrongWords ws xs → length xs ≤ 1
+    pub one_at_most : (xs : List ℕ) → AreWrongWords ws xs → length xs ≤ 1
     one_at_most xs are = ⊎_elim
         (λ many.
         let at : (k : ℕ) → k < length xs → IsWrongWord ws (get_or xs k 0) =
@@ -245,10 +251,6 @@ module _ (ws : List ℕ) (all : All IsIndex ws) (short : length ws ≤ most_word
 
 -- ---- laws
 
-pub one_position : (words positions : List ℕ) → All IsIndex words → length words ≤ most_words
-    → ((share : ShareFields) → Spells (spelling words) share → ⊥) → AreWrongWords words positions → length positions ≤ 1
-one_position words positions all short bad are = one_at_most words all short bad positions are
-
 pub no_second : (line : List ℕ) (first : ℕ) (second : Option ℕ) → Repairs line (Err (WrongWord first second)) → second ≡ None
 no_second line first None is = refl
 no_second line first (Some second) is =
@@ -256,6 +258,17 @@ no_second line first (Some second) is =
     let whole : IsWhole line words = is.1 in
     let count : IsWordCount (length words) = subst IsWordCount (chosen_length (words_of line) words whole.words_are) whole.readable.count in
     let one : length (first ∷ second ∷ []) ≤ 1 =
-    one_position words (first ∷ second ∷ []) (chosen_below (words_of line) words whole.words_are) (at_most_words (length words) count)
-    (λ share spells. bad_isn't_spelled words share is.2 spells) is.3 in
+    one_at_most words (chosen_below (words_of line) words whole.words_are) (at_most_words (length words) count)
+    (λ share spells. bad_isn't_spelled words share is.2 spells) (first ∷ second ∷ []) is.3 in
     absurd (omega (arith, one))
+
+pub wrong_word_found : (line words mnemonic : List ℕ) (share : ShareFields) (place : ℕ) (answer : Result Repaired RepairError)
+    → HasWrongWords line words mnemonic share place place → Repairs line answer → Reads (spelling words) (Err BadChecksum)
+    → answer ≡ Err (WrongWord (suc place) None)
+wrong_word_found line words mnemonic share place answer h is bad =
+    let (first, second, answer_is, has) = wrong_word_named line words mnemonic share place answer h is bad in
+    let none : second ≡ None = no_second line first second (subst (Repairs line) answer_is is) in
+    let at : first ≡ suc place =
+    ⊎_elim (λ e. e) (λ later. absurd (Contains-nil (suc place) later))
+    (Contains-cases first [] (suc place) (subst (λ (s : Option ℕ). Contains (first ∷ option_to_list s) (suc place)) none has)) in
+    answer_is ∙ ap₂ (λ f s. Err (WrongWord f s)) at none

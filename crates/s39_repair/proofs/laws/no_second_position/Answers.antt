@@ -1,8 +1,8 @@
-use Rattle.s39_repair.proofs.SecondPosition.{one_position, no_second}
+use Rattle.s39_repair.proofs.SecondPosition.{one_at_most, no_second}
 use Rattle.s39_repair.proofs.laws.no_second_position.Goals as goal
 
-pub returns-clause-words : goal.returns-clause-words
-returns-clause-words c = one_position
+pub returns-clause-one : goal.returns-clause-one
+returns-clause-one c = λ words positions all short bad are. one_at_most words all short bad positions are
 
-pub returns-clause-lines : goal.returns-clause-lines
-returns-clause-lines c = no_second
+pub returns-clause-alone : goal.returns-clause-alone
+returns-clause-alone c = no_second
