@@ -262,12 +262,16 @@ no_second line first (Some second) is =
     (λ share spells. bad_isn't_spelled words share is.2 spells) (first ∷ second ∷ []) is.3 in
     absurd (omega (arith, one))
 
+pub no_second_in : (line : List ℕ) (answer : Result Repaired RepairError) → Repairs line answer → (first : ℕ) (second : Option ℕ)
+    → answer ≡ Err (WrongWord first second) → second ≡ None
+no_second_in line answer is first second answer_is = no_second line first second (subst (Repairs line) answer_is is)
+
 pub wrong_word_found : (line words mnemonic : List ℕ) (share : ShareFields) (place : ℕ) (answer : Result Repaired RepairError)
     → HasWrongWords line words mnemonic share place place → Repairs line answer → Reads (spelling words) (Err BadChecksum)
     → answer ≡ Err (WrongWord (suc place) None)
 wrong_word_found line words mnemonic share place answer h is bad =
     let (first, second, answer_is, has) = wrong_word_named line words mnemonic share place answer h is bad in
-    let none : second ≡ None = no_second line first second (subst (Repairs line) answer_is is) in
+    let none : second ≡ None = no_second_in line answer is first second answer_is in
     let at : first ≡ suc place =
     ⊎_elim (λ e. e) (λ later. absurd (Contains-nil (suc place) later))
     (Contains-cases first [] (suc place) (subst (λ (s : Option ℕ). Contains (first ∷ option_to_list s) (suc place)) none has)) in
