@@ -86,7 +86,7 @@ fn whole(ranges: &[WordRange]) -> Result<Repaired, RepairError>
 /// ```
 pub fn repair(line: &[u8]) -> Result<Repaired, RepairError>
     ensures answer { Repairs line.now result }
-    ensures alone { (first : ℕ) (second : Option ℕ)
+    ensures one_position { (first : ℕ) (second : Option ℕ)
         → result ≡ Err (RepairError.WrongWord first second) → second ≡ None }
 {
     let marks = marks_of(line)?;

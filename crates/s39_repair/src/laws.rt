@@ -169,6 +169,6 @@ pub fn no_second_position()
     ensures one { (words positions : List ℕ) → All IsIndex words → length words ≤ most_words
         → ((share : ShareFields) → ¬ Spells (spelling words) share)
         → AreWrongWords words positions → length positions ≤ 1 }
-    ensures alone { (line : List ℕ) (first : ℕ) (second : Option ℕ)
+    ensures none { (line : List ℕ) (first : ℕ) (second : Option ℕ)
         → Repairs line (Err (RepairError.WrongWord first second)) → second ≡ None }
 {}

@@ -46,10 +46,10 @@ returns-in-None-clause-answer c =
       λ mnemonic share fits. c.in-None.ensures.none refl mnemonic share (fits_ranges line ranges mnemonic share m fits),
     )
 
-pub returns-in_err-marks-clause-alone : goal.returns-in_err-marks-clause-alone
-returns-in_err-marks-clause-alone c =
+pub returns-in_err-marks-clause-one_position : goal.returns-in_err-marks-clause-one_position
+returns-in_err-marks-clause-one_position c =
     let is : Repairs c.args.line.now c.from_residual.result = search rules in
     no_second_in c.args.line.now c.from_residual.result is
 
-pub returns-then-places-ranges-clause-alone : goal.returns-then-places-ranges-clause-alone
-returns-then-places-ranges-clause-alone c = no_second_in c.args.line.now c.whole.result (returns-then-places-ranges-clause-answer c)
+pub returns-then-places-ranges-clause-one_position : goal.returns-then-places-ranges-clause-one_position
+returns-then-places-ranges-clause-one_position c = no_second_in c.args.line.now c.whole.result (returns-then-places-ranges-clause-answer c)

@@ -4,5 +4,5 @@ use Rattle.s39_repair.proofs.laws.no_second_position.Goals as goal
 pub returns-clause-one : goal.returns-clause-one
 returns-clause-one c = λ words positions all short bad are. one_at_most words all short bad positions are
 
-pub returns-clause-alone : goal.returns-clause-alone
-returns-clause-alone c = no_second
+pub returns-clause-none : goal.returns-clause-none
+returns-clause-none c = no_second
