@@ -14,3 +14,4 @@ pub mod Misread
 pub mod OneWrongWord
 pub mod SomeAnswer
 pub mod Unread
+pub mod SecondPosition

@@ -166,7 +166,7 @@ module _ (extendable : Bool) (ws vs : List ℕ) (i : ℕ) (within : i < length w
       ap₂ (λ (b c : ℕ). word_field.mul (bit_xor b c) m) (get_or-eq_default ws 0 past) (get_or-eq_default vs 0 (omega (arith, n)))
       ∙ mul-zero_left word_field axioms m
 
-  sum_is : (m : ℕ) → 1 ≤ m → m ≤ most_wrong_words → sum_with extendable ws m ≡ word_field.mul a (power word_field x m)
+  pub sum_is : (m : ℕ) → 1 ≤ m → m ≤ most_wrong_words → sum_with extendable ws m ≡ word_field.mul a (power word_field x m)
   sum_is m low high =
       let at = λ (p : ℕ). power word_field (locator extendable p) m in
       sums_are extendable ws vs i behind (suc behind) places others ews evs valid m low high

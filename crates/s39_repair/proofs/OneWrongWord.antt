@@ -25,7 +25,7 @@ use Rattle.s39_repair.specs.Sums.{ArePlaces}
 use Rattle.s39_repair.proofs.Candidates.{spelled_checksum, spelled_indices}
 use Rattle.s39_repair.proofs.ComesBack.{chosen_below, chosen_length, chosen_once}
 use Rattle.s39_repair.proofs.Misread.{bad_isn't_spelled, same_flags, spelled_count, spelled_flag, two_at_least}
-use Rattle.s39_repair.proofs.WrongPlaces.{one_valid, two_alike}
+use Rattle.s39_repair.proofs.WrongPlaces.{one_valid}
 
 -- ---- the answer to a line with a bad checksum
 
@@ -85,28 +85,12 @@ wrong_word_named line words mnemonic share place answer h is bad =
     (bad_names line words h.whole bad answer is)
 
 -- the flag of a wrong word's mnemonic is that of the words, if the second word is right
-flag_stays : (words : List ℕ) (at : ℕ) → (w : IsWrongWord words at) → at ≢ 2 → flag_of words ≡ w.share.extendable
+pub flag_stays : (words : List ℕ) (at : ℕ) → (w : IsWrongWord words at) → at ≢ 2 → flag_of words ≡ w.share.extendable
 flag_stays words at w off =
     let n = w.same_count in
     let two = two_at_least (length w.mnemonic) (spelled_count w.mnemonic w.share w.in_list w.spells) in
     same_flags words w.mnemonic (omega (arith, n, two)) n (w.elsewhere 1 (λ e. off (sym e)))
     ∙ spelled_flag w.mnemonic w.share w.in_list w.spells
-
--- of two positions that are named, one is 2
-pub two_named : (line : List ℕ) (first second : ℕ) → Repairs line (Err (WrongWord first (Some second))) → (first ≡ 2) ⊎ (second ≡ 2)
-two_named line first second is =
-    let words = is.0 in
-    let whole : IsWhole line words = is.1 in
-    let are : AreWrongWords words (first ∷ second ∷ []) = is.3 in
-    let count : IsWordCount (length words) = subst IsWordCount (chosen_length (words_of line) words whole.words_are) whole.readable.count in
-    let p : IsWrongWord words first = are.wrong first (Contains-head first (second ∷ [])) in
-    let q : IsWrongWord words second = are.wrong second (Contains-cons first (second ∷ []) second (Contains-head second [])) in
-    let less : first < second = are.ascending 0 1 0 (omega arith) (omega arith) in
-    ⊎_elim (λ e. inl e) (λ off. ⊎_elim (λ e. inr e)
-    (λ off'. absurd (two_alike words first second (chosen_below (words_of line) words whole.words_are) (at_most_words (length words) count)
-    (λ share spells. bad_isn't_spelled words share is.2 spells) p q less
-    (sym (flag_stays words first p off) ∙ flag_stays words second q off')))
-    (cases_eq second 2)) (cases_eq first 2)
 
 -- ---- replaced words
 

@@ -32,7 +32,8 @@ use Rattle.s39_repair.proofs.Flags.{NoneWith, OnlyWith, none_fits, one_fits, bot
 use Rattle.s39_repair.proofs.MarksRead.{AreChosen}
 use Rattle.s39_repair.proofs.Misread.{few_or_none, fit_alike}
 use Rattle.s39_repair.proofs.Wholes.{bad_spells_none, no_other_count, no_unknown}
-use Rattle.s39_repair.proofs.WrongPlaces.{WrongUpTo, mended_is, right_more, two_at_most, wrong_all, wrong_from_spelled, wrong_more, wrong_none}
+use Rattle.s39_repair.proofs.SecondPosition.{one_at_most}
+use Rattle.s39_repair.proofs.WrongPlaces.{WrongUpTo, mended_is, right_more, wrong_all, wrong_from_spelled, wrong_more, wrong_none}
 
 -- ---- searches
 
@@ -209,11 +210,10 @@ module _ (line ws : List ℕ) (chosen : AreChosen (words_of line) ws) where
   counted readable = subst IsWordCount (chosen_length (words_of line) ws chosen) readable.count
 
   bad_checksum : (positions : List ℕ) → IsWhole line ws → Reads (spelling ws) (Err words_BadChecksum) → AreWrongWords ws positions
-      → length positions ≤ 2 → Answered line
+      → length positions ≤ 1 → Answered line
   bad_checksum [] whole bad are few = (Err BadChecksum, (ws, whole, bad, are))
   bad_checksum (first ∷ []) whole bad are few = (Err (WrongWord first None), (ws, whole, bad, are))
-  bad_checksum (first ∷ second ∷ []) whole bad are few = (Err (WrongWord first (Some second)), (ws, whole, bad, are))
-  bad_checksum (first ∷ second ∷ third ∷ rest) whole bad are few = absurd (omega arith)
+  bad_checksum (first ∷ second ∷ rest) whole bad are few = absurd (omega arith)
 
   whole_answer : (read : Result ShareFields WordError) → Reads (spelling ws) read → IsWhole line ws
       → ((other : List ℕ) (share : ShareFields) → Fits line other share → ⊥) → Answered line
@@ -225,7 +225,7 @@ module _ (line ws : List ℕ) (chosen : AreChosen (words_of line) ws) where
   whole_answer (Err words_BadChecksum) reads whole none =
       let wrong = wrong_words ws all in
       let short : length ws ≤ most_words = at_most_words (length ws) (counted whole.readable) in
-      bad_checksum wrong.0 whole reads wrong.1 (two_at_most ws wrong.0 all short (λ share. bad_spells_none (spelling ws) share reads) wrong.1)
+      bad_checksum wrong.0 whole reads wrong.1 (one_at_most ws all short (λ share. bad_spells_none (spelling ws) share reads) wrong.0 wrong.1)
   whole_answer (Err words_BadPadding) reads whole none = (Err BadPadding, (ws, whole, reads))
   whole_answer (Err words_GroupThreshold) reads whole none = (Err GroupThreshold, (ws, whole, reads))
 

@@ -229,15 +229,3 @@ one_mnemonic mnemonic other share found i j k places agree all all' spells spell
     one_valid found.extendable mnemonic other mnemonic i j k places agree (record { same_count = refl; elsewhere = λ p off_i off_j off_k. refl }) all all' all
     (spelled_checksum other found found.extendable all' spells' refl)
     (spelled_checksum mnemonic share found.extendable all spells flag)
-
-pub two_at_most : (ws xs : List ℕ) → All IsIndex ws → length ws ≤ most_words → ((share : ShareFields) → Spells (spelling ws) share → ⊥)
-    → AreWrongWords ws xs → length xs ≤ 2
-two_at_most ws xs ews short bad are =
-    ⊎_elim
-    (λ many.
-    let at : (k : ℕ) → k < length xs → IsWrongWord ws (get_or xs k 0) =
-    λ k below. are.wrong (get_or xs k 0) (k, below, get_or_default xs k (get_or xs k 0) 0 below) in
-    absurd (no_third ws (get_or xs 0 0) (get_or xs 1 0) (get_or xs 2 0) ews short bad (at 0 (omega arith)) (at 1 (omega arith)) (at 2 (omega arith))
-    (are.ascending 0 1 0 (omega arith) (omega arith)) (are.ascending 1 2 0 (omega arith) (omega arith))))
-    (λ few. few)
-    (cases_lt 2 (length xs))

@@ -1,10 +1,11 @@
 //! The answer to a line of marks.
-ghost use Rattle.std.specs.Prelude.{All, Err, length};
+ghost use Rattle.std.specs.Prelude.{◌≡◌, ℕ, All, Err, None, Option, length};
 ghost use Rattle.s39_words.specs.Layout.{IsIndex};
 ghost use Rattle.s39_words.specs.Reading.{IsWordCount, Reads};
 ghost use Rattle.s39_words.specs.declared.word_error.WordError.{WordError as Cause};
 ghost use Rattle.s39_repair.specs.Answer.{Repairs, RepairsWhole, RefusesWords};
 ghost use Rattle.s39_repair.specs.Marks.{spelling, AreClosed, IsRange};
+ghost use Rattle.s39_repair.specs.declared.repair_error.RepairError.{RepairError};
 
 use crate::candidate::first_words;
 use crate::marks::marks_of;
@@ -84,7 +85,9 @@ fn whole(ranges: &[WordRange]) -> Result<Repaired, RepairError>
 /// assert_eq!(rt; refusal, Some(RepairError::UnknownWord { position: 3 }));
 /// ```
 pub fn repair(line: &[u8]) -> Result<Repaired, RepairError>
-    ensures { Repairs line.now result }
+    ensures answer { Repairs line.now result }
+    ensures one_position { (first : ℕ) (second : Option ℕ)
+        → result ≡ Err (RepairError.WrongWord first second) → second ≡ None }
 {
     let marks = marks_of(line)?;
     let ranges = marks.as_slice();

@@ -1,6 +1,5 @@
 //! Facts about the definitions. Each is the contract of a function that does nothing.
-ghost use Rattle.std.specs.Prelude.{◌≡◌, ◌≢◌, ◌+◌, ◌<◌, ◌≤◌, ◌⊎◌, ℕ, suc, false, List, [], ◌∷◌, All, Contains, Ok, Err, Option, None, Some, Result, length, slice_index, slice_index_or, slice_set};
-ghost use Rattle.std.specs.Option.{option_to_list};
+ghost use Rattle.std.specs.Prelude.{◌≡◌, ◌≢◌, ◌+◌, ◌<◌, ◌≤◌, ◌⊎◌, ℕ, suc, false, List, [], All, Contains, Ok, Err, Option, None, Some, Result, length, slice_index, slice_index_or, slice_set};
 ghost use Rattle.s39_words.specs.Layout.{IsIndex, most_words};
 ghost use Rattle.s39_words.specs.Mistyping.{count_of_differences};
 ghost use Rattle.s39_words.specs.Printing.{IsPrinted};
@@ -136,26 +135,22 @@ pub fn one_wrong_word_is_named()
         → Contains positions (suc place) }
 {}
 
-/// If one word is wrong and the checksum is bad, the answer names the position of this word. The flag may be another
-/// one, if the second word is wrong.
+/// If one word is wrong and the checksum is bad, the answer names the position of this word, and no other. The flag may be
+/// another one, if the second word is wrong.
 pub fn one_wrong_word_is_found()
     ensures { (line words mnemonic : List ℕ) (share : ShareFields) (place : ℕ)
         (answer : Result Repaired RepairError)
         → HasWrongWords line words mnemonic share place place → Repairs line answer
         → Reads (spelling words) (Err Cause.BadChecksum)
-        → (first : ℕ) × (second : Option ℕ) × (answer ≡ Err (RepairError.WrongWord first second))
-        × Contains (first ∷ option_to_list second) (suc place) }
+        → answer ≡ Err (RepairError.WrongWord (suc place) None) }
 {}
 
-/// If one word is replaced by another one and the flag stays the same, the checksum is bad. Of two positions that an
-/// answer names, one is 2.
+/// If one word is replaced by another one and the flag stays the same, the checksum is bad.
 pub fn one_replaced_word()
-    ensures bad { (line words mnemonic : List ℕ) (share : ShareFields) (place : ℕ)
+    ensures { (line words mnemonic : List ℕ) (share : ShareFields) (place : ℕ)
         → HasWrongWords line words mnemonic share place place
         → slice_index words place ≢ slice_index mnemonic place → flag_of words ≡ flag_of mnemonic
         → Reads (spelling words) (Err Cause.BadChecksum) }
-    ensures two { (line : List ℕ) (first second : ℕ)
-        → Repairs line (Err (RepairError.WrongWord first (Some second))) → (first ≡ 2) ⊎ (second ≡ 2) }
 {}
 
 /// If two words are replaced by others and the flag stays the same, the answer names no position but 2.
@@ -169,9 +164,11 @@ pub fn two_replaced_words()
         → (answer ≡ Err RepairError.BadChecksum) ⊎ (answer ≡ Err (RepairError.WrongWord 2 None)) }
 {}
 
-/// At most two positions are named.
-pub fn at_most_two_wrong_words()
-    ensures { (words positions : List ℕ) → All IsIndex words → length words ≤ most_words
+/// At most one position is named, so no answer has a second one.
+pub fn no_second_position()
+    ensures one { (words positions : List ℕ) → All IsIndex words → length words ≤ most_words
         → ((share : ShareFields) → ¬ Spells (spelling words) share)
-        → AreWrongWords words positions → length positions ≤ 2 }
+        → AreWrongWords words positions → length positions ≤ 1 }
+    ensures none { (line : List ℕ) (first : ℕ) (second : Option ℕ)
+        → Repairs line (Err (RepairError.WrongWord first second)) → second ≡ None }
 {}
