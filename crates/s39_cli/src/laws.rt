@@ -112,24 +112,24 @@ pub fn repairs_tell_of_two()
     two_mnemonics_are_told();
 }
 
-/// What a drill writes for mnemonics of a backup that was created with its passphrase: exactly their quorums after the given one, or
-/// why there is none.
+/// For mnemonics of a backup that was created with its passphrase, a drill lists exactly their quorums after the given one, or
+/// answers why there is none.
 pub fn drill_jobs_list()
     ensures { DrillJobsList }
 {
     created_backups_drill();
 }
 
-/// What a recovery writes for mnemonics of a backup that was created with its passphrase: the secret, or nothing if there is no
-/// quorum or another fingerprint is expected.
+/// For mnemonics of a backup that was created with its passphrase, a recovery writes the secret, or nothing if there is no quorum or
+/// another fingerprint is expected.
 pub fn recover_jobs_recover()
     ensures { RecoverJobsRecover }
 {
     created_backups_recover();
 }
 
-/// What a reissue writes for mnemonics of a backup that was created by its plan: the backup's own mnemonics with its names, or nothing
-/// if they aren't determined.
+/// For mnemonics of a backup that was created by its plan, which has its names, a reissue writes the backup's own mnemonics with
+/// these names, or nothing if they aren't determined.
 pub fn reissue_jobs_reissue()
     ensures { ReissueJobsReissue }
 {
