@@ -1,5 +1,5 @@
 -- The line that names a file fits its room.
-use Rattle.std.proofs.Common.{◌≡◌, ◌⊎◌, ◌++◌, ◌∙◌, ◌<◌, ◌≤◌, ◌+◌, ◌-◌, ℕ, suc, zero, length, take, Bool, true, false, List, [], ◌∷◌, codes, if◌then◌else◌}
+use Rattle.std.proofs.Common.{◌≡◌, ◌++◌, ◌∙◌, ◌<◌, ◌≤◌, ◌+◌, ◌-◌, ℕ, suc, zero, length, take, Bool, true, false, List, [], ◌∷◌, codes, if◌then◌else◌}
 use Rattle.std.proofs.Common.{ap, arith, inl, inr, length-append, refl, sym}
 use Rattle.std.proofs.lemmas.Bool.{cases_lt, le-leb, lt-leb}
 use Rattle.std.specs.Prelude.{slice_index}

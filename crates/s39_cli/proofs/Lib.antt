@@ -1,7 +1,6 @@
 pub mod ByWords
-pub mod Expecting
+pub mod CreatedBackups
 pub mod Deliveries
-pub mod Drills
 pub mod Dropped
 pub mod Ends
 pub mod GoingOut
@@ -9,8 +8,6 @@ pub mod Interrupted
 pub mod Literals
 pub mod Outcomes
 pub mod Parts
-pub mod Recoveries
-pub mod Reissues
 pub mod Repairs
 pub mod Said
 pub mod SameValues

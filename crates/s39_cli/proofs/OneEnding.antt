@@ -1,12 +1,11 @@
 -- Files, input and output that tell their bytes, and no call of which fails, give one exit status and one output.
-use Rattle.std.proofs.Common.{◌≡◌, ◌≢◌, ◌⊎◌, ◌++◌, ◌∙◌, ◌<◌, ◌≤◌, ℕ, length, Bool, true, false, Bor, List, [], Option, Some, None, IfSome, Result, Ok, Err}
+use Rattle.std.proofs.Common.{◌≡◌, ◌≢◌, ◌⊎◌, ◌++◌, ◌∙◌, ℕ, length, Bool, true, false, Bor, List, [], Option, Some, None, IfSome}
 use Rattle.std.proofs.Common.{ap, append-nil, arith, inl, inr, refl, subst, sym, true≢false, unwrap_or}
 use Rattle.std.proofs.lemmas.List.{append_cancel_left}
 use Rattle.std.specs.Io.KnownBytes.{Appends, Consumes}
 use Rattle.clap.specs.Words.{Text, takes}
-use Rattle.hex.specs.Hex.{decode_of}
 use Rattle.s39_backup.specs.declared.plan_error.PlanError.{PlanError}
-use Rattle.s39_input.specs.Input.{Input, whole}
+use Rattle.s39_input.specs.Input.{whole}
 use Rattle.s39_command.specs.declared.command.Call.{Call}
 use Rattle.s39_command.specs.declared.command.Job.{Job}
 use Rattle.s39_command.specs.declared.command.Job.TheVariants as job
@@ -23,7 +22,7 @@ use Rattle.s39_cli.specs.Headline.{OneOutcome}
 use Rattle.s39_cli.specs.OneEnding.{OneEnding, SomeEnding, telling}
 use Rattle.s39_cli.specs.Outcome.{GivesPlan, HasBadSecret, HasBadPlan, HasBadCursor, HasBadFingerprint, HasBadNames, IsNotHexadecimal, IsReady}
 use Rattle.s39_cli.specs.Outcome.{WritesFingerprint, WritesNames}
-use Rattle.s39_cli.specs.Values.{HasLong, HasLongValue, IsLongFile, IsLongLine, IsValueIn, TakesValue, TakesValues, input_name, longest_value, part, text_of}
+use Rattle.s39_cli.specs.Values.{HasLong, HasLongValue, IsLongFile, IsLongLine, IsValueIn, TakesValue, TakesValues, part, text_of}
 use Rattle.s39_cli.specs.Values.{without_line_end}
 use Rattle.s39_cli.proofs.SameValues.{same_values_write_the_same}
 use Rattle.s39_cli.proofs.Works.{no_cause}

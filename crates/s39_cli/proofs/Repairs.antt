@@ -5,7 +5,7 @@ use Rattle.s39_input.specs.Repair.{IsRepairOutput, TwoFit}
 use Rattle.s39_input.specs.declared.fault.Fault.{Fault}
 use Rattle.s39_cli.specs.Headline.{RepairsTellOfTwo, TwoFitSome}
 use Rattle.s39_cli.specs.Outcome.{status_of}
-use Rattle.s39_cli.proofs.Recoveries.{refusal_not_done}
+use Rattle.s39_cli.proofs.CreatedBackups.{refusal_not_done}
 
 module _ (told : (input : Input) (text line : List ℕ) (one_each : Bool) → IsRepairOutput input text (Ok one_each) → Contains (lines_of input) line
     → TwoFit line → one_each ≡ false)

@@ -1,5 +1,5 @@
--- Jobs with the same values write the same.
-use Rattle.std.proofs.Common.{◌≡◌, ℕ, Bool, Bor, List, Option, Some, None, Result, subst, sym}
+-- Jobs with the same values write the same, and can be begun alike.
+use Rattle.std.proofs.Common.{◌≡◌, ℕ, Bool, Bor, List, IfSome, Option, Some, None, Result, subst, sym}
 use Rattle.clap.specs.Words.{Text}
 use Rattle.s39_set.specs.Names.{Names}
 use Rattle.s39_set.specs.Written.{IsWrittenForm}
@@ -9,8 +9,10 @@ use Rattle.s39_command.specs.declared.command.Job.{Job}
 use Rattle.s39_command.specs.declared.command.Job.TheVariants as job
 use Rattle.s39_command.specs.Command.{HaveSameValues, text_in}
 use Rattle.s39_command.proofs.OneCall.{said_same}
+use Rattle.s39_cli.specs.declared.runner.Source.{Source}
+use Rattle.s39_cli.specs.Ending.{IsTyped}
 use Rattle.s39_cli.specs.Headline.{SameValuesWriteTheSame}
-use Rattle.s39_cli.specs.Outcome.{CreatesFrom, IsCursor, IsJobOutput, IsNoted, Reissues}
+use Rattle.s39_cli.specs.Outcome.{CreatesFrom, GivesPlan, IsCursor, IsJobOutput, IsNoted, IsReady, Reissues, WritesFingerprint, WritesNames}
 
 same_cursor : (a b : Option (Bor Text)) → text_in a ≡ text_in b → (names : Option Names) → IsCursor a names → IsCursor b names
 same_cursor None None same names is = is
@@ -42,3 +44,23 @@ same_output job.Repair k same s w input text answer is = subst (λ (other : Job)
 
 pub same_values_write_the_same : SameValuesWriteTheSame
 same_values_write_the_same j k same s w input text status is = (is.0, same_output j k same s w input text is.0 is.1, is.2)
+
+-- ---- and can be begun alike
+
+pub same_ready : (j k : Job) → HaveSameValues j k → (secret : Text) → IsReady j secret → IsReady k secret
+same_ready job.Show k same s is = subst (λ (other : Job). IsReady other s) (sym same) is
+same_ready (job.Create t e x) k (t', same, plans) s is =
+    subst (λ (other : Job). IsReady other s) (sym same) (is.0, subst GivesPlan plans is.1)
+same_ready (job.Recover f e) k (e', same, noted) s is =
+    subst (λ (other : Job). IsReady other s) (sym same) (subst (λ (t : Option Text). IfSome t WritesFingerprint) noted is)
+same_ready (job.Drill a l f e) k (a', e', same, cursors, noted) s is =
+    subst (λ (other : Job). IsReady other s) (sym same)
+    (subst (λ (t : Option Text). IfSome t WritesNames) cursors is.0, subst (λ (t : Option Text). IfSome t WritesFingerprint) noted is.1)
+same_ready job.Status k same s is = subst (λ (other : Job). IsReady other s) (sym same) is
+same_ready (job.Reissue t n) k (t', n', same, plans, names) s is =
+    subst (λ (other : Job). IsReady other s) (sym same) (subst GivesPlan plans is.0, subst WritesNames names is.1)
+same_ready job.Repair k same s is = subst (λ (other : Job). IsReady other s) (sym same) is
+
+pub same_typed : (source : Source) (j k : Job) → HaveSameValues j k → IsTyped source j → IsTyped source k
+same_typed source (job.Create t e x) k (t', same, plans) is = subst (IsTyped source) (sym same) is
+same_typed source j k same is = absurd is

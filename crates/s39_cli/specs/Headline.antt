@@ -1,44 +1,27 @@
--- What is written for the words of a drill, of a recovery and of a creation, all their values given.
-use Rattle.std.specs.Prelude.{◌≡◌, ◌≢◌, ◌⊎◌, ℕ, List, [], Some, None, Ok, Err, Contains}
+-- What jobs write: once for each input, alike for the same values, and for backups that were created.
+use Rattle.std.specs.Prelude.{◌≡◌, ◌≢◌, ◌⊎◌, ℕ, Bool, List, Contains, Option, None, Result, Ok, Err}
+use Rattle.std.specs.Borrow.{Bor}
 use Rattle.hex.specs.Hex.{decode_of}
 use Rattle.clap.specs.Words.{Text}
 use Rattle.s39_kdf.specs.Bytes.{AreBytes}
-use Rattle.s39_words.specs.declared.ShareFields.{ShareFields}
-use Rattle.s39_set.specs.Names.{Names}
-use Rattle.s39_set.specs.Quorums.{IsQuorum}
-use Rattle.s39_set.specs.Lack.{IsLack}
-use Rattle.s39_set.specs.Written.{IsWrittenForm}
-use Rattle.s39_set.specs.declared.set_lack.SetLack.{SetLack}
-use Rattle.s39_drilling.specs.declared.drill.Undrilled.{Undrilled}
+use Rattle.s39_kdf.specs.declared.noted.NotedFingerprint.{NotedFingerprint}
 use Rattle.s39_kdf.specs.declared.secret_form.SecretForm.{SecretForm}
+use Rattle.s39_set.specs.Names.{Names}
+use Rattle.s39_set.specs.Written.{IsWrittenForm}
+use Rattle.s39_backup.specs.declared.plan.Members.{Members}
+use Rattle.s39_backup.specs.Plan.{IsPlanReading}
 use Rattle.s39_input.specs.Input.{Input, lines_of, whole}
-use Rattle.s39_input.specs.Accepted.{IsReadAs}
-use Rattle.s39_input.specs.OfBackup.{HoldsMnemonicsOf}
 use Rattle.s39_input.specs.Repair.{IsRepairOutput, TwoFit}
 use Rattle.s39_input.specs.declared.fault.Fault.{Fault}
-use Rattle.s39_reading.specs.Recover.{secret_line}
-use Rattle.s39_drilling.specs.Drill.{IsUndrilled, ListsSecret}
+use Rattle.s39_creating.specs.Reissue.{ReissuesCreated}
+use Rattle.s39_drilling.specs.declared.drill.Done.{Done}
+use Rattle.s39_drilling.specs.Drill.{DrillsCreated}
+use Rattle.s39_reading.specs.Recover.{RecoversCreated, secret_line}
 use Rattle.s39_command.specs.declared.command.Job.{Job}
-use Rattle.s39_command.specs.declared.command.Job.TheVariants.{Repair}
-use Rattle.s39_command.specs.declared.command.Texts.{Texts}
-use Rattle.s39_command.specs.Command.{GivesCall, HaveSameValues, IsInRange}
-use Rattle.s39_command.specs.Words.{AreCreateWords, AreDrillWords, AreRecoverWords, limit_of}
+use Rattle.s39_command.specs.declared.command.Job.TheVariants.{Create, Recover, Drill, Reissue, Repair}
+use Rattle.s39_command.specs.Command.{HaveSameValues, IsInRange, text_in}
 use Rattle.s39_cli.specs.Ending.{IsOutcome}
-use Rattle.s39_cli.specs.Outcome.{IsReady}
-use Rattle.s39_cli.specs.Values.{text_of}
-
--- the words give this job and these texts of values, and name no file of a value
-abbrev pub GivesJob : List Text → Job → Texts → Type 0
-GivesJob words job given = GivesCall words (record {
-  job = job;
-  given = given;
-  files = record { secret = None; passphrase = None };
-})
-
--- the job of these words, all of whose values stand in them, writes this text for the input, with this exit status
-abbrev pub WordsWrite : List Text → Input → List ℕ → ℕ → Type 0
-WordsWrite words input text status = (job : Job) × (given : Texts) × GivesJob words job given
-    × IsOutcome job (text_of None given.secret) (text_of None given.passphrase) input text status
+use Rattle.s39_cli.specs.Outcome.{IsCursor, IsNoted, IsReady, judged, status_of, told_in, where_done, without_mismatches}
 
 -- a job writes one text for an input, with one exit status
 abbrev pub OneOutcome : Type 0
@@ -65,60 +48,43 @@ abbrev pub SomeOutcome : Type 0
 SomeOutcome = (job : Job) (secret passphrase : Text) (input : Input) → IsReady job secret → IsInRange job → AreBytes input.bytes
     → (text : List ℕ) × (status : ℕ) × IsOutcome job secret passphrase input text status
 
--- Either exactly the quorums after these are listed, each with the secret, and the exit status is 0. Or nothing is written, and it
--- is 1, because the set has no quorum, or because these names aren't one.
-abbrev pub ListsOrRefuses : SecretForm → List ShareFields → List ℕ → Names → ℕ → List ℕ → ℕ → Type 0
-ListsOrRefuses form set secret names limit text status =
-    (IsQuorum set names × ListsSecret form set secret (Some names) limit text × (status ≡ 0))
-    ⊎ (((cause : Undrilled) × IsUndrilled set (Some names) cause) × (text ≡ []) × (status ≡ 1))
+-- ---- created backups
 
--- If the input holds mnemonics of a backup that was created with this passphrase, the cursor's text is that of names, and exactly
--- the quorums of the shares read that come after these are listed, each with the secret, as many as the limit allows.
-abbrev pub DrillsBackup : SecretForm → Text → Text → ℕ → Input → List ℕ → ℕ → Type 0
-DrillsBackup form passphrase after limit input text status = (secret : List ℕ) → HoldsMnemonicsOf passphrase secret input
-    → (set : List ShareFields) × IsReadAs input (Ok set)
-    × ((names : Names) × IsWrittenForm after names × ListsOrRefuses form set secret names limit text status)
+-- What a drill writes for mnemonics of a created backup is what `DrillsCreated` says, after the cursor's names, and with the form or the
+-- fingerprint of the job. The exit status tells whether it found no mismatch.
+abbrev pub DrillJobsList : Type 0
+DrillJobsList = (after expected : Option (Bor Text)) (limit : ℕ) (form : SecretForm) (secret passphrase : Text) (input : Input) (text : List ℕ) (status : ℕ)
+    → IsOutcome (Drill after limit form expected) secret passphrase input text status
+    → (names : Option Names) × IsCursor after names × ((noted : Option NotedFingerprint) × IsNoted (text_in expected) noted
+    × ((found : Result Done Fault) × DrillsCreated (told_in form noted) passphrase names limit input text found
+    × (status ≡ status_of (judged without_mismatches found))))
 
--- these words write this text for the input, with this exit status, and it is that of such a drill
-abbrev pub WordsDrill : List Text → SecretForm → Text → Text → ℕ → Input → List ℕ → ℕ → Type 0
-WordsDrill words form passphrase after limit input text status =
-    WordsWrite words input text status × DrillsBackup form passphrase after limit input text status
+-- What a recovery writes for them is what `RecoversCreated` says. The exit status tells whether the secret is written.
+abbrev pub RecoverJobsRecover : Type 0
+RecoverJobsRecover = (form : SecretForm) (expected : Option (Bor Text)) (secret passphrase : Text) (input : Input) (text : List ℕ) (status : ℕ)
+    → IsOutcome (Recover form expected) secret passphrase input text status
+    → (noted : Option NotedFingerprint) × IsNoted (text_in expected) noted
+    × ((plain : Result (Unit {0}) Fault) × RecoversCreated form noted passphrase input text plain
+    × (status ≡ status_of (judged where_done plain)))
 
--- the words of a drill write that
-abbrev pub DrillWordsList : Type 0
-DrillWordsList = (form : SecretForm) (passphrase after limit : Text) (words : List Text) (input : Input) (text : List ℕ) (status : ℕ)
-    → AreDrillWords form passphrase after limit words → WordsWrite words input text status
-    → DrillsBackup form passphrase after (limit_of limit) input text status
-
--- the line of the secret in this form is written, and the exit status is 0; or nothing is written, and it is 1, as the set has no quorum
-abbrev pub RecoversOrRefuses : SecretForm → List ShareFields → List ℕ → List ℕ → ℕ → Type 0
-RecoversOrRefuses form set secret text status =
-    (((names : Names) × IsQuorum set names) × (text ≡ secret_line form secret) × (status ≡ 0))
-    ⊎ (((lack : SetLack) × IsLack set lack) × (text ≡ []) × (status ≡ 1))
-
--- the same for a recovery from such an input
-abbrev pub RecoversBackup : SecretForm → Text → Input → List ℕ → ℕ → Type 0
-RecoversBackup form passphrase input text status = (secret : List ℕ) → HoldsMnemonicsOf passphrase secret input
-    → (set : List ShareFields) × IsReadAs input (Ok set) × RecoversOrRefuses form set secret text status
-
--- these words write this text for the input, with this exit status, and it is that of such a recovery
-abbrev pub WordsRecover : List Text → SecretForm → Text → Input → List ℕ → ℕ → Type 0
-WordsRecover words form passphrase input text status =
-    WordsWrite words input text status × RecoversBackup form passphrase input text status
-
--- the words of a recovery write that
-abbrev pub RecoverWordsRecover : Type 0
-RecoverWordsRecover = (form : SecretForm) (passphrase : Text) (words : List Text) (input : Input) (text : List ℕ) (status : ℕ)
-    → AreRecoverWords form passphrase words → WordsWrite words input text status → RecoversBackup form passphrase input text status
+-- What a reissue writes for them is what `ReissuesCreated` says, by the job's plan and names. The exit status tells whether the
+-- mnemonics are written.
+abbrev pub ReissueJobsReissue : Type 0
+ReissueJobsReissue = (plan names : Bor Text) (secret passphrase : Text) (input : Input) (text : List ℕ) (status : ℕ)
+    → IsOutcome (Reissue plan names) secret passphrase input text status
+    → (group_threshold : ℕ) × (groups : List Members) × IsPlanReading plan.now (Ok (group_threshold, groups))
+    × ((listed : Names) × IsWrittenForm names.now listed
+    × ((plain : Result (Unit {0}) Fault) × ReissuesCreated group_threshold groups listed input text plain
+    × (status ≡ status_of (judged where_done plain))))
 
 -- the line, in this form, of the secret that these digits write is written, and the exit status is 0
 abbrev pub GivesSecret : SecretForm → Text → List ℕ → ℕ → Type 0
 GivesSecret form digits text status = (secret : List ℕ) × (decode_of digits ≡ Ok secret) × (text ≡ secret_line form secret) × (status ≡ 0)
 
--- If the words of a creation write a text with exit status 0, the words of a recovery with the same passphrase write the secret
--- for the input that is this text.
-abbrev pub CreatedWordsRecover : Type 0
-CreatedWordsRecover = (form : SecretForm) (plan secret passphrase : Text) (creating recovering : List Text) (random : Input) (text output : List ℕ) (status : ℕ)
-    → AreCreateWords plan secret passphrase creating → AreRecoverWords form passphrase recovering
-    → WordsWrite creating random text 0 → WordsWrite recovering (whole text) output status
+-- If a creation writes a text with exit status 0, then a recovery with the same passphrase writes the secret for the input that is
+-- this text.
+abbrev pub CreatedJobsRecover : Type 0
+CreatedJobsRecover = (plan : Bor Text) (exponent : ℕ) (extendable : Bool) (form : SecretForm) (secret passphrase other : Text) (random : Input)
+    (text output : List ℕ) (status : ℕ)
+    → IsOutcome (Create plan exponent extendable) secret passphrase random text 0 → IsOutcome (Recover form None) other passphrase (whole text) output status
     → GivesSecret form secret output status

@@ -1,7 +1,5 @@
 pub mod Ending
-pub mod Fewer
 pub mod Headline
-pub mod Expecting
 pub mod Outcome
 pub mod Said
 pub mod Terminal

@@ -5,9 +5,9 @@ use Rattle.s39_input.specs.Input.{whole}
 use Rattle.s39_command.specs.declared.command.Job.{Job}
 use Rattle.s39_command.specs.declared.command.Texts.{Texts}
 use Rattle.s39_command.specs.Command.{AsksForText, shamir_app}
+use Rattle.s39_command.specs.Jobs.{GivesJob}
 use Rattle.s39_cli.specs.declared.runner.Source.{Source}
 use Rattle.s39_cli.specs.Ending.{EndsAs, IsOutcome, IsTyped}
-use Rattle.s39_cli.specs.Headline.{GivesJob}
 use Rattle.s39_cli.specs.Outcome.{IsReady}
 use Rattle.s39_cli.specs.Values.{Told, text_of}
 

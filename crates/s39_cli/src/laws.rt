@@ -7,9 +7,7 @@ ghost use Rattle.s39_cli.specs.declared.telling.TheConstants.{MESSAGE_BYTES};
 ghost use Rattle.s39_cli.specs.Said.{IsSilentAtNone, longest_message, said_of};
 ghost use Rattle.s39_cli.specs.Ending.{AreAllOf, HoldsBeginning};
 ghost use Rattle.s39_cli.specs.Outcome.{HasNoCause, IsReady};
-ghost use Rattle.s39_cli.specs.Fewer.{FewCreatedWordsRecover, FewDrillWordsList, FewRecoverWordsRecover, ReissueWordsReissue};
-ghost use Rattle.s39_cli.specs.Headline.{CreatedWordsRecover, DrillWordsList, OneOutcome, RecoverWordsRecover};
-ghost use Rattle.s39_cli.specs.Expecting.{ExpectingDrillWordsCompare, ExpectingRecoverWordsGive};
+ghost use Rattle.s39_cli.specs.Headline.{CreatedJobsRecover, DrillJobsList, OneOutcome, RecoverJobsRecover, ReissueJobsReissue};
 ghost use Rattle.s39_cli.specs.OneEnding.{OneEnding, SomeEnding};
 ghost use Rattle.s39_cli.specs.Headline.{RepairsTellOfTwo, SameValuesWriteTheSame, SomeOutcome};
 
@@ -114,74 +112,34 @@ pub fn repairs_tell_of_two()
     two_mnemonics_are_told();
 }
 
-/// If the input of a drill's words is mnemonics of a backup that was created with their passphrase, exactly the quorums after
-/// the given one are listed, each with the secret in the form that the words ask for.
-pub fn drill_words_list()
-    ensures { DrillWordsList }
+/// For mnemonics of a backup that was created with its passphrase, a drill lists exactly their quorums after the given one, or
+/// answers why there is none.
+pub fn drill_jobs_list()
+    ensures { DrillJobsList }
 {
     created_backups_drill();
 }
 
-/// If the input of the words of a drill that expects a fingerprint is mnemonics of a backup that was created with their passphrase,
-/// exactly the quorums after the given one are listed, each with whether the backup's secret has this fingerprint.
-pub fn expecting_drill_words_compare()
-    ensures { ExpectingDrillWordsCompare }
-{
-    created_backups_drill();
-}
-
-/// If the input of the words of a recovery that expects a fingerprint is mnemonics of a backup that was created with their
-/// passphrase, and they meet the thresholds, the secret is written if it has this fingerprint, and nothing otherwise.
-pub fn expecting_recover_words_give()
-    ensures { ExpectingRecoverWordsGive }
+/// For mnemonics of a backup that was created with its passphrase, a recovery writes the secret, or nothing if there is no quorum or
+/// another fingerprint is expected.
+pub fn recover_jobs_recover()
+    ensures { RecoverJobsRecover }
 {
     created_backups_recover();
 }
 
-/// If the input of a recovery's words is mnemonics of a backup that was created with their passphrase, and they meet the
-/// thresholds, the secret is written in the form that the words ask for.
-pub fn recover_words_recover()
-    ensures { RecoverWordsRecover }
+/// For mnemonics of a backup that was created by its plan, which has its names, a reissue writes the backup's own mnemonics with
+/// these names, or nothing if they aren't determined.
+pub fn reissue_jobs_reissue()
+    ensures { ReissueJobsReissue }
 {
-    created_backups_recover();
-}
-
-/// If what the words of a creation write is the input of the words of a recovery with the same passphrase, the secret is
-/// written in the form that the latter ask for.
-pub fn created_words_recover()
-    ensures { CreatedWordsRecover }
-{
-    written_mnemonics_recover();
-    one_recover_output();
-}
-
-/// The same for the words of a drill with each option there or not.
-pub fn few_drill_words_list()
-    ensures { FewDrillWordsList }
-{
-    created_backups_drill();
-}
-
-/// The same for the words of a recovery with each option there or not.
-pub fn few_recover_words_recover()
-    ensures { FewRecoverWordsRecover }
-{
-    created_backups_recover();
-}
-
-/// The same for the words of a creation and of a recovery with each option there or not.
-pub fn few_created_words_recover()
-    ensures { FewCreatedWordsRecover }
-{
-    written_mnemonics_recover();
-    one_recover_output();
-}
-
-/// If the input of a reissue's words is mnemonics of a backup that was created by their plan, and the plan has their names, the
-/// backup's mnemonics with these names are written.
-pub fn reissue_words_reissue()
-    ensures { ReissueWordsReissue }
-{
-    one_plan_reading();
     created_backups_reissue();
+}
+
+/// A recovery of what a creation with the same passphrase wrote gives the secret back.
+pub fn created_jobs_recover()
+    ensures { CreatedJobsRecover }
+{
+    written_mnemonics_recover();
+    one_recover_output();
 }

@@ -4,7 +4,6 @@
 
 pub mod by_words;
 mod delivery;
-pub mod fewer_words;
 pub mod laws;
 mod messages;
 mod notes;

@@ -1,18 +1,19 @@
 -- The words of a creation, each option there or not: they are taken, and what is found in them.
 use Rattle.std.proofs.Common.{◌≡◌, ◌∙◌, ◌++◌, true, false, List, [], ◌∷◌, codes, pos, Option, Some, None, ap, append-nil, refl, sym, unwrap_or}
 use Rattle.std.specs.List.{fold}
+use Rattle.clap.specs.Lexer.{without_minus}
 use Rattle.clap.specs.ValueTests.{is_signed_in}
 use Rattle.clap.specs.Walk.{arg_by_index, used, with_default}
-use Rattle.clap.specs.Words.{Row, Rule, Text, new_rule, subcommand_of, takes}
+use Rattle.clap.specs.Words.{Row, Rule, Text, new_rule, takes}
 use Rattle.clap.specs.declared.builder.value_parser.ValueParser.TheVariants as vp
 use Rattle.clap.proofs.ValueTestLemmas.{Accepts-accepts, accepts-Accepts}
 use Rattle.s39_clap.proofs.Commands.{Completes, HasCommand, reading_taken}
 use Rattle.s39_clap.proofs.Options.{IsOption}
 use Rattle.s39_clap.proofs.Readings.{IsPositional, MayHave, Reads, reads_none, reads_option, reads_positional}
-use Rattle.s39_command.specs.Command.{shamir_app}
+use Rattle.s39_command.specs.Command.{flag_text, shamir_app}
 use Rattle.s39_command.specs.FewerWords.{AreFewCreateWords, CreateWordsAreFew, FewCreateWordsAreTaken, IsExponent}
 use Rattle.s39_command.specs.Words.{CreateWordsAreTaken}
-use Rattle.s39_command.proofs.Words.{Found, GivenFits, found_by, found_in, given_rows, option_in, reads_given, shape_at}
+use Rattle.s39_command.proofs.Words.{Found, GivenFits, IsMet, found_in, given_rows, met_by, option_in, reads_given, shape_at}
 
 has_create : HasCommand shamir_app (codes "create") (shape_at 1)
 unfolding shamir_app
@@ -60,8 +61,8 @@ CreateFits plan secret p e = GivenFits (shape_at 1) (option_in 1 (codes "exponen
     (Unit {0} × MayHave (shape_at 1) (option_in 1 (codes "master-secret")) secret [])) × MayHave (shape_at 1) plan_in plan (exponent_rows secret p e)
 
 -- what is found in the words of a creation
-abbrev pub create_values : Text → Text → Option Text → Found
-create_values plan secret p = record {
+abbrev pub create_values : Text → Text → Option Text → Option Text → Found
+create_values plan secret p e = record {
   name = codes "create";
   secret = Some secret;
   secret_file = None;
@@ -74,13 +75,15 @@ create_values plan secret p = record {
   flag = None;
   plan = Some plan;
   names = None;
+  exponent = Some (without_minus (unwrap_or e (codes "0")));
+  extendable = Some (flag_text false);
 }
 
 -- such words fit if the exponent does, and that is found
 record Holds (plan secret : Text) (p e : Option Text) : Type 0 where
   pub fits : is_signed_in (pos 0) (pos 15) (unwrap_or e (codes "0")) ≡ true → CreateFits plan secret p e
   pub completes : Completes (shape_at 1) (create_rows plan secret p e)
-  pub found : found_in ((shape_at 1).name, fold with_default (create_rows plan secret p e) (shape_at 1).rules) ≡ create_values plan secret p
+  pub found : found_in ((shape_at 1).name, fold with_default (create_rows plan secret p e) (shape_at 1).rules) ≡ create_values plan secret p e
 
 holds : (plan secret : Text) (p e : Option Text) → Holds plan secret p e
 unfolding shamir_app
@@ -113,11 +116,11 @@ few_create_words_are_taken plan secret p e words are exponent =
     ∙ reading_taken shamir_app (codes "create") (shape_at 1) has_create (level are) are.program 2 (create_rows plan secret p e)
     (level_reads plan secret p e words are) (h.fits (Accepts-accepts false (vp.Signed (pos 0) (pos 15)) (unwrap_or e (codes "0")) exponent)) h.completes
 
-pub creation_found : (plan secret : Text) (p e : Option Text) (words : List Text) → AreFewCreateWords plan secret p e words → (name : Text) (rows : List Row)
-    → subcommand_of shamir_app words ≡ Some (name, rows) → found_in (name, rows) ≡ create_values plan secret p
-creation_found plan secret p e words are =
-    found_by (codes "create") (shape_at 1) has_create are.program (level are) words are.words_are 2 (create_rows plan secret p e)
-    (level_reads plan secret p e words are) (create_values plan secret p) (holds plan secret p e).found
+pub creation_met : (plan secret : Text) (p e : Option Text) (words : List Text) → AreFewCreateWords plan secret p e words
+    → IsMet words (create_values plan secret p e)
+creation_met plan secret p e words are =
+    met_by (codes "create") (shape_at 1) has_create are.program (level are) words are.words_are 2 (create_rows plan secret p e)
+    (level_reads plan secret p e words are) (create_values plan secret p e) (holds plan secret p e).found
 
 -- ---- words with every option
 

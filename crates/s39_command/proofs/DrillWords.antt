@@ -4,7 +4,7 @@ use Rattle.std.specs.List.{fold}
 use Rattle.clap.specs.Lexer.{without_minus}
 use Rattle.clap.specs.ValueTests.{is_signed_in}
 use Rattle.clap.specs.Walk.{walk_from, walked, nothing_held, with_default}
-use Rattle.clap.specs.Words.{Row, Text, subcommand_of, takes}
+use Rattle.clap.specs.Words.{Row, Text, takes}
 use Rattle.clap.specs.declared.builder.value_parser.ValueParser.TheVariants as vp
 use Rattle.clap.proofs.ValueTestLemmas.{Accepts-accepts}
 use Rattle.s39_clap.proofs.Commands.{Completes, HasCommand, reading_taken}
@@ -15,7 +15,7 @@ use Rattle.s39_kdf.specs.declared.secret_form.SecretForm.TheVariants.{Digits, Fi
 use Rattle.s39_command.specs.Command.{flag_text, shamir_app}
 use Rattle.s39_command.specs.FewerWords.{AreFewDrillWords, AreGivenWords, DrillWordsAreFew, FewDrillWordsAreTaken, or_default}
 use Rattle.s39_command.specs.Words.{AreExpectingDrillWords, AskFor, DrillWordsAreTaken, ExpectingDrillWordsAreTaken, IsLimit}
-use Rattle.s39_command.proofs.Words.{AreRead, Found, GivenFits, form_held, form_rows, found_by, found_in, given_rows, is_fingerprint, option_in, reads_given, shape_at}
+use Rattle.s39_command.proofs.Words.{AreRead, Found, GivenFits, IsMet, form_held, form_rows, found_in, given_rows, is_fingerprint, met_by, option_in, reads_given, shape_at}
 
 -- words of a drill, which ask for fingerprints, or expect one, or do neither
 pub record IsDrill (form : SecretForm) (expected passphrase after limit : Option Text) (words : List Text) : Type 0 where
@@ -103,6 +103,8 @@ drill_values form e p q n = record {
   flag = Some (flag_text (is_fingerprint form));
   plan = None;
   names = None;
+  exponent = None;
+  extendable = None;
 }
 
 -- such words fit if the limit does, and that is found
@@ -180,10 +182,10 @@ drill_taken form e p q n words is limit =
     ∙ reading_taken shamir_app (codes "drill") (shape_at 3) has_drill (level is) is.program 1 (drill_rows form e p q n) (level_reads form e p q n words is)
     (h.fits (Accepts-accepts false (vp.Signed (pos 1) (pos 4294967295)) (or_default n) limit)) h.completes
 
-pub drill_found : (form : SecretForm) (e p q n : Option Text) (words : List Text) → IsDrill form e p q n words → (name : Text) (rows : List Row)
-    → subcommand_of shamir_app words ≡ Some (name, rows) → found_in (name, rows) ≡ drill_values form e p q n
-drill_found form e p q n words is =
-    found_by (codes "drill") (shape_at 3) has_drill is.program (level is) words is.words_are 1 (drill_rows form e p q n) (level_reads form e p q n words is)
+pub drill_met : (form : SecretForm) (e p q n : Option Text) (words : List Text) → IsDrill form e p q n words
+    → IsMet words (drill_values form e p q n)
+drill_met form e p q n words is =
+    met_by (codes "drill") (shape_at 3) has_drill is.program (level is) words is.words_are 1 (drill_rows form e p q n) (level_reads form e p q n words is)
     (drill_values form e p q n) (holds form is.form_words is.form_asked e p q n is.one_form).found
 
 -- ---- the words of a drill that the definitions name

@@ -7,3 +7,4 @@ pub mod RecoverWords
 pub mod CreateWords
 pub mod ReissueWords
 pub mod Faults
+pub mod GivenJobs

@@ -2,7 +2,7 @@
 use Rattle.std.proofs.Common.{◌≡◌, ◌∙◌, ◌++◌, true, List, [], ◌∷◌, codes, Option, Some, None, ap, append-nil, refl, subst, sym}
 use Rattle.std.specs.List.{fold}
 use Rattle.clap.specs.Walk.{walk_from, walked, nothing_held, with_default}
-use Rattle.clap.specs.Words.{Row, Text, subcommand_of, takes}
+use Rattle.clap.specs.Words.{Row, Text, takes}
 use Rattle.s39_clap.proofs.Commands.{Completes, HasCommand, reading_taken}
 use Rattle.s39_clap.proofs.Options.{IsOption, leads_by, standing}
 use Rattle.s39_clap.proofs.Readings.{Reads, reads_none}
@@ -11,7 +11,7 @@ use Rattle.s39_kdf.specs.declared.secret_form.SecretForm.TheVariants.{Digits, Fi
 use Rattle.s39_command.specs.Command.{flag_text, shamir_app}
 use Rattle.s39_command.specs.FewerWords.{AreFewRecoverWords, AreGivenWords, FewRecoverWordsAreTaken, RecoverWordsAreFew}
 use Rattle.s39_command.specs.Words.{AreExpectingRecoverWords, AskFor, ExpectingRecoverWordsAreTaken, RecoverWordsAreTaken}
-use Rattle.s39_command.proofs.Words.{AreRead, Found, GivenFits, form_held, form_rows, found_by, found_in, given_rows, is_fingerprint, option_in, reads_given, shape_at}
+use Rattle.s39_command.proofs.Words.{AreRead, Found, GivenFits, IsMet, form_held, form_rows, found_in, given_rows, is_fingerprint, met_by, option_in, reads_given, shape_at}
 
 -- words of a recovery, which may expect a fingerprint
 pub record IsRecovery (form : SecretForm) (expected passphrase : Option Text) (words : List Text) : Type 0 where
@@ -78,6 +78,8 @@ recover_values form e p = record {
   flag = Some (flag_text (is_fingerprint form));
   plan = None;
   names = None;
+  exponent = None;
+  extendable = None;
 }
 
 -- such words fit, and that is found
@@ -117,10 +119,10 @@ recovery_taken form e p words is =
     ∙ reading_taken shamir_app (codes "recover") (shape_at 2) has_recover (level is) is.program 1 (recover_rows form e p) (level_reads form e p words is)
     h.fits h.completes
 
-pub recovery_found : (form : SecretForm) (e p : Option Text) (words : List Text) → IsRecovery form e p words → (name : Text) (rows : List Row)
-    → subcommand_of shamir_app words ≡ Some (name, rows) → found_in (name, rows) ≡ recover_values form e p
-recovery_found form e p words is =
-    found_by (codes "recover") (shape_at 2) has_recover is.program (level is) words is.words_are 1 (recover_rows form e p) (level_reads form e p words is)
+pub recovery_met : (form : SecretForm) (e p : Option Text) (words : List Text) → IsRecovery form e p words
+    → IsMet words (recover_values form e p)
+recovery_met form e p words is =
+    met_by (codes "recover") (shape_at 2) has_recover is.program (level is) words is.words_are 1 (recover_rows form e p) (level_reads form e p words is)
     (recover_values form e p) (holds form is.form_words is.form_asked e p).found
 
 -- ---- the words of a recovery that the definitions name

@@ -2,12 +2,12 @@
 use Rattle.std.proofs.Common.{◌≡◌, ◌∙◌, ℕ, List, [], ◌∷◌, codes, Some, None, ap, refl, unwrap_or}
 use Rattle.std.specs.List.{fold}
 use Rattle.clap.specs.Walk.{arg_by_index, used, with_default}
-use Rattle.clap.specs.Words.{Row, Rule, Text, new_rule, subcommand_of, takes}
+use Rattle.clap.specs.Words.{Row, Rule, Text, new_rule, takes}
 use Rattle.s39_clap.proofs.Commands.{Completes, HasCommand, reading_taken}
 use Rattle.s39_clap.proofs.Readings.{IsPositional, MayHave, Reads, reads_none, reads_positional}
 use Rattle.s39_command.specs.Command.{shamir_app}
 use Rattle.s39_command.specs.FewerWords.{AreReissueWords, ReissueWordsAreTaken}
-use Rattle.s39_command.proofs.Words.{Found, found_by, found_in, shape_at}
+use Rattle.s39_command.proofs.Words.{Found, IsMet, found_in, met_by, shape_at}
 
 has_reissue : HasCommand shamir_app (codes "reissue") (shape_at 5)
 unfolding shamir_app
@@ -49,6 +49,8 @@ reissue_values plan names = record {
   flag = None;
   plan = Some plan;
   names = Some names;
+  exponent = None;
+  extendable = None;
 }
 
 -- such words fit, and that is found
@@ -74,8 +76,8 @@ reissue_words_are_taken plan names words are =
     ∙ reading_taken shamir_app (codes "reissue") (shape_at 5) has_reissue (plan ∷ names ∷ []) are.program 3 (reissue_rows plan names)
     (level_reads plan names words are) (holds plan names).fits (holds plan names).completes
 
-pub reissue_found : (plan names : Text) (words : List Text) → AreReissueWords plan names words → (name : Text) (rows : List Row)
-    → subcommand_of shamir_app words ≡ Some (name, rows) → found_in (name, rows) ≡ reissue_values plan names
-reissue_found plan names words are =
-    found_by (codes "reissue") (shape_at 5) has_reissue are.program (plan ∷ names ∷ []) words are.words_are 3 (reissue_rows plan names)
+pub reissue_met : (plan names : Text) (words : List Text) → AreReissueWords plan names words
+    → IsMet words (reissue_values plan names)
+reissue_met plan names words are =
+    met_by (codes "reissue") (shape_at 5) has_reissue are.program (plan ∷ names ∷ []) words are.words_are 3 (reissue_rows plan names)
     (level_reads plan names words are) (reissue_values plan names) (holds plan names).found

@@ -1,5 +1,5 @@
 -- What the words of all commands have in common: options that may be there, the flag for the form, and what is found.
-use Rattle.std.proofs.Common.{◌≡◌, ◌∙◌, ◌++◌, ℕ, Bool, true, false, List, [], ◌∷◌, codes, Option, Some, None, ap, append-nil, option_map, slice_get, subst, sym, unwrap_or}
+use Rattle.std.proofs.Common.{◌≡◌, ◌∙◌, ◌++◌, ℕ, Bool, true, false, List, [], ◌∷◌, codes, Option, Some, None, ap, append-nil, slice_get, subst, sym, unwrap_or}
 use Rattle.std.specs.List.{fold}
 use Rattle.clap.specs.Walk.{Held, arg_by_long, nothing_held, reacted, used, with_default}
 use Rattle.clap.specs.Words.{Row, Rule, Shape, Text, first_of, new_rule, one_of, subcommand_of}
@@ -87,6 +87,8 @@ pub record Found : Type 0 where
   pub flag : Option Text
   pub plan : Option Text
   pub names : Option Text
+  pub exponent : Option Text
+  pub extendable : Option Text
 
 abbrev pub found_in : Text × List Row → Found
 found_in f = record {
@@ -102,14 +104,21 @@ found_in f = record {
   flag = first_of (codes "fingerprint") f.1;
   plan = first_of (codes "plan") f.1;
   names = first_of (codes "names") f.1;
+  exponent = one_of (codes "exponent") f.1;
+  extendable = one_of (codes "extendable") f.1;
 }
 
+-- the words name a command, and this is found in them
+abbrev pub IsMet : List Text → Found → Type 0
+IsMet words found = (name : Text) × (rows : List Row) × (subcommand_of shamir_app words ≡ Some (name, rows)) × (found_in (name, rows) ≡ found)
+
 -- it is what is held after the words, with the defaults
-pub found_by : {Fit : Type 0} (command : Text) (s : Shape) → HasCommand shamir_app command s → (program : Text) (level words : List Text)
+pub met_by : {Fit : Type 0} (command : Text) (s : Shape) → HasCommand shamir_app command s → (program : Text) (level words : List Text)
     → words ≡ program ∷ command ∷ level → (position : ℕ) (rows : List Row) → Reads s position level rows Fit → (found : Found)
-    → found_in (s.name, fold with_default rows s.rules) ≡ found → (name : Text) (all : List Row) → subcommand_of shamir_app words ≡ Some (name, all)
-    → found_in (name, all) ≡ found
-found_by command s has program level words words_are position rows reads found are name all met =
-    let same : Some (found_in (name, all)) ≡ Some found =
-    ap (option_map found_in) (sym met ∙ ap (subcommand_of shamir_app) words_are ∙ reading_found shamir_app command s has level program position rows reads)
-    ∙ ap (λ (f : Found). Some f) are in cc
+    → found_in (s.name, fold with_default rows s.rules) ≡ found → IsMet words found
+met_by command s has program level words words_are position rows reads found are = (
+  s.name,
+  fold with_default rows s.rules,
+  ap (subcommand_of shamir_app) words_are ∙ reading_found shamir_app command s has level program position rows reads,
+  are,
+)

@@ -1,11 +1,16 @@
 //! Facts about the definitions of the command line. Each is the contract of a function that does nothing.
-ghost use Rattle.std.specs.Prelude.{◌≡◌, [], ◌∷◌, codes, Some, None};
+ghost use Rattle.std.specs.Prelude.{◌≡◌, [], ◌∷◌, codes, Some, None, true};
+ghost use Rattle.std.specs.Borrow.{Bor};
+ghost use Rattle.clap.specs.Words.{Text, takes};
 ghost use Rattle.s39_kdf.specs.declared.secret_form.SecretForm.TheVariants.{Digits, Fingerprint};
 ghost use Rattle.s39_command.specs.Words.{ApartDrill, AreCreateWords, AreDrillWords, AreExpectingDrillWords, AreExpectingRecoverWords, AreRecoverWords};
 ghost use Rattle.s39_command.specs.FewerWords.{AreFewCreateWords, AreFewDrillWords, AreFewRecoverWords, AreReissueWords, IsExponent};
 ghost use Rattle.s39_command.specs.FewerWords.{CreateWordsAreFew, DrillWordsAreFew, FewCreateWordsAreTaken, FewDrillWordsAreTaken};
 ghost use Rattle.s39_command.specs.FewerWords.{FewRecoverWordsAreTaken, RecoverWordsAreFew, ReissueWordsAreTaken};
+ghost use Rattle.s39_command.specs.declared.command.Job.TheVariants.{Create, Recover};
+ghost use Rattle.s39_command.specs.Command.{shamir_app};
 ghost use Rattle.s39_command.specs.Faults.{FirstFault, OneFault, SomeFault};
+ghost use Rattle.s39_command.specs.Jobs.{ExpectingDrillWordsGive, ExpectingRecoverWordsGive, FewCreateWordsGive, FewDrillWordsGive, FewRecoverWordsGive, GivesJobWith, ReissueWordsGive, flag_last, plan_first};
 ghost use Rattle.s39_command.specs.Words.{IsLimit, JoinedDrill, drill_apart, limit_of};
 ghost use Rattle.s39_command.specs.Words.{CreateWordsAreTaken, DrillWordsAreTaken, ExpectingDrillWordsAreTaken, ExpectingRecoverWordsAreTaken, OneCall, RecoverWordsAreTaken};
 
@@ -82,6 +87,27 @@ pub fn there_are_fewer_words()
     ensures limit { IsLimit (codes "1000") }
     ensures least_exponent { IsExponent (codes "0") }
     ensures greatest_exponent { IsExponent (codes "15") }
+{}
+
+/// The words of each of these commands give its job, with the values that stand in them, and without files. A limit that isn't
+/// given is 1000, and an exponent 0.
+pub fn words_give_jobs()
+    ensures drill { FewDrillWordsGive }
+    ensures expecting_drill { ExpectingDrillWordsGive }
+    ensures recover { FewRecoverWordsGive }
+    ensures expecting_recover { ExpectingRecoverWordsGive }
+    ensures create { FewCreateWordsGive }
+    ensures reissue { ReissueWordsGive }
+{}
+
+/// Words in another order and with other options give jobs too: a creation with its plan first and the extendable flag, and a
+/// recovery with its flag last. The definition takes them.
+pub fn there_are_words_in_another_order()
+    ensures creation_taken { takes shamir_app plan_first ≡ true }
+    ensures creation { (plan : Bor Text) × (plan.now ≡ codes "2of3")
+        × GivesJobWith plan_first (Create plan 0 true) (Some (codes "00112233445566778899aabbccddeeff")) None }
+    ensures recovery_taken { takes shamir_app flag_last ≡ true }
+    ensures recovery { GivesJobWith flag_last (Recover Fingerprint None) None (Some (codes "TREZOR")) }
 {}
 
 /// Words give one call: any two calls that they give have the same values and the same files of values.

@@ -1,5 +1,0 @@
-use Rattle.s39_cli.proofs.Recoveries as recoveries
-use Rattle.s39_cli.proofs.laws.few_recover_words_recover.Goals as goal
-
-pub returns : goal.returns
-returns c = recoveries.few_recover_words_recover c.created_backups_recover.ensures
