@@ -47,10 +47,6 @@ name_given name rows job.Status is = is
 name_given name rows (job.Reissue t n) is = is.0
 name_given name rows job.Repair is = is
 
--- what is found for another command's words gives no such job
-pub other_job : (wanted name : Text) (rows : List Row) (j : Job) → bytes_eq wanted (name_of j) ≡ false → name ≡ wanted → Gives name rows j → ⊥
-other_job wanted name rows j differ is gives = other_text wanted (name_of j) differ (sym is ∙ name_given name rows j gives)
-
 same_flag : (o : Option Text) (x y : Bool) → o ≡ Some (flag_text x) → o ≡ Some (flag_text y) → x ≡ y
 same_flag o true true is also = refl
 same_flag o false false is also = refl
