@@ -6,19 +6,20 @@ import subprocess
 LIST = pathlib.Path(__file__).resolve().parent.parent / "crates.txt"
 
 
+def lines() -> dict[str, str]:
+    """Returns the line of each crate, without its comment, by the crate's name."""
+    found = [line.partition("#")[0] for line in LIST.read_text().splitlines()]
+    return {it.replace(":", " ").split()[0]: it for it in found if ":" in it}
+
+
 def listed() -> dict[str, list[str]]:
     """Returns what each crate uses, by the crate's name."""
-    uses: dict[str, list[str]] = {}
-    for line in LIST.read_text().splitlines():
-        names, colon, used = line.partition("#")[0].partition(":")
-        if colon:
-            uses[names.split()[0]] = used.split()
-    return uses
+    return {name: line.partition(":")[2].split() for name, line in lines().items()}
 
 
 def static() -> list[str]:
     """Returns the crates that are static libraries."""
-    return [line.split()[0] for line in LIST.read_text().splitlines() if line.partition("#")[0].partition(":")[0].endswith(" staticlib")]
+    return [name for name, line in lines().items() if line.partition(":")[0].endswith(" staticlib")]
 
 
 def below(name: str, uses: dict[str, list[str]]) -> list[str]:

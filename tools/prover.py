@@ -1,10 +1,12 @@
 """The kit's command `rattle`, for a crate of this repository over the crates that it uses as they are in out/rlib."""
 import functools
+import json
 import os
 import pathlib
 import subprocess
 
 import crates
+import kept
 
 ROOT = pathlib.Path(__file__).resolve().parent.parent
 # A check takes one to two and a half gigabytes.
@@ -32,10 +34,18 @@ def built(name: str) -> pathlib.Path:
     return ROOT / "crates" / name / "out" / "rlib" / f"{name}.rlib"
 
 
-def are_newer(since: pathlib.Path, names: list[str]) -> bool:
-    """Returns whether out/rlib has each of these crates, newer than the file `since`."""
-    made = [built(it) / "format" for it in names]
-    return all(it.is_file() and it.stat().st_mtime_ns >= since.stat().st_mtime_ns for it in made)
+def note_sources(to: pathlib.Path) -> None:
+    """Writes the sum of each crate's sources into a file, before `rt ci` begins."""
+    to.write_text(json.dumps({it: kept.sources(it) for it in uses()}))
+
+
+def are_of_gate(noted: pathlib.Path, names: list[str]) -> bool:
+    """Returns whether out/rlib has each of these crates as an `rt ci` made it that began after `note_sources` wrote this file, and
+    whether their sources are still the same. The files of a crate may be older than the run, if `rt ci` took them from what an
+    earlier one kept; the folder isn't."""
+    began, sums = noted.stat().st_mtime_ns, json.loads(noted.read_text() or "{}")
+    made = [(it, built(it)) for it in names]
+    return all((at / "format").is_file() and at.stat().st_mtime_ns >= began and sums.get(it) == kept.sources(it) for it, at in made)
 
 
 def root_file(name: str) -> str:
