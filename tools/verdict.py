@@ -4,7 +4,7 @@ import re
 
 ERROR = re.compile(r"(?:\./)?(proofs/(\S+)/(?:Answers|Invariants|Proof)\.antt|(?:src|specs|proofs)/\S+?):\d+:\d+: error: (.*)")
 LINE = re.compile(r"(?:fn|struct|enum|impl|trait|cycle) (\S+): (.*)")
-NAMES = re.compile(r"has no field|is not in scope|has no `|was not admitted")
+NAMES = re.compile(r"has no field|is not in scope|has no `|was not admitted|was rejected, w")
 UNREAD = re.compile(r"is not in scope|has no field|is no name|operand is missing|expected the end|cannot continue")
 
 
@@ -17,6 +17,8 @@ class Verdict:
     # The functions of the crate, and those that are refused for their own body, with what the prover says of each.
     functions: frozenset[str]
     refused: dict[str, list[str]]
+    # The files of lemmas in which the prover refuses one for its value. Such a lemma is often the first that a wrong definition reaches.
+    lemmas: list[str]
 
     def by_names(self, function: str) -> bool:
         """Returns whether a function is refused only because its proof names what isn't there any more."""
@@ -35,12 +37,15 @@ def verdict(crate: str, said: str) -> Verdict:
     lines = said.splitlines()
     last = next((it for it in reversed(lines) if it.startswith(("logic=", "only="))), "")
     errors: dict[str, list[str]] = {}
+    lemmas: dict[str, None] = {}
     unread = False
     for line in lines:
         if found := ERROR.match(line):
             file, path, text = found.groups()
             if path:
                 errors.setdefault(path.replace("/", "::"), []).append(text)
+            elif file.startswith("proofs/") and not NAMES.search(text):
+                lemmas[file] = None
             unread = unread or is_unread(file, text)
     functions: set[str] = set()
     refused: dict[str, list[str]] = {}
@@ -52,4 +57,4 @@ def verdict(crate: str, said: str) -> Verdict:
                 refused[path] = errors.get(path, [status])
     only = re.match(r"only=(\d+) proved=(\d+)", last)
     is_proved = last.startswith("logic=proved") or bool(only and only[1] == only[2])
-    return Verdict(said, is_proved, bool(last) and not unread, frozenset(functions), refused)
+    return Verdict(said, is_proved, bool(last) and not unread, frozenset(functions), refused, list(lemmas))
