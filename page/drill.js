@@ -63,7 +63,7 @@ export async function askToDrill(desk, status, kind, { title, hasBack }) {
  * @param {Desk} desk
  * @param {Status} status
  * @param {{title: string, noted: string, isOwn?: boolean}} what `noted` is the expected fingerprint, or empty. `isOwn` says that it is
- *   that of the secret that was just backed up, and not one that was noted
+ *   that of the secret that was just backed up, and that the owner noted none
  * @returns {Promise<Verdict | {refused: import("./desk.js").Refused}>}
  */
 export async function runDrill(desk, status, { title, noted, isOwn = false }) {
@@ -193,7 +193,8 @@ class Table {
    */
   end(isStopped, isOwn, hasPassphrase) {
     this.#bar.remove();
-    const { result, right, sentences } = verdictOf(this.tried, this.#total, { noted: this.#noted, isOwn, hasPassphrase });
+    const noted = this.#noted;
+    const { result, right, sentences } = verdictOf(this.tried, this.#total, { noted, isOwn, hasPassphrase });
     if (this.tried.length === 0) {
       sentences.length = 0;
       this.#scroll.remove();
@@ -202,7 +203,9 @@ class Table {
     if (!isWhole) sentences.unshift(say("drill.part", { tried: said(this.tried.length), total: said(this.#total) }));
     /** @type {Verdict} */
     const verdict = { result: isStopped ? "stopped" : result, fingerprint: fingerprints(this.tried)[0]?.[0] ?? null, sentences, names: namesOf(this.tried), right, hasPassphrase };
-    this.#verdict.append(...sentences.map((text) => paragraph(text, verdict.result === "good" ? "good" : "bad")));
+    // Green says that something was compared with what the owner noted, and is equal.
+    const isEqual = noted !== "" && !isOwn;
+    this.#verdict.append(...sentences.map((text) => paragraph(text, verdict.result !== "good" ? "bad" : isEqual ? "good" : "note")));
     this.#progress.textContent = "";
     announce(sentences.join(" "));
     return new Promise((resolve) => {

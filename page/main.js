@@ -9,7 +9,7 @@ import { recoverSecret } from "./recover.js";
 import { replacePaper } from "./replace.js";
 import { say } from "./say.js";
 import { announce, ask, askAbove, conceal, isTouched, setTouched, setUnfinished, show, unfinishedKey } from "./screen.js";
-import { forgetRest } from "./word_field.js";
+import { forgetTyping } from "./word_field.js";
 
 /** @typedef {{key: "make" | "check" | "recover" | "replace" | "damaged" | "blank", run: (desk: Desk) => Promise<void>, isSecret: boolean}} Task */
 
@@ -61,7 +61,7 @@ function home(tried, news = []) {
 /** Says whether the machine seems to be connected. */
 function tellNetwork() {
   network.textContent = say(navigator.onLine ? "prepare.online" : "prepare.offline");
-  network.setAttribute("class", navigator.onLine ? "bad" : "good");
+  network.setAttribute("class", navigator.onLine ? "bad" : "note");
 }
 
 /** Asks to go offline and to use a private window. Going on without is allowed after a second question. Returns whether to go on. */
@@ -133,7 +133,7 @@ async function clearAll(tried) {
   desk = null;
   awaited += 1;
   conceal();
-  forgetRest();
+  forgetTyping();
   document.getElementById("sheet")?.replaceChildren();
   home(tried, isTouched() ? [`${say("cleared")} ${say("close")}`] : []);
   setTouched(false);

@@ -11,7 +11,7 @@ let touched = false;
 // The key of what is said before half written papers are cleared.
 let unfinished = "";
 // What the next screen says first.
-let news = "";
+let news = { text: "", kind: "note" };
 
 /**
  * Says something to a screen reader.
@@ -48,9 +48,10 @@ export function setUnfinished(key) {
  * Takes a good news, which the next screen says first.
  *
  * @param {string} text
+ * @param {"note" | "good"} [kind] whether something was compared with what the owner noted, and is equal
  */
-export function tellNext(text) {
-  news = text;
+export function tellNext(text, kind = "note") {
+  news = { text, kind };
 }
 
 /** Empties all elements that show a secret. */
@@ -75,10 +76,10 @@ export function show(title, ...children) {
   leave();
   const heading = element("h1", { tabindex: "-1" }, title);
   main.append(heading);
-  if (news !== "") {
-    main.append(paragraph(news, "good"));
-    announce(news);
-    news = "";
+  if (news.text !== "") {
+    main.append(paragraph(news.text, news.kind));
+    announce(news.text);
+    news = { text: "", kind: "note" };
   }
   for (const child of children) if (child !== null) main.append(child);
   window.scrollTo(0, 0);

@@ -24,6 +24,7 @@ sys.path.insert(0, str(pathlib.Path(__file__).resolve().parent))
 import agreement  # noqa: E402
 import astray  # noqa: E402
 import browsers  # noqa: E402
+import choices  # noqa: E402
 import entry  # noqa: E402
 import faults  # noqa: E402
 import hasty  # noqa: E402
@@ -34,6 +35,7 @@ import refusals  # noqa: E402
 import sources  # noqa: E402
 import steps  # noqa: E402
 import tasks  # noqa: E402
+import typists  # noqa: E402
 import ways_out  # noqa: E402
 from hands import Page  # noqa: E402
 from left_out import left_out  # noqa: E402
@@ -97,7 +99,7 @@ def parts_of(name, url, modules, cases):
         "refusals": lambda: in_browser(name, url, refusals.CHECKS),
         "entry": lambda: in_browser(name, url, entry.CHECKS + steps.CHECKS),
         "astray": lambda: in_browser(name, url, astray.CHECKS),
-        "hasty": lambda: in_browser(name, url, hasty.CHECKS),
+        "hasty": lambda: in_browser(name, url, hasty.CHECKS + choices.CHECKS + [typists.check]),
         "long": lambda: in_browser(name, url, long_drill.CHECKS),
         "looks": lambda: check_looks(name, url),
         "agreement": lambda: in_browser(name, url, [lambda page, _: agreement.check(page, modules, cases), lambda page, _: agreement.check_memory(page)]),

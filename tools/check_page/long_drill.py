@@ -3,7 +3,7 @@ import math
 
 from browsers import Failed
 from refusals import SOUND, changed, paste
-from tasks import answer_passphrase, begin, end, fingerprint_of, plain
+from tasks import answer_passphrase, begin, choose_wallet, end, fingerprint_of, plain
 from texts import counted, say
 
 # A plan with more quorums than a drill tries: three groups of eight papers, four of each needed.
@@ -85,8 +85,7 @@ def check_stop_drill(page, see):
 def check_stop_make(page, _):
     """The making of a backup with a high exponent says how long it takes, and stops. Nothing is made."""
     begin(page, "make")
-    page.push(say("continue"))
-    page.wait_title(say("make.secret"))
+    choose_wallet(page)
     page.evaluate("document.querySelector('details').open = true; null")
     page.tick(say("passphrase.none"))
     page.go_to("spinbutton", say("more.exponent"))
