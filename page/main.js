@@ -9,9 +9,10 @@ import { recoverSecret } from "./recover.js";
 import { replacePaper } from "./replace.js";
 import { say } from "./say.js";
 import { announce, ask, askAbove, conceal, isTouched, setTouched, setUnfinished, show, unfinishedKey } from "./screen.js";
+import { tellPaper } from "./tell_paper.js";
 import { forgetTyping } from "./word_field.js";
 
-/** @typedef {{key: "make" | "check" | "recover" | "replace" | "damaged" | "blank", run: (desk: Desk) => Promise<void>, isSecret: boolean}} Task */
+/** @typedef {{key: "make" | "check" | "recover" | "replace" | "damaged" | "what" | "blank", run: (desk: Desk) => Promise<void>, isSecret: boolean}} Task */
 
 /**
  * The tasks of the first screen.
@@ -24,6 +25,7 @@ const TASKS = [
   { key: "recover", run: recoverSecret, isSecret: true },
   { key: "replace", run: replacePaper, isSecret: true },
   { key: "damaged", run: readDamaged, isSecret: true },
+  { key: "what", run: tellPaper, isSecret: true },
   { key: "blank", run: blankForms, isSecret: false },
 ];
 

@@ -1,7 +1,8 @@
-"""What an owner is asked on the way to a backup: the wallet, a plan with a danger, and what was noted. What is green, and what has a sign."""
+"""What an owner is asked on the way to a backup: the wallet, a plan with a danger, and what was noted. What is green, what has a sign, and
+what one paper says."""
 from browsers import Failed
-from refusals import paste
-from tasks import FINGERPRINT, PASSPHRASE, SECRET, SOUND_PAPER, answer_passphrase, begin, choose_wallet, end, fingerprint_of, read_paper, type_digits, type_paper
+from refusals import BAD_CHECKSUM, BIP39, changed, paste, said
+from tasks import FINGERPRINT, PASSPHRASE, SECRET, SOUND_PAPER, THREE_GROUPS, answer_passphrase, begin, choose_wallet, end, example, fingerprint_of, plain, read_paper, type_digits, type_paper
 from texts import counted, say
 
 # Returns the texts that are green, or in a green frame, and the classes of those that have none.
@@ -62,7 +63,8 @@ def check_dangers(page, see):
     """Two groups are both needed at first. A plan in which one paper decides is said in red, and asked about."""
     begin(page, "make")
     page.choose(say("plan.own"))
-    page.push(say("plan.add"))
+    for change in ("drop", "drop", "add"):
+        page.push(say(f"plan.{change}"))
     page.node("group", f"{say('plan.groups_needed')}: 2")
     for number, said in [(2, say("plan.lost.one", names="1.0")), (1, say("plan.found.one", names="1.0"))]:
         page.wait(lambda: said == page.evaluate("document.querySelector('main .bad:not([hidden])')?.innerText ?? ''"), f"the danger {said!r} in red")
@@ -178,4 +180,46 @@ def check_looks_of_results(page, see):
     end(page)
 
 
-CHECKS = [check_wallet, check_dangers, check_notes, check_looks_of_results]
+def said_kind(line):
+    """Returns what the page must say of a paper, by the plain reading."""
+    share = plain.parse(line.encode())
+    members, groups = share["member_threshold"] - 1, share["group_threshold"] - 1
+    papers, whole = counted(members, "paper"), counted(groups, "whole")
+    others = {
+        (False, False): say("what.others.none"),
+        (True, False): say("what.others.papers" if share["group_count"] == 1 else "what.others.group", papers=papers, group=share["group"]),
+        (False, True): say("what.others.groups", groups=whole),
+        (True, True): say("what.others.both", papers=papers, group=share["group"], groups=whole),
+    }[members > 0, groups > 0]
+    flag = say("what.flag" if share["extendable"] else "what.flag.none")
+    first, second = line.split()[:2]
+    return [say("what.backup", first=first, second=second), others, flag, say("what.exponent", exponent=share["exponent"]), say("what.secret", bytes=len(share["value"]))]
+
+
+def check_what(page, see):
+    """One paper says what it is. A damaged one doesn't, nor does a phrase of BIP-39."""
+    begin(page, "what")
+    lines = [SOUND_PAPER, example("two-needed.txt")[0], *THREE_GROUPS[2:4], changed(SOUND_PAPER, extendable=1, exponent=3), changed(THREE_GROUPS[0], group_threshold=1)]
+    for line in lines:
+        share = plain.parse(line.encode())
+        paste(page, line)
+        page.wait_text(say("what.sound", name=f"{share['group']}.{share['member']}"))
+        told = page.evaluate("[...document.querySelectorAll('.told li')].map((it) => it.innerText).join('\\n')").split("\n")
+        if [it for it in said_kind(line) if it not in told] or len(told) != 6:
+            raise Failed(f"the page says of {line!r}: {told}")
+        if line == THREE_GROUPS[2]:
+            see("what a paper is")
+    check_green(page, [])
+    paste(page, BAD_CHECKSUM)
+    page.wait_text(said(18, first=20))
+    if page.evaluate("document.querySelectorAll('.told li').length"):
+        raise Failed("what was said of another paper stays")
+    page.push(say("entry.empty"))
+    paste(page, BIP39)
+    page.wait_text(say("entry.bip39", count=12))
+    see("a phrase of BIP-39")
+    page.push(say("clear"))
+    page.wait_title(say("home.title"))
+
+
+CHECKS = [check_wallet, check_dangers, check_notes, check_looks_of_results, check_what]

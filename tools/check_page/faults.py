@@ -115,6 +115,8 @@ FAULTS = [
     ("papers that no quorum has aren't told in the title", "page/check_papers.js", "left || untried ?", "left ?", of_page(lambda page: astray.check_untried(page, unseen))),
     ("on the way back, what was chosen is lost", "page/make_backup.js", ', take: keep }', " }", of_page(lambda page: steps.check_chosen(page, unseen))),
     ("a mistyped end goes into the next field", "page/word_field.js", "if (isEnded && !isRest && this.#isMistyped(letters)) return;", "", of_page(lambda page: entry.check_mistyped(page, unseen))),
+    ("too many other papers are asked for", "page/tell_paper.js", 'counted(memberThreshold - 1, "paper")', 'counted(memberThreshold, "paper")', of_page(lambda page: choices.check_what(page, unseen))),
+    ("what a paper was told to be stays", "page/tell_paper.js", "    this.#found.replaceChildren();\n", "", of_page(lambda page: choices.check_what(page, unseen))),
     ("after a pause, letters belong to the word before", "page/word_field.js", "event.timeStamp - typedAt > PAUSE", "false", of_page(lambda page: typists.check(page, unseen))),
     ("a habit counts after one word", "page/spelling.js", "HABIT_WORDS = 5", "HABIT_WORDS = 1", of_page(lambda page: typists.check(page, unseen, 40, ["mixed"]))),
     ("how an owner types isn't learnt", "page/word_field.js", "if (isBySpelling && arrived === this", "if (false", of_page(lambda page: entry.check_habits(page, unseen))),

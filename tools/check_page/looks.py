@@ -83,7 +83,8 @@ def check(name, url, see, opened=Page):
             begin(page, "make")
             page.choose(say("plan.own"))
             check_screen(page, f"{mode} own plan", see)
-            page.push(say("plan.add"))
+            for change in ("drop", "drop", "add"):
+                page.push(say(f"plan.{change}"))
             check_screen(page, f"{mode} plan with a danger", see)
             page.choose(say("plan.two"))
             page.push(say("continue"))

@@ -12,7 +12,7 @@ def go_back(page, title, answer="back"):
 
 def check_first_steps(page, _):
     """The first screen of each task leads back to the choice of a task."""
-    for task in ("make", "check", "recover", "replace", "damaged"):
+    for task in ("make", "check", "recover", "replace", "damaged", "what"):
         begin(page, task)
         go_back(page, say("home.title"))
     begin(page, "replace")
