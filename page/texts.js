@@ -482,7 +482,7 @@ export const TEXTS = {
   "what.flag.none": "The backup hasn't the extendable flag.",
   "what.exponent": "Its iteration exponent is {exponent}.",
   "what.secret": "Its secret has {bytes} bytes.",
-  "what.passphrase": "No paper says whether its backup has a passphrase, and how many papers there are.",
+  "what.passphrase": "No paper says whether its backup has a passphrase, or how many papers there are.",
   "what.impossible": "There is no paper {name}: the paper says that the backup has {groups}, and groups count from 0. So a faulty program made it. Leave it out.",
 
   "refused.11": "Word {first} isn't in the word list. Compare it with your paper: the first four letters identify each word.",

@@ -222,4 +222,49 @@ def check_what(page, see):
     page.wait_title(say("home.title"))
 
 
-CHECKS = [check_wallet, check_dangers, check_notes, check_looks_of_results, check_what]
+# Returns how many rows and columns things have, in the order down the columns, or why there is no such order.
+COLUMNS = """
+((all) => {
+  const places = [...document.querySelectorAll(all)].map((it) => it.getBoundingClientRect());
+  const columns = [...new Set(places.map(({ left }) => Math.round(left)))];
+  const sorted = [...places].sort((a, b) => Math.round(a.left) - Math.round(b.left) || a.top - b.top);
+  const isInOrder = places.every((it, at) => it === sorted[at]);
+  const isShown = places.every(({ top, bottom }) => top >= 0 && bottom <= innerHeight);
+  return `${isInOrder ? '' : 'not '}down ${columns.length} columns${isShown ? ', all shown' : ''}`;
+})('%s')
+"""
+PHONE = (390, 844)
+
+
+def check_phone(page, see):
+    """On a phone, the answer to a paper is in sight of its fields. Words run down two columns, and a shown paper is seen as a whole."""
+    page.size(*PHONE)
+    begin(page, "check")
+    for line, text in [(SOUND_PAPER, say("collect.taken", name="0.0")), (BAD_CHECKSUM, said(18, first=20))]:
+        paste(page, line)
+        page.wait_text(text)
+        for name in (say("entry.read"), say("entry.word", number=1)):
+            page.go_to("button" if name == say("entry.read") else "textbox", name)
+            place = page.evaluate("(() => { const { top, bottom } = document.querySelector('.answer').getBoundingClientRect(); return `${top >= 0 && bottom <= innerHeight}`; })()")
+            if place != "true":
+                raise Failed(f"the answer {text!r} is out of sight of {name!r}")
+        if not page.evaluate(COLUMNS % ".word").startswith("down 2 columns"):
+            raise Failed(f"the fields run {page.evaluate(COLUMNS % '.word')}")
+        see(f"phone {'sound' if line == SOUND_PAPER else 'wrong'} paper")
+    page.push(say("clear"))
+    page.wait_title(say("home.title"))
+    begin(page, "make")
+    choose_wallet(page)
+    page.tick(say("passphrase.none"))
+    page.push(say("make.create"))
+    read_paper(page)
+    see("phone shown paper")
+    if page.evaluate(COLUMNS % ".paper li") != "down 2 columns, all shown":
+        raise Failed(f"the words of a shown paper run {page.evaluate(COLUMNS % '.paper li')}")
+    page.push(say("clear"))
+    page.push(say("clear.yes"))
+    page.wait_title(say("home.title"))
+    page.size(1200, 900)
+
+
+CHECKS = [check_phone, check_wallet, check_dangers, check_notes, check_looks_of_results, check_what]
