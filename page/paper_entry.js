@@ -207,6 +207,8 @@ export class PaperEntry {
     this.#isMissing = false;
     this.#answer.textContent = text;
     this.#answer.classList.toggle("fault", isFault);
+    // On a phone, the fields and what is below them are higher than the screen.
+    if (text !== "") this.#answer.scrollIntoView({ block: "nearest" });
     announce(text);
   }
 

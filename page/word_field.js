@@ -111,6 +111,8 @@ export class WordField {
   focus() {
     this.#whole = this.word;
     this.field.focus();
+    // A field that has the focus already doesn't come into sight by getting it.
+    this.field.scrollIntoView({ block: "nearest" });
     this.field.setSelectionRange(this.field.value.length, this.field.value.length);
   }
 

@@ -233,6 +233,7 @@ COLUMNS = """
   return `${isInOrder ? '' : 'not '}down ${columns.length} columns${isShown ? ', all shown' : ''}`;
 })('%s')
 """
+IN_SIGHT = "(({ top, bottom }) => top >= 0 && bottom <= innerHeight)((%s).getBoundingClientRect())"
 PHONE = (390, 844)
 
 
@@ -243,14 +244,18 @@ def check_phone(page, see):
     for line, text in [(SOUND_PAPER, say("collect.taken", name="0.0")), (BAD_CHECKSUM, said(18, first=20))]:
         paste(page, line)
         page.wait_text(text)
-        for name in (say("entry.read"), say("entry.word", number=1)):
-            page.go_to("button" if name == say("entry.read") else "textbox", name)
-            place = page.evaluate("(() => { const { top, bottom } = document.querySelector('.answer').getBoundingClientRect(); return `${top >= 0 && bottom <= innerHeight}`; })()")
-            if place != "true":
-                raise Failed(f"the answer {text!r} is out of sight of {name!r}")
+        for it in ("document.querySelector('.answer')", "document.activeElement"):
+            if not page.evaluate(IN_SIGHT % it):
+                raise Failed(f"with the answer {text!r}, this is out of sight: {it}")
         if not page.evaluate(COLUMNS % ".word").startswith("down 2 columns"):
             raise Failed(f"the fields run {page.evaluate(COLUMNS % '.word')}")
         see(f"phone {'sound' if line == SOUND_PAPER else 'wrong'} paper")
+        if line == SOUND_PAPER:
+            page.go_to("button", say("collect.end"))
+            page.evaluate("document.querySelector('.entry .primary').focus({ preventScroll: true }); null")
+            page.press("Enter")
+            page.wait_text(say("entry.nothing"))
+            page.wait(lambda: page.evaluate(IN_SIGHT % "document.querySelector('.answer')"), "the answer in sight")
     page.push(say("clear"))
     page.wait_title(say("home.title"))
     begin(page, "make")

@@ -117,7 +117,7 @@ FAULTS = [
     ("a mistyped end goes into the next field", "page/word_field.js", "if (isEnded && !isRest && this.#isMistyped(letters)) return;", "", of_page(lambda page: entry.check_mistyped(page, unseen))),
     ("fields run across", "page/style.css", "grid-auto-flow: column; ", "", of_page(lambda page: choices.check_phone(page, unseen))),
     ("a paper is longer than a phone", "page/style.css", ".paper { columns: 2;", ".paper { columns: 1;", of_page(lambda page: choices.check_phone(page, unseen))),
-    ("an answer is out of sight", "page/style.css", ".entry .answer { position: sticky;", ".entry .answer { position: static;", of_page(lambda page: choices.check_phone(page, unseen))),
+    ("an answer is out of sight", "page/paper_entry.js", 'if (text !== "") this.#answer.scrollIntoView', 'if (false) this.#answer.scrollIntoView', of_page(lambda page: choices.check_phone(page, unseen))),
     ("too many other papers are asked for", "page/tell_paper.js", 'counted(memberThreshold - 1, "paper")', 'counted(memberThreshold, "paper")', of_page(lambda page: choices.check_what(page, unseen))),
     ("what a paper was told to be stays", "page/tell_paper.js", "    this.#found.replaceChildren();\n", "", of_page(lambda page: choices.check_what(page, unseen))),
     ("after a pause, letters belong to the word before", "page/word_field.js", "event.timeStamp - typedAt > PAUSE", "false", of_page(lambda page: typists.check(page, unseen))),
