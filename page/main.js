@@ -3,6 +3,7 @@ import { blankForms } from "./blank_forms.js";
 import { checkPapers } from "./check_papers.js";
 import { Desk } from "./client.js";
 import { button, element, large, paragraph } from "./dom.js";
+import { help } from "./help.js";
 import { makeBackup } from "./make_backup.js";
 import { readDamaged } from "./read_damaged.js";
 import { recoverSecret } from "./recover.js";
@@ -56,6 +57,7 @@ function home(tried, news = []) {
     element("div", { class: "tasks" }, ...choices),
     paragraph(say("names.sentence"), "hint"),
     paragraph(say("home.tried", { version: tried.begun.version }), "hint"),
+    help(),
     paragraph(say("home.manual"), "hint"),
   );
 }

@@ -272,4 +272,22 @@ def check_phone(page, see):
     page.size(1200, 900)
 
 
-CHECKS = [check_phone, check_wallet, check_dangers, check_notes, check_looks_of_results, check_what]
+def check_help(page, see):
+    """The first screen answers ten questions. No refusal names a number of the manual."""
+    asked = page.evaluate("document.querySelectorAll('.help details').length")
+    if asked != 10 or say("help.lost.answer") in page.text():
+        raise Failed(f"the first screen has {asked} questions, or an answer that wasn't asked for")
+    page.evaluate("for (const it of document.querySelectorAll('.help details')) it.open = true; null")
+    page.wait_text(say("help.heir.answer"))
+    see("help")
+    page.evaluate("for (const it of document.querySelectorAll('.help details')) it.open = false; null")
+    begin(page, "what")
+    paste(page, BAD_CHECKSUM)
+    page.wait_text(said(18, first=20))
+    if page.evaluate("document.querySelector('.answer').textContent") != said(18, first=20):
+        raise Failed("a refusal has more than its sentence")
+    page.push(say("clear"))
+    page.wait_title(say("home.title"))
+
+
+CHECKS = [check_help, check_phone, check_wallet, check_dangers, check_notes, check_looks_of_results, check_what]
