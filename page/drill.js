@@ -2,6 +2,7 @@
 import { Code, OF_GROUPS } from "../bindings/js/refusal.js";
 import { Declined, Stopped } from "./client.js";
 import { button, element, paragraph } from "./dom.js";
+import { estimated } from "./estimate.js";
 import { count, fingerprints, isRight, quorumWith, suspects, TRIED_FIRST, TRIED_WHOLE } from "./quorums.js";
 import { counted, say, saidTime } from "./say.js";
 import { announce, ask, show } from "./screen.js";
@@ -70,7 +71,8 @@ export async function runDrill(desk, status, { title, noted, isOwn = false }) {
   const total = count(status);
   const isWhole = total <= TRIED_WHOLE;
   const hasPassphrase = await desk.ask("hasPassphrase");
-  const table = new Table(title, total, noted, () => desk.stop());
+  const [kind] = await desk.ask("kinds");
+  const table = new Table(title, total, noted, desk.secondsFor(kind), () => desk.stop());
   let isStopped = false;
   try {
     await desk.askLong("drill", { limit: isWhole ? 0 : TRIED_FIRST, expect: noted }, (part) => table.add(part));
@@ -123,6 +125,8 @@ class Table {
   #progress = element("p", { class: "work" });
   #announced = performance.now();
   #bar = element("progress", { "aria-label": say("drill.progress") });
+  // How far the first quorum is.
+  #first;
   #verdict = element("div", { class: "verdict" });
   #buttons = element("div", { class: "buttons" });
 
@@ -130,9 +134,10 @@ class Table {
    * @param {string} title
    * @param {bigint} total
    * @param {string} noted
+   * @param {number} seconds how long a recovery takes, by the estimate
    * @param {() => void} onStop
    */
-  constructor(title, total, noted, onStop) {
+  constructor(title, total, noted, seconds, onStop) {
     this.#total = total;
     this.#noted = noted;
     this.#bar.max = Number(total <= TRIED_WHOLE ? total : BigInt(TRIED_FIRST));
@@ -141,7 +146,8 @@ class Table {
     const head = element("tr", {}, element("th", { scope: "col" }, say("drill.quorum")), element("th", { scope: "col" }, say("drill.gave")));
     const table = element("table", {}, element("caption", {}, say("drill.caption")), element("thead", {}, head), this.#body);
     this.#scroll.append(table);
-    show(title, this.#progress, this.#bar, this.#verdict, this.#buttons, this.#scroll, this.#more);
+    this.#first = estimated(seconds);
+    show(title, this.#progress, this.#bar, this.#first, this.#verdict, this.#buttons, this.#scroll, this.#more);
     this.#say();
   }
 
@@ -153,6 +159,7 @@ class Table {
       if (row) this.#body.append(row);
     }
     this.#bar.value = this.tried.length;
+    if (this.tried.length) this.#first?.remove();
     this.#say();
   }
 
@@ -193,6 +200,7 @@ class Table {
    */
   end(isStopped, isOwn, hasPassphrase) {
     this.#bar.remove();
+    this.#first?.remove();
     const noted = this.#noted;
     const { result, right, sentences } = verdictOf(this.tried, this.#total, { noted, isOwn, hasPassphrase });
     if (this.tried.length === 0) {

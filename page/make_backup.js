@@ -233,11 +233,11 @@ async function create(desk, plan, chosen) {
 async function created(desk, plan, { secret, passphrase }, { exponent, wallet }) {
   setTouched(true);
   const digits = secret.digits?.length ?? 0;
-  const time = saidTime(desk.secondsFor({ exponent, secretBytes: secret.bytes || digits / 2 }));
+  const seconds = desk.secondsFor({ exponent, secretBytes: secret.bytes || digits / 2 });
   const isLong = exponent >= LONG_EXPONENT;
   try {
     await desk.ask("passphrase", { passphrase }, [passphrase.buffer]);
-    showWork(say("make.work"), isLong ? say("time.about", { time }) : say("time.moment"), isLong ? () => desk.stop() : null);
+    showWork(say("make.work"), isLong ? say("time.about", { time: saidTime(seconds) }) : say("time.moment"), seconds, isLong ? () => desk.stop() : null);
     const { fault, fingerprint, place = 0, words = 0 } = await desk.askLong("make", { plan: planText(plan), exponent, extendable: wallet === "flag", ...secret });
     if (fault === "" && secret.noted !== "") tellNext(say("secret.same"), "good");
     return { fault: fault === "" ? "" : say(`secret.${fault}`, { digits, fingerprint, place, noted: secret.noted }), words };

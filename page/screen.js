@@ -1,5 +1,6 @@
 // The one screen that the page shows at a time, what a screen reader is told, and what leaves the page's elements with it.
 import { button, concealIn, element, paragraph } from "./dom.js";
+import { estimated } from "./estimate.js";
 import { say } from "./say.js";
 
 /** @typedef {import("./dom.js").Child} Child */
@@ -161,8 +162,10 @@ export function askAbove(text, stay, go, onGo) {
  *
  * @param {string} title
  * @param {string} text
+ * @param {number} seconds how long the work takes, by the estimate
  * @param {(() => void) | null} onStop
  */
-export function showWork(title, text, onStop = null) {
-  show(title, element("p", { class: "work", role: "status" }, text), onStop && element("div", { class: "buttons" }, button(say("stop"), onStop)));
+export function showWork(title, text, seconds, onStop) {
+  const buttons = onStop && element("div", { class: "buttons" }, button(say("stop"), onStop));
+  show(title, element("p", { class: "work", role: "status" }, text), estimated(seconds), buttons);
 }

@@ -107,6 +107,9 @@ export const TEXTS = {
   "time.short": "a second or less",
   "time.about": "This takes about {time}.",
   "time.moment": "This takes a moment.",
+  "work.progress": "How far the work is, by the estimate",
+  "work.left": "About {time} left. This is an estimate.",
+  "work.longer": "It takes longer than was estimated.",
   "time.long": "This backup has the iteration exponent {exponent}, so one recovery takes about {time} on this machine. You can stop it.",
 
   "entry.count": "Number of words",

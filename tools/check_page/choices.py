@@ -233,7 +233,7 @@ COLUMNS = """
   return `${isInOrder ? '' : 'not '}down ${columns.length} columns${isShown ? ', all shown' : ''}`;
 })('%s')
 """
-IN_SIGHT = "(({ top, bottom }) => top >= 0 && bottom <= innerHeight)((%s).getBoundingClientRect())"
+IN_SIGHT = "(({ top, bottom }) => top > -1 && bottom < innerHeight + 1)((%s).getBoundingClientRect())"
 PHONE = (390, 844)
 
 

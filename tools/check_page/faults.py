@@ -11,6 +11,7 @@ import astray
 import choices
 import entry
 import hasty
+import long_drill
 import looks
 import privacy
 import refusals
@@ -115,6 +116,7 @@ FAULTS = [
     ("papers that no quorum has aren't told in the title", "page/check_papers.js", "left || untried ?", "left ?", of_page(lambda page: astray.check_untried(page, unseen))),
     ("on the way back, what was chosen is lost", "page/make_backup.js", ', take: keep }', " }", of_page(lambda page: steps.check_chosen(page, unseen))),
     ("a mistyped end goes into the next field", "page/word_field.js", "if (isEnded && !isRest && this.#isMistyped(letters)) return;", "", of_page(lambda page: entry.check_mistyped(page, unseen))),
+    ("the bar of a long work stands still", "page/estimate.js", "(bar.isConnected ? move() : clearInterval(timer))", "clearInterval(timer)", of_page(lambda page: long_drill.check_stop(page, unseen))),
     ("fields run across", "page/style.css", "grid-auto-flow: column; ", "", of_page(lambda page: choices.check_phone(page, unseen))),
     ("a paper is longer than a phone", "page/style.css", ".paper { columns: 2;", ".paper { columns: 1;", of_page(lambda page: choices.check_phone(page, unseen))),
     ("an answer is out of sight", "page/paper_entry.js", 'if (text !== "") this.#answer.scrollIntoView', 'if (false) this.#answer.scrollIntoView', of_page(lambda page: choices.check_phone(page, unseen))),
