@@ -27,6 +27,7 @@ import browsers  # noqa: E402
 import choices  # noqa: E402
 import entry  # noqa: E402
 import faults  # noqa: E402
+import forms  # noqa: E402
 import hasty  # noqa: E402
 import long_drill  # noqa: E402
 import looks  # noqa: E402
@@ -95,7 +96,7 @@ def check_looks(name, url):
 def parts_of(name, url, modules, cases):
     """Returns each part of the check in this browser."""
     return {
-        "tasks": lambda: in_browser(name, url, tasks.TASKS.values()),
+        "tasks": lambda: in_browser(name, url, [*tasks.TASKS.values(), *forms.CHECKS]),
         "refusals": lambda: in_browser(name, url, refusals.CHECKS),
         "entry": lambda: in_browser(name, url, entry.CHECKS + steps.CHECKS),
         "astray": lambda: in_browser(name, url, astray.CHECKS),

@@ -10,6 +10,7 @@ import agreement
 import astray
 import choices
 import entry
+import forms
 import hasty
 import long_drill
 import looks
@@ -125,7 +126,7 @@ FAULTS = [
     ("after a pause, letters belong to the word before", "page/word_field.js", "event.timeStamp - typedAt > PAUSE", "false", of_page(lambda page: typists.check(page, unseen))),
     ("a habit counts after one word", "page/spelling.js", "HABIT_WORDS = 5", "HABIT_WORDS = 1", of_page(lambda page: typists.check(page, unseen, 40, ["mixed"]))),
     ("how an owner types isn't learnt", "page/word_field.js", "if (isBySpelling && arrived === this", "if (false", of_page(lambda page: entry.check_habits(page, unseen))),
-    ("forms of a plan that is refused", "page/blank_forms.js", 'if (fault !== "") continue;', "", of_page(lambda page: tasks.check_blank(page, unseen))),
+    ("forms of a plan that is refused", "page/blank_forms.js", 'if (fault !== "") continue;', "", of_page(lambda page: forms.check_blank(page, unseen))),
     ("words that were pasted are left without a question", "page/word_field.js", "    setTouched(true);\n", "", of_page(lambda page: entry.check_kept(page, unseen))),
     ("the way back loses words", "page/paper_entry.js", "if (entry.isEmpty) onLeave();", "if (true) onLeave();", of_page(lambda page: entry.check_kept(page, unseen))),
     ("fewer fields lose words", "page/paper_entry.js", "for (const { box } of this.#spare) box.hidden = true;", "for (const it of this.#spare) { it.box.hidden = true; it.set(''); }", of_page(lambda page: entry.check_kept(page, unseen))),
