@@ -19,7 +19,7 @@ import { counted, say } from "./say.js";
 export async function checkPapers(desk) {
   const saidFew = (/** @type {Kind[]} */ kinds) => {
     const sound = say("check.sound", { papers: counted(kinds.length, "paper"), names: kinds.map((it) => it.name).join(", ") });
-    return [paragraph(sound, "good"), paragraph(say("check.too_few"))];
+    return [paragraph(sound, "note"), paragraph(say("check.too_few"))];
   };
   await collectAndCheck(desk, { title: say("check.title"), intro: say("check.intro"), drill: say("check.drill") }, saidFew);
 }
@@ -101,7 +101,7 @@ function tellVerdict({ result, fingerprint, sentences, hasPassphrase }, noted, {
   const isNoted = noted !== "";
   const again = ["other", "none"].includes(result) ? `${say(hasPassphrase ? "check.again" : "check.again.none")} ` : "";
   const told = [
-    ...sentences.map((text) => paragraph(text, !isGood ? "bad" : isNoted ? "good" : "")),
+    ...sentences.map((text) => paragraph(text, !isGood ? "bad" : isNoted ? "good" : "note")),
     tried,
     untried,
     left,

@@ -97,6 +97,19 @@ function statusOf(lines) {
 }
 
 /**
+ * Returns what a paper is, and keeps nothing of it.
+ *
+ * @param {{line: Uint8Array}} given
+ */
+function describe({ line }) {
+  try {
+    return kindOf(line);
+  } finally {
+    zero(line);
+  }
+}
+
+/**
  * Takes a paper. `isNew` is false if it was typed before. A paper that is refused is taken note of.
  *
  * @param {{line: Uint8Array}} given
@@ -329,6 +342,7 @@ async function begin({ module, kept }) {
 /** @type {Record<string, (given: any, tell: (part: Tried[]) => void) => any>} */
 const CALLS = {
   begin,
+  describe,
   add,
   leaveOut,
   leftOut,

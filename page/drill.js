@@ -2,6 +2,7 @@
 import { Code, OF_GROUPS } from "../bindings/js/refusal.js";
 import { Declined, Stopped } from "./client.js";
 import { button, element, paragraph } from "./dom.js";
+import { estimated } from "./estimate.js";
 import { count, fingerprints, isRight, quorumWith, suspects, TRIED_FIRST, TRIED_WHOLE } from "./quorums.js";
 import { counted, say, saidTime } from "./say.js";
 import { announce, ask, show } from "./screen.js";
@@ -63,14 +64,15 @@ export async function askToDrill(desk, status, kind, { title, hasBack }) {
  * @param {Desk} desk
  * @param {Status} status
  * @param {{title: string, noted: string, isOwn?: boolean}} what `noted` is the expected fingerprint, or empty. `isOwn` says that it is
- *   that of the secret that was just backed up, and not one that was noted
+ *   that of the secret that was just backed up, and that the owner noted none
  * @returns {Promise<Verdict | {refused: import("./desk.js").Refused}>}
  */
 export async function runDrill(desk, status, { title, noted, isOwn = false }) {
   const total = count(status);
   const isWhole = total <= TRIED_WHOLE;
   const hasPassphrase = await desk.ask("hasPassphrase");
-  const table = new Table(title, total, noted, () => desk.stop());
+  const [kind] = await desk.ask("kinds");
+  const table = new Table(title, total, noted, desk.secondsFor(kind), () => desk.stop());
   let isStopped = false;
   try {
     await desk.askLong("drill", { limit: isWhole ? 0 : TRIED_FIRST, expect: noted }, (part) => table.add(part));
@@ -123,6 +125,8 @@ class Table {
   #progress = element("p", { class: "work" });
   #announced = performance.now();
   #bar = element("progress", { "aria-label": say("drill.progress") });
+  // How far the first quorum is.
+  #first;
   #verdict = element("div", { class: "verdict" });
   #buttons = element("div", { class: "buttons" });
 
@@ -130,9 +134,10 @@ class Table {
    * @param {string} title
    * @param {bigint} total
    * @param {string} noted
+   * @param {number} seconds how long a recovery takes, by the estimate
    * @param {() => void} onStop
    */
-  constructor(title, total, noted, onStop) {
+  constructor(title, total, noted, seconds, onStop) {
     this.#total = total;
     this.#noted = noted;
     this.#bar.max = Number(total <= TRIED_WHOLE ? total : BigInt(TRIED_FIRST));
@@ -141,7 +146,8 @@ class Table {
     const head = element("tr", {}, element("th", { scope: "col" }, say("drill.quorum")), element("th", { scope: "col" }, say("drill.gave")));
     const table = element("table", {}, element("caption", {}, say("drill.caption")), element("thead", {}, head), this.#body);
     this.#scroll.append(table);
-    show(title, this.#progress, this.#bar, this.#verdict, this.#buttons, this.#scroll, this.#more);
+    this.#first = estimated(seconds);
+    show(title, this.#progress, this.#bar, this.#first, this.#verdict, this.#buttons, this.#scroll, this.#more);
     this.#say();
   }
 
@@ -153,6 +159,7 @@ class Table {
       if (row) this.#body.append(row);
     }
     this.#bar.value = this.tried.length;
+    if (this.tried.length) this.#first?.remove();
     this.#say();
   }
 
@@ -193,7 +200,9 @@ class Table {
    */
   end(isStopped, isOwn, hasPassphrase) {
     this.#bar.remove();
-    const { result, right, sentences } = verdictOf(this.tried, this.#total, { noted: this.#noted, isOwn, hasPassphrase });
+    this.#first?.remove();
+    const noted = this.#noted;
+    const { result, right, sentences } = verdictOf(this.tried, this.#total, { noted, isOwn, hasPassphrase });
     if (this.tried.length === 0) {
       sentences.length = 0;
       this.#scroll.remove();
@@ -202,7 +211,9 @@ class Table {
     if (!isWhole) sentences.unshift(say("drill.part", { tried: said(this.tried.length), total: said(this.#total) }));
     /** @type {Verdict} */
     const verdict = { result: isStopped ? "stopped" : result, fingerprint: fingerprints(this.tried)[0]?.[0] ?? null, sentences, names: namesOf(this.tried), right, hasPassphrase };
-    this.#verdict.append(...sentences.map((text) => paragraph(text, verdict.result === "good" ? "good" : "bad")));
+    // Green says that something was compared with what the owner noted, and is equal.
+    const isEqual = noted !== "" && !isOwn;
+    this.#verdict.append(...sentences.map((text) => paragraph(text, verdict.result !== "good" ? "bad" : isEqual ? "good" : "note")));
     this.#progress.textContent = "";
     announce(sentences.join(" "));
     return new Promise((resolve) => {

@@ -3,15 +3,17 @@ import { blankForms } from "./blank_forms.js";
 import { checkPapers } from "./check_papers.js";
 import { Desk } from "./client.js";
 import { button, element, large, paragraph } from "./dom.js";
+import { help } from "./help.js";
 import { makeBackup } from "./make_backup.js";
 import { readDamaged } from "./read_damaged.js";
 import { recoverSecret } from "./recover.js";
 import { replacePaper } from "./replace.js";
 import { say } from "./say.js";
 import { announce, ask, askAbove, conceal, isTouched, setTouched, setUnfinished, show, unfinishedKey } from "./screen.js";
-import { forgetRest } from "./word_field.js";
+import { tellPaper } from "./tell_paper.js";
+import { forgetTyping } from "./word_field.js";
 
-/** @typedef {{key: "make" | "check" | "recover" | "replace" | "damaged" | "blank", run: (desk: Desk) => Promise<void>, isSecret: boolean}} Task */
+/** @typedef {{key: "make" | "check" | "recover" | "replace" | "damaged" | "what" | "blank", run: (desk: Desk) => Promise<void>, isSecret: boolean}} Task */
 
 /**
  * The tasks of the first screen.
@@ -24,6 +26,7 @@ const TASKS = [
   { key: "recover", run: recoverSecret, isSecret: true },
   { key: "replace", run: replacePaper, isSecret: true },
   { key: "damaged", run: readDamaged, isSecret: true },
+  { key: "what", run: tellPaper, isSecret: true },
   { key: "blank", run: blankForms, isSecret: false },
 ];
 
@@ -54,6 +57,7 @@ function home(tried, news = []) {
     element("div", { class: "tasks" }, ...choices),
     paragraph(say("names.sentence"), "hint"),
     paragraph(say("home.tried", { version: tried.begun.version }), "hint"),
+    help(),
     paragraph(say("home.manual"), "hint"),
   );
 }
@@ -61,7 +65,7 @@ function home(tried, news = []) {
 /** Says whether the machine seems to be connected. */
 function tellNetwork() {
   network.textContent = say(navigator.onLine ? "prepare.online" : "prepare.offline");
-  network.setAttribute("class", navigator.onLine ? "bad" : "good");
+  network.setAttribute("class", navigator.onLine ? "bad" : "note");
 }
 
 /** Asks to go offline and to use a private window. Going on without is allowed after a second question. Returns whether to go on. */
@@ -133,7 +137,7 @@ async function clearAll(tried) {
   desk = null;
   awaited += 1;
   conceal();
-  forgetRest();
+  forgetTyping();
   document.getElementById("sheet")?.replaceChildren();
   home(tried, isTouched() ? [`${say("cleared")} ${say("close")}`] : []);
   setTouched(false);

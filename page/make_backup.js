@@ -1,30 +1,33 @@
-// The task 'Make a backup': a plan, a secret, a passphrase, the papers one by one, typed back, drilled, and the fingerprint.
+// The task 'Make a backup': a plan, a wallet, a secret, a passphrase, the papers one by one, typed back, the fingerprint, and the drill.
 import { bytesOf, typedDigits, zero } from "./bytes.js";
 import { Declined, Stopped } from "./client.js";
-import { choice, element, hidden, labelled, paragraph, tick } from "./dom.js";
-import { askToDrill, LONG_EXPONENT, runDrill } from "./drill.js";
+import { choice, element, hidden, labelled, paragraph } from "./dom.js";
+import { LONG_EXPONENT } from "./drill.js";
+import { noteAndDrill } from "./note_and_drill.js";
 import { notedFields, passphraseFields } from "./passphrase.js";
-import { planNames, planText, saidPlan, saidTakes } from "./plan.js";
+import { planNames, planText, saidDangers, saidPlan, saidTakes } from "./plan.js";
 import { PlanChoice, planFault } from "./plan_choice.js";
-import { saidError, saidRefusal } from "./refusals.js";
+import { saidError } from "./refusals.js";
 import { say, saidTime } from "./say.js";
 import { ask, setTouched, setUnfinished, showWork, tellNext } from "./screen.js";
 import { showPaper, typeBack } from "./show_paper.js";
+import { askWallet } from "./wallet.js";
 
 /** @typedef {import("./client.js").Desk} Desk */
 /** @typedef {import("./plan.js").Plan} Plan */
 /** @typedef {import("./desk.js").Kind} Kind */
 /** @typedef {"new16" | "new32" | "own"} Source */
 /** @typedef {{bytes: number, digits: Uint8Array | null, noted: string}} Secret */
-/** @typedef {{source: Source, noted: string | null, exponent: number, extendable: boolean}} Chosen what was chosen and isn't secret */
+/** @typedef {import("./wallet.js").Wallet} Wallet */
+/** @typedef {{source: Source, noted: string | null, exponent: number, wallet: Wallet | null}} Chosen what was chosen and isn't secret */
 
 const BYTES = { new16: 16, new32: 32, own: 0 };
 /**
- * A new backup has what the reference implementation gives it.
+ * A new backup has the exponent that the reference implementation gives it.
  *
  * @type {Chosen}
  */
-const USUAL = { source: "new16", noted: null, exponent: 1, extendable: true };
+const USUAL = { source: "new16", noted: null, exponent: 1, wallet: null };
 
 /**
  * Makes a backup.
@@ -44,25 +47,27 @@ export async function makeBackup(desk) {
   for (const paper of papers) {
     while (!(await typeBack(desk, paper, place(paper.index), words))) await showPaper(desk, paper, place(paper.index));
   }
-  await drillAndNote(desk, plan, isOwn);
+  await noteAndEnd(desk, plan, isOwn);
 }
 
 /**
- * Asks for the plan and the secret until the papers are made. Returns null if the owner goes back to the first screen.
+ * Asks for the plan, the wallet and the secret until the papers are made. Returns null if the owner goes back to the first screen.
  *
  * @param {Desk} desk
  */
 async function planAndCreate(desk) {
   const [planned, chosen] = [new PlanChoice(), { ...USUAL }];
   while (await askPlan(desk, planned)) {
-    const words = await create(desk, planned.plan, chosen);
-    if (words !== null) return { plan: planned.plan, isOwn: chosen.source === "own", words };
+    while (await askWallet(chosen)) {
+      const words = await create(desk, planned.plan, chosen);
+      if (words !== null) return { plan: planned.plan, isOwn: chosen.source === "own", words };
+    }
   }
   return null;
 }
 
 /**
- * Asks for a plan that the engine takes. Returns whether one is chosen; if not, the owner goes back.
+ * Asks for a plan that the engine takes, and about its dangers. Returns whether one is chosen; if not, the owner goes back.
  *
  * @param {Desk} desk
  * @param {PlanChoice} chosen
@@ -70,15 +75,32 @@ async function planAndCreate(desk) {
 async function askPlan(desk, chosen) {
   let fault = "";
   for (;;) {
-    const children = [fault ? paragraph(fault, "fault") : null, paragraph(say("plan.what")), chosen.element, paragraph(say("names.sentence"), "hint")];
+    const hints = ["plan.short", "names.sentence"].map((key) => paragraph(say(key), "hint"));
+    const children = [fault ? paragraph(fault, "fault") : null, paragraph(say("plan.what")), chosen.element, ...hints];
     const answer = await ask(say("make.plan"), children, [
       { key: "go", label: say("continue"), kind: "primary" },
       { key: "back", label: say("back") },
     ]);
     if (answer === "back") return false;
     fault = await planFault(desk, chosen.plan);
-    if (fault === "") return true;
+    if (fault === "" && (await isMeant(chosen.plan))) return true;
   }
+}
+
+/**
+ * Whether a plan is meant, although one paper of it may be the whole secret, or its loss may be the loss of the secret.
+ *
+ * @param {Plan} plan
+ */
+async function isMeant(plan) {
+  const dangers = saidDangers(plan);
+  if (dangers === "") return true;
+  const told = [paragraph(saidPlan(plan), "sentence"), paragraph(dangers, "bad"), paragraph(say("plan.sure"))];
+  const answer = await ask(say("plan.sure.title"), told, [
+    { key: "back", label: say("plan.sure.back"), kind: "primary" },
+    { key: "yes", label: say("plan.sure.yes") },
+  ]);
+  return answer === "yes";
 }
 
 /**
@@ -130,7 +152,6 @@ class SecretFields {
 
 /** The fields under 'More'. */
 class MoreFields {
-  #extendable = tick(say("more.extendable"));
   #exponent;
   #most;
 
@@ -139,7 +160,7 @@ class MoreFields {
    * @param {Chosen} first
    * @param {SecretFields} secret
    */
-  constructor(desk, { exponent, extendable }, secret) {
+  constructor(desk, { exponent }, secret) {
     this.#most = desk.begun.exponentMax;
     const time = element("p", { class: "hint" });
     const tell = () => (time.textContent = say("more.time", { time: saidTime(desk.secondsFor({ exponent: this.exponent, secretBytes: secret.secretBytes })) }));
@@ -147,16 +168,9 @@ class MoreFields {
       hint: say("more.exponent.hint"),
       attributes: { min: "0", max: String(this.#most), value: String(exponent), class: "count", input: tell },
     });
-    this.#extendable.field.checked = extendable;
     tell();
     for (const change of ["input", "click"]) secret.element.addEventListener(change, tell);
-    const inside = [this.#extendable.box, paragraph(say("more.extendable.hint"), "hint"), this.#exponent.box, time];
-    const isUsual = exponent === USUAL.exponent && extendable === USUAL.extendable;
-    this.element = element("details", { open: !isUsual }, element("summary", {}, say("more.title")), ...inside);
-  }
-
-  get extendable() {
-    return this.#extendable.field.checked;
+    this.element = element("details", { open: exponent !== USUAL.exponent }, element("summary", {}, say("more.title")), this.#exponent.box, time);
   }
 
   get exponent() {
@@ -187,7 +201,7 @@ async function create(desk, plan, chosen) {
     const keep = () => {
       chosen.source = secret.source;
       if (secret.source === "own") chosen.noted = secret.noted ?? chosen.noted;
-      if (more.missing() === null) Object.assign(chosen, { exponent: more.exponent, extendable: more.extendable });
+      if (more.missing() === null) chosen.exponent = more.exponent;
       return null;
     };
     const take = () => {
@@ -216,16 +230,16 @@ async function create(desk, plan, chosen) {
  * @param {{secret: Secret, passphrase: Uint8Array}} typed
  * @param {Chosen} chosen
  */
-async function created(desk, plan, { secret, passphrase }, { exponent, extendable }) {
+async function created(desk, plan, { secret, passphrase }, { exponent, wallet }) {
   setTouched(true);
   const digits = secret.digits?.length ?? 0;
-  const time = saidTime(desk.secondsFor({ exponent, secretBytes: secret.bytes || digits / 2 }));
+  const seconds = desk.secondsFor({ exponent, secretBytes: secret.bytes || digits / 2 });
   const isLong = exponent >= LONG_EXPONENT;
   try {
     await desk.ask("passphrase", { passphrase }, [passphrase.buffer]);
-    showWork(say("make.work"), isLong ? say("time.about", { time }) : say("time.moment"), isLong ? () => desk.stop() : null);
-    const { fault, fingerprint, place = 0, words = 0 } = await desk.askLong("make", { plan: planText(plan), exponent, extendable, ...secret });
-    if (fault === "" && secret.noted !== "") tellNext(say("secret.same"));
+    showWork(say("make.work"), isLong ? say("time.about", { time: saidTime(seconds) }) : say("time.moment"), seconds, isLong ? () => desk.stop() : null);
+    const { fault, fingerprint, place = 0, words = 0 } = await desk.askLong("make", { plan: planText(plan), exponent, extendable: wallet === "flag", ...secret });
+    if (fault === "" && secret.noted !== "") tellNext(say("secret.same"), "good");
     return { fault: fault === "" ? "" : say(`secret.${fault}`, { digits, fingerprint, place, noted: secret.noted }), words };
   } catch (error) {
     if (error instanceof Stopped) return { fault: say("make.stopped"), words: 0 };
@@ -237,43 +251,25 @@ async function created(desk, plan, { secret, passphrase }, { exponent, extendabl
 }
 
 /**
- * Drills with what was typed back, and gives the fingerprint to note. Only then the backup is made.
+ * Lets the owner note the fingerprint, and drills with what was typed back and noted. Only then the backup is made.
  *
  * @param {Desk} desk
  * @param {Plan} plan
  * @param {boolean} isOwn
  */
-async function drillAndNote(desk, plan, isOwn) {
-  const fingerprint = await desk.ask("fingerprint");
-  if (!(await drillUntilDone(desk, fingerprint))) return;
+async function noteAndEnd(desk, plan, isOwn) {
+  const [fingerprint, hasPassphrase] = [await desk.ask("fingerprint"), await desk.ask("hasPassphrase")];
+  if (!(await noteAndDrill(desk, { fingerprint, isOwn, hasPassphrase }))) return;
   setUnfinished("");
-  const hasPassphrase = await desk.ask("hasPassphrase");
-  const apart = hasPassphrase ? paragraph(say("noted.apart")) : null;
-  const noting = [paragraph(say("noted.new")), element("p", { class: "fingerprint" }, fingerprint), paragraph(say(isOwn ? "noted.own" : "noted.drawn")), apart];
-  const skip = isOwn ? [{ key: "skip", label: say("noted.skip") }] : [];
-  await ask(say(isOwn ? "noted.title.own" : "noted.title"), noting, [{ key: "go", label: say("noted.done"), kind: "primary" }, ...skip]);
   const keep = `${say(planNames(plan).length === 1 ? "make.keep.one" : "make.keep")} ${say(hasPassphrase ? "make.with" : "make.without")}`;
   const old = isOwn ? paragraph(say("make.own")) : null;
-  const done = [paragraph(saidPlan(plan), "good"), paragraph(keep), old, paragraph(say("make.note", { plan: planText(plan) })), paragraph(say("close"))];
+  const done = [
+    paragraph(saidPlan(plan), "sentence"),
+    paragraph(say("make.restore"), "note"),
+    paragraph(keep),
+    old,
+    paragraph(say("make.note", { plan: planText(plan) })),
+    paragraph(say("close")),
+  ];
   await ask(say("make.done"), done, [{ key: "end", label: say("end"), kind: "primary" }]);
-}
-
-/**
- * Drills with what was typed back. A drill that was stopped can be tried again. Returns whether all quorums give the secret.
- *
- * @param {Desk} desk
- * @param {string} fingerprint
- */
-async function drillUntilDone(desk, fingerprint) {
-  const [status, kinds] = [await desk.ask("status"), await desk.ask("kinds")];
-  for (;;) {
-    await askToDrill(desk, status, kinds[0], { title: say("make.drill"), hasBack: false });
-    const verdict = await runDrill(desk, status, { title: say("make.drill"), noted: fingerprint, isOwn: true });
-    const result = "refused" in verdict ? "none" : verdict.result;
-    if (result === "good") return true;
-    const texts = "refused" in verdict ? [saidRefusal(verdict.refused)] : verdict.sentences;
-    const told = [...texts.map((text) => paragraph(text, "bad")), paragraph(say(result === "stopped" ? "make.unproved" : "make.failed"))];
-    const again = result === "stopped" ? /** @type {const} */ ([{ key: "again", label: say("make.again"), kind: "primary" }]) : [];
-    if ((await ask(say("make.failed.title"), told, [...again, { key: "end", label: say("end") }])) === "end") return false;
-  }
 }

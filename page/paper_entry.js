@@ -51,9 +51,9 @@ export class PaperEntry {
       { class: "entry" },
       element("p", { class: "hint" }, say(onChange ? "damaged.hint" : "entry.hint")),
       element("div", { class: "counts" }, this.#count.box, ...quick),
+      this.#answer,
       this.#grid,
       element("div", { class: "buttons" }, button(say("entry.read"), () => this.#read(), "primary"), button(say("entry.empty"), () => this.#emptied())),
-      this.#answer,
     );
     // Before the field itself hears of it, since the field may ask for a new answer.
     this.element.addEventListener("input", () => this.#changed(), true);
@@ -110,6 +110,8 @@ export class PaperEntry {
     }
     for (const { box } of this.#fields) box.hidden = false;
     for (const { box } of this.#spare) box.hidden = true;
+    // The words run down two columns, as on the forms.
+    this.#grid.style.setProperty("--rows", String(Math.ceil(count / 2)));
     this.#count.field.value = String(count);
     this.#changed();
   }
@@ -205,6 +207,8 @@ export class PaperEntry {
     this.#isMissing = false;
     this.#answer.textContent = text;
     this.#answer.classList.toggle("fault", isFault);
+    // On a phone, the fields and what is below them are higher than the screen.
+    if (text !== "") this.#answer.scrollIntoView({ block: "nearest" });
     announce(text);
   }
 

@@ -64,8 +64,9 @@ async function refusalOf(desk, typed) {
  * Makes the field for the noted fingerprint, and the box that says that none was noted.
  *
  * @param {string | null} noted what was said before, or null
+ * @param {boolean} [mayLack] whether the owner may have noted none
  */
-export function notedFields(noted) {
+export function notedFields(noted, mayLack = true) {
   const none = tick(say("noted.none"));
   const { box, field } = labelled(say("noted.label"), "text", { hint: say("noted.hint"), attributes: { maxlength: "16", input: () => (none.field.checked = false) } });
   field.value = noted ?? "";
@@ -74,10 +75,10 @@ export function notedFields(noted) {
   /** Returns what is missing, or null. */
   const missing = () => {
     if (none.field.checked) return read() === "" ? null : say("noted.both");
-    if (read() === "") return say("noted.missing");
-    return FINGERPRINT.test(read()) ? null : say("noted.wrong");
+    if (read() === "") return say(mayLack ? "noted.missing" : "proof.missing");
+    return FINGERPRINT.test(read()) ? null : say(mayLack ? "noted.wrong" : "proof.wrong");
   };
-  return { box: element("div", { class: "fields" }, box, none.box), missing, read };
+  return { box: element("div", { class: "fields" }, box, mayLack ? none.box : null), missing, read };
 }
 
 /**
@@ -85,10 +86,12 @@ export function notedFields(noted) {
  * none was noted, or null if the owner wants to go back.
  *
  * @param {Desk} desk
- * @param {{title: string, fault: string, noted: string | null}} what `noted` is the fingerprint that was given before, or null
+ * @param {{title: string, fault: string, noted: string | null, why?: string, back?: string, mayLack?: boolean}} what `noted` is the
+ *   fingerprint that was given before, or null. `why` says what both are asked for, `back` is the answer that goes back, and `mayLack`
+ *   says whether the owner may have noted no fingerprint
  */
-export async function askPassphrase(desk, { title, fault, noted }) {
-  const [passphrase, fingerprint] = [passphraseFields(desk, false), notedFields(noted)];
+export async function askPassphrase(desk, { title, fault, noted, why = say("passphrase.why"), back = say("collect.back"), mayLack = true }) {
+  const [passphrase, fingerprint] = [passphraseFields(desk, false), notedFields(noted, mayLack)];
   const typed = { passphrase: new Uint8Array(), fingerprint: "" };
   const take = () => {
     const lacks = passphrase.missing() ?? fingerprint.missing();
@@ -96,10 +99,10 @@ export async function askPassphrase(desk, { title, fault, noted }) {
     return lacks;
   };
   const refused = fault ? [paragraph(fault, "fault"), paragraph(say("passphrase.emptied"), "fault")] : [];
-  const children = [...refused, paragraph(say("passphrase.why")), passphrase.box, fingerprint.box];
+  const children = [...refused, paragraph(why), passphrase.box, fingerprint.box];
   const answer = await ask(title, children, [
     { key: "go", label: say("continue"), kind: "primary", take },
-    { key: "back", label: say("collect.back") },
+    { key: "back", label: back },
   ]);
   if (answer === "back") return null;
   await desk.ask("passphrase", { passphrase: typed.passphrase }, [typed.passphrase.buffer]);

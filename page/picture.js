@@ -51,7 +51,7 @@ export function picture(status, groupCount, task = "") {
       element("span", {}, told),
     );
   });
-  return element("div", { class: "picture" }, element("p", { class: status.enough ? "good" : "note" }, saidWhole(status, groupCount, task)), element("ul", {}, ...rows));
+  return element("div", { class: "picture" }, element("p", { class: "note" }, saidWhole(status, groupCount, task)), element("ul", {}, ...rows));
 }
 
 /**

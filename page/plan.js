@@ -57,13 +57,27 @@ export function saidPlan(plan) {
   return `${head} ${groups}.`;
 }
 
+/** @param {unknown[]} names */
+function form(names) {
+  return names.length === 1 ? "one" : "many";
+}
+
 /**
- * Says which papers may not be lost, and which are enough alone. If there are none, says nothing.
+ * Returns the groups of which one paper is enough.
  *
  * @param {Plan} plan
  */
-export function saidRisks({ needed, groups }) {
-  const form = (/** @type {unknown[]} */ names) => (names.length === 1 ? "one" : "many");
+function singles({ groups }) {
+  return groups.flatMap((group, at) => (group.needed === 1 ? [at] : []));
+}
+
+/**
+ * Says which papers may not be lost, and which are the whole secret. If there are none, says nothing.
+ *
+ * @param {Plan} plan
+ */
+export function saidDangers(plan) {
+  const { needed, groups } = plan;
   const said = [];
   if (needed === groups.length) {
     const alone = groups.flatMap(({ members }, at) => (members === 1 ? [`${at}.0`] : []));
@@ -72,10 +86,19 @@ export function saidRisks({ needed, groups }) {
       if (group.members > 1 && group.needed === group.members) said.push(say(groups.length === 1 ? "plan.lost.any" : "plan.lost.group", { group: at }));
     });
   }
-  const single = groups.flatMap((group, at) => (group.needed === 1 ? [at] : []));
+  const single = singles(plan);
   if (single.length && needed === 1) said.push(say(`plan.found.${form(single)}`, { names: single.map((at) => `${at}.0`).join(", ") }));
-  if (single.length && needed > 1) said.push(say(`plan.found.group.${form(single)}`, { groups: single.join(", ") }));
   return said.join(" ");
+}
+
+/**
+ * Says of which groups one paper is enough, if that isn't the whole secret. If there are none, says nothing.
+ *
+ * @param {Plan} plan
+ */
+export function saidSingles(plan) {
+  const single = singles(plan);
+  return single.length && plan.needed > 1 ? say(`plan.found.group.${form(single)}`, { groups: single.join(", ") }) : "";
 }
 
 /**

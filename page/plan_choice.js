@@ -1,6 +1,6 @@
 // The choice of a plan: proposals in plain words, or groups and members by buttons.
 import { choice, element, paragraph } from "./dom.js";
-import { GROUPS_MAX, MEMBERS_MAX, planText, saidPlan, saidRisks } from "./plan.js";
+import { GROUPS_MAX, MEMBERS_MAX, planText, saidDangers, saidPlan, saidSingles } from "./plan.js";
 import { saidError } from "./refusals.js";
 import { say } from "./say.js";
 import { announce } from "./screen.js";
@@ -22,6 +22,7 @@ export class PlanChoice {
   plan = structuredClone(PROPOSALS.two);
   #own = element("div", { class: "groups" });
   #sentence = element("p", { class: "sentence" });
+  #dangers = element("p", { class: "bad" });
 
   constructor() {
     const options = /** @type {const} */ (["two", "three", "home", "own"]).map((key) => ({
@@ -35,6 +36,7 @@ export class PlanChoice {
       choice(say("plan.legend"), options, "two", (key) => this.#choose(key)),
       this.#own,
       this.#sentence,
+      this.#dangers,
     );
     this.#tell();
   }
@@ -48,9 +50,12 @@ export class PlanChoice {
   }
 
   #tell() {
-    const text = `${saidPlan(this.plan)} ${saidRisks(this.plan)}`.trim();
-    if (this.#sentence.textContent && this.#sentence.textContent !== text) announce(text);
+    const [text, dangers] = [`${saidPlan(this.plan)} ${saidSingles(this.plan)}`.trim(), saidDangers(this.plan)];
+    const isOther = this.#sentence.textContent !== text || this.#dangers.textContent !== dangers;
+    if (this.#sentence.textContent && isOther) announce(`${text} ${dangers}`.trim());
     this.#sentence.textContent = text;
+    this.#dangers.textContent = dangers;
+    this.#dangers.hidden = dangers === "";
   }
 
   /** Draws the groups again, and puts the focus back on the button that was pressed, or beside it if it can't be pressed again. */
@@ -61,7 +66,7 @@ export class PlanChoice {
     const whole = stepper(say("plan.groups_needed"), this.plan.needed, 1, groups.length, (value) => this.#change(() => (this.plan.needed = value)));
     // An owner may press these fast, so a double click is two presses.
     const quick = (/** @type {string} */ text, /** @type {() => void} */ change) => element("button", { type: "button", class: "small", click: () => this.#change(change) }, text);
-    const add = quick(say("plan.add"), () => groups.push({ needed: 1, members: 1 }));
+    const add = quick(say("plan.add"), () => this.#add());
     const drop = quick(say("plan.drop"), () => groups.pop());
     add.disabled = groups.length === GROUPS_MAX;
     drop.disabled = groups.length === 1;
@@ -79,6 +84,13 @@ export class PlanChoice {
     const members = stepper(say("plan.members", { group: at }), group.members, 1, MEMBERS_MAX, (value) => this.#change(() => (group.members = value)));
     const needed = stepper(say("plan.needed", { group: at }), group.needed, 1, group.members, (value) => this.#change(() => (group.needed = value)));
     return element("fieldset", {}, element("legend", {}, say("status.group", { group: at })), members, needed);
+  }
+
+  /** Adds a group. With the second one, both are needed: if one were enough, its papers would be the whole secret. */
+  #add() {
+    const { groups } = this.plan;
+    groups.push({ needed: 1, members: 1 });
+    if (groups.length === 2) this.plan.needed = 2;
   }
 
   /** @param {() => void} change */

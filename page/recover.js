@@ -63,7 +63,7 @@ async function recoverFrom(desk, kind) {
  * @param {string} noted
  */
 async function recovered(desk, kind, noted) {
-  showWork(say("recover.work"), warnedTime(desk, kind) ?? say("time.moment"), () => desk.stop());
+  showWork(say("recover.work"), warnedTime(desk, kind) ?? say("time.moment"), desk.secondsFor(kind), () => desk.stop());
   try {
     return { fingerprint: /** @type {string} */ (await desk.askLong("recover", { noted })), refused: 0, text: "" };
   } catch (error) {

@@ -28,7 +28,7 @@ function saidUndetermined([first, second], task) {
 }
 
 /**
- * Says a refusal in words, with the number that it has in the manual.
+ * Says a refusal in words.
  *
  * @param {Refused} refused
  * @param {string} [task] the task, if it has its own words for some refusals
@@ -37,8 +37,7 @@ export function saidRefusal({ code, details, text }, task = "") {
   const [first, second] = details;
   const name = `refused.${code}${formOf(code, details)}`;
   const key = [`${task}.${name}`, name, "refused.other"].find(hasText) ?? "";
-  const told = code === Code.UNDETERMINED ? saidUndetermined(details, task) : say(key, { first, second, text });
-  return say("refused.number", { told, code });
+  return code === Code.UNDETERMINED ? saidUndetermined(details, task) : say(key, { first, second, text });
 }
 
 /**
@@ -73,7 +72,7 @@ export function saidForeign(error, repaired) {
   const { code } = error.refused;
   // These refusals, and those between them, are of papers that aren't of one backup.
   if (code < Code.OTHER_IDENTIFIER || code > Code.CONFLICTING_SHARE) return saidError(error);
-  return say("refused.number", { told: say("refused.repaired.one", { names: repaired[0] }), code });
+  return say("refused.repaired.one", { names: repaired[0] });
 }
 
 /**

@@ -1,5 +1,6 @@
 // The one screen that the page shows at a time, what a screen reader is told, and what leaves the page's elements with it.
 import { button, concealIn, element, paragraph } from "./dom.js";
+import { estimated } from "./estimate.js";
 import { say } from "./say.js";
 
 /** @typedef {import("./dom.js").Child} Child */
@@ -11,7 +12,7 @@ let touched = false;
 // The key of what is said before half written papers are cleared.
 let unfinished = "";
 // What the next screen says first.
-let news = "";
+let news = { text: "", kind: "note" };
 
 /**
  * Says something to a screen reader.
@@ -48,9 +49,10 @@ export function setUnfinished(key) {
  * Takes a good news, which the next screen says first.
  *
  * @param {string} text
+ * @param {"note" | "good"} [kind] whether something was compared with what the owner noted, and is equal
  */
-export function tellNext(text) {
-  news = text;
+export function tellNext(text, kind = "note") {
+  news = { text, kind };
 }
 
 /** Empties all elements that show a secret. */
@@ -75,10 +77,10 @@ export function show(title, ...children) {
   leave();
   const heading = element("h1", { tabindex: "-1" }, title);
   main.append(heading);
-  if (news !== "") {
-    main.append(paragraph(news, "good"));
-    announce(news);
-    news = "";
+  if (news.text !== "") {
+    main.append(paragraph(news.text, news.kind));
+    announce(news.text);
+    news = { text: "", kind: "note" };
   }
   for (const child of children) if (child !== null) main.append(child);
   window.scrollTo(0, 0);
@@ -160,8 +162,10 @@ export function askAbove(text, stay, go, onGo) {
  *
  * @param {string} title
  * @param {string} text
+ * @param {number} seconds how long the work takes, by the estimate
  * @param {(() => void) | null} onStop
  */
-export function showWork(title, text, onStop = null) {
-  show(title, element("p", { class: "work", role: "status" }, text), onStop && element("div", { class: "buttons" }, button(say("stop"), onStop)));
+export function showWork(title, text, seconds, onStop) {
+  const buttons = onStop && element("div", { class: "buttons" }, button(say("stop"), onStop));
+  show(title, element("p", { class: "work", role: "status" }, text), estimated(seconds), buttons);
 }

@@ -72,25 +72,72 @@ export function isOpen(list, mark) {
 export const NO_REST = { letters: "", toFour: 0 };
 
 /**
- * What a typist who types no space goes on with after the letters that make a word: nothing, letters up to four, or the whole word. It is
- * null as long as it isn't known.
+ * Returns what may still come of the word before after a pause: nothing. Only of letters that came before the pause it isn't known yet
+ * which word they belong to.
  *
- * @typedef {"none" | "four" | "whole" | null} Habit
+ * @param {string} before the letters that came before the pause
+ * @param {Rest} rest
+ * @returns {Rest}
+ */
+export function restAfterPause(before, rest) {
+  if (before === "") return NO_REST;
+  return rest.letters.startsWith(before) ? { letters: before, toFour: before.length } : rest;
+}
+
+/**
+ * What a typist who types no space goes on with after the letters that make a word: nothing, letters up to four, or the whole word.
+ *
+ * @typedef {"none" | "four" | "whole"} Habit
  */
 
 /**
- * Returns the habit of a typist who typed so many letters of the rest, as far as it shows.
+ * Returns how many letters of the rest a typist with this habit types.
  *
+ * @param {Habit} habit
+ * @param {Rest} rest
+ */
+function usual(habit, { letters, toFour }) {
+  return { none: 0, four: toFour, whole: letters.length }[habit];
+}
+
+/** @type {Habit[]} */
+const HABITS = ["none", "four", "whole"];
+
+// A habit counts after so many words.
+const HABIT_WORDS = 5;
+
+/**
+ * The habits that the last words show, and how many words these are.
+ *
+ * @typedef {{shown: Habit[], words: number}} Seen
+ */
+
+/** @type {Seen} */
+export const NOTHING_SEEN = { shown: HABITS, words: 0 };
+
+/**
+ * Returns what is seen after one more word, of whose rest so many letters were typed.
+ *
+ * @param {Seen} seen
  * @param {number} count
  * @param {Rest} rest
- * @param {Habit} before
- * @returns {Habit}
+ * @returns {Seen}
  */
-export function habitOf(count, { letters, toFour }, before) {
-  if (count < toFour) return "none";
-  if (count > toFour) return "whole";
-  if (count < letters.length) return count === 0 && before === "none" ? before : "four";
-  return before === "none" ? null : before;
+export function seenWith({ shown, words }, count, rest) {
+  const fits = HABITS.filter((habit) => usual(habit, rest) === count);
+  const both = shown.filter((habit) => fits.includes(habit));
+  if (both.length) return { shown: both, words: words + 1 };
+  return fits.length ? { shown: fits, words: 1 } : NOTHING_SEEN;
+}
+
+/**
+ * Returns the one habit that enough words show, or null.
+ *
+ * @param {Seen} seen
+ * @returns {Habit | null}
+ */
+export function habitOf({ shown, words }) {
+  return shown.length === 1 && words >= HABIT_WORDS ? shown[0] : null;
 }
 
 /**
@@ -100,15 +147,14 @@ export function habitOf(count, { letters, toFour }, before) {
  * @param {readonly string[]} list
  * @param {string} letters
  * @param {Rest} rest
- * @param {Habit} [habit]
+ * @param {Habit | null} [habit]
  */
 export function readings(list, letters, rest, habit = null) {
   const counts = [0, rest.toFour, rest.letters.length].filter((count) => count === 0 || (count < letters.length && letters.startsWith(rest.letters.slice(0, count))));
-  const usual = { none: 0, four: rest.toFour, whole: rest.letters.length }[habit ?? "none"];
-  const likely = habit !== null && counts.includes(usual) ? beginning(list, letters.slice(usual)) : [];
-  if (likely.length) return likely;
-  const found = new Set(counts.flatMap((count) => beginning(list, letters.slice(count))));
-  return [...found];
+  const likely = habit === null ? -1 : usual(habit, rest);
+  const found = counts.includes(likely) ? beginning(list, letters.slice(likely)) : [];
+  if (found.length) return found;
+  return [...new Set(counts.flatMap((count) => beginning(list, letters.slice(count))))];
 }
 
 /**
@@ -155,6 +201,7 @@ const MISTYPED_MAX = 2;
  */
 export function isMistypedRest(list, letters, rest) {
   if (letters === "" || rest.letters === "" || beginning(list, letters).length === 1) return false;
+  if (letters.length > rest.letters.length + 1) return false;
   return distance(letters, rest.letters) <= MISTYPED_MAX;
 }
 

@@ -7,7 +7,7 @@
 import { button, element, input } from "./dom.js";
 import { say } from "./say.js";
 import { announce, setTouched } from "./screen.js";
-import { beginning, endsBefore, habitOf, isMark, isMistypedRest, isRestWhole, marksOf, nearest, NO_REST, readings, wordsOf } from "./spelling.js";
+import { beginning, endsBefore, habitOf, isMark, isMistypedRest, isRestWhole, marksOf, nearest, NO_REST, NOTHING_SEEN, readings, restAfterPause, seenWith, wordsOf } from "./spelling.js";
 
 /**
  * @typedef {object} Events
@@ -32,13 +32,24 @@ let rest = NO_REST;
  */
 let arrived = null;
 
-/** @type {import("./spelling.js").Habit} */
-let habit = null;
+// How the typist types, as far as the last words show it.
+let seen = NOTHING_SEEN;
+
+// After so many milliseconds without a letter, none comes that belongs to the word before.
+const PAUSE = 1000;
+// When the last letter came.
+let typedAt = 0;
 
 /** Forgets the letters that may still come of the last word. */
-export function forgetRest() {
+function forgetRest() {
   rest = NO_REST;
   arrived = null;
+}
+
+/** Forgets what was typed, and how. */
+export function forgetTyping() {
+  forgetRest();
+  seen = NOTHING_SEEN;
 }
 
 export class WordField {
@@ -100,6 +111,8 @@ export class WordField {
   focus() {
     this.#whole = this.word;
     this.field.focus();
+    // A field that has the focus already doesn't come into sight by getting it.
+    this.field.scrollIntoView({ block: "nearest" });
     this.field.setSelectionRange(this.field.value.length, this.field.value.length);
   }
 
@@ -132,6 +145,8 @@ export class WordField {
   #typed(event) {
     const whole = this.#whole;
     let value = this.field.value.toLowerCase();
+    if (event.timeStamp - typedAt > PAUSE) rest = restAfterPause(value.slice(0, value.length - (event.data ?? "").length), rest);
+    typedAt = event.timeStamp;
     // A line stands for what can't be read, as a question mark does.
     if (this.#isDamaged && value.includes("_")) this.field.value = value = value.replace(/[?_]+/g, "?");
     if (this.#isRestOfOwn(value)) return;
@@ -153,7 +168,7 @@ export class WordField {
     if (isEnded) arrived = null;
     if (isEnded && letters === "") rest = NO_REST;
     if (isRest) {
-      if (!isEnded) habit = habitOf(letters.length, rest, habit);
+      if (!isEnded) seen = seenWith(seen, letters.length, rest);
       rest = NO_REST;
       this.set("");
     } else if (letters === "") {
@@ -214,7 +229,7 @@ export class WordField {
       this.#mark(false);
       return;
     }
-    const found = readings(this.#list, letters, rest, habit);
+    const found = readings(this.#list, letters, rest, habitOf(seen));
     this.#mark(found.length === 0 || (found.length > 1 && letters.length > 4));
     if (found.length === 1 && isAdded) this.#complete(found[0], letters, true);
   }
@@ -228,7 +243,7 @@ export class WordField {
     this.set(word);
     let count = Math.min(letters.length, word.length);
     while (!letters.endsWith(word.slice(0, count))) count -= 1;
-    if (isBySpelling && arrived === this && rest.letters !== "") habit = habitOf(letters.length - count, rest, habit);
+    if (isBySpelling && arrived === this && rest.letters !== "") seen = seenWith(seen, letters.length - count, rest);
     arrived = null;
     rest = { letters: word.slice(count), toFour: Math.max(0, 4 - count) };
     this.#events.completed(this.#at, isBySpelling);

@@ -24,8 +24,10 @@ sys.path.insert(0, str(pathlib.Path(__file__).resolve().parent))
 import agreement  # noqa: E402
 import astray  # noqa: E402
 import browsers  # noqa: E402
+import choices  # noqa: E402
 import entry  # noqa: E402
 import faults  # noqa: E402
+import forms  # noqa: E402
 import hasty  # noqa: E402
 import long_drill  # noqa: E402
 import looks  # noqa: E402
@@ -34,6 +36,7 @@ import refusals  # noqa: E402
 import sources  # noqa: E402
 import steps  # noqa: E402
 import tasks  # noqa: E402
+import typists  # noqa: E402
 import ways_out  # noqa: E402
 from hands import Page  # noqa: E402
 from left_out import left_out  # noqa: E402
@@ -93,11 +96,11 @@ def check_looks(name, url):
 def parts_of(name, url, modules, cases):
     """Returns each part of the check in this browser."""
     return {
-        "tasks": lambda: in_browser(name, url, tasks.TASKS.values()),
+        "tasks": lambda: in_browser(name, url, [*tasks.TASKS.values(), *forms.CHECKS]),
         "refusals": lambda: in_browser(name, url, refusals.CHECKS),
         "entry": lambda: in_browser(name, url, entry.CHECKS + steps.CHECKS),
         "astray": lambda: in_browser(name, url, astray.CHECKS),
-        "hasty": lambda: in_browser(name, url, hasty.CHECKS),
+        "hasty": lambda: in_browser(name, url, hasty.CHECKS + choices.CHECKS + [typists.check]),
         "long": lambda: in_browser(name, url, long_drill.CHECKS),
         "looks": lambda: check_looks(name, url),
         "agreement": lambda: in_browser(name, url, [lambda page, _: agreement.check(page, modules, cases), lambda page, _: agreement.check_memory(page)]),

@@ -8,14 +8,18 @@ import tempfile
 
 import agreement
 import astray
+import choices
 import entry
+import forms
 import hasty
+import long_drill
 import looks
 import privacy
 import refusals
 import sources
 import steps
 import tasks
+import typists
 import ways_out
 from browsers import Failed, browser
 from hands import Page
@@ -96,14 +100,33 @@ FAULTS = [
     ("too few papers are told late", "page/replace.js", "if (!mayDetermine(status)) {", "if (false) {", of_page(lambda page: refusals.check_mixed(page, unseen))),
     ("a number of papers can't be given again", "page/replace.js", '    { key: "plan", label: say("back") },\n', "", of_page(lambda page: steps.check_wanted(page, unseen))),
     ("a space at the end of a passphrase isn't told", "page/passphrase.js", "if (typed === typed.trim() || isAsked) return null;", "if (true) return null;", of_page(lambda page: refusals.check_values(page, unseen))),
-    ("a paper without which nothing is recovered isn't told", "page/plan_choice.js", " ${saidRisks(this.plan)}", "", of_page(lambda page: steps.check_make(page, unseen))),
+    ("a paper without which nothing is recovered isn't told", "page/plan_choice.js", "this.#dangers.textContent = dangers;", "", of_page(lambda page: steps.check_make(page, unseen))),
+    ("one of two groups is enough", "page/plan_choice.js", "if (groups.length === 2) this.plan.needed = 2;", "", of_page(lambda page: choices.check_dangers(page, unseen))),
+    ("a plan with a danger isn't asked about", "page/make_backup.js", 'if (dangers === "") return true;', "if (true) return true;", of_page(lambda page: choices.check_dangers(page, unseen))),
+    ("the wallet needn't be said", "page/wallet.js", 'chosen.wallet === null ? say("wallet.missing") : null', "null", of_page(lambda page: choices.check_wallet(page, unseen))),
+    ("papers for an older wallet have the flag", "page/make_backup.js", 'extendable: wallet === "flag"', "extendable: true", of_page(lambda page: tasks.check_make(page, unseen))),
+    ("a text promises that one paper tells nothing", "page/texts.js", "and a thief hasn't.", "and a thief learns nothing.", lambda folder, url: sources.check(folder / "page")),
+    ("another fingerprint than the backup has is taken", "page/note_and_drill.js", 'given !== "" && given !== made.fingerprint', "false", of_page(lambda page: choices.check_notes(page, unseen))),
+    ("the passphrase that was noted isn't tried", "page/passphrase.js", '  await desk.ask("passphrase", { passphrase: typed.passphrase }, [typed.passphrase.buffer]);\n', "", of_page(lambda page: choices.check_notes(page, unseen))),
+    ("a new backup needs no noted fingerprint", "page/note_and_drill.js", "mayLack: isOwn", "mayLack: true", of_page(lambda page: tasks.check_make(page, unseen))),
+    ("what wasn't compared is green", "page/drill.js", 'isEqual ? "good" : "note"', '"good"', of_page(lambda page: choices.check_looks_of_results(page, unseen))),
+    ("a word of the list is green", "page/style.css", ".word.right input { border-color: var(--text);", ".word.right input { border-color: var(--good);", of_page(lambda page: choices.check_looks_of_results(page, unseen))),
+    ("nothing but its colour tells a danger", "page/style.css", ".note::before, .good::before, .bad::before,", ".note::before, .good::before,", of_page(lambda page: choices.check_dangers(page, unseen))),
     ("typing back offers to read a damaged paper", "page/show_paper.js", 'saidError(error, "back")', "saidError(error)", of_page(lambda page: tasks.check_make(page, unseen))),
     ("a heading is read as words", "page/spelling.js", 'replace(HEADING, " ")', "trim()", of_page(lambda page: refusals.check_words(page, unseen))),
     ("papers that no quorum has aren't told in the title", "page/check_papers.js", "left || untried ?", "left ?", of_page(lambda page: astray.check_untried(page, unseen))),
     ("on the way back, what was chosen is lost", "page/make_backup.js", ', take: keep }', " }", of_page(lambda page: steps.check_chosen(page, unseen))),
     ("a mistyped end goes into the next field", "page/word_field.js", "if (isEnded && !isRest && this.#isMistyped(letters)) return;", "", of_page(lambda page: entry.check_mistyped(page, unseen))),
+    ("the bar of a long work stands still", "page/estimate.js", "(bar.isConnected ? move() : clearInterval(timer))", "clearInterval(timer)", of_page(lambda page: long_drill.check_stop(page, unseen))),
+    ("fields run across", "page/style.css", "grid-auto-flow: column; ", "", of_page(lambda page: choices.check_phone(page, unseen))),
+    ("a paper is longer than a phone", "page/style.css", ".paper { columns: 2;", ".paper { columns: 1;", of_page(lambda page: choices.check_phone(page, unseen))),
+    ("an answer is out of sight", "page/paper_entry.js", 'if (text !== "") this.#answer.scrollIntoView', 'if (false) this.#answer.scrollIntoView', of_page(lambda page: choices.check_phone(page, unseen))),
+    ("too many other papers are asked for", "page/tell_paper.js", 'counted(memberThreshold - 1, "paper")', 'counted(memberThreshold, "paper")', of_page(lambda page: choices.check_what(page, unseen))),
+    ("what a paper was told to be stays", "page/tell_paper.js", "    this.#found.replaceChildren();\n", "", of_page(lambda page: choices.check_what(page, unseen))),
+    ("after a pause, letters belong to the word before", "page/word_field.js", "event.timeStamp - typedAt > PAUSE", "false", of_page(lambda page: typists.check(page, unseen))),
+    ("a habit counts after one word", "page/spelling.js", "HABIT_WORDS = 5", "HABIT_WORDS = 1", of_page(lambda page: typists.check(page, unseen, 40, ["mixed"]))),
     ("how an owner types isn't learnt", "page/word_field.js", "if (isBySpelling && arrived === this", "if (false", of_page(lambda page: entry.check_habits(page, unseen))),
-    ("forms of a plan that is refused", "page/blank_forms.js", 'if (fault !== "") continue;', "", of_page(lambda page: tasks.check_blank(page, unseen))),
+    ("forms of a plan that is refused", "page/blank_forms.js", 'if (fault !== "") continue;', "", of_page(lambda page: forms.check_blank(page, unseen))),
     ("words that were pasted are left without a question", "page/word_field.js", "    setTouched(true);\n", "", of_page(lambda page: entry.check_kept(page, unseen))),
     ("the way back loses words", "page/paper_entry.js", "if (entry.isEmpty) onLeave();", "if (true) onLeave();", of_page(lambda page: entry.check_kept(page, unseen))),
     ("fewer fields lose words", "page/paper_entry.js", "for (const { box } of this.#spare) box.hidden = true;", "for (const it of this.#spare) { it.box.hidden = true; it.set(''); }", of_page(lambda page: entry.check_kept(page, unseen))),
@@ -129,7 +152,7 @@ def hidden_words(page):
 
 def hidden(page):
     tasks.begin(page, "make")
-    page.push(say("continue"))
+    tasks.choose_wallet(page)
     page.tick(say("passphrase.none"))
     page.push(say("make.create"))
     page.wait_title(say("paper.title", name="0.0"))

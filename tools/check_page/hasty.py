@@ -4,7 +4,7 @@ import time
 from browsers import Failed
 from looks import words_shown
 from refusals import SOUND, changed, paste
-from tasks import answer_passphrase, begin, end
+from tasks import answer_passphrase, begin, choose_wallet, end
 from texts import say
 
 # Lets what the page starts, or what it asks the worker for, come late or not at all. `UNDO` is run after a check.
@@ -57,8 +57,7 @@ def check_launch(page, see):
 def check_double_click(page, _):
     """A double click presses one button, and not one of the next screen too."""
     begin(page, "make")
-    page.push(say("continue"))
-    page.wait_title(say("make.secret"))
+    choose_wallet(page)
     page.tick(say("passphrase.none"))
     page.push(say("make.create"))
     page.wait_title(say("paper.title", name="0.0"))

@@ -3,7 +3,7 @@ import math
 
 from browsers import Failed
 from refusals import SOUND, changed, paste
-from tasks import answer_passphrase, begin, end, fingerprint_of, plain
+from tasks import answer_passphrase, begin, choose_wallet, end, fingerprint_of, plain
 from texts import counted, say
 
 # A plan with more quorums than a drill tries: three groups of eight papers, four of each needed.
@@ -43,6 +43,14 @@ def check_big(page, see):
     end(page)
 
 
+def check_bar(page):
+    """A bar moves, and says that the time which is left is an estimate."""
+    at = "document.querySelector('.estimate progress').value"
+    page.wait_text(say("work.left", time="@").split("@")[1])
+    first = page.evaluate(at)
+    page.wait(lambda: page.evaluate(at) > first, "a bar that moves")
+
+
 def check_stop(page, see):
     """A recovery with a high exponent says how long it takes, and stops. The papers stay."""
     begin(page, "recover")
@@ -51,6 +59,7 @@ def check_stop(page, see):
     page.push(say("collect.end"))
     answer_passphrase(page, "TREZOR", None)
     page.wait_text(say("time.long", exponent=14, time="@").split("@")[0])
+    check_bar(page)
     see("a long recovery")
     page.push(say("stop"))
     page.wait_text(say("recover.stopped"))
@@ -70,6 +79,7 @@ def check_stop_drill(page, see):
     answer_passphrase(page, "TREZOR", None)
     page.wait_text(say("time.long", exponent=14, time="@").split("@")[0])
     page.push(say("drill.start"))
+    check_bar(page)
     page.push(say("stop"))
     page.wait_title(say("drill.done"))
     verdict = page.evaluate("document.querySelector('.verdict').innerText")
@@ -85,8 +95,7 @@ def check_stop_drill(page, see):
 def check_stop_make(page, _):
     """The making of a backup with a high exponent says how long it takes, and stops. Nothing is made."""
     begin(page, "make")
-    page.push(say("continue"))
-    page.wait_title(say("make.secret"))
+    choose_wallet(page)
     page.evaluate("document.querySelector('details').open = true; null")
     page.tick(say("passphrase.none"))
     page.go_to("spinbutton", say("more.exponent"))
@@ -95,6 +104,7 @@ def check_stop_make(page, _):
     page.push(say("make.create"))
     page.wait_title(say("make.work"))
     page.wait_text(say("time.about", time="@").split("@")[0])
+    check_bar(page)
     page.push(say("stop"))
     page.wait_text(say("make.stopped"))
     page.push(say("clear"))

@@ -1,7 +1,7 @@
 """How the page looks: nothing wider than a narrow screen, contrast of each text, and what a hidden or a left page shows."""
 from browsers import Failed, browser
 from hands import Page
-from tasks import SOUND_PAPER, begin, found_words, type_damaged, type_paper
+from tasks import SOUND_PAPER, begin, choose_wallet, found_words, type_damaged, type_paper
 from texts import say
 
 # The contrast that WCAG 2.2 asks for at level AA: of a text, and of a large one.
@@ -83,9 +83,15 @@ def check(name, url, see, opened=Page):
             begin(page, "make")
             page.choose(say("plan.own"))
             check_screen(page, f"{mode} own plan", see)
+            for change in ("drop", "drop", "add"):
+                page.push(say(f"plan.{change}"))
+            check_screen(page, f"{mode} plan with a danger", see)
             page.choose(say("plan.two"))
             page.push(say("continue"))
-            page.wait_title(say("make.secret"))
+            page.wait_title(say("make.wallet"))
+            check_screen(page, f"{mode} wallet", see)
+            page.push(say("back"))
+            choose_wallet(page)
             page.choose(say("secret.own"))
             check_screen(page, f"{mode} own secret", see)
             page.choose(say("secret.new16"))

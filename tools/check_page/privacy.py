@@ -14,7 +14,7 @@ import zlib
 
 from browsers import Failed, browser
 from hands import Page
-from tasks import SOUND_PAPER, begin, type_paper
+from tasks import SOUND_PAPER, begin, choose_wallet, type_paper
 from texts import say
 
 CONTROL = "<!doctype html><title>control</title><label>Plain <input type=text name=plain></label>"
@@ -121,7 +121,7 @@ def typed_everywhere(page):
     page.push(say("clear"))
     page.wait_title(say("home.title"))
     begin(page, "make")
-    page.push(say("continue"))
+    choose_wallet(page)
     page.choose(say("secret.own"))
     page.fill(say("secret.digits"), markers["digits"])
     page.fill(say("secret.again"), markers["digits again"])

@@ -2,7 +2,7 @@
 import json
 
 from browsers import Failed
-from tasks import FINGERPRINT, PASSPHRASE, SECRET, THREE_GROUPS, answer_passphrase, begin, end, example, plain, type_digits, type_paper
+from tasks import FINGERPRINT, PASSPHRASE, SECRET, THREE_GROUPS, answer_passphrase, begin, choose_wallet, end, example, plain, type_digits, type_paper
 from texts import counted, say
 
 SOUND = example("one-of-one.txt")[0]
@@ -143,8 +143,7 @@ def check_values(page, see):
     page.wait_text(said(34, first=0))
     see("a plan that is refused")
     page.choose(say("plan.two"))
-    page.push(say("continue"))
-    page.wait_title(say("make.secret"))
+    choose_wallet(page)
     page.push(say("make.create"))
     page.wait_text(say("passphrase.missing"))
     page.choose(say("secret.own"))

@@ -55,6 +55,10 @@ def check_forbidden(page):
         raise Failed(f"fields lack {', '.join(missing)}")
 
 
+# What no text says: whoever is one paper short can still test guesses.
+PROMISES = ["learns nothing", "learn nothing", "nobody can", "no one can"]
+
+
 def check_texts(page):
     source = (page / "texts.js").read_text()
     table = json.loads(source[source.index("{\n", source.index("export const TEXTS")) : source.index("\n};") + 2])
@@ -62,6 +66,9 @@ def check_texts(page):
     missing = sorted(wanted - set(table))
     if missing:
         raise Failed(f"the table of texts lacks {missing}")
+    promised = [key for key, text in table.items() if any(it in text for it in PROMISES)]
+    if promised:
+        raise Failed(f"these texts promise what SECURITY.md doesn't: {promised}")
     doubled = re.findall(r'^  "([^"]+)":', source, re.MULTILINE)
     if len(doubled) != len(set(doubled)):
         raise Failed("the table of texts has a key twice")

@@ -1,7 +1,7 @@
 """The ways back, what Enter does in a field that isn't a word's, and the questions for the plan of papers."""
 from browsers import Failed
 from refusals import fill_plan, paste
-from tasks import FINGERPRINT, PASSPHRASE, SOUND_PAPER, THREE_GROUPS, begin, example, plain, read_paper
+from tasks import FINGERPRINT, PASSPHRASE, SOUND_PAPER, THREE_GROUPS, begin, choose_wallet, example, plain, read_paper
 from texts import counted, say
 
 
@@ -12,7 +12,7 @@ def go_back(page, title, answer="back"):
 
 def check_first_steps(page, _):
     """The first screen of each task leads back to the choice of a task."""
-    for task in ("make", "check", "recover", "replace", "damaged"):
+    for task in ("make", "check", "recover", "replace", "damaged", "what"):
         begin(page, task)
         go_back(page, say("home.title"))
     begin(page, "replace")
@@ -32,8 +32,8 @@ def check_make(page, _):
     """From the secret, the owner can go back to the plan, which stays. A plan in which one lost paper loses all says so."""
     begin(page, "make")
     page.choose(say("plan.three"))
-    page.push(say("continue"))
-    page.wait_title(say("make.secret"))
+    choose_wallet(page)
+    go_back(page, say("make.wallet"))
     go_back(page, say("make.plan"))
     page.wait_text(say("plan.sentence.any", needed=3, members=5))
     if not page.is_true("(it) => it.getAttribute('aria-checked') === 'true'", page.node("radio", say("plan.three"))):
@@ -172,18 +172,23 @@ def check_chosen(page, see):
             raise Failed(f"after {name!r}, the focus is lost")
     page.push(f"{say('plan.fewer')}: {say('plan.members', group=0)}")
     page.wait_text(say("plan.sentence.each", members=2))
-    page.push(say("continue"))
+    for wallet in ("flag", "older"):
+        page.push(say("continue"))
+        page.push(say("plan.sure.yes"))
+        page.wait_title(say("make.wallet"))
+        page.choose(say(f"wallet.{wallet}"))
+        page.push(say("back" if wallet == "flag" else "continue"))
     page.wait_title(say("make.secret"))
     page.evaluate("document.querySelector('details').open = true; null")
-    page.go_to("checkbox", say("more.extendable"))
-    page.press("Space")
     page.go_to("spinbutton", say("more.exponent"))
     page.evaluate("document.activeElement.select()")
     page.type("3")
     page.choose(say("secret.new32"))
+    go_back(page, say("make.wallet"))
     go_back(page, say("make.plan"))
-    page.push(say("continue"))
-    page.wait_title(say("make.secret"))
+    for answer, title in [("continue", "plan.sure.title"), ("plan.sure.yes", "make.wallet"), ("continue", "make.secret")]:
+        page.push(say(answer))
+        page.wait_title(say(title))
     see("what was chosen stays")
     page.tick(say("passphrase.none"))
     page.push(say("make.create"))

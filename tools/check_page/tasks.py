@@ -63,6 +63,15 @@ def answer_passphrase(page, passphrase, noted):
     page.push(say("continue"))
 
 
+def choose_wallet(page, wallet="flag"):
+    """Goes on from the plan, and says which wallet will read the papers."""
+    page.push(say("continue"))
+    page.wait_title(say("make.wallet"))
+    page.choose(say(f"wallet.{wallet}"))
+    page.push(say("continue"))
+    page.wait_title(say("make.secret"))
+
+
 def end(page):
     page.push(say("end"))
     page.wait_title(say("home.title"))
@@ -74,13 +83,12 @@ def read_paper(page):
     return page.evaluate("[...document.querySelectorAll('.paper li')].map((it) => it.textContent).join(' ')")
 
 
-def make(page, plan_label, words, passphrase, see, digits=None):
+def make(page, plan_label, wallet, words, passphrase, see, digits=None):
     """Makes a backup with a proposed plan. Returns its papers, and the fingerprint to note."""
     begin(page, "make")
     see("plan")
     page.choose(plan_label)
-    page.push(say("continue"))
-    page.wait_title(say("make.secret"))
+    choose_wallet(page, wallet)
     if digits is not None:
         type_digits(page, digits, digits, FINGERPRINT)
     elif words == 33:
@@ -119,21 +127,16 @@ def make(page, plan_label, words, passphrase, see, digits=None):
         if number == 2:
             type_wrongly(page, line.split())
         type_paper(page, line, is_by_four=number % 2 == 1)
-    page.wait_title(say("make.drill"))
-    page.wait_text(say("back.same", name=typed))
-    see("the last paper is typed back")
-    page.push(say("drill.start"))
-    page.wait_title(say("drill.done"))
-    see("drill of a new backup")
-    page.wait_text("A quorum is a set of papers that is just enough.")
-    page.push(say("continue"))
     page.wait_title(say("noted.title" if digits is None else "noted.title.own"))
+    page.wait_text(say("back.same", name=typed))
     see("fingerprint")
     if (say("noted.apart") in page.text()) != (passphrase is not None):
         raise Failed("the page tells of a passphrase that there isn't, or doesn't tell of the one that there is")
     fingerprint = page.evaluate("document.querySelector('.fingerprint').textContent")
     page.push(say("noted.done"))
+    prove(page, passphrase, fingerprint, digits is None, see)
     page.wait_title(say("make.done"))
+    page.wait_text(say("make.restore"))
     page.wait_text(say("make.with" if passphrase else "make.without"))
     if (say("make.own") in page.text()) != (digits is not None):
         raise Failed("the page doesn't say what becomes of digits on paper, or says it of a secret that it drew")
@@ -141,6 +144,30 @@ def make(page, plan_label, words, passphrase, see, digits=None):
     see("backup is made")
     end(page)
     return papers, fingerprint
+
+
+def prove(page, passphrase, fingerprint, is_drawn, see):
+    """Types what was noted of a new backup, and drills with it."""
+    page.wait_title(say("proof.title"))
+    see("what was noted")
+    if fingerprint in page.text() or is_drawn == bool(page.located("checkbox", say("noted.none"))):
+        raise Failed("the fingerprint is shown while it is asked for, or the owner of a new secret needn't type it")
+    if passphrase is None:
+        page.tick(say("passphrase.none"))
+    else:
+        page.fill(say("passphrase.label"), passphrase)
+    for typed, text in [("", "proof.missing"), ("xyz", "proof.wrong"), (fingerprint, "drill.what")] if is_drawn else [(fingerprint, "drill.what")]:
+        page.go_to("textbox", say("noted.label"))
+        page.evaluate("document.activeElement.select()")
+        page.type(typed)
+        page.push(say("continue"))
+        page.wait_text(say(text))
+    page.push(say("drill.start"))
+    page.wait_title(say("drill.done"))
+    if not page.evaluate("Boolean(document.querySelector('.verdict .good'))") or fingerprint not in page.text():
+        raise Failed("a backup that gives the noted secret isn't said to")
+    see("drill of a new backup")
+    page.push(say("continue"))
 
 
 def type_wrongly(page, words):
@@ -164,18 +191,18 @@ def type_digits(page, digits, again, noted):
 
 def check_make(page, see):
     """A new secret of 16 bytes in 2of3, one of 32 bytes in groups, and an own secret, each beside the plain reading."""
-    for plan, words, passphrase, digits in [
-        ("two", 20, None, None),
-        ("home", 33, "six words and 'signs' ~", None),
-        ("three", 20, PASSPHRASE, SECRET),
+    for plan, wallet, words, passphrase, digits in [
+        ("two", "flag", 20, None, None),
+        ("home", "older", 33, "six words and 'signs' ~", None),
+        ("three", "unknown", 20, PASSPHRASE, SECRET),
     ]:
-        papers, fingerprint = make(page, say(f"plan.{plan}"), words, passphrase, see, digits)
+        papers, fingerprint = make(page, say(f"plan.{plan}"), wallet, words, passphrase, see, digits)
         wanted = {"two": ["2/3"], "home": ["2/3", "1/1", "1/1"], "three": ["3/5"]}[plan]
         found = {}
         for share in (plain.parse(line.encode()) for line in papers):
             found.setdefault(share["group"], []).append(share)
-            if not share["extendable"] or share["exponent"] != 1:
-                raise Failed(f"a new backup has the flag {share['extendable']} and the exponent {share['exponent']}")
+            if share["extendable"] != (wallet == "flag") or share["exponent"] != 1:
+                raise Failed(f"a new backup for a wallet ({wallet}) has the flag {share['extendable']} and the exponent {share['exponent']}")
         if [f"{shares[0]['member_threshold']}/{len(shares)}" for shares in found.values()] != wanted:
             raise Failed(f"the papers of {plan} aren't those of the plan")
         if any(len(line.split()) != words for line in papers):
@@ -355,38 +382,4 @@ def check_damaged(page, see):
     end(page)
 
 
-# Shows the page as it's printed, or as it is again.
-SHOW_AS = "for (const it of document.styleSheets[0].cssRules) if (it.media?.mediaText === '%s') it.media.mediaText = '%s'; null"
-
-
-def check_blank(page, see):
-    page.evaluate("window.print = () => { window.printed = true }; null")
-    begin(page, "blank")
-    page.choose(say("plan.own"))
-    page.push(f"{say('plan.fewer')}: {say('plan.needed', group=0)}")
-    page.push(say("blank.print"))
-    page.wait_text(say("refused.34", first=0))
-    if page.evaluate("Boolean(window.printed) || document.getElementById('sheet').children.length > 0"):
-        raise Failed("forms of a plan that the engine refuses are printed")
-    page.choose(say("plan.home"))
-    page.choose(say("entry.words", count=33))
-    see("blank forms")
-    page.push(say("blank.print"))
-    page.wait(lambda: page.evaluate("window.printed ?? false"), "the printing")
-    names = page.evaluate("[...document.querySelectorAll('.form .name')].map((it) => it.textContent).join(' ')")
-    lines = page.evaluate("[...document.querySelectorAll('.form ol')].map((it) => it.children.length).join(' ')")
-    if page.printed()[1] != 5:
-        raise Failed("the five forms aren't five sheets")
-    if names != " ".join(say("blank.name", name=name) for name in ["0.0", "0.1", "0.2", "1.0", "2.0"]) or lines != "33 33 33 33 33":
-        raise Failed(f"the forms are {names}, with {lines} lines")
-    page.evaluate(SHOW_AS % ("print", "all"))
-    page.size(794, 5600)
-    see("printed forms")
-    page.size(1200, 900)
-    page.evaluate(SHOW_AS % ("all", "print"))
-    end(page)
-    if page.evaluate("document.getElementById('sheet').children.length"):
-        raise Failed("the forms stay after the task")
-
-
-TASKS = {"make": check_make, "check": check_papers, "recover": check_recover, "replace": check_replace, "damaged": check_damaged, "blank": check_blank}
+TASKS = {"make": check_make, "check": check_papers, "recover": check_recover, "replace": check_replace, "damaged": check_damaged}

@@ -52,6 +52,7 @@ OWN: Dict[str, str] = {
     "end.made": "The backup is made, and its papers are right. If you end before you note the fingerprint, only a check of the papers or a recovery shows it again.",
     "end.replaced": "If you end now, destroy only a paper written now and not typed back. Keep all others: your old ones, and those typed back.",
     "end.repaired": "No drill has shown yet that the words that were found are right. If you end now, keep the damaged paper too.",
+    "refused.number": "{told} (The manual has more on this, under {code}.)",
     "ended": "shamir-papers: nothing was kept.",
     "ended.unfinished": "shamir-papers: ended. The papers that you have written so far are no finished backup: destroy them.",
     "ended.made": "shamir-papers: ended. The backup is made, and its papers are right: keep them.",

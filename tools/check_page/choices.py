@@ -1,0 +1,293 @@
+"""What an owner is asked on the way to a backup: the wallet, a plan with a danger, and what was noted. What is green, what has a sign, and
+what one paper says."""
+from browsers import Failed
+from refusals import BAD_CHECKSUM, BIP39, changed, paste, said
+from tasks import FINGERPRINT, PASSPHRASE, SECRET, SOUND_PAPER, THREE_GROUPS, answer_passphrase, begin, choose_wallet, end, example, fingerprint_of, plain, read_paper, type_digits, type_paper
+from texts import counted, say
+
+# Returns the texts that are green, or in a green frame, and the classes of those that have none.
+GREEN = """
+(() => {
+  const main = document.getElementById('main');
+  const probe = main.appendChild(document.createElement('p'));
+  probe.className = 'good';
+  const style = getComputedStyle(probe);
+  const greens = [style.backgroundColor, style.borderLeftColor];
+  probe.remove();
+  const isGreen = (it) => {
+    const own = getComputedStyle(it);
+    const edges = ['Top', 'Right', 'Bottom', 'Left'].filter((side) => own[`border${side}Width`] !== '0px').map((side) => own[`border${side}Color`]);
+    return it.checkVisibility() && [own.backgroundColor, own.color, ...edges].some((colour) => greens.includes(colour));
+  };
+  return [...main.querySelectorAll('*')].filter(isGreen).map((it) => it.innerText || it.parentElement.className).join(' | ');
+})()
+"""
+# Returns what says something and shows no sign.
+UNSIGNED = """
+[...document.querySelectorAll('.note, .good, .bad, .answer, .word.wrong, .word.doubt')].filter((it) => it.checkVisibility())
+  .filter((it) => ['none', 'normal', ''].includes(getComputedStyle(it, it.matches('.word') ? '::after' : '::before').content))
+  .map((it) => it.className).join(' | ')
+"""
+
+
+def check_green(page, wanted):
+    """Checks that only these texts are green, and that all that says something has a sign."""
+    page.wait(lambda: page.evaluate(GREEN) == " | ".join(wanted), f"green for {wanted}, and not for {page.evaluate(GREEN)!r},")
+    if page.evaluate(UNSIGNED):
+        raise Failed(f"nothing but a colour tells these apart: {page.evaluate(UNSIGNED)}")
+
+
+def check_wallet(page, see):
+    """The wallet must be said. The answer stays on the way back."""
+    begin(page, "make")
+    page.push(say("continue"))
+    page.wait_title(say("make.wallet"))
+    page.push(say("continue"))
+    page.wait_text(say("wallet.missing"))
+    see("which wallet")
+    page.push(say("back"))
+    page.wait_title(say("make.plan"))
+    for wallet in ("unknown", "older", "flag"):
+        choose_wallet(page, wallet)
+        page.push(say("back"))
+        page.wait_title(say("make.wallet"))
+        if not page.is_true("(it) => it.getAttribute('aria-checked') === 'true'", page.node("radio", say(f"wallet.{wallet}"))):
+            raise Failed("on the way back, another wallet is chosen")
+        page.push(say("back"))
+        page.wait_title(say("make.plan"))
+    page.push(say("back"))
+    page.wait_title(say("home.title"))
+
+
+def check_dangers(page, see):
+    """Two groups are both needed at first. A plan in which one paper decides is said in red, and asked about."""
+    begin(page, "make")
+    page.choose(say("plan.own"))
+    for change in ("drop", "drop", "add"):
+        page.push(say(f"plan.{change}"))
+    page.node("group", f"{say('plan.groups_needed')}: 2")
+    for number, said in [(2, say("plan.lost.one", names="1.0")), (1, say("plan.found.one", names="1.0"))]:
+        page.wait(lambda: said == page.evaluate("document.querySelector('main .bad:not([hidden])')?.innerText ?? ''"), f"the danger {said!r} in red")
+        see("a plan with a danger")
+        page.push(say("continue"))
+        page.wait_title(say("plan.sure.title"))
+        page.wait_text(said)
+        check_green(page, [])
+        see("whether the plan is meant")
+        page.push(say("plan.sure.back"))
+        page.wait_title(say("make.plan"))
+        if number == 2:
+            page.push(f"{say('plan.fewer')}: {say('plan.groups_needed')}")
+    page.push(say("continue"))
+    page.push(say("plan.sure.yes"))
+    page.wait_title(say("make.wallet"))
+    page.push(say("back"))
+    page.choose(say("plan.two"))
+    page.wait(lambda: not page.evaluate("document.querySelector('main .bad').checkVisibility()"), "the end of the danger")
+    page.push(say("continue"))
+    page.wait_title(say("make.wallet"))
+    page.push(say("clear"))
+    page.wait_title(say("home.title"))
+
+
+def make_own(page):
+    """Makes a backup of an own secret, up to its fingerprint."""
+    begin(page, "make")
+    choose_wallet(page)
+    type_digits(page, SECRET, SECRET, FINGERPRINT)
+    for field in ("passphrase.label", "passphrase.again"):
+        page.fill(say(field), PASSPHRASE)
+    page.push(say("make.create"))
+    papers = []
+    for name in ("0.0", "0.1", "0.2"):
+        page.wait_title(say("paper.title", name=name))
+        check_green(page, [say("secret.same")] if name == "0.0" else [])
+        papers.append(read_paper(page))
+        page.push(say("paper.written"))
+    page.wait_title(say("back.begin.title"))
+    page.push(say("continue"))
+    for name, line in zip(("0.0", "0.1", "0.2"), papers):
+        page.wait_title(say("back.title", name=name))
+        paste(page, line)
+    page.wait_title(say("noted.title.own"))
+    page.wait_text(FINGERPRINT)
+
+
+def check_notes(page, see):
+    """What was noted is asked for, and compared, before a backup is made. A wrong passphrase and a wrong fingerprint are told apart."""
+    make_own(page)
+    page.push(say("noted.skip"))
+    page.wait_title(say("proof.title"))
+    if FINGERPRINT in page.text() or not page.is_true("(it) => it.checked", page.node("checkbox", say("noted.none"))):
+        raise Failed("the fingerprint is shown while it is asked for, or the page forgets that none was noted")
+    page.push(say("proof.show"))
+    page.wait_title(say("noted.title.own"))
+    page.push(say("noted.done"))
+    page.wait_title(say("proof.title"))
+    answer_passphrase(page, PASSPHRASE, "01234567")
+    page.wait_text(say("proof.other"))
+    see("another fingerprint than the backup has")
+    for passphrase, text in [(None, "proof.passphrase.none"), ("TREZOr", "proof.passphrase")]:
+        answer_passphrase(page, passphrase, FINGERPRINT)
+        page.push(say("drill.start"))
+        page.wait_title(say("drill.done"))
+        page.push(say("continue"))
+        page.wait_title(say("make.failed.title"))
+        page.wait_text(say(text))
+        check_green(page, [])
+        see(f"what was noted is wrong {passphrase}")
+        page.push(say("proof.again"))
+        page.wait_title(say("proof.title"))
+    page.go_to("textbox", say("noted.label"))
+    page.evaluate("document.activeElement.select()")
+    page.press("Backspace")
+    answer_passphrase(page, PASSPHRASE, None)
+    page.push(say("drill.start"))
+    page.wait_text(say("verdict.all.own", quorums=counted(3, "quorum"), fingerprint=FINGERPRINT))
+    check_green(page, [])
+    page.push(say("continue"))
+    page.wait_title(say("make.done"))
+    page.wait_text(say("make.restore"))
+    check_green(page, [])
+    end(page)
+
+
+def check_looks_of_results(page, see):
+    """Only a comparison with what was noted is green. Sound papers, open words and a drill without a fingerprint aren't."""
+    noted = fingerprint_of([SOUND_PAPER], PASSPHRASE)
+    begin(page, "check")
+    type_paper(page, SOUND_PAPER)
+    page.wait_text(say("collect.taken", name="0.0"))
+    check_green(page, [])
+    page.fill(say("entry.word", number=1), "acdemic ")
+    page.wait_text(say("entry.unknown", number=1))
+    page.fill(say("entry.word", number=2), "acid ")
+    check_green(page, [])
+    page.push(say("entry.empty"))
+    page.push(say("collect.end"))
+    for fingerprint, which in [(None, "same"), (noted, "noted")]:
+        said = say(f"verdict.all.{which}", quorums=counted(1, "quorum"), fingerprint=noted)
+        answer_passphrase(page, PASSPHRASE, fingerprint)
+        page.push(say("drill.start"))
+        page.wait_text(said)
+        check_green(page, [said] if fingerprint else [])
+        page.push(say("continue"))
+        page.wait_title(say("check.done.good" if fingerprint else "check.done.same"))
+        check_green(page, [said] if fingerprint else [])
+        see(f"end of a drill, {which}")
+        if not fingerprint:
+            page.push(say("again"))
+    end(page)
+
+
+def said_kind(line):
+    """Returns what the page must say of a paper, by the plain reading."""
+    share = plain.parse(line.encode())
+    members, groups = share["member_threshold"] - 1, share["group_threshold"] - 1
+    papers, whole = counted(members, "paper"), counted(groups, "whole")
+    others = {
+        (False, False): say("what.others.none"),
+        (True, False): say("what.others.papers" if share["group_count"] == 1 else "what.others.group", papers=papers, group=share["group"]),
+        (False, True): say("what.others.groups", groups=whole),
+        (True, True): say("what.others.both", papers=papers, group=share["group"], groups=whole),
+    }[members > 0, groups > 0]
+    flag = say("what.flag" if share["extendable"] else "what.flag.none")
+    first, second = line.split()[:2]
+    return [say("what.backup", first=first, second=second), others, flag, say("what.exponent", exponent=share["exponent"]), say("what.secret", bytes=len(share["value"]))]
+
+
+def check_what(page, see):
+    """One paper says what it is. A damaged one doesn't, nor does a phrase of BIP-39."""
+    begin(page, "what")
+    lines = [SOUND_PAPER, example("two-needed.txt")[0], *THREE_GROUPS[2:4], changed(SOUND_PAPER, extendable=1, exponent=3), changed(THREE_GROUPS[0], group_threshold=1)]
+    for line in lines:
+        share = plain.parse(line.encode())
+        paste(page, line)
+        page.wait_text(say("what.sound", name=f"{share['group']}.{share['member']}"))
+        told = page.evaluate("[...document.querySelectorAll('.told li')].map((it) => it.innerText).join('\\n')").split("\n")
+        if [it for it in said_kind(line) if it not in told] or len(told) != 6:
+            raise Failed(f"the page says of {line!r}: {told}")
+        if line == THREE_GROUPS[2]:
+            see("what a paper is")
+    check_green(page, [])
+    paste(page, BAD_CHECKSUM)
+    page.wait_text(said(18, first=20))
+    if page.evaluate("document.querySelectorAll('.told li').length"):
+        raise Failed("what was said of another paper stays")
+    page.push(say("entry.empty"))
+    paste(page, BIP39)
+    page.wait_text(say("entry.bip39", count=12))
+    see("a phrase of BIP-39")
+    page.push(say("clear"))
+    page.wait_title(say("home.title"))
+
+
+# Returns how many rows and columns things have, in the order down the columns, or why there is no such order.
+COLUMNS = """
+((all) => {
+  const places = [...document.querySelectorAll(all)].map((it) => it.getBoundingClientRect());
+  const columns = [...new Set(places.map(({ left }) => Math.round(left)))];
+  const sorted = [...places].sort((a, b) => Math.round(a.left) - Math.round(b.left) || a.top - b.top);
+  const isInOrder = places.every((it, at) => it === sorted[at]);
+  const isShown = places.every(({ top, bottom }) => top >= 0 && bottom <= innerHeight);
+  return `${isInOrder ? '' : 'not '}down ${columns.length} columns${isShown ? ', all shown' : ''}`;
+})('%s')
+"""
+IN_SIGHT = "(({ top, bottom }) => top > -1 && bottom < innerHeight + 1)((%s).getBoundingClientRect())"
+PHONE = (390, 844)
+
+
+def check_phone(page, see):
+    """On a phone, the answer to a paper is in sight of its fields. Words run down two columns, and a shown paper is seen as a whole."""
+    page.size(*PHONE)
+    begin(page, "check")
+    for line, text in [(SOUND_PAPER, say("collect.taken", name="0.0")), (BAD_CHECKSUM, said(18, first=20))]:
+        paste(page, line)
+        page.wait_text(text)
+        for it in ("document.querySelector('.answer')", "document.activeElement"):
+            if not page.evaluate(IN_SIGHT % it):
+                raise Failed(f"with the answer {text!r}, this is out of sight: {it}")
+        if not page.evaluate(COLUMNS % ".word").startswith("down 2 columns"):
+            raise Failed(f"the fields run {page.evaluate(COLUMNS % '.word')}")
+        see(f"phone {'sound' if line == SOUND_PAPER else 'wrong'} paper")
+        if line == SOUND_PAPER:
+            page.go_to("button", say("collect.end"))
+            page.evaluate("document.querySelector('.entry .primary').focus({ preventScroll: true }); null")
+            page.press("Enter")
+            page.wait_text(say("entry.nothing"))
+            page.wait(lambda: page.evaluate(IN_SIGHT % "document.querySelector('.answer')"), "the answer in sight")
+    page.push(say("clear"))
+    page.wait_title(say("home.title"))
+    begin(page, "make")
+    choose_wallet(page)
+    page.tick(say("passphrase.none"))
+    page.push(say("make.create"))
+    read_paper(page)
+    see("phone shown paper")
+    if page.evaluate(COLUMNS % ".paper li") != "down 2 columns, all shown":
+        raise Failed(f"the words of a shown paper run {page.evaluate(COLUMNS % '.paper li')}")
+    page.push(say("clear"))
+    page.push(say("clear.yes"))
+    page.wait_title(say("home.title"))
+    page.size(1200, 900)
+
+
+def check_help(page, see):
+    """The first screen answers ten questions. No refusal names a number of the manual."""
+    asked = page.evaluate("document.querySelectorAll('.help details').length")
+    if asked != 10 or say("help.lost.answer") in page.text():
+        raise Failed(f"the first screen has {asked} questions, or an answer that wasn't asked for")
+    page.evaluate("for (const it of document.querySelectorAll('.help details')) it.open = true; null")
+    page.wait_text(say("help.heir.answer"))
+    see("help")
+    page.evaluate("for (const it of document.querySelectorAll('.help details')) it.open = false; null")
+    begin(page, "what")
+    paste(page, BAD_CHECKSUM)
+    page.wait_text(said(18, first=20))
+    if page.evaluate("document.querySelector('.answer').textContent") != said(18, first=20):
+        raise Failed("a refusal has more than its sentence")
+    page.push(say("clear"))
+    page.wait_title(say("home.title"))
+
+
+CHECKS = [check_help, check_phone, check_wallet, check_dangers, check_notes, check_looks_of_results, check_what]
