@@ -137,7 +137,7 @@ typedef enum shamir_code {
     SHAMIR_E_BAD_PADDING = 14,            /* a padding bit isn't 0 */
     SHAMIR_E_GROUP_THRESHOLD = 15,        /* the group threshold is above the group count */
     SHAMIR_E_NO_MNEMONIC = 17,            /* no mnemonic fits a line of marks */
-    SHAMIR_E_WRONG_WORD = 18,             /* the checksum is wrong; first, second: see shamir_repair */
+    SHAMIR_E_WRONG_WORD = 18,             /* the checksum is wrong; first: see shamir_repair */
     SHAMIR_E_UNREADABLE_WORDS = 19,       /* more than three places of a line are open; first: how many are */
     SHAMIR_E_OTHER_IDENTIFIER = 21,       /* the identifier differs from that of earlier lines */
     SHAMIR_E_OTHER_EXTENDABLE = 22,       /* the extendable flag differs from that of earlier lines */
@@ -437,8 +437,8 @@ shamir_answer shamir_reissue(
  *
  * For 11, first is which mark stands for no word, counted from 1. The code is 19 if more than three places are open, and 17 if
  * one to three are open and no mnemonic fits. The codes 13 to 15 and 18 are for lines with no open place. If the checksum is
- * wrong and one other word would make a mnemonic of the line, the code is 18: if one word is wrong, it is word number first,
- * counted from 1, or, if second isn't 0, one of the two. first is then below second. If there is no such word, the code is 13.
+ * wrong and another word in one place would make a mnemonic of the line, the code is 18: if one word is wrong, it is word number
+ * first, counted from 1. There is at most one such place. If there is none, the code is 13.
  *
  * The call refuses with the first of these that applies: 11, 12, 19, 17, 18, 13, 14, 15, 1.
  *

@@ -6,7 +6,7 @@ import { counted, hasText, say } from "./say.js";
 /** @typedef {import("./desk.js").Refused} Refused */
 
 /**
- * The refusals whose details are the places of words.
+ * The refusals whose first detail is the place of a word.
  *
  * @type {number[]}
  */
@@ -46,9 +46,8 @@ export function saidRefusal({ code, details, text }, task = "") {
  * @param {number} code
  * @param {number[]} details
  */
-function formOf(code, [first, second]) {
-  if (code === Code.DIGEST_MISMATCH && first === OF_GROUPS) return ".groups";
-  return code === Code.WRONG_WORD && second !== 0 ? ".two" : "";
+function formOf(code, [first]) {
+  return code === Code.DIGEST_MISMATCH && first === OF_GROUPS ? ".groups" : "";
 }
 
 /**
@@ -76,11 +75,11 @@ export function saidForeign(error, repaired) {
 }
 
 /**
- * Returns the words of a paper that an error tells the owner to look at, counted from 0.
+ * Returns the words of a paper that an error tells the owner to look at, counted from 0: one or none.
  *
  * @param {unknown} error
  */
 export function wordsToLookAt(error) {
   if (!(error instanceof Declined) || !LOCATED.includes(error.refused.code)) return [];
-  return error.refused.details.filter((number) => number > 0).map((number) => number - 1);
+  return [error.refused.details[0] - 1];
 }

@@ -476,7 +476,6 @@ export const TEXTS = {
   "damaged.refused.13": "At least two words are wrong, or two changed places, so the page can't find the place. Look at each word on the paper again. For a word that you aren't sure of, type ? or its first letters and ?. If all of them stand so, the paper itself is wrong: type ? for up to three words that may be wrong. If the paper has more words than there are fields, change their number above.",
   "damaged.refused.17": "No paper has these words. Most likely one that you typed without a question mark is misread, or a beginning is. Look at each of them on the paper again. If you aren't sure of a word, leave it open instead.",
   "damaged.refused.18": "The words don't belong together. If only one of them is wrong, it is word {first}. Look at word {first} on your paper, and type it again. If the paper says the same, it is miswritten: type ? in its place.",
-  "damaged.refused.18.two": "The words don't belong together. If only one of them is wrong, it is word {first} or word {second}. Look at both on your paper, and type again what is wrong. If the paper says the same, it is miswritten: type ? in place of one, and if that finds nothing, in place of the other.",
   "damaged.refused.19": "{first} words are open, and at most three can be found. If you can read the first letters of one, type them: four letters make a word. Your other papers may be enough without this one. 'Check papers' shows that, and 'Replace a paper' may write it again.",
 
   "blank.title": "Print blank forms",
@@ -516,11 +515,9 @@ export const TEXTS = {
   "refused.15": "The words are all right, but a faulty program made this paper: it needs more groups than there are. Leave it out, recover without it, and make a new backup.",
   "refused.17": "No paper has these words.",
   "refused.18": "The words don't belong together. If only one of them is wrong, it is word {first}. Look at word {first} on your paper, and type it again. If the paper says the same, it is miswritten: 'Read a damaged paper' on the first screen finds the word that was meant.",
-  "refused.18.two": "The words don't belong together. If only one of them is wrong, it is word {first} or word {second}. Look at both on your paper, and type again what is wrong. If the paper says the same, it is miswritten: 'Read a damaged paper' on the first screen may find the word that was meant.",
   "refused.19": "{first} words can't be read, and at most three can be found.",
   "back.refused.13": "These aren't the words that were shown: more than one of them is wrong, or two changed places. Compare each word with your paper. If you wrote them so, let the paper be shown again, and write it anew.",
   "back.refused.18": "These aren't the words that were shown. If only one of them is wrong, it is word {first}. Look at word {first} on your paper, and type it again. If you wrote it so, let the paper be shown again, and correct yours.",
-  "back.refused.18.two": "These aren't the words that were shown. If only one of them is wrong, it is word {first} or word {second}. Look at both on your paper, and type again what is wrong. If you wrote it so, let the paper be shown again, and correct yours.",
 
   "refused.21": "This paper is of another backup than the papers before: its first two words differ. Sort your papers, and type those of one backup.",
   "refused.22": "This paper or an earlier one is of another backup, or forged: the extendable flag differs.",

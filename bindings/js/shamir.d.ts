@@ -158,8 +158,8 @@ export class Engine {
      * Each open place uses up one of the three words of the checksum. With three open places, a wrong word elsewhere isn't always
      * found, and the answer may be another mnemonic. So compare the answer with all that can be read.
      *
-     * Throws a `Refusal` with one of the codes 11 to 15 or 17 to 19. For `Code.WRONG_WORD` the details are the positions, counted
-     * from 1, one of which is that of the wrong word if just one word is wrong. The second is 0 if there is only one.
+     * Throws a `Refusal` with one of the codes 11 to 15 or 17 to 19. For `Code.WRONG_WORD` the first detail is the position
+     * of the wrong word, counted from 1, if just one word is wrong.
      * @param {Text} line
      * @returns {string[]}
      */

@@ -373,11 +373,6 @@ def check_unreachable(page, _):
     for (call, given, text), answer in zip(asked, told):
         if not answer.startswith(text) or (text == "") != (answer == ""):
             raise Failed(f"{call} {given}: the page says {answer!r}, and not {text!r}")
-    two = "in_refusals.saidRefusal({ code: 18, line: null, details: [2, 7], text: '' }, '%s')"
-    for task in ("", "damaged."):
-        told = page.evaluate(two % task[:-1])
-        if not told.startswith(say(f"{task}refused.18.two", first=2, second=7)):
-            raise Failed(f"two places of a wrong word aren't told: {told!r}")
 
 
 CHECKS = [check_prepare, check_papers, check_words, check_values, check_mixed, check_recovery, check_long_line, check_unreachable]

@@ -116,9 +116,7 @@ refusals! {
     /// The checksum is wrong, and another word in one place would make a mnemonic of the line.
     WrongWord = 18 {
         /// The position of this word, counted from 1.
-        position: u64 = first,
-        /// Another such position, if there are two. It is the greater one.
-        or: Option<u64> = second
+        position: u64 = first
     };
     /// More than three places of a line are open.
     UnreadableWords = 19 {

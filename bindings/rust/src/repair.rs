@@ -53,7 +53,7 @@ pub fn repair_into(line: impl AsRef<[u8]>, room: &mut [u8]) -> Result<&str, Erro
 /// assert!(found.iter().all(|mnemonic| mnemonic.ends_with("critical decision keyboard")));
 ///
 /// let wrong = line.replace("? keyb?", "decision kidney");
-/// assert_eq!(repair(wrong).unwrap_err(), Error::WrongWord { position: 20, or: None });
+/// assert_eq!(repair(wrong).unwrap_err(), Error::WrongWord { position: 20 });
 /// # Ok(())
 /// # }
 /// ```

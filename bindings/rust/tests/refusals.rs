@@ -99,7 +99,7 @@ fn refusals() -> Vec<(Error, Error, u32, &'static str)> {
         ),
         (
             repair(ONE.replace("length", "lend")),
-            Error::WrongWord { position: 7, or: None },
+            Error::WrongWord { position: 7 },
             18,
             "bad checksum: if one word is wrong, it is word 7",
         ),
@@ -200,12 +200,6 @@ fn a_refusal_is_an_error_of_rust() {
     assert_eq!(boxed.to_string(), "31 bad plan");
 }
 
-#[test]
-fn two_positions_have_a_text() {
-    let two = Error::WrongWord { position: 2, or: Some(20) };
-    assert_eq!(two.to_string(), "18 bad checksum: if one word is wrong, it is word 2 or word 20");
-}
-
 /// A caller can make errors with details that no call gives.
 #[test]
 fn each_error_has_a_text_of_some_kind() {
@@ -218,7 +212,7 @@ fn each_error_has_a_text_of_some_kind() {
         Error::UnknownWord { line, position: most },
         Error::WordCount { line, words: most },
         Error::UnreadableWords { open: most },
-        Error::WrongWord { position: most, or: line },
+        Error::WrongWord { position: most },
         Error::OtherMemberThreshold { line, group: 255 },
         Error::ConflictingShare { line, group: 255, member: 255 },
         Error::Incomplete { complete: 255, required: 255 },

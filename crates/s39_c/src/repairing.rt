@@ -22,8 +22,8 @@ use s39_repair::{Repaired, repair};
 /// - 11 (a mark stands for no word), 12 (no mnemonic has as many words);
 /// - 19 (more than three places are open; `first` is their number);
 /// - 17 (one to three places are open, and no mnemonic fits);
-/// - 18 (no place is open, the checksum is bad, and if one word is wrong, it is that at position `first`, or at position
-///   `second` unless that is 0), 13 (more than one word is wrong), 14, 15 (as `shamir_parse` answers);
+/// - 18 (no place is open, the checksum is bad, and if one word is wrong, it is that at position `first`), 13 (more than
+///   one word is wrong), 14, 15 (as `shamir_parse` answers);
 /// - 1 (`mnemonics` is too short).
 ///
 /// ```c

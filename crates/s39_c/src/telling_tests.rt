@@ -15,7 +15,7 @@ const fn refusal(code: u32, line: u64, first: u64, second: u64) -> ShamirAnswer 
 
 #[test]
 fn tells(rt: HostRuntime) {
-    let cases: [(ShamirAnswer, &[u8]); 49] = [
+    let cases: [(ShamirAnswer, &[u8]); 46] = [
         (refusal(0, 0, 0, 0), b"done"),
         (refusal(1, 0, 715, 0), b"buffer too short: 715 bytes needed"),
         (refusal(2, 0, 0, 0), b"number out of range"),
@@ -32,16 +32,10 @@ fn tells(rt: HostRuntime) {
             b"bad checksum: if one word is wrong, it is word 7",
         ),
         (
-            refusal(18, 0, 2, 20),
-            b"bad checksum: if one word is wrong, it is word 2 or word 20",
-        ),
-        (
-            refusal(18, 0, 109, 110),
-            b"bad checksum: if one word is wrong, it is word 109 or word 110",
+            refusal(18, 0, 110, 0),
+            b"bad checksum: if one word is wrong, it is word 110",
         ),
         (refusal(18, 0, 256, 0), b"unknown answer"),
-        (refusal(18, 0, 256, 2), b"unknown answer"),
-        (refusal(18, 0, 2, 256), b"unknown answer"),
         (refusal(21, 2, 0, 0), b"other identifier"),
         (refusal(22, 2, 0, 0), b"other extendable flag"),
         (refusal(23, 2, 0, 0), b"other exponent"),

@@ -127,7 +127,7 @@ module _ (line mnemonic : List ℕ) (share : ShareFields) (fits : Fits line mnem
   comes_back (Err (WordCount n)) is = absurd (is.2 (subst IsWordCount (sym is.1) count))
   comes_back (Err (UnreadableWords n)) is = absurd (omega (arith, is.1, is.2))
   comes_back (Err NoMnemonic) is = absurd (is.3 mnemonic share fits)
-  comes_back (Err (WrongWord first second)) is = absurd (no_refusal is.0 words_BadChecksum is.1 is.2)
+  comes_back (Err (WrongWord at)) is = absurd (no_refusal is.0 words_BadChecksum is.1 is.2)
   comes_back (Err BadChecksum) is = absurd (no_refusal is.0 words_BadChecksum is.1 is.2)
   comes_back (Err BadPadding) is = absurd (no_refusal is.0 words_BadPadding is.1 is.2)
   comes_back (Err GroupThreshold) is = absurd (no_refusal is.0 words_GroupThreshold is.1 is.2)

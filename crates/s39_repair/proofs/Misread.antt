@@ -1,5 +1,5 @@
 -- Mnemonics that fit one line, or that a line was to say.
-use Rattle.std.proofs.Common.{◌≡◌, ◌≢◌, ℕ, zero, suc, ◌+◌, ◌<◌, ◌≤◌, ◌⊎◌, inl, inr, Bool, true, false, cond, List, [], ◌∷◌, length, get_or, Option}
+use Rattle.std.proofs.Common.{◌≡◌, ◌≢◌, ℕ, zero, suc, ◌+◌, ◌<◌, ◌≤◌, ◌⊎◌, inl, inr, Bool, true, false, cond, List, [], ◌∷◌, length, get_or}
 use Rattle.std.proofs.Common.{Some, None, Result, Ok, Err}
 use Rattle.std.proofs.Common.{refl, sym, ap, ap₂, subst, ◌∙◌, ⊎_elim, arith}
 use Rattle.std.specs.Prelude.{All, Contains, count_by, not, ◌==◌, ◌||◌}
@@ -324,13 +324,13 @@ module _ (line mnemonic : List ℕ) (share : ShareFields) (m : IsMisreadLine lin
   no_mnemonic (Err (WordCount n)) is some = absurd (is.2 (subst IsWordCount (sym (is.1 ∙ m.same_count)) count))
   no_mnemonic (Err (UnreadableWords n)) is some = absurd (omega (arith, is.1, is.2, few_open))
   no_mnemonic (Err NoMnemonic) is some = refl
-  no_mnemonic (Err (WrongWord first second)) is some = let none = is.1.closed in absurd (omega (arith, none, some))
+  no_mnemonic (Err (WrongWord at)) is some = let none = is.1.closed in absurd (omega (arith, none, some))
   no_mnemonic (Err BadChecksum) is some = let none = is.1.closed in absurd (omega (arith, none, some))
   no_mnemonic (Err BadPadding) is some = let none = is.1.closed in absurd (omega (arith, none, some))
   no_mnemonic (Err GroupThreshold) is some = let none = is.1.closed in absurd (omega (arith, none, some))
 
   abbrev IsBad : Result Repaired RepairError → Type 0
-  IsBad answer = (answer ≡ Err BadChecksum) ⊎ ((first : ℕ) × (second : Option ℕ) × (answer ≡ Err (WrongWord first second)))
+  IsBad answer = (answer ≡ Err BadChecksum) ⊎ ((at : ℕ) × (answer ≡ Err (WrongWord at)))
 
   pub bad_answer : (answer : Result Repaired RepairError) → Repairs line answer → open_count line ≡ 0 → IsBad answer
   bad_answer (Ok repaired) is none = absurd (none_fits is.2.mnemonic repaired.first is.2.first)
@@ -338,7 +338,7 @@ module _ (line mnemonic : List ℕ) (share : ShareFields) (m : IsMisreadLine lin
   bad_answer (Err (WordCount n)) is none = absurd (is.2 (subst IsWordCount (sym (is.1 ∙ m.same_count)) count))
   bad_answer (Err (UnreadableWords n)) is none = absurd (omega (arith, is.1, is.2, few_open))
   bad_answer (Err NoMnemonic) is none = absurd (omega (arith, is.1, none))
-  bad_answer (Err (WrongWord first second)) is none = inr (first, second, refl)
+  bad_answer (Err (WrongWord at)) is none = inr (at, refl)
   bad_answer (Err BadChecksum) is none = inl refl
   bad_answer (Err BadPadding) is none = absurd (not_padding is.0 is.1 is.2)
   bad_answer (Err GroupThreshold) is none = absurd (not_threshold is.0 is.1 is.2)

@@ -1,15 +1,13 @@
 -- A line has one answer.
-use Rattle.std.proofs.Common.{◌≡◌, ◌≢◌, ℕ, zero, suc, ◌<◌, ◌≤◌, ◌⊎◌, List, [], ◌∷◌, length, Option, Some, None, Result, Ok, Err, Ordering}
+use Rattle.std.proofs.Common.{◌≡◌, ◌≢◌, ℕ, zero, suc, ◌<◌, ◌≤◌, ◌⊎◌, List, length, Option, Some, None, Result, Ok, Err, Ordering}
 use Rattle.std.proofs.Common.{refl, sym, ap, ap₂, subst, ◌∙◌, ⊎_elim, arith}
-use Rattle.std.specs.Prelude.{AllPairs, Contains, MatchOption}
+use Rattle.std.specs.Prelude.{MatchOption}
 use Rattle.std.specs.Cmp.Lexicographic.{slice_cmp}
-use Rattle.std.specs.Option.{option_to_list}
 use Rattle.std.specs.Ordering.{nat_cmp, ordering_reverse}
 use Rattle.std.specs.declared.cmp.Ordering.TheVariants.{Less, Equal, Greater}
 use Rattle.std.proofs.lemmas.Bool.{cases_lt}
 use Rattle.std.proofs.lemmas.Cmp.{nat_list_cmp_total}
 use Rattle.s39_lists.proofs.Finds.{some_same}
-use Rattle.s39_lists.proofs.Sublists.{Contains-nil, Contains-head, Contains-cons, Contains-cases}
 use Rattle.s39_words.specs.Reading.{IsWordCount, Reads}
 use Rattle.s39_words.specs.Spelling.{words_of, Spells}
 use Rattle.s39_words.specs.declared.share.ShareFields.{ShareFields}
@@ -21,7 +19,7 @@ use Rattle.s39_repair.specs.declared.repaired.Repaired.{Repaired}
 use Rattle.s39_repair.specs.declared.repair_error.RepairError.{RepairError}
 use Rattle.s39_repair.specs.declared.repair_error.RepairError.TheVariants.{UnknownWord, WordCount, UnreadableWords, NoMnemonic, WrongWord}
 use Rattle.s39_repair.specs.declared.repair_error.RepairError.TheVariants.{BadChecksum, BadPadding, GroupThreshold}
-use Rattle.s39_repair.specs.Answer.{first_unknown, most_open, AreAll, AreWrongWords, ComesBefore, IsReadable, IsWhole, Repairs}
+use Rattle.s39_repair.specs.Answer.{first_unknown, most_open, AreAll, ComesBefore, IsReadable, IsWhole, IsWrongWord, Repairs, WrongWordIsAt}
 use Rattle.s39_repair.specs.Marks.{open_count, spelling, Fits}
 use Rattle.s39_repair.proofs.ComesBack.{chosen_once, comes_back}
 
@@ -74,42 +72,12 @@ module _ (line : List ℕ) where
       let same = same_pair p.mnemonic q.mnemonic a.first b.first a.second b.second p.first q.first p.others q.others in
       ap₂ (λ f s. record { first = f; second = s }) same.0 same.1
 
--- ---- positions of wrong words
+-- ---- the position of a wrong word
 
-small : (xs : List ℕ) (x y : ℕ) → AllPairs (λ i j. i < j) (x ∷ xs) → Contains xs y → x < y
-small xs x y ascends has =
-    subst (λ z. x < z) has.2 (ascends 0 (suc has.0) y (omega arith) (omega (arith, has.1)))
-
-later : (xs : List ℕ) (x : ℕ) → AllPairs (λ i j. i < j) (x ∷ xs) → AllPairs (λ i j. i < j) xs
-later xs x ascends = λ i j d less within. ascends (suc i) (suc j) d (omega arith) (omega arith)
-
--- two ascending lists of the same numbers are the same
-same_ascending : (xs ys : List ℕ) → AllPairs (λ i j. i < j) xs → AllPairs (λ i j. i < j) ys → ((n : ℕ) → Contains xs n → Contains ys n)
-    → ((n : ℕ) → Contains ys n → Contains xs n) → xs ≡ ys
-same_ascending [] [] p q f g = refl
-same_ascending [] (y ∷ ys) p q f g = absurd (Contains-nil y (g y (Contains-head y ys)))
-same_ascending (x ∷ xs) [] p q f g = absurd (Contains-nil x (f x (Contains-head x xs)))
-same_ascending (x ∷ xs) (y ∷ ys) p q f g =
-    let least : x ≡ y = ⊎_elim (λ e. sym e)
-    (λ in_ys. ⊎_elim (λ e. e) (λ in_xs. let a = small ys y x q in_ys in let b = small xs x y p in_xs in absurd (omega arith))
-    (Contains-cases x xs y (g y (Contains-head y ys))))
-    (Contains-cases y ys x (f x (Contains-head x xs))) in
-    ap₂ (λ n ns. n ∷ ns) least (same_ascending xs ys (later xs x p) (later ys y q)
-    (λ n has. ⊎_elim (λ e. let a = small xs x n p has in absurd (omega (arith, least))) (λ in_ys. in_ys)
-    (Contains-cases y ys n (f n (Contains-cons x xs n has))))
-    (λ n has. ⊎_elim (λ e. let a = small ys y n q has in absurd (omega (arith, least))) (λ in_xs. in_xs)
-    (Contains-cases x xs n (g n (Contains-cons y ys n has)))))
-
-same_positions : (ws vs xs ys : List ℕ) → ws ≡ vs → AreWrongWords ws xs → AreWrongWords vs ys → xs ≡ ys
-same_positions ws vs xs ys e p q =
-    let q' : AreWrongWords ws ys = subst (λ us. AreWrongWords us ys) (sym e) q in
-    same_ascending xs ys p.ascending q'.ascending (λ n has. q'.all n (p.wrong n has)) (λ n has. p.all n (q'.wrong n has))
-
-same_second : (r s : Option ℕ) → option_to_list r ≡ option_to_list s → r ≡ s
-same_second None None e = refl
-same_second None (Some n) e = cc
-same_second (Some n) None e = cc
-same_second (Some m) (Some n) e = let same : m ≡ n = cc in ap Some same
+same_position : (ws vs : List ℕ) (r s : Option ℕ) → ws ≡ vs → WrongWordIsAt ws r → WrongWordIsAt vs s → r ≡ s
+same_position ws vs None None e p q = refl
+same_position ws vs None (Some at) e p q = (p at).0 (subst (λ us. IsWrongWord us at) (sym e) ((q at).1 refl))
+same_position ws vs (Some at) s e p q = sym ((q at).0 (subst (λ us. IsWrongWord us at) e ((p at).1 refl)))
 
 -- ---- the refusals
 
@@ -119,7 +87,7 @@ stage (UnknownWord at) = 0
 stage (WordCount n) = 1
 stage (UnreadableWords n) = 2
 stage NoMnemonic = 3
-stage (WrongWord first second) = 4
+stage (WrongWord at) = 4
 stage BadChecksum = 4
 stage BadPadding = 5
 stage GroupThreshold = 6
@@ -144,7 +112,7 @@ stage_is line (UnknownWord at) is = (is.0, is.1)
 stage_is line (WordCount n) is = (is.0, λ count. is.2 (subst IsWordCount (sym is.1) count))
 stage_is line (UnreadableWords n) is = (is.0, omega (arith, is.1, is.2))
 stage_is line NoMnemonic is = (is.0, is.1, is.2)
-stage_is line (WrongWord first second) is = (is.0, is.1, is.2)
+stage_is line (WrongWord at) is = (is.0, is.1, is.2)
 stage_is line BadChecksum is = (is.0, is.1, is.2)
 stage_is line BadPadding is = is
 stage_is line GroupThreshold is = is
@@ -202,7 +170,7 @@ stage_below (UnknownWord at) = omega arith
 stage_below (WordCount n) = omega arith
 stage_below (UnreadableWords n) = omega arith
 stage_below NoMnemonic = omega arith
-stage_below (WrongWord first second) = omega arith
+stage_below (WrongWord at) = omega arith
 stage_below BadChecksum = omega arith
 stage_below BadPadding = omega arith
 stage_below GroupThreshold = omega arith
@@ -223,16 +191,13 @@ one_refusal line (UnknownWord at) (UnknownWord other) p q =
 one_refusal line (WordCount m) (WordCount n) p q = ap WordCount (p.1 ∙ sym q.1)
 one_refusal line (UnreadableWords m) (UnreadableWords n) p q = ap UnreadableWords (p.1 ∙ sym q.1)
 one_refusal line NoMnemonic NoMnemonic p q = refl
-one_refusal line (WrongWord first second) (WrongWord other last) p q =
-    let same = same_positions p.0 q.0 (first ∷ option_to_list second) (other ∷ option_to_list last) (words_same line p.0 q.0 p.1 q.1) p.3 q.3 in
-    let firsts : first ≡ other = cc in
-    let rest : option_to_list second ≡ option_to_list last = cc in
-    ap₂ (λ a b. WrongWord a b) firsts (same_second second last rest)
-one_refusal line (WrongWord first second) BadChecksum p q =
-    let same = same_positions p.0 q.0 (first ∷ option_to_list second) [] (words_same line p.0 q.0 p.1 q.1) p.3 q.3 in
+one_refusal line (WrongWord at) (WrongWord other) p q =
+    ap WrongWord (some_same at other (same_position p.0 q.0 (Some at) (Some other) (words_same line p.0 q.0 p.1 q.1) p.3 q.3))
+one_refusal line (WrongWord at) BadChecksum p q =
+    let same = same_position p.0 q.0 (Some at) None (words_same line p.0 q.0 p.1 q.1) p.3 q.3 in
     cc
-one_refusal line BadChecksum (WrongWord first second) p q =
-    let same = same_positions p.0 q.0 [] (first ∷ option_to_list second) (words_same line p.0 q.0 p.1 q.1) p.3 q.3 in
+one_refusal line BadChecksum (WrongWord at) p q =
+    let same = same_position p.0 q.0 None (Some at) (words_same line p.0 q.0 p.1 q.1) p.3 q.3 in
     cc
 one_refusal line BadChecksum BadChecksum p q = refl
 one_refusal line BadPadding BadPadding p q = refl

@@ -1,10 +1,9 @@
 -- The answers to lines in which one word is wrong, or two.
-use Rattle.std.proofs.Common.{◌≡◌, ◌≢◌, ℕ, suc, ◌+◌, ◌-◌, ◌<◌, ◌≤◌, ◌⊎◌, inl, inr, List, [], ◌∷◌, length, get_or, Option, Some, None, Result, Ok, Err}
+use Rattle.std.proofs.Common.{◌≡◌, ◌≢◌, ℕ, suc, ◌+◌, ◌-◌, ◌<◌, ◌≤◌, ◌⊎◌, inl, inr, List, length, get_or, Some, None, Result, Ok, Err}
 use Rattle.std.proofs.Common.{refl, sym, ap, subst, ◌∙◌, ⊎_elim, arith}
-use Rattle.std.specs.Prelude.{All, Contains}
-use Rattle.std.specs.Option.{option_to_list}
+use Rattle.std.specs.Prelude.{All}
 use Rattle.std.proofs.lemmas.Bool.{cases_eq}
-use Rattle.s39_lists.proofs.Sublists.{Contains-nil, Contains-head, Contains-cons}
+use Rattle.s39_lists.proofs.Finds.{some_same}
 use Rattle.s39_words.specs.Layout.{IsIndex, most_words}
 use Rattle.s39_words.specs.Reading.{IsWordCount, flag_of, Reads}
 use Rattle.s39_words.specs.Spelling.{words_of, Spells}
@@ -18,7 +17,7 @@ use Rattle.s39_repair.specs.declared.repaired.Repaired.{Repaired}
 use Rattle.s39_repair.specs.declared.repair_error.RepairError.{RepairError}
 use Rattle.s39_repair.specs.declared.repair_error.RepairError.TheVariants.{UnknownWord, WordCount, UnreadableWords, NoMnemonic, WrongWord}
 use Rattle.s39_repair.specs.declared.repair_error.RepairError.TheVariants.{BadChecksum, BadPadding, GroupThreshold}
-use Rattle.s39_repair.specs.Answer.{AreWrongWords, IsWhole, IsWrongWord, Repairs}
+use Rattle.s39_repair.specs.Answer.{IsWhole, IsWrongWord, Repairs, WrongWordIsAt}
 use Rattle.s39_repair.specs.Marks.{spelling}
 use Rattle.s39_repair.specs.Misread.{HasWrongWords}
 use Rattle.s39_repair.specs.Sums.{ArePlaces}
@@ -29,10 +28,10 @@ use Rattle.s39_repair.proofs.WrongPlaces.{one_valid}
 
 -- ---- the answer to a line with a bad checksum
 
--- these positions are named
+-- this position is named, or none
 abbrev Names : List ℕ → Result Repaired RepairError → Type 0
-Names words answer = ((answer ≡ Err BadChecksum) × AreWrongWords words [])
-    ⊎ ((first : ℕ) × (second : Option ℕ) × (answer ≡ Err (WrongWord first second)) × AreWrongWords words (first ∷ option_to_list second))
+Names words answer = ((answer ≡ Err BadChecksum) × WrongWordIsAt words None)
+    ⊎ ((at : ℕ) × (answer ≡ Err (WrongWord at)) × WrongWordIsAt words (Some at))
 
 module _ (line words : List ℕ) (whole : IsWhole line words) (bad : Reads (spelling words) (Err words_BadChecksum)) where
   same : (others : List ℕ) → IsWhole line others → others ≡ words
@@ -53,9 +52,8 @@ module _ (line words : List ℕ) (whole : IsWhole line words) (bad : Reads (spel
   bad_names (Err (WordCount n)) is = absurd (is.2 (subst IsWordCount (sym is.1) whole.readable.count))
   bad_names (Err (UnreadableWords n)) is = let none = whole.closed in absurd (omega (arith, is.1, is.2, none))
   bad_names (Err NoMnemonic) is = let none = whole.closed in absurd (omega (arith, is.1, none))
-  bad_names (Err (WrongWord first second)) is =
-      inr (first, second, refl, subst (λ ws. AreWrongWords ws (first ∷ option_to_list second)) (same is.0 is.1) is.3)
-  bad_names (Err BadChecksum) is = inl (refl, subst (λ ws. AreWrongWords ws []) (same is.0 is.1) is.3)
+  bad_names (Err (WrongWord at)) is = inr (at, refl, subst (λ ws. WrongWordIsAt ws (Some at)) (same is.0 is.1) is.3)
+  bad_names (Err BadChecksum) is = inl (refl, subst (λ ws. WrongWordIsAt ws None) (same is.0 is.1) is.3)
   bad_names (Err BadPadding) is = let e : words_BadPadding ≡ words_BadChecksum = only_bad is.0 words_BadPadding is.1 is.2 in absurd cc
   bad_names (Err GroupThreshold) is = let e : words_GroupThreshold ≡ words_BadChecksum = only_bad is.0 words_GroupThreshold is.1 is.2 in absurd cc
 
@@ -75,13 +73,14 @@ named line words mnemonic share place h =
       elsewhere = λ p other. h.elsewhere p (λ e. other (ap suc e)) (λ e. other (ap suc e));
     }
 
-pub wrong_word_named : (line words mnemonic : List ℕ) (share : ShareFields) (place : ℕ) (answer : Result Repaired RepairError)
+pub wrong_word_found : (line words mnemonic : List ℕ) (share : ShareFields) (place : ℕ) (answer : Result Repaired RepairError)
     → HasWrongWords line words mnemonic share place place → Repairs line answer → Reads (spelling words) (Err words_BadChecksum)
-    → (first : ℕ) × (second : Option ℕ) × (answer ≡ Err (WrongWord first second)) × Contains (first ∷ option_to_list second) (suc place)
-wrong_word_named line words mnemonic share place answer h is bad =
+    → answer ≡ Err (WrongWord (suc place))
+wrong_word_found line words mnemonic share place answer h is bad =
+    let wrong = named line words mnemonic share place h in
     ⊎_elim
-    (λ none. absurd (Contains-nil (suc place) (none.1.all (suc place) (named line words mnemonic share place h))))
-    (λ some. (some.0, some.1, some.2, some.3.all (suc place) (named line words mnemonic share place h)))
+    (λ none. let other : None ≡ Some (suc place) = (none.1 (suc place)).0 wrong in absurd cc)
+    (λ some. some.1 ∙ ap (λ at. Err (WrongWord at)) (some_same some.0 (suc place) ((some.2 (suc place)).0 wrong)))
     (bad_names line words h.whole bad answer is)
 
 -- the flag of a wrong word's mnemonic is that of the words, if the second word is right
@@ -213,20 +212,10 @@ module _ (line words mnemonic : List ℕ) (share : ShareFields) (place other : �
         (cases_eq at 2)
 
     abbrev OnlyTwo : Result Repaired RepairError → Type 0
-    OnlyTwo answer = (answer ≡ Err BadChecksum) ⊎ (answer ≡ Err (WrongWord 2 None))
-
-    only_second : (first : ℕ) (second : Option ℕ) → AreWrongWords words (first ∷ option_to_list second) → (first ≡ 2) × (second ≡ None)
-    only_second first None are = (only_two first (are.wrong first (Contains-head first [])), refl)
-    only_second first (Some last) are =
-        let a = only_two first (are.wrong first (Contains-head first (last ∷ []))) in
-        let b = only_two last (are.wrong last (Contains-cons first (last ∷ []) last (Contains-head last []))) in
-        let less : first < last = are.ascending 0 1 0 (omega arith) (omega arith) in
-        absurd (omega (arith, a, b, less))
+    OnlyTwo answer = (answer ≡ Err BadChecksum) ⊎ (answer ≡ Err (WrongWord 2))
 
     pub no_place_but_second : (answer : Result Repaired RepairError) → Repairs line answer → OnlyTwo answer
     no_place_but_second answer is = ⊎_elim
         (λ none. inl none.0)
-        (λ some.
-        let e = only_second some.0 some.1 some.3 in
-        inr (some.2 ∙ ap (λ f. Err (WrongWord f some.1)) e.0 ∙ ap (λ l. Err (WrongWord 2 l)) e.1))
+        (λ some. inr (some.1 ∙ ap (λ at. Err (WrongWord at)) (only_two some.0 ((some.2 some.0).1 refl))))
         (bad_names line words h.whole (replaced_bad off flags) answer is)

@@ -1,12 +1,10 @@
--- No second position is named. It would take two mnemonics that differ in the second word and in one other word alone. They would have
--- different flags, and the other word would be at place 788.
+-- Another word gives a mnemonic at one position at most. Two positions would take two mnemonics that differ in the second word and in one
+-- other word alone. They would have different flags, and the other word would be at place 788.
 use Rattle.std.proofs.Common.{◌≡◌, ◌≢◌, ℕ, zero, suc, ◌+◌, ◌-◌, ◌<◌, ◌≤◌, ◌⊎◌, inl, inr, Bool, true, false, List, [], ◌∷◌, ◌++◌, length, get_or}
-use Rattle.std.proofs.Common.{Option, Some, None, Result, Err, refl, sym, ap, ap₂, subst, ◌∙◌, ⊎_elim, arith}
-use Rattle.std.specs.Prelude.{All, Contains, bit_xor}
-use Rattle.std.specs.Option.{option_to_list}
+use Rattle.std.proofs.Common.{Some, None, refl, sym, ap, ap₂, subst, ◌∙◌, ⊎_elim, arith}
+use Rattle.std.specs.Prelude.{All, bit_xor}
 use Rattle.std.proofs.lemmas.Bool.{cases_eq, cases_lt}
-use Rattle.std.proofs.lemmas.List.{get_or_default}
-use Rattle.s39_lists.proofs.Sublists.{Contains-nil, Contains-cases}
+use Rattle.s39_lists.proofs.Finds.{some_same}
 use Rattle.s39_field.specs.Field.{IsField}
 use Rattle.s39_field.specs.FieldProduct.{word_field, product_modulo}
 use Rattle.s39_field.specs.Polynomial.{power, value_from, value_at}
@@ -18,25 +16,16 @@ use Rattle.s39_field.proofs.Values.{add_of_sums, distributes_left, mul-zero_left
 use Rattle.s39_words.specs.Checksum.{one_added_to_last}
 use Rattle.s39_words.specs.Layout.{IsIndex, most_words}
 use Rattle.s39_words.specs.Mistyping.{most_wrong_words}
-use Rattle.s39_words.specs.Reading.{IsWordCount, Reads}
-use Rattle.s39_words.specs.Spelling.{words_of, Spells}
+use Rattle.s39_words.specs.Spelling.{Spells}
 use Rattle.s39_words.specs.declared.share.ShareFields.{ShareFields}
-use Rattle.s39_words.specs.declared.word_error.WordError.TheVariants.{BadChecksum}
-use Rattle.s39_words.proofs.Indices.{at_most_words}
 use Rattle.s39_words.proofs.WrongWords.{front, half-element}
-use Rattle.s39_repair.specs.declared.repaired.Repaired.{Repaired}
-use Rattle.s39_repair.specs.declared.repair_error.RepairError.{RepairError}
-use Rattle.s39_repair.specs.declared.repair_error.RepairError.TheVariants.{WrongWord}
-use Rattle.s39_repair.specs.Answer.{AreWrongWords, IsWhole, IsWrongWord, Repairs}
+use Rattle.s39_repair.specs.Answer.{IsWrongWord, WrongWordIsAt}
 use Rattle.s39_repair.specs.Marks.{spelling}
-use Rattle.s39_repair.specs.Misread.{HasWrongWords}
 use Rattle.s39_repair.specs.Sums.{half, locator, sum_with, value_of_sums}
 use Rattle.s39_repair.proofs.Candidates.{spelled_checksum}
-use Rattle.s39_repair.proofs.ComesBack.{chosen_below, chosen_length}
 use Rattle.s39_repair.proofs.Flags.{plain_or_not}
 use Rattle.s39_repair.proofs.LostWords.{sum_is}
-use Rattle.s39_repair.proofs.Misread.{bad_isn't_spelled}
-use Rattle.s39_repair.proofs.OneWrongWord.{flag_stays, wrong_word_named}
+use Rattle.s39_repair.proofs.OneWrongWord.{flag_stays}
 use Rattle.s39_repair.proofs.ThreePlaces.{value_is}
 use Rattle.s39_repair.proofs.WrongPlaces.{two_alike}
 
@@ -240,39 +229,17 @@ module _ (ws : List ℕ) (all : All IsIndex ws) (short : length ws ≤ most_word
         (plain_or_not q.share.extendable))
         (plain_or_not p.share.extendable)
 
-    pub one_at_most : (xs : List ℕ) → AreWrongWords ws xs → length xs ≤ 1
-    one_at_most xs are = ⊎_elim
-        (λ many.
-        let at : (k : ℕ) → k < length xs → IsWrongWord ws (get_or xs k 0) =
-        λ k below. are.wrong (get_or xs k 0) (k, below, get_or_default xs k (get_or xs k 0) 0 below) in
-        absurd (no_two (get_or xs 0 0) (get_or xs 1 0) (at 0 (omega arith)) (at 1 (omega arith)) (are.ascending 0 1 0 (omega arith) (omega arith))))
-        (λ few. few)
-        (cases_lt 1 (length xs))
+    pub one_position : (i j : ℕ) → IsWrongWord ws i → IsWrongWord ws j → i ≡ j
+    one_position i j p q = ⊎_elim
+        (λ less. absurd (no_two i j p q less))
+        (λ past. ⊎_elim (λ less. absurd (no_two j i q p less)) (λ least. omega arith) (cases_lt j i))
+        (cases_lt i j)
 
--- ---- laws
+    pub only_wrong : (at : ℕ) → IsWrongWord ws at → WrongWordIsAt ws (Some at)
+    only_wrong at is = λ other. (
+      λ wrong. ap Some (one_position at other is wrong),
+      λ same. subst (IsWrongWord ws) (some_same at other same) is,
+    )
 
-pub no_second : (line : List ℕ) (first : ℕ) (second : Option ℕ) → Repairs line (Err (WrongWord first second)) → second ≡ None
-no_second line first None is = refl
-no_second line first (Some second) is =
-    let words = is.0 in
-    let whole : IsWhole line words = is.1 in
-    let count : IsWordCount (length words) = subst IsWordCount (chosen_length (words_of line) words whole.words_are) whole.readable.count in
-    let one : length (first ∷ second ∷ []) ≤ 1 =
-    one_at_most words (chosen_below (words_of line) words whole.words_are) (at_most_words (length words) count)
-    (λ share spells. bad_isn't_spelled words share is.2 spells) (first ∷ second ∷ []) is.3 in
-    absurd (omega (arith, one))
-
-pub no_second_in : (line : List ℕ) (answer : Result Repaired RepairError) → Repairs line answer → (first : ℕ) (second : Option ℕ)
-    → answer ≡ Err (WrongWord first second) → second ≡ None
-no_second_in line answer is first second answer_is = no_second line first second (subst (Repairs line) answer_is is)
-
-pub wrong_word_found : (line words mnemonic : List ℕ) (share : ShareFields) (place : ℕ) (answer : Result Repaired RepairError)
-    → HasWrongWords line words mnemonic share place place → Repairs line answer → Reads (spelling words) (Err BadChecksum)
-    → answer ≡ Err (WrongWord (suc place) None)
-wrong_word_found line words mnemonic share place answer h is bad =
-    let (first, second, answer_is, has) = wrong_word_named line words mnemonic share place answer h is bad in
-    let none : second ≡ None = no_second_in line answer is first second answer_is in
-    let at : first ≡ suc place =
-    ⊎_elim (λ e. e) (λ later. absurd (Contains-nil (suc place) later))
-    (Contains-cases first [] (suc place) (subst (λ (s : Option ℕ). Contains (first ∷ option_to_list s) (suc place)) none has)) in
-    answer_is ∙ ap₂ (λ f s. Err (WrongWord f s)) at none
+pub none_wrong : (ws : List ℕ) → ((at : ℕ) → IsWrongWord ws at → ⊥) → WrongWordIsAt ws None
+none_wrong ws none = λ at. (λ wrong. absurd (none at wrong), λ same. absurd cc)

@@ -1,5 +1,5 @@
 -- Every line has an answer.
-use Rattle.std.proofs.Common.{◌≡◌, ◌≢◌, ℕ, zero, suc, ◌+◌, ◌<◌, ◌≤◌, ◌⊎◌, inl, inr, Bool, true, false, List, [], ◌∷◌, length, get_or, Option, Some, None}
+use Rattle.std.proofs.Common.{◌≡◌, ◌≢◌, ℕ, suc, ◌-◌, ◌<◌, ◌≤◌, ◌⊎◌, inl, inr, Bool, true, false, List, [], ◌∷◌, length, get_or, Option, Some, None}
 use Rattle.std.proofs.Common.{Result, Ok, Err, refl, sym, ap, subst, ◌∙◌, ⊎_elim, arith}
 use Rattle.std.specs.Prelude.{All, Contains, not, position, if◌then◌else◌}
 use Rattle.std.specs.List.{position_or_len, range_with_len}
@@ -25,15 +25,15 @@ use Rattle.s39_repair.specs.declared.repaired.Repaired.{Repaired}
 use Rattle.s39_repair.specs.declared.repair_error.RepairError.{RepairError}
 use Rattle.s39_repair.specs.declared.repair_error.RepairError.TheVariants.{UnknownWord, WordCount, UnreadableWords, NoMnemonic, WrongWord}
 use Rattle.s39_repair.specs.declared.repair_error.RepairError.TheVariants.{BadChecksum, BadPadding, GroupThreshold}
-use Rattle.s39_repair.specs.Answer.{first_unknown, most_open, AreAll, AreWrongWords, IsReadable, IsWhole, IsWrongWord, Repairs}
+use Rattle.s39_repair.specs.Answer.{first_unknown, most_open, AreAll, IsReadable, IsWhole, IsWrongWord, Repairs, WrongWordIsAt}
 use Rattle.s39_repair.specs.Marks.{choices, is_known, open_count, spelling, Fits}
 use Rattle.s39_repair.proofs.ComesBack.{chosen_below, chosen_length}
 use Rattle.s39_repair.proofs.Flags.{NoneWith, OnlyWith, none_fits, one_fits, both_fit, plain_or_not, extendable_or_not}
 use Rattle.s39_repair.proofs.MarksRead.{AreChosen}
 use Rattle.s39_repair.proofs.Misread.{few_or_none, fit_alike}
 use Rattle.s39_repair.proofs.Wholes.{bad_spells_none, no_other_count, no_unknown}
-use Rattle.s39_repair.proofs.SecondPosition.{one_at_most}
-use Rattle.s39_repair.proofs.WrongPlaces.{WrongUpTo, mended_is, right_more, wrong_all, wrong_from_spelled, wrong_more, wrong_none}
+use Rattle.s39_repair.proofs.SecondPosition.{none_wrong, only_wrong}
+use Rattle.s39_repair.proofs.WrongPlaces.{mended_is, wrong_from_spelled}
 
 -- ---- searches
 
@@ -141,7 +141,7 @@ module _ (line : List ℕ) (few : open_count line ≤ most_open) where
       (fits_with_or_not true))
       (fits_with_or_not false)
 
--- ---- the wrong words
+-- ---- the wrong word
 
 module _ (ws : List ℕ) (all : All IsIndex ws) where
   abbrev Mends : ℕ → ℕ → Type 0
@@ -162,18 +162,18 @@ module _ (ws : List ℕ) (all : All IsIndex ws) where
       (λ past. inr (λ is. let within = is.within in absurd (omega arith)))
       (cases_lt place (length ws))
 
-  wrong_up_to : (n : ℕ) → (positions : List ℕ) × WrongUpTo ws positions n
-  wrong_up_to zero = ([], wrong_none ws)
-  wrong_up_to (suc n) =
-      let before = wrong_up_to n in
-      let next : n + 1 ≡ suc n = omega arith in
-      ⊎_elim
-      (λ wrong. (_, subst (WrongUpTo ws _) next (wrong_more ws before.0 n before.1 wrong)))
-      (λ right. (before.0, subst (WrongUpTo ws before.0) next (right_more ws before.0 n before.1 right)))
-      (wrong_or_not n)
-
-  wrong_words : (positions : List ℕ) × AreWrongWords ws positions
-  wrong_words = let found = wrong_up_to (length ws) in (found.0, wrong_all ws found.0 (length ws) found.1 (omega arith))
+  wrong_word : length ws ≤ most_words → ((share : ShareFields) → Spells (spelling ws) share → ⊥) → (position : Option ℕ) × WrongWordIsAt ws position
+  wrong_word short bad = ⊎_elim
+      (λ found. (Some (suc found.0), only_wrong ws all short bad (suc found.0) found.2))
+      (λ none. (
+        None,
+        none_wrong ws (λ at is.
+            let positive = is.positive in
+            let within = is.within in
+            let next : at ≡ suc (at - 1) = omega arith in
+            none (at - 1) (Contains-range (length ws) (at - 1) (omega arith)) (subst (IsWrongWord ws) next is)),
+      ))
+      (search (range_with_len 0 (length ws)) (λ place. IsWrongWord ws (suc place)) wrong_or_not)
 
 -- ---- the answer
 
@@ -209,11 +209,9 @@ module _ (line ws : List ℕ) (chosen : AreChosen (words_of line) ws) where
   counted : IsReadable line → IsWordCount (length ws)
   counted readable = subst IsWordCount (chosen_length (words_of line) ws chosen) readable.count
 
-  bad_checksum : (positions : List ℕ) → IsWhole line ws → Reads (spelling ws) (Err words_BadChecksum) → AreWrongWords ws positions
-      → length positions ≤ 1 → Answered line
-  bad_checksum [] whole bad are few = (Err BadChecksum, (ws, whole, bad, are))
-  bad_checksum (first ∷ []) whole bad are few = (Err (WrongWord first None), (ws, whole, bad, are))
-  bad_checksum (first ∷ second ∷ rest) whole bad are few = absurd (omega arith)
+  bad_checksum : (position : Option ℕ) → IsWhole line ws → Reads (spelling ws) (Err words_BadChecksum) → WrongWordIsAt ws position → Answered line
+  bad_checksum None whole bad is = (Err BadChecksum, (ws, whole, bad, is))
+  bad_checksum (Some at) whole bad is = (Err (WrongWord at), (ws, whole, bad, is))
 
   whole_answer : (read : Result ShareFields WordError) → Reads (spelling ws) read → IsWhole line ws
       → ((other : List ℕ) (share : ShareFields) → Fits line other share → ⊥) → Answered line
@@ -223,9 +221,8 @@ module _ (line ws : List ℕ) (chosen : AreChosen (words_of line) ws) where
   whole_answer (Err (words_WordCount n)) reads whole none =
       absurd (no_other_count ws n all (counted whole.readable) reads)
   whole_answer (Err words_BadChecksum) reads whole none =
-      let wrong = wrong_words ws all in
-      let short : length ws ≤ most_words = at_most_words (length ws) (counted whole.readable) in
-      bad_checksum wrong.0 whole reads wrong.1 (one_at_most ws all short (λ share. bad_spells_none (spelling ws) share reads) wrong.0 wrong.1)
+      let wrong = wrong_word ws all (at_most_words (length ws) (counted whole.readable)) (λ share. bad_spells_none (spelling ws) share reads) in
+      bad_checksum wrong.0 whole reads wrong.1
   whole_answer (Err words_BadPadding) reads whole none = (Err BadPadding, (ws, whole, reads))
   whole_answer (Err words_GroupThreshold) reads whole none = (Err GroupThreshold, (ws, whole, reads))
 

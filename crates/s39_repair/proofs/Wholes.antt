@@ -114,7 +114,7 @@ module _ (line : List ℕ) (ranges : List WordRange) (m : AreMarks line ranges) 
 
   pub repairs_whole : (r : Result Repaired RepairError) → RepairsWhole ranges r → Repairs line r
   repairs_whole (Ok repaired) all = (readable line ranges m, omega (arith, open_count_is line ranges m, none), all_of_line line ranges repaired m all)
-  repairs_whole (Err (WrongWord first second)) is = (firsts ranges, is_whole, is.0, is.1)
+  repairs_whole (Err (WrongWord at)) is = (firsts ranges, is_whole, is.0, is.1)
   repairs_whole (Err BadChecksum) is = (firsts ranges, is_whole, is.0, is.1)
   repairs_whole (Err BadPadding) is = (firsts ranges, is_whole, is)
   repairs_whole (Err GroupThreshold) is = (firsts ranges, is_whole, is)

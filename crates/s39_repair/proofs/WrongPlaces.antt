@@ -1,19 +1,18 @@
--- The words of which one is wrong: two at most.
-use Rattle.std.proofs.Common.{◌≡◌, ◌≢◌, ℕ, suc, ◌+◌, ◌-◌, ◌<◌, ◌≤◌, ◌⊎◌, inl, inr, Bool, true, false, List, [], ◌∷◌, ◌++◌, length}
+-- Another word at one place.
+use Rattle.std.proofs.Common.{◌≡◌, ◌≢◌, ℕ, suc, ◌-◌, ◌<◌, ◌≤◌, Bool, List, length}
 use Rattle.std.proofs.Common.{get_or, refl, sym, ap, ap₂, subst, ◌∙◌, ⊎_elim, arith}
-use Rattle.std.specs.Prelude.{All, AllPairs, Contains}
+use Rattle.std.specs.Prelude.{All}
 use Rattle.std.proofs.Math.ListN.{set}
-use Rattle.std.proofs.lemmas.Bool.{cases_lt, cases_eq}
-use Rattle.std.proofs.lemmas.List.{length-set, get_or-set_other, get_or_default, ext_get_or}
-use Rattle.std.proofs.lemmas.List.Elements.{All-nil, All-cons, All-set}
-use Rattle.s39_lists.proofs.Sublists.{AllPairs-append, Contains-nil, Contains-head, Contains-cons, Contains-cases}
+use Rattle.std.proofs.lemmas.Bool.{cases_eq}
+use Rattle.std.proofs.lemmas.List.{length-set, get_or-set_other, ext_get_or}
+use Rattle.std.proofs.lemmas.List.Elements.{All-set}
 use Rattle.s39_words.specs.Checksum.{IsValidChecksum}
 use Rattle.s39_words.specs.Layout.{IsIndex, most_words}
 use Rattle.s39_words.specs.Mistyping.{most_wrong_words}
 use Rattle.s39_words.specs.Spelling.{Spells}
 use Rattle.s39_words.specs.declared.share.ShareFields.{ShareFields}
-use Rattle.s39_repair.specs.Answer.{IsWrongWord, AreWrongWords}
-use Rattle.s39_repair.specs.declared.wrong_words.Search.{Search}
+use Rattle.s39_repair.specs.Answer.{IsWrongWord}
+use Rattle.s39_repair.specs.declared.wrong_word.Search.{Search}
 use Rattle.s39_repair.specs.Marks.{spelling}
 use Rattle.s39_repair.specs.Searching.{IsAt}
 use Rattle.s39_repair.specs.Sums.{locator, sum_with, value_of_sums, ArePlaces, AgreeElsewhere}
@@ -70,7 +69,7 @@ module _ (ws : List ℕ) (place : ℕ) (search : Search) (all : All IsIndex ws) 
       ∙ one_changed search.extendable ws is.mnemonic place within short is.same_count (same_elsewhere ws place is) all is.in_list valid in
       spells_lost text found is.mnemonic is.share text_is mnemonic is.spells
 
--- ---- no third one
+-- ---- two places
 
 -- two mnemonics with one flag that agree with the same words but at three places are one
 pub one_valid : (extendable : Bool) (ws vs us : List ℕ) (i j k : ℕ) → ArePlaces i j k → AgreeElsewhere ws vs i j k → AgreeElsewhere ws us i j k → All IsIndex ws
@@ -115,110 +114,6 @@ two_alike ws a b ews short bad p q less flag =
     (λ off. p.elsewhere r off)
     (cases_eq (suc r) a)) in
     bad p.share (subst (λ us. Spells (spelling us) p.share) (sym whole) p.spells)
-
-by_flags : (P : Type 0) (a b c : Bool) → (a ≡ b → P) → (a ≡ c → P) → (b ≡ c → P) → P
-by_flags P true true c f g h = f refl
-by_flags P false false c f g h = f refl
-by_flags P true false true f g h = g refl
-by_flags P true false false f g h = h refl
-by_flags P false true true f g h = h refl
-by_flags P false true false f g h = g refl
-
-pub no_third : (ws : List ℕ) (a b c : ℕ) → All IsIndex ws → length ws ≤ most_words → ((share : ShareFields) → Spells (spelling ws) share → ⊥)
-    → IsWrongWord ws a → IsWrongWord ws b → IsWrongWord ws c → a < b → b < c → ⊥
-no_third ws a b c ews short bad p q r ab bc =
-    by_flags ⊥ p.share.extendable q.share.extendable r.share.extendable
-    (two_alike ws a b ews short bad p q ab)
-    (two_alike ws a c ews short bad p r (omega arith))
-    (two_alike ws b c ews short bad q r bc)
-
--- ---- the wrong words, found in turn
-
--- these are all wrong words up to a position
-pub record WrongUpTo (ws positions : List ℕ) (n : ℕ) : Type 0 where
-  pub ascending : AllPairs (λ i j. i < j) positions
-  pub wrong : (at : ℕ) → Contains positions at → IsWrongWord ws at
-  pub below : (at : ℕ) → Contains positions at → at ≤ n
-  pub all : (at : ℕ) → IsWrongWord ws at → at ≤ n → Contains positions at
-
-contains_front : (xs ys : List ℕ) (x : ℕ) → Contains xs x → Contains (xs ++ ys) x
-contains_front [] ys x has = absurd (Contains-nil x has)
-contains_front (z ∷ zs) ys x has = ⊎_elim
-    (λ e. subst (λ w. Contains (z ∷ (zs ++ ys)) w) e (Contains-head z (zs ++ ys)))
-    (λ later. Contains-cons z (zs ++ ys) x (contains_front zs ys x later))
-    (Contains-cases z zs x has)
-
-contains_end : (xs : List ℕ) (x : ℕ) → Contains (xs ++ x ∷ []) x
-contains_end [] x = Contains-head x []
-contains_end (z ∷ zs) x = Contains-cons z (zs ++ x ∷ []) x (contains_end zs x)
-
-contains_push : (xs : List ℕ) (x y : ℕ) → Contains (xs ++ x ∷ []) y → Contains xs y ⊎ (x ≡ y)
-contains_push [] x y has = ⊎_elim (λ e. inr e) (λ none. absurd (Contains-nil y none)) (Contains-cases x [] y has)
-contains_push (z ∷ zs) x y has = ⊎_elim
-    (λ e. inl (subst (λ w. Contains (z ∷ zs) w) e (Contains-head z zs)))
-    (λ later. ⊎_elim (λ h. inl (Contains-cons z zs y h)) (λ e. inr e) (contains_push zs x y later))
-    (Contains-cases z (zs ++ x ∷ []) y has)
-
-pub wrong_none : (ws : List ℕ) → WrongUpTo ws [] 0
-wrong_none ws = record {
-  ascending = λ i j d less within. absurd (omega arith);
-  wrong = λ at has. absurd (Contains-nil at has);
-  below = λ at has. absurd (Contains-nil at has);
-  all = λ at is low. let positive = is.positive in absurd (omega arith);
-}
-
--- one more place, which is wrong
-pub wrong_more : (ws xs : List ℕ) (n : ℕ) → WrongUpTo ws xs n → IsWrongWord ws (suc n) → WrongUpTo ws (xs ++ (n + 1) ∷ []) (n + 1)
-wrong_more ws xs n h is =
-    let next : suc n ≡ n + 1 = omega arith in
-    record {
-      ascending =
-          AllPairs-append (λ i j. i < j) xs ((n + 1) ∷ []) h.ascending (one_pair (n + 1))
-          (λ x has. All-cons (λ y. x < y) (n + 1) [] (omega (arith, h.below x has)) (All-nil (λ y. x < y)));
-      wrong = λ at has. ⊎_elim (h.wrong at) (λ e. subst (IsWrongWord ws) (next ∙ e) is) (contains_push xs (n + 1) at has);
-      below = λ at has. ⊎_elim (λ old. omega (arith, h.below at old)) (λ e. omega (arith, e)) (contains_push xs (n + 1) at has);
-      all = λ at w high. ⊎_elim
-          (λ low. contains_front xs ((n + 1) ∷ []) at (h.all at w (omega arith)))
-          (λ at_end. let e : n + 1 ≡ at = omega arith in subst (λ y. Contains (xs ++ (n + 1) ∷ []) y) e (contains_end xs (n + 1)))
-          (cases_lt at (n + 1));
-    }
-  where
-    one_pair : (m : ℕ) → AllPairs (λ i j. i < j) (m ∷ [])
-    one_pair m = λ i j d below within. absurd (omega arith)
-
--- or isn't
-pub right_more : (ws xs : List ℕ) (n : ℕ) → WrongUpTo ws xs n → (IsWrongWord ws (suc n) → ⊥) → WrongUpTo ws xs (n + 1)
-right_more ws xs n h right = record {
-  ascending = h.ascending;
-  wrong = h.wrong;
-  below = λ at has. omega (arith, h.below at has);
-  all = λ at w high. ⊎_elim
-      (λ low. h.all at w (omega arith))
-      (λ at_end. let e : at ≡ suc n = omega arith in absurd (right (subst (IsWrongWord ws) e w)))
-      (cases_lt at (n + 1));
-}
-
-pub wrong_all : (ws xs : List ℕ) (n : ℕ) → WrongUpTo ws xs n → length ws ≤ n → AreWrongWords ws xs
-wrong_all ws xs n h past = record {
-  ascending = h.ascending;
-  wrong = h.wrong;
-  all = λ at w. let high = w.within in h.all at w (omega arith);
-}
-
--- there is room for one more
-pub wrong_room : (ws xs : List ℕ) (n : ℕ) → All IsIndex ws → length ws ≤ most_words → ((share : ShareFields) → Spells (spelling ws) share → ⊥)
-    → WrongUpTo ws xs n → IsWrongWord ws (suc n) → length xs < 2
-wrong_room ws xs n ews short bad h is =
-    ⊎_elim
-    (λ few. few)
-    (λ many.
-    let a = get_or xs 0 0 in
-    let b = get_or xs 1 0 in
-    let has_a : Contains xs a = (0, omega arith, get_or_default xs 0 a 0 (omega arith)) in
-    let has_b : Contains xs b = (1, omega arith, get_or_default xs 1 b 0 (omega arith)) in
-    absurd (no_third ws a b (suc n) ews short bad (h.wrong a has_a) (h.wrong b has_b) is (h.ascending 0 1 0 (omega arith) (omega arith))
-    (omega (arith, h.below b has_b))))
-    (cases_lt (length xs) 2)
 
 -- ---- laws
 

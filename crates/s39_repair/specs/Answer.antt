@@ -1,8 +1,7 @@
 -- What a line says: the mnemonics that fit, or the first cause for which there is none.
-use Rattle.std.specs.Prelude.{◌≡◌, ◌≢◌, ◌⊎◌, ℕ, suc, ◌<◌, ◌≤◌, List, [], ◌∷◌, None, Some, Option, Result, Ok, Err, MatchOption, All, AllPairs}
-use Rattle.std.specs.Prelude.{Contains, length, map, not, position, slice_index, unwrap_or}
+use Rattle.std.specs.Prelude.{◌≡◌, ◌≢◌, ◌⊎◌, ◌↔◌, ℕ, suc, ◌<◌, ◌≤◌, List, None, Some, Option, Result, Ok, Err, MatchOption, All}
+use Rattle.std.specs.Prelude.{Contains, length, map, not, position, slice_index}
 use Rattle.std.specs.List.{AllZip}
-use Rattle.std.specs.Option.{option_to_list}
 use Rattle.std.specs.Ordering.{nat_cmp}
 use Rattle.std.specs.declared.cmp.Ordering.TheVariants.{Less}
 use Rattle.std.specs.Cmp.Lexicographic.{slice_cmp}
@@ -64,11 +63,9 @@ pub record IsWrongWord (words : List ℕ) (at : ℕ) : Type 0 where
   pub same_count : length words ≡ length mnemonic
   pub elsewhere : (place : ℕ) → suc place ≢ at → slice_index words place ≡ slice_index mnemonic place
 
--- these are all such positions, in order
-pub record AreWrongWords (words positions : List ℕ) : Type 0 where
-  pub ascending : AllPairs (λ i j. i < j) positions
-  pub wrong : (at : ℕ) → Contains positions at → IsWrongWord words at
-  pub all : (at : ℕ) → IsWrongWord words at → Contains positions at
+-- this is the only such position, or there's none
+abbrev pub WrongWordIsAt : List ℕ → Option ℕ → Type 0
+WrongWordIsAt words position = (at : ℕ) → IsWrongWord words at ↔ (position ≡ Some at)
 
 -- This is what the line says: the mnemonics that fit, or the first cause that applies.
 abbrev pub Repairs : List ℕ → Result Repaired RepairError → Type 0
@@ -78,9 +75,8 @@ Repairs line (Err (WordCount n)) = (first_unknown line ≡ None) × (n ≡ lengt
 Repairs line (Err (UnreadableWords n)) = IsReadable line × (n ≡ open_count line) × (most_open < n)
 Repairs line (Err NoMnemonic) =
     IsReadable line × (1 ≤ open_count line) × (open_count line ≤ most_open) × ((mnemonic : List ℕ) (share : ShareFields) → ¬ Fits line mnemonic share)
-Repairs line (Err (WrongWord first second)) =
-    (words : List ℕ) × IsWhole line words × Reads (spelling words) (Err words_BadChecksum) × AreWrongWords words (first ∷ option_to_list second)
-Repairs line (Err BadChecksum) = (words : List ℕ) × IsWhole line words × Reads (spelling words) (Err words_BadChecksum) × AreWrongWords words []
+Repairs line (Err (WrongWord at)) = (words : List ℕ) × IsWhole line words × Reads (spelling words) (Err words_BadChecksum) × WrongWordIsAt words (Some at)
+Repairs line (Err BadChecksum) = (words : List ℕ) × IsWhole line words × Reads (spelling words) (Err words_BadChecksum) × WrongWordIsAt words None
 Repairs line (Err BadPadding) = (words : List ℕ) × IsWhole line words × Reads (spelling words) (Err words_BadPadding)
 Repairs line (Err GroupThreshold) = (words : List ℕ) × IsWhole line words × Reads (spelling words) (Err words_GroupThreshold)
 
@@ -90,9 +86,8 @@ firsts ranges = map (λ range. range.first) ranges
 
 -- words of the list, as many as a mnemonic may have, are refused for this cause
 abbrev pub RefusesWords : List ℕ → RepairError → Type 0
-RefusesWords words (WrongWord first second) =
-    Reads (spelling words) (Err words_BadChecksum) × AreWrongWords words (first ∷ option_to_list second)
-RefusesWords words BadChecksum = Reads (spelling words) (Err words_BadChecksum) × AreWrongWords words []
+RefusesWords words (WrongWord at) = Reads (spelling words) (Err words_BadChecksum) × WrongWordIsAt words (Some at)
+RefusesWords words BadChecksum = Reads (spelling words) (Err words_BadChecksum) × WrongWordIsAt words None
 RefusesWords words BadPadding = Reads (spelling words) (Err words_BadPadding)
 RefusesWords words GroupThreshold = Reads (spelling words) (Err words_GroupThreshold)
 RefusesWords words _ = ⊥
@@ -108,7 +103,7 @@ cause_of (UnknownWord at) = cause 11 at 0
 cause_of (WordCount words) = cause 12 words 0
 cause_of (UnreadableWords places) = cause 19 places 0
 cause_of NoMnemonic = cause 17 0 0
-cause_of (WrongWord first second) = cause 18 first (unwrap_or second 0)
+cause_of (WrongWord at) = cause 18 at 0
 cause_of BadChecksum = cause 13 0 0
 cause_of BadPadding = cause 14 0 0
 cause_of GroupThreshold = cause 15 0 0

@@ -1,6 +1,6 @@
 -- A search for one wrong word, from place to place. No public contract cites it.
 use Rattle.std.specs.Prelude.{◌≡◌, ℕ, List}
-use Rattle.s39_repair.specs.declared.wrong_words.Search.{Search}
+use Rattle.s39_repair.specs.declared.wrong_word.Search.{Search}
 use Rattle.s39_repair.specs.Sums.{locator, sum_with}
 
 -- the search has the sums of these words, and the locator of this place

@@ -1,18 +1,17 @@
 //! The answer to a line of marks.
-ghost use Rattle.std.specs.Prelude.{◌≡◌, ℕ, All, Err, None, Option, length};
+ghost use Rattle.std.specs.Prelude.{All, Err, length};
 ghost use Rattle.s39_words.specs.Layout.{IsIndex};
 ghost use Rattle.s39_words.specs.Reading.{IsWordCount, Reads};
 ghost use Rattle.s39_words.specs.declared.word_error.WordError.{WordError as Cause};
 ghost use Rattle.s39_repair.specs.Answer.{Repairs, RepairsWhole, RefusesWords};
 ghost use Rattle.s39_repair.specs.Marks.{spelling, AreClosed, IsRange};
-ghost use Rattle.s39_repair.specs.declared.repair_error.RepairError.{RepairError};
 
 use crate::candidate::first_words;
 use crate::marks::marks_of;
 use crate::open_places::open_places;
 use crate::repair_error::RepairError;
 use crate::repaired::{Repaired, all_fitting};
-use crate::wrong_words::wrong_words;
+use crate::wrong_word::wrong_word;
 use s39_words::{WordError, WordRange, parse, text_of};
 
 /// The refusal of words with a wrong checksum.
@@ -22,13 +21,9 @@ fn bad_checksum(words: &[u16]) -> RepairError
     requires bad { Reads (spelling words.now) (Err Cause.BadChecksum) }
     ensures { RefusesWords words.now result }
 {
-    let positions = wrong_words(words);
-    match positions.first() {
+    match wrong_word(words) {
+        Some(position) => RepairError::WrongWord { position },
         None => RepairError::BadChecksum,
-        Some(first) => RepairError::WrongWord {
-            first: *first,
-            second: positions.get(1).copied(),
-        },
     }
 }
 
@@ -85,9 +80,7 @@ fn whole(ranges: &[WordRange]) -> Result<Repaired, RepairError>
 /// assert_eq!(rt; refusal, Some(RepairError::UnknownWord { position: 3 }));
 /// ```
 pub fn repair(line: &[u8]) -> Result<Repaired, RepairError>
-    ensures answer { Repairs line.now result }
-    ensures one_position { (first : ℕ) (second : Option ℕ)
-        → result ≡ Err (RepairError.WrongWord first second) → second ≡ None }
+    ensures { Repairs line.now result }
 {
     let marks = marks_of(line)?;
     let ranges = marks.as_slice();

@@ -1,5 +1,5 @@
 //! Facts about the definitions. Each is the contract of a function that does nothing.
-ghost use Rattle.std.specs.Prelude.{◌≡◌, ◌≢◌, ◌+◌, ◌<◌, ◌≤◌, ◌⊎◌, ℕ, suc, false, List, [], All, Contains, Ok, Err, Option, None, Some, Result, length, slice_index, slice_index_or, slice_set};
+ghost use Rattle.std.specs.Prelude.{◌≡◌, ◌≢◌, ◌+◌, ◌<◌, ◌≤◌, ◌⊎◌, ℕ, suc, false, List, [], All, Ok, Err, Option, None, Some, Result, length, slice_index, slice_index_or, slice_set};
 ghost use Rattle.s39_words.specs.Layout.{IsIndex, most_words};
 ghost use Rattle.s39_words.specs.Mistyping.{count_of_differences};
 ghost use Rattle.s39_words.specs.Printing.{IsPrinted};
@@ -7,7 +7,7 @@ ghost use Rattle.s39_words.specs.Reading.{flag_of, Reads};
 ghost use Rattle.s39_words.specs.declared.word_error.WordError.{WordError as Cause};
 ghost use Rattle.s39_words.specs.Spelling.{words_of, HaveIndices, Spells};
 ghost use Rattle.s39_words.specs.declared.share.ShareFields.{ShareFields};
-ghost use Rattle.s39_repair.specs.Answer.{most_open, AreWrongWords, Repairs};
+ghost use Rattle.s39_repair.specs.Answer.{most_open, IsWrongWord, Repairs, WrongWordIsAt};
 ghost use Rattle.s39_repair.specs.Marks.{is_open, open_count, spelling, Fits};
 ghost use Rattle.s39_repair.specs.Misread.{HasWrongWords, IsMisreadLine};
 ghost use Rattle.s39_repair.specs.Sums.{ArePlaces, AgreeElsewhere};
@@ -99,7 +99,7 @@ pub fn nothing_false_is_written()
     ensures bad { (line mnemonic : List ℕ) (share : ShareFields) (answer : Result Repaired RepairError)
         → IsMisreadLine line mnemonic share → Repairs line answer → open_count line ≡ 0
         → (answer ≡ Err RepairError.BadChecksum)
-        ⊎ ((first : ℕ) × (second : Option ℕ) × (answer ≡ Err (RepairError.WrongWord first second))) }
+        ⊎ ((at : ℕ) × (answer ≡ Err (RepairError.WrongWord at))) }
 {}
 
 /// Every mnemonic can be misread. Take one, and write other words of the list for some of its words. Of further words write
@@ -125,14 +125,14 @@ pub fn every_mnemonic_can_have_wrong_words()
         (slice_set (slice_set mnemonic place first) other second) mnemonic share place other }
 {}
 
-/// One wrong word is found: if another word in one place gives a mnemonic, the position of this place is among those of
-/// the wrong words.
+/// One wrong word is found: if another word in one place gives a mnemonic, the position of the wrong word is that of this
+/// place.
 pub fn one_wrong_word_is_named()
-    ensures { (words positions mnemonic : List ℕ) (share : ShareFields) (place : ℕ)
+    ensures { (words mnemonic : List ℕ) (share : ShareFields) (place : ℕ) (position : Option ℕ)
         → place < length words → length words ≡ length mnemonic → All IsIndex mnemonic
         → ((p : ℕ) → p ≢ place → slice_index words p ≡ slice_index mnemonic p)
-        → Spells (spelling mnemonic) share → AreWrongWords words positions
-        → Contains positions (suc place) }
+        → Spells (spelling mnemonic) share → WrongWordIsAt words position
+        → position ≡ Some (suc place) }
 {}
 
 /// If one word is wrong and the checksum is bad, the answer names the position of this word, and no other. The flag may be
@@ -142,7 +142,7 @@ pub fn one_wrong_word_is_found()
         (answer : Result Repaired RepairError)
         → HasWrongWords line words mnemonic share place place → Repairs line answer
         → Reads (spelling words) (Err Cause.BadChecksum)
-        → answer ≡ Err (RepairError.WrongWord (suc place) None) }
+        → answer ≡ Err (RepairError.WrongWord (suc place)) }
 {}
 
 /// If one word is replaced by another one and the flag stays the same, the checksum is bad.
@@ -161,14 +161,12 @@ pub fn two_replaced_words()
         → slice_index words place ≢ slice_index mnemonic place
         → slice_index words other ≢ slice_index mnemonic other → flag_of words ≡ flag_of mnemonic
         → Repairs line answer
-        → (answer ≡ Err RepairError.BadChecksum) ⊎ (answer ≡ Err (RepairError.WrongWord 2 None)) }
+        → (answer ≡ Err RepairError.BadChecksum) ⊎ (answer ≡ Err (RepairError.WrongWord 2)) }
 {}
 
-/// At most one position is named, so no answer has a second one.
+/// If words are no mnemonic, another word gives one at one position at most.
 pub fn no_second_position()
-    ensures one { (words positions : List ℕ) → All IsIndex words → length words ≤ most_words
+    ensures { (words : List ℕ) (at other : ℕ) → All IsIndex words → length words ≤ most_words
         → ((share : ShareFields) → ¬ Spells (spelling words) share)
-        → AreWrongWords words positions → length positions ≤ 1 }
-    ensures none { (line : List ℕ) (first : ℕ) (second : Option ℕ)
-        → Repairs line (Err (RepairError.WrongWord first second)) → second ≡ None }
+        → IsWrongWord words at → IsWrongWord words other → at ≡ other }
 {}

@@ -10,7 +10,7 @@ mod open_places;
 mod repair_error;
 mod repaired;
 mod solving;
-mod wrong_words;
+mod wrong_word;
 
 pub use answer::repair;
 pub use repair_error::RepairError;

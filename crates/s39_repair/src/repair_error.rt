@@ -7,7 +7,7 @@ use s39_refusal::{Cause, code};
 /// here.
 ///
 /// ```rust
-/// let cause = RepairError::WrongWord { first: 7, second: None }.cause();
+/// let cause = RepairError::WrongWord { position: 7 }.cause();
 /// assert_eq!(rt; (cause.code, cause.first, cause.second), (18, 7, 0));
 /// ```
 #[derive(Clone, Copy, Debug, PartialEq, Eq)]
@@ -20,9 +20,9 @@ pub enum RepairError {
     UnreadableWords { places: usize },
     /// One to three places are open, and no mnemonic fits.
     NoMnemonic,
-    /// No place is open, and the checksum isn't valid. If just one word is wrong, it is the word at one of these
-    /// positions, which are counted from 1 and ascend.
-    WrongWord { first: usize, second: Option<usize> },
+    /// No place is open, and the checksum isn't valid. If just one word is wrong, it is the word at this position,
+    /// counted from 1.
+    WrongWord { position: usize },
     /// No place is open, the checksum isn't valid, and more than one word is wrong.
     BadChecksum,
     /// No place is open, and a padding bit before the value isn't zero.
@@ -35,7 +35,7 @@ impl RepairError {
     ghost use Rattle.s39_repair.specs.Answer.{cause_of};
 
     /// Returns what the refusal says: its number, and its details. The first detail is the position, the number of
-    /// words or the number of open places. The second is the second position. Both are 0 if there is none.
+    /// words or the number of open places. It is 0 if there is none, and the second is always 0.
     pub fn cause(&self) -> Cause
         ensures { result ≡ cause_of self.now }
     {
@@ -48,11 +48,9 @@ impl RepairError {
                 Cause::new(code::UNREADABLE_WORDS, *places as u64, 0)
             }
             RepairError::NoMnemonic => Cause::of(code::NO_MNEMONIC),
-            RepairError::WrongWord { first, second } => Cause::new(
-                code::WRONG_WORD,
-                *first as u64,
-                second.unwrap_or(0) as u64,
-            ),
+            RepairError::WrongWord { position } => {
+                Cause::new(code::WRONG_WORD, *position as u64, 0)
+            }
             RepairError::BadChecksum => Cause::of(code::BAD_CHECKSUM),
             RepairError::BadPadding => Cause::of(code::BAD_PADDING),
             RepairError::GroupThreshold => Cause::of(code::GROUP_THRESHOLD),

@@ -73,18 +73,8 @@ fn names_refusals_of_marks(rt: HostRuntime) -> Result<(), Fail> {
             "line 7: 17 no mnemonic has these words",
         ),
         (
-            RepairError::WrongWord {
-                first: 110,
-                second: None,
-            },
+            RepairError::WrongWord { position: 110 },
             "line 7: 18 bad checksum: if one word is wrong, it is word 110",
-        ),
-        (
-            RepairError::WrongWord {
-                first: 2,
-                second: Some(110),
-            },
-            "line 7: 18 bad checksum: if one word is wrong, it is word 2 or word 110",
         ),
         (RepairError::BadChecksum, "line 7: 13 bad checksum"),
         (RepairError::BadPadding, "line 7: 14 bad padding"),

@@ -45,17 +45,11 @@ fn refused_lines(rt: HostRuntime) {
         ),
         (
             "duckling enlarge academic academic agency result lend solution fridge kidney coal piece deal husband erode duke ajar critical decision keyboard",
-            RepairError::WrongWord {
-                first: 7,
-                second: None,
-            },
+            RepairError::WrongWord { position: 7 },
         ),
         (
             "duckling enlarge academic academic agency result length solution fridge kidney coal piece deal husband erode duke ajar critical decision kidney",
-            RepairError::WrongWord {
-                first: 20,
-                second: None,
-            },
+            RepairError::WrongWord { position: 20 },
         ),
         (
             "duckling enlarge academic academic agency result solution length fridge kidney coal piece deal husband erode duke ajar critical decision keyboard",
@@ -63,10 +57,7 @@ fn refused_lines(rt: HostRuntime) {
         ),
         (
             "duckling enlarge academic academic agency result ze? solution fridge kidney coal piece deal husband erode duke ajar critical decision keyboard",
-            RepairError::WrongWord {
-                first: 7,
-                second: None,
-            },
+            RepairError::WrongWord { position: 7 },
         ),
         (
             "duckling enlarge academic academic agency result zz? solution fridge kidney coal piece deal husband erode duke ajar critical decision keyboard",
@@ -78,10 +69,7 @@ fn refused_lines(rt: HostRuntime) {
         ),
         (
             "duckling evil academic academic agency result length solution fridge kidney coal piece deal husband erode duke ajar critical decision keyboard",
-            RepairError::WrongWord {
-                first: 2,
-                second: None,
-            },
+            RepairError::WrongWord { position: 2 },
         ),
         (
             "duckling enlarge academic academic agency result ?? solution fridge kidney coal piece deal husband erode duke ajar critical decision keyboard",
@@ -131,10 +119,6 @@ fn examples_of_answer(rt: HostRuntime) -> Result<(), Fail> {
 
 #[test]
 fn examples_of_repair_error(rt: HostRuntime) {
-    let cause = RepairError::WrongWord {
-        first: 7,
-        second: None,
-    }
-    .cause();
+    let cause = RepairError::WrongWord { position: 7 }.cause();
     assert_eq!(rt; (cause.code, cause.first, cause.second), (18, 7, 0));
 }

@@ -25,8 +25,6 @@ pub enum RefusalText {
     NoMnemonic,
     #[error("bad checksum: if one word is wrong, it is word {0}")]
     WrongWord(u8),
-    #[error("bad checksum: if one word is wrong, it is word {0} or word {1}")]
-    WrongWordOfTwo(u8, u8),
     #[error("other identifier")]
     OtherIdentifier,
     #[error("other extendable flag")]
@@ -106,8 +104,7 @@ impl RefusalText {
             code::GROUP_THRESHOLD => RefusalText::GroupThreshold,
             code::UNREADABLE_WORDS => RefusalText::UnreadableWords(number),
             code::NO_MNEMONIC => RefusalText::NoMnemonic,
-            code::WRONG_WORD if cause.second == 0 => RefusalText::WrongWord(group?),
-            code::WRONG_WORD => RefusalText::WrongWordOfTwo(group?, second?),
+            code::WRONG_WORD => RefusalText::WrongWord(group?),
             code::OTHER_IDENTIFIER => RefusalText::OtherIdentifier,
             code::OTHER_EXTENDABLE => RefusalText::OtherExtendable,
             code::OTHER_EXPONENT => RefusalText::OtherExponent,

@@ -19,10 +19,7 @@ def said_refusal(refusal: shamir.Refusal, task: str = "") -> str:
 
 def _form(refusal: shamir.Refusal) -> str:
     """Returns what the details change in the text of a refusal."""
-    first, second = refusal.details
-    if refusal.code == shamir.Code.DIGEST_MISMATCH and first == shamir.OF_GROUPS:
-        return ".groups"
-    return ".two" if refusal.code == shamir.Code.WRONG_WORD and second else ""
+    return ".groups" if refusal.code == shamir.Code.DIGEST_MISMATCH and refusal.details[0] == shamir.OF_GROUPS else ""
 
 
 def said_foreign(refusal: shamir.Refusal, repaired: Sequence[str], is_repaired: bool = False) -> str:
@@ -47,6 +44,5 @@ def _undetermined(first: int, second: int, task: str) -> str:
 
 
 def wrong_word(refusal: shamir.Refusal) -> Optional[int]:
-    """Returns the number of the word that is wrong if only one is, or None if the library names none or two."""
-    first, second = refusal.details
-    return first if refusal.code == shamir.Code.WRONG_WORD and not second else None
+    """Returns the number of the word that is wrong if only one is, or None if the library names none."""
+    return refusal.details[0] if refusal.code == shamir.Code.WRONG_WORD else None

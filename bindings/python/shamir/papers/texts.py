@@ -195,7 +195,6 @@ OWN: Dict[str, str] = {
     "refused.13": "The words don't belong together, and more than one of them is wrong, or two changed places. Compare each word with your paper. If they agree, the paper itself is wrong: type ? for up to three words that may be wrong. Or type - alone, and leave this paper out.",
     "refused.repaired.new": "This paper can't be of one backup with the others. Most likely it is wrong, since words of it were found and not read. It is left out. Look at the damaged paper again.",
     "refused.18": "The words don't belong together. If only one of them is wrong, it is word {first}. Look at word {first} on your paper, and type it again. If the paper says the same, it is miswritten: type ?, and the program finds the word that was meant.",
-    "refused.18.two": "The words don't belong together. If only one of them is wrong, it is word {first} or word {second}. Look at both on your paper, and type again what is wrong. If the paper says the same, it is miswritten: type ? for one, and if that finds nothing, for the other.",
     "refused.31": "This isn't a plan. Plans are typed so: 2of3, or 2/3of5,1of1 with groups.",
 }
 TABLE = {**_page(), **OWN}

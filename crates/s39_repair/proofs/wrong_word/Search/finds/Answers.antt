@@ -9,7 +9,7 @@ use Rattle.s39_repair.specs.Marks.{spelling}
 use Rattle.s39_repair.proofs.Candidates.{flags_equal}
 use Rattle.s39_repair.proofs.LostWords.{changed, changed-in_range, locator-nonzero}
 use Rattle.s39_repair.proofs.WrongPlaces.{is_one_change, mended_spells, wrong_from_spelled}
-use Rattle.s39_repair.proofs.wrong_words.Search.finds.Goals as goal
+use Rattle.s39_repair.proofs.wrong_word.Search.finds.Goals as goal
 
 pub returns-then-not-is_one_change-clause-only : goal.returns-then-not-is_one_change-clause-only
 returns-then-not-is_one_change-clause-only c = λ wrong flag.

@@ -1,7 +1,7 @@
 use Rattle.std.proofs.Common.{ap₂, ◌∙◌}
 use Rattle.s39_field.specs.FieldProduct.{word_field}
 use Rattle.s39_repair.proofs.LostWords.{next_locator}
-use Rattle.s39_repair.proofs.wrong_words.Search.step.Goals as goal
+use Rattle.s39_repair.proofs.wrong_word.Search.step.Goals as goal
 
 pub returns-clause-at : goal.returns-clause-at
 returns-clause-at c = λ words place at. record {

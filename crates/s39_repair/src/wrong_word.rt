@@ -1,15 +1,14 @@
-//! The words of which one is wrong, if just one is.
+//! The position of the wrong word, if just one word is wrong.
 ghost use Rattle.std.specs.Prelude.{◌≡◌, ℕ, suc, true, false, ◌+◌, ◌<◌, ◌≤◌, ◌↔◌, List, All, IsTrue, bit_xor, length, slice_index, slice_set};
 ghost use Rattle.s39_field.specs.FieldProduct.{word_field};
 ghost use Rattle.s39_words.specs.Layout.{IsIndex, most_words};
 ghost use Rattle.s39_words.specs.Spelling.{Spells};
 ghost use Rattle.s39_words.specs.declared.share.ShareFields.{ShareFields};
-ghost use Rattle.s39_repair.specs.Answer.{IsWrongWord, AreWrongWords};
+ghost use Rattle.s39_repair.specs.Answer.{IsWrongWord, WrongWordIsAt};
 ghost use Rattle.s39_repair.specs.Marks.{spelling};
 ghost use Rattle.s39_repair.specs.Searching.{IsAt};
 
 use crate::solving::{HALF, Indices, Sums, change, element, locator, sums_with};
-use arrayvec::ArrayVec;
 use s39_field::{Field, Gf1024};
 use s39_words::{parse, text_of};
 
@@ -110,22 +109,21 @@ fn is_wrong_word(words: &[u16], place: usize, plain: &Search, extendable: &Searc
     }
 }
 
-/// The positions of the words of which one is wrong, if just one is. There are two at most.
-pub(crate) fn wrong_words(words: &[u16]) -> ArrayVec<usize, 2>
+/// The position of the wrong word, counted from 1, if just one word is wrong.
+pub(crate) fn wrong_word(words: &[u16]) -> Option<usize>
     requires in_list { All IsIndex words.now }
     requires short { length words.now ≤ most_words }
     requires bad { (share : ShareFields) → ¬ Spells (spelling words.now) share }
-    ensures { AreWrongWords words.now result.items }
+    ensures { WrongWordIsAt words.now result }
 {
     let mut plain = Search::begin(false, words);
     let mut extendable = Search::begin(true, words);
-    let mut positions: ArrayVec<usize, 2> = ArrayVec::new();
     for place in 0..words.len() {
         if is_wrong_word(words, place, &plain, &extendable) {
-            positions.push(place + 1);
+            return Some(place + 1);
         }
         plain = plain.step();
         extendable = extendable.step();
     }
-    positions
+    None
 }

@@ -1,7 +1,7 @@
 use Rattle.std.proofs.Common.{sym, ◌∙◌, ⊎_elim}
 use Rattle.std.proofs.lemmas.Bool.{false≢true}
 use Rattle.s39_repair.proofs.Flags.{plain_or_not}
-use Rattle.s39_repair.proofs.wrong_words.is_wrong_word.Goals as goal
+use Rattle.s39_repair.proofs.wrong_word.is_wrong_word.Goals as goal
 
 pub returns-else-finds : goal.returns-else-finds
 returns-else-finds c = (
