@@ -8,6 +8,7 @@
 #   make twins       tries the twins of all wrong bodies
 #   make wasm        proves and builds the library for WebAssembly: shamir.wasm, with 64-bit memory, and shamir32.wasm, with
 #                    32-bit memory
+#   make portable    makes dist/c, the library as one file of C, from shamir32.wasm
 #   make page        builds shamir.html, the page with the library in it
 #   make checks      runs all checks below, side by side: as many as there are processors, and as many as get 3 GB of memory each,
 #                    or as -j says. Each tool runs in a target of its own, such as check-recipes, which runs alone too
@@ -17,6 +18,8 @@
 #                    cases, and the vectors; and the JavaScript package and the Rust crate
 #   make check-page  checks shamir.html in Chromium and in Firefox: each task by keyboard, each refusal, what the browser keeps
 #   make check-papers  checks shamir-papers in terminals: each task, each wrong answer, what the terminal and the memory keep
+#   make check-portable  checks dist/c, the library as one file of C: on x86-64 with each compiler, for other processors with
+#                    emulators, and for Windows with wine
 #   make check-js    checks the JavaScript package alone: its types, and its tests with both forms of the library
 #   make check-secrets   looks with valgrind for branches and addresses of the library that depend on secrets, and for secrets that
 #                    its calls leave on the stack, and that the program leaves in its memory
@@ -90,7 +93,7 @@ SOURCES = $(shell find crates -path '*/out' -prune -o -type f -print) crates.txt
 
 TIMING = crates/s39_timing/out/timing
 
-.PHONY: all lib wasm page test quick edits twins check check-library check-js check-page check-papers check-packages check-secrets bench faults compare install install-bin install-lib install-page uninstall wheel deb dist clean
+.PHONY: all lib wasm portable page test quick edits twins check check-library check-js check-page check-papers check-packages check-secrets bench faults compare install install-bin install-lib install-page uninstall wheel deb dist clean
 
 all: shamir
 
@@ -147,7 +150,7 @@ PART = @$(PYTHON) tools/part $@
 WASM_OPT := $(shell command -v wasm-opt 2> /dev/null)
 PAGE = $(if $(WASM_OPT),shamir.html)
 
-.PHONY: checks check-secrets $(CHECKS) $(SECRETS_CHECKS) $(PAGE_CHECKS)
+.PHONY: checks check-secrets check-portable $(CHECKS) $(SECRETS_CHECKS) $(PAGE_CHECKS)
 
 checks: shamir libshamir.so $(SONAME) $(TIMING) shamir.wasm $(PAGE)
 	@$(MAKE) $(SIDE_BY_SIDE) $(LONGEST) $(PAGE_CHECKS) $(SECRETS_CHECKS) check-papers $(CHECKS)
@@ -214,6 +217,10 @@ check-vectors: shamir libshamir.so
 
 check-rust: libshamir.so
 	$(PART) tools/rust
+
+# Without wasm-opt there is no shamir32.wasm, and the check says so.
+check-portable: libshamir.so $(if $(WASM_OPT),shamir32.wasm)
+	$(PART) $(PYTHON) tools/check_portable
 
 check-js: shamir.wasm $(PAGE)
 	$(PART) tools/javascript
@@ -336,6 +343,9 @@ shamir.wasm: libshamir.a
 
 shamir32.wasm: shamir.wasm
 	@tools/wasm --lower
+
+portable: shamir32.wasm
+	@$(PYTHON) tools/portable
 
 page: shamir.html
 

@@ -18,7 +18,8 @@
  * has no digest, and the group shares have none if the group threshold is 1.
  *
  * Each call works in buffers of its caller. It allocates no memory, makes no system call and keeps nothing between calls. It
- * returns for every input. Calls share no data, so any number of threads can make calls at once.
+ * returns for every input. Calls share no data, so any number of threads can make calls at once. The library as plain C
+ * (dist/c) has this header too. There, each call but shamir_wipe takes memory from malloc, and frees it before it returns.
  *
  * A call uses at most SHAMIR_STACK_BYTES bytes of stack; the main thread has more by default. In a thread with a smaller stack,
  * a call can crash the program. Give a thread more than SHAMIR_STACK_BYTES, because its own functions use some too.
@@ -122,15 +123,17 @@ extern "C" {
 
 /*
  * The codes of an answer. A call that refuses gives the code of the first cause that applies. The command shamir uses the
- * same numbers, except 1 to 3, which only the library gives. Each comment says what the fields "first" and "second" of such
- * a refusal are. A field that it doesn't mention is 0. Groups and members are numbered from 0. A later library of the same name
- * may give further codes, so treat any other code as a refusal too.
+ * same numbers, except 1 to 4, which only the library gives. Only the library as plain C gives 4, and it gives 4 before any other
+ * code. Each comment says what the fields "first" and "second" of such a refusal are. A field that it doesn't mention is 0. Groups
+ * and members are numbered from 0. A later library of the same name may give further codes, so treat any other code as a refusal
+ * too.
  */
 typedef enum shamir_code {
     SHAMIR_DONE = 0,                      /* the call succeeded */
     SHAMIR_E_TOO_SHORT = 1,               /* the output buffer is too short; first: the number of bytes needed */
     SHAMIR_E_OUT_OF_RANGE = 2,            /* a number is out of range */
     SHAMIR_E_HIGH_EXPONENT = 3,           /* the exponent of the mnemonics is above max_exponent; first: this exponent */
+    SHAMIR_E_NO_MEMORY = 4,               /* no memory is left for the call */
     SHAMIR_E_UNKNOWN_WORD = 11,           /* a word isn't in the word list; first: which word of the line it is, from 1 */
     SHAMIR_E_WORD_COUNT = 12,             /* a mnemonic can't have this number of words; first: the number of words */
     SHAMIR_E_BAD_CHECKSUM = 13,           /* the checksum is wrong */
@@ -487,8 +490,9 @@ shamir_answer shamir_words(const char *letters, size_t letters_bytes, char *text
  *
  * The call writes the text of the answer to the start of the output buffer. SHAMIR_TEXT_BYTES_MAX bytes are always enough. The
  * text is "done" for the code 0, "buffer too short: N bytes needed" for 1, "number out of range" for 2, and "exponent E above
- * the maximum" for 3. If no call returns the code of this answer, the text is "unknown answer". If some call returns the code,
- * but not together with the details of this answer, the text may be "unknown answer" too.
+ * the maximum" for 3. The library as plain C gives "no memory left for the call" for 4. If no call returns the code of this
+ * answer, the text is "unknown answer". If some call returns the code, but not together with the details of this answer, the
+ * text may be "unknown answer" too.
  *
  * The only refusal is 1.
  *

@@ -784,7 +784,7 @@ static void check_flag(void)
 /* Checks the text of a code that no export gives. */
 static void check_unknown(void)
 {
-    wanted unknown = {4, 0, 0, 0, NULL};
+    wanted unknown = {5, 0, 0, 0, NULL};
 
     check_text(answer_of(&unknown, 0, 0), "unknown answer");
 }

@@ -10,6 +10,7 @@ export const Code: Readonly<{
     TOO_SHORT: 1;
     OUT_OF_RANGE: 2;
     HIGH_EXPONENT: 3;
+    NO_MEMORY: 4;
     UNKNOWN_WORD: 11;
     WORD_COUNT: 12;
     BAD_CHECKSUM: 13;

@@ -12,6 +12,7 @@ export const Code = Object.freeze({
   TOO_SHORT: 1,
   OUT_OF_RANGE: 2,
   HIGH_EXPONENT: 3,
+  NO_MEMORY: 4,
   UNKNOWN_WORD: 11,
   WORD_COUNT: 12,
   BAD_CHECKSUM: 13,

@@ -95,9 +95,10 @@ for (const [code, line, details, text, call] of REFUSALS) {
   });
 }
 
-test("each code but 0 and 1 is caused above", () => {
+test("each code but 0, 1 and 4 is caused above", () => {
   const caused = new Set(REFUSALS.map(([code]) => code));
-  assert.deepEqual([...caused].sort((a, b) => a - b), Object.values(Code).slice(2));
+  // Only the library as plain C gives 4.
+  assert.deepEqual([...caused].sort((a, b) => a - b), Object.values(Code).slice(2).filter((code) => code !== Code.NO_MEMORY));
 });
 
 test("texts of answers", () => {

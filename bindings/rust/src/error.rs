@@ -19,7 +19,7 @@ macro_rules! refusals {
         /// Why the library refuses a call: the first cause that applies.
         ///
         /// `Display` writes the refused line, if there is one, the code, and the library's own text: `line 2: 13 bad checksum`.
-        /// The command `shamir` prints the same, and uses the same codes, except 1 to 3. No error holds a secret, a passphrase
+        /// The command `shamir` prints the same, and uses the same codes, except 1 to 4. No error holds a secret, a passphrase
         /// or a word of a mnemonic.
         ///
         /// A later version may have more variants.
@@ -82,6 +82,8 @@ refusals! {
         /// The exponent of the mnemonics.
         exponent: u8 = first
     };
+    /// No memory is left for the call. Only the library as plain C gives this.
+    NoMemory = 4;
     /// A word isn't in the word list, or a mark stands for none of its words.
     UnknownWord = 11 {
         /// The refused line, counted from 1. It is `None` if the call takes one line.

@@ -1,0 +1,360 @@
+/* ---------- The adapter, written by hand: it makes the calls of shamir.h in the memory of a module ---------- */
+
+/* An answer in the memory of the module: its fields one after the other. */
+#define ANSWER_BYTES 40u
+#define ANSWER ((HEAP_BASE + 7u) & ~7u)
+/* The module has addresses of 32 bits. No call uses the last of them. */
+#define MEMORY_BYTES_MAX 0xFFFF0000u
+#define NO_MEMORY_TEXT "no memory left for the call"
+#define SHARE_BYTES 10u
+/* A frame of the generated part has at most this many bytes, with those of functions that it calls and that don't move the pointer. */
+#define FRAMES_BYTES 32768u
+#define PARTS_MAX 4
+
+/* What a call is given, which `begin` copies to the address `at`. */
+typedef struct {
+    const void *from;
+    size_t bytes;
+    u32 at;
+} part;
+
+/* A call: the memory of a module, and what goes there. */
+typedef struct {
+    module m;
+    u64 end;          /* the address after all that has a place */
+    u32 room;         /* the address of the output */
+    int is_too_long;  /* whether the addresses of the module are too few */
+    int count;
+    part parts[PARTS_MAX];
+} call;
+
+/* memset, in a form that a compiler can't leave out. */
+static void *(*const volatile set_bytes)(void *, int, size_t) = memset;
+
+static void clear(void *memory, size_t bytes)
+{
+    if (bytes)
+        set_bytes(memory, 0, bytes);
+}
+
+static call new_call(void)
+{
+    call c;
+
+    memset(&c, 0, sizeof c);
+    c.end = ANSWER + ANSWER_BYTES;
+    return c;
+}
+
+/* Gives this many bytes a place in the memory, and returns the address. */
+static u32 place(call *c, size_t bytes)
+{
+    u64 at = (c->end + 7) & ~(u64)7;
+
+    if (c->is_too_long || bytes > MEMORY_BYTES_MAX - at) {
+        c->is_too_long = 1;
+        return 0;
+    }
+    c->end = at + bytes;
+    return (u32)at;
+}
+
+/* Gives an argument a place in the memory, and returns the address. */
+static u32 given(call *c, const void *from, size_t bytes)
+{
+    part *it = &c->parts[c->count++];
+
+    it->from = from;
+    it->bytes = bytes;
+    it->at = place(c, bytes);
+    return it->at;
+}
+
+/* Returns a length of an output: no call writes more than `most` bytes there. */
+static size_t at_most(size_t bytes, size_t most)
+{
+    return bytes < most ? bytes : most;
+}
+
+/* Allocates the memory of the module, and copies constants and arguments into it. Returns 0 if there is no memory. */
+static int begin(call *c)
+{
+    int i;
+
+    if (c->is_too_long)
+        return 0;
+    c->m.size = c->end + 8;
+    c->m.data = (u8 *)SHAMIR_ALLOCATE((size_t)c->m.size);
+    if (!c->m.data)
+        return 0;
+    c->m.pointer = c->m.lowest = STACK_BYTES;
+    c->m.deepest = FRAME();
+    memset(c->m.data + STACK_BYTES, 0, ANSWER + ANSWER_BYTES - STACK_BYTES);
+    copy_constants(c->m.data);
+    for (i = 0; i < c->count; i++)
+        if (c->parts[i].bytes)
+            memcpy(c->m.data + c->parts[i].at, c->parts[i].from, c->parts[i].bytes);
+    return 1;
+}
+
+/* Clears this many bytes of the C stack below its own frame. */
+NOINLINE static void clear_stack(size_t bytes)
+{
+    clear(STACK_ROOM(bytes), bytes);
+}
+
+/* Clears what the call used, and frees it. */
+static void end(call *c)
+{
+    uintptr_t here = FRAME();
+    size_t reached = here > c->m.deepest ? (size_t)(here - c->m.deepest) : 0;
+    size_t from = (size_t)c->m.lowest - RED_ZONE_BYTES;
+
+    clear(c->m.data + from, STACK_BYTES - from);
+    clear(c->m.data + ANSWER, (size_t)(c->m.size - ANSWER));
+    SHAMIR_RELEASE(c->m.data);
+    clear_stack(at_most(reached, SHAMIR_STACK_BYTES - 2 * FRAMES_BYTES) + FRAMES_BYTES);
+}
+
+static shamir_answer no_memory(void)
+{
+    shamir_answer answer;
+
+    memset(&answer, 0, sizeof answer);
+    answer.code = SHAMIR_E_NO_MEMORY;
+    return answer;
+}
+
+static shamir_answer answer_of(const module *m)
+{
+    shamir_answer answer;
+
+    answer.code = i32_load(m, ANSWER);
+    answer.mismatches = i32_load(m, ANSWER + 4);
+    answer.line = i64_load(m, ANSWER + 8);
+    answer.first = i64_load(m, ANSWER + 16);
+    answer.second = i64_load(m, ANSWER + 24);
+    answer.written = i64_load(m, ANSWER + 32);
+    return answer;
+}
+
+/* Gives the caller what the call answered and wrote, and ends the call. */
+static shamir_answer finish(call *c, void *output)
+{
+    shamir_answer answer = answer_of(&c->m);
+
+    if (answer.written)
+        memcpy(output, c->m.data + c->room, (size_t)answer.written);
+    end(c);
+    return answer;
+}
+
+static void copy_share(const module *m, u32 at, shamir_share *share)
+{
+    share->id = (uint16_t)i32_load16_u(m, at);
+    share->extendable = m->data[at + 2];
+    share->exponent = m->data[at + 3];
+    share->group_index = m->data[at + 4];
+    share->group_threshold = m->data[at + 5];
+    share->group_count = m->data[at + 6];
+    share->member_index = m->data[at + 7];
+    share->member_threshold = m->data[at + 8];
+}
+
+shamir_answer shamir_parse(const char *line, size_t line_bytes, shamir_share *share, uint8_t *value, size_t value_bytes)
+{
+    call c = new_call();
+    u32 from = given(&c, line, line_bytes), fields = place(&c, SHARE_BYTES);
+    size_t room_bytes = at_most(value_bytes, SHAMIR_SECRET_BYTES_MAX);
+
+    c.room = place(&c, room_bytes);
+    if (!begin(&c))
+        return no_memory();
+    module_parse(&c.m, ANSWER, from, line_bytes, fields, c.room, room_bytes);
+    if (i32_load(&c.m, ANSWER) == SHAMIR_DONE)
+        copy_share(&c.m, fields, share);
+    return finish(&c, value);
+}
+
+shamir_answer shamir_random_needed(const char *plan, size_t plan_bytes, size_t secret_bytes)
+{
+    call c = new_call();
+    u32 from = given(&c, plan, plan_bytes);
+
+    if (!begin(&c))
+        return no_memory();
+    module_random_needed(&c.m, ANSWER, from, plan_bytes, secret_bytes);
+    return finish(&c, NULL);
+}
+
+shamir_answer shamir_create(
+    const char *plan, size_t plan_bytes, const uint8_t *secret, size_t secret_bytes, const char *passphrase, size_t passphrase_bytes,
+    uint32_t exponent, uint32_t extendable, const uint8_t *random, size_t random_bytes, char *mnemonics, size_t mnemonics_bytes)
+{
+    call c = new_call();
+    u32 from = given(&c, plan, plan_bytes), key = given(&c, secret, secret_bytes), words = given(&c, passphrase, passphrase_bytes),
+        chance = given(&c, random, random_bytes);
+    size_t room_bytes = at_most(mnemonics_bytes, SHAMIR_MNEMONICS_BYTES_MAX);
+
+    c.room = place(&c, room_bytes);
+    if (!begin(&c))
+        return no_memory();
+    module_create(
+        &c.m, ANSWER, from, plan_bytes, key, secret_bytes, words, passphrase_bytes, exponent, extendable, chance, random_bytes, c.room,
+        room_bytes);
+    return finish(&c, mnemonics);
+}
+
+shamir_answer shamir_recover(
+    const char *lines, size_t lines_bytes, const char *passphrase, size_t passphrase_bytes, uint32_t max_exponent, const char *expected,
+    size_t expected_bytes, uint8_t *secret, size_t secret_bytes)
+{
+    call c = new_call();
+    u32 from = given(&c, lines, lines_bytes), words = given(&c, passphrase, passphrase_bytes), print = given(&c, expected, expected_bytes);
+    size_t room_bytes = at_most(secret_bytes, SHAMIR_SECRET_BYTES_MAX);
+
+    c.room = place(&c, room_bytes);
+    if (!begin(&c))
+        return no_memory();
+    module_recover(
+        &c.m, ANSWER, from, lines_bytes, words, passphrase_bytes, max_exponent, print, expected_bytes, c.room, room_bytes);
+    return finish(&c, secret);
+}
+
+shamir_answer shamir_drill(
+    const char *lines, size_t lines_bytes, const char *passphrase, size_t passphrase_bytes, uint32_t max_exponent, const char *after,
+    size_t after_bytes, uint32_t limit, uint32_t form, const char *expected, size_t expected_bytes, char *text, size_t text_bytes)
+{
+    call c = new_call();
+    u32 from = given(&c, lines, lines_bytes), words = given(&c, passphrase, passphrase_bytes), cursor = given(&c, after, after_bytes),
+        print = given(&c, expected, expected_bytes);
+
+    c.room = place(&c, text_bytes);
+    if (!begin(&c))
+        return no_memory();
+    module_drill(
+        &c.m, ANSWER, from, lines_bytes, words, passphrase_bytes, max_exponent, cursor, after_bytes, limit, form, print, expected_bytes,
+        c.room, text_bytes);
+    return finish(&c, text);
+}
+
+shamir_answer shamir_status(const char *lines, size_t lines_bytes, char *text, size_t text_bytes)
+{
+    call c = new_call();
+    u32 from = given(&c, lines, lines_bytes);
+    size_t room_bytes = at_most(text_bytes, SHAMIR_STATUS_BYTES_MAX);
+
+    c.room = place(&c, room_bytes);
+    if (!begin(&c))
+        return no_memory();
+    module_status(&c.m, ANSWER, from, lines_bytes, c.room, room_bytes);
+    return finish(&c, text);
+}
+
+shamir_answer shamir_reissue(
+    const char *plan, size_t plan_bytes, const char *names, size_t names_bytes, const char *lines, size_t lines_bytes, char *mnemonics,
+    size_t mnemonics_bytes)
+{
+    call c = new_call();
+    u32 of = given(&c, plan, plan_bytes), wanted = given(&c, names, names_bytes), from = given(&c, lines, lines_bytes);
+    size_t room_bytes = at_most(mnemonics_bytes, SHAMIR_MNEMONICS_BYTES_MAX);
+
+    c.room = place(&c, room_bytes);
+    if (!begin(&c))
+        return no_memory();
+    module_reissue(&c.m, ANSWER, of, plan_bytes, wanted, names_bytes, from, lines_bytes, c.room, room_bytes);
+    return finish(&c, mnemonics);
+}
+
+shamir_answer shamir_repair(const char *line, size_t line_bytes, char *mnemonics, size_t mnemonics_bytes)
+{
+    call c = new_call();
+    u32 from = given(&c, line, line_bytes);
+    size_t room_bytes = at_most(mnemonics_bytes, SHAMIR_REPAIRED_BYTES_MAX);
+
+    c.room = place(&c, room_bytes);
+    if (!begin(&c))
+        return no_memory();
+    module_repair(&c.m, ANSWER, from, line_bytes, c.room, room_bytes);
+    return finish(&c, mnemonics);
+}
+
+shamir_answer shamir_fingerprint(const uint8_t *secret, size_t secret_bytes, char *text, size_t text_bytes)
+{
+    call c = new_call();
+    u32 from = given(&c, secret, secret_bytes);
+    size_t room_bytes = at_most(text_bytes, SHAMIR_FINGERPRINT_BYTES_MAX);
+
+    c.room = place(&c, room_bytes);
+    if (!begin(&c))
+        return no_memory();
+    module_fingerprint(&c.m, ANSWER, from, secret_bytes, c.room, room_bytes);
+    return finish(&c, text);
+}
+
+shamir_answer shamir_words(const char *letters, size_t letters_bytes, char *text, size_t text_bytes)
+{
+    call c = new_call();
+    u32 from = given(&c, letters, letters_bytes);
+    size_t room_bytes = at_most(text_bytes, SHAMIR_WORDS_BYTES_MAX);
+
+    c.room = place(&c, room_bytes);
+    if (!begin(&c))
+        return no_memory();
+    module_words(&c.m, ANSWER, from, letters_bytes, c.room, room_bytes);
+    return finish(&c, text);
+}
+
+/* Gives the text of the code 4, which the module doesn't know. It needs no memory. */
+static shamir_answer text_of_no_memory(char *text, size_t text_bytes)
+{
+    shamir_answer told;
+
+    memset(&told, 0, sizeof told);
+    if (text_bytes < sizeof NO_MEMORY_TEXT - 1) {
+        told.code = SHAMIR_E_TOO_SHORT;
+        told.first = sizeof NO_MEMORY_TEXT - 1;
+        return told;
+    }
+    memcpy(text, NO_MEMORY_TEXT, sizeof NO_MEMORY_TEXT - 1);
+    told.written = sizeof NO_MEMORY_TEXT - 1;
+    return told;
+}
+
+shamir_answer shamir_text(const shamir_answer *answer, char *text, size_t text_bytes)
+{
+    call c = new_call();
+    u32 from = place(&c, ANSWER_BYTES);
+    size_t room_bytes = at_most(text_bytes, SHAMIR_TEXT_BYTES_MAX);
+
+    if (answer->code == SHAMIR_E_NO_MEMORY)
+        return text_of_no_memory(text, text_bytes);
+    c.room = place(&c, room_bytes);
+    if (!begin(&c))
+        return no_memory();
+    i32_store(&c.m, from, answer->code);
+    i32_store(&c.m, from + 4, answer->mismatches);
+    i64_store(&c.m, from + 8, answer->line);
+    i64_store(&c.m, from + 16, answer->first);
+    i64_store(&c.m, from + 24, answer->second);
+    i64_store(&c.m, from + 32, answer->written);
+    module_text(&c.m, ANSWER, from, c.room, room_bytes);
+    return finish(&c, text);
+}
+
+shamir_answer shamir_version(char *text, size_t text_bytes)
+{
+    call c = new_call();
+    size_t room_bytes = at_most(text_bytes, SHAMIR_TEXT_BYTES_MAX);
+
+    c.room = place(&c, room_bytes);
+    if (!begin(&c))
+        return no_memory();
+    module_version(&c.m, ANSWER, c.room, room_bytes);
+    return finish(&c, text);
+}
+
+void shamir_wipe(void *buffer, size_t buffer_bytes)
+{
+    clear(buffer, buffer_bytes);
+}

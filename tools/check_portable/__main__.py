@@ -1,0 +1,130 @@
+"""Makes the library as plain C from shamir32.wasm, as `make portable` does, checks it, and compares it with libshamir.so.
+
+    python3 tools/check_portable [--cases N] [--seed S]
+    python3 tools/check_portable --speed
+
+In an empty folder, `cc` builds the library and runs the published vectors, and CMake installs it. Compilers of C and C++ take it without
+warnings. It exports the calls of the header alone. On generated calls, the builds for each processor and system give the
+answers of libshamir.so, without writing past an output: on x86-64 with gcc, clang, their sanitizers and threads, for other processors
+under qemu, and for Windows under wine. Without memory each call refuses. After calls nothing secret is left on the stack, and memcheck
+finds no branch and no address that depends on a secret, but in the functions that the answer shows too.
+
+With --speed, it measures calls beside those of libshamir.a, and checks nothing.
+
+The tool says what it leaves out if a program isn't here. It exits with status 1 if something is wrong.
+"""
+import argparse
+import functools
+import os
+import pathlib
+import shutil
+import sys
+import tempfile
+from concurrent.futures import ThreadPoolExecutor
+from typing import Callable, List, Optional, Tuple
+
+sys.dont_write_bytecode = True
+sys.path[:0] = [str(pathlib.Path(__file__).resolve().parent), str(pathlib.Path(__file__).resolve().parents[1])]
+
+import agreement  # noqa: E402
+import builds  # noqa: E402
+import install  # noqa: E402
+import secrets_of  # noqa: E402
+import sources  # noqa: E402
+import speed  # noqa: E402
+from left_out import left_out  # noqa: E402
+
+Task = Tuple[str, Callable[[str], Optional[str]]]
+
+
+def with_programs(what: str, programs: List[str], task: Callable[[str], Optional[str]]) -> List[Task]:
+    """Returns a task, or says that it is left out because a program isn't here."""
+    missing = [it for it in programs if not shutil.which(it)]
+    if missing:
+        left_out(f"{missing[0]} isn't here, so {what} of dist/c isn't checked")
+        return []
+    return [(what, task)]
+
+
+def builds_to_compare(folder: str, calls: List[str], right: List[bytes]) -> List[Task]:
+    """Returns a task for each build whose answers are compared with those of the native library."""
+    count = len(calls)
+    groups = [
+        (builds.EMULATED, count, agreement.agreed),
+        (builds.SANITIZERS, agreement.SANITIZED, agreement.agreed),
+        (builds.THREADS, agreement.THREADED, agreement.agreed_in_threads),
+        (builds.NATIVE, count, agreement.agreed),
+    ]
+    tasks: List[Task] = []
+    for targets, most, check in groups:
+        for target in targets:
+            if target.missing():
+                left_out(f"{target.missing()} isn't here, so dist/c isn't compared with libshamir.so: {target.name}")
+            else:
+                tasks.append((target.name, functools.partial(check, target, calls[:most], right[:most])))
+    return tasks
+
+
+def other_tasks() -> List[Task]:
+    return [
+        *with_programs("the empty folder", ["cc"], sources.works_in_an_empty_folder),
+        *with_programs("what shamir.c exports", ["gcc", "nm"], sources.has_right_symbols),
+        *with_programs("the form", ["gcc"], sources.compiles_strictly),
+        *with_programs("a lack of memory", ["gcc"], sources.refuses_without_memory),
+        *with_programs("the worked examples", ["gcc"], sources.has_worked_examples),
+        *with_programs("the installation", ["cmake", "cc"], install.is_installed),
+        *with_programs("the stack with -O2", ["gcc", "ar"], lambda folder: secrets_of.leaves_nothing(folder, "-O2")),
+        *with_programs("the stack with -Os", ["gcc", "ar"], lambda folder: secrets_of.leaves_nothing(folder, "-Os")),
+        *with_programs("the timing", ["gcc", "ar", "valgrind"], secrets_of.has_no_other_branches),
+    ]
+
+
+def failure(task: Task) -> Optional[str]:
+    """Runs a task in a folder of its own. Returns what is wrong, or None."""
+    name, check = task
+    with tempfile.TemporaryDirectory() as folder:
+        try:
+            said = check(folder)
+        except builds.Failed as failed:
+            return f"{name}: {failed}"
+    if said:
+        print(said, flush=True)
+    return None
+
+
+def main() -> None:
+    words = argparse.ArgumentParser()
+    words.add_argument("--cases", type=int, default=2000)
+    words.add_argument("--seed", type=int, default=39)
+    words.add_argument("--speed", action="store_true")
+    given = words.parse_args()
+    missing = [it for it in ["gcc", "wasm2c", "wasm-opt"] if not shutil.which(it)]
+    if missing:
+        left_out(f"{missing[0]} isn't here, so the library as plain C isn't checked")
+        return
+    with tempfile.TemporaryDirectory() as folder:
+        builds.use(pathlib.Path(folder))
+        try:
+            sources.made(builds.DIST)
+        except builds.Failed as failed:
+            sys.exit(f"tools/check_portable: {failed}")
+        if given.speed:
+            speed.measure()
+        else:
+            check(given.cases, given.seed)
+
+
+def check(count: int, seed: int) -> None:
+    """Runs all tasks, side by side."""
+    calls = agreement.calls_of(count, seed)
+    with tempfile.TemporaryDirectory() as folder, ThreadPoolExecutor(max_workers=len(os.sched_getaffinity(0))) as pool:
+        right = builds.answers(None, builds.native(folder), calls)
+        tasks = [*builds_to_compare(folder, calls, right), *other_tasks()]
+        wrong = [told for told in pool.map(failure, tasks) if told]
+    if wrong:
+        sys.exit("tools/check_portable: something is wrong\n" + "\n".join(wrong))
+    print(f"dist/c: {len(calls)} generated calls agree with libshamir.so in each build, and {len(tasks)} checks passed")
+
+
+if __name__ == "__main__":
+    main()
