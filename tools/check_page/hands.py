@@ -101,7 +101,9 @@ class Page:
     def double_click(self, name):
         """Presses a button with the mouse, twice. Between the presses, what the first one calls for has time to come."""
         press = [{"type": kind, "button": 0} for kind in ("pointerDown", "pointerUp")]
-        there = {"type": "pointerMove", "x": 0, "y": 0, "origin": {"type": "element", "element": {"sharedId": self.node("button", name)}}}
+        node = self.node("button", name)
+        self.is_true("(it) => { it.scrollIntoView({ block: 'nearest' }); return true; }", node)
+        there = {"type": "pointerMove", "x": 0, "y": 0, "origin": {"type": "element", "element": {"sharedId": node}}}
         actions = [there, *press, {"type": "pause", "duration": 250}, *press]
         self.call("input.performActions", actions=[{"type": "pointer", "id": "mouse", "actions": actions}])
 
