@@ -18,8 +18,8 @@ pub const GROUP_THRESHOLD: u8 = 15;
 /// No mnemonic fits what can be read of its words.
 pub const NO_MNEMONIC: u8 = 17;
 
-/// The checksum of a mnemonic is wrong, and another word in one place would make a mnemonic. If just one word is wrong,
-/// it is this one. The first detail is its position, counted from 1.
+/// The checksum of a mnemonic is wrong, and if just one word is wrong, it is one of these. The details are the
+/// positions of these words, counted from 1. The second detail is 0 if there is one.
 pub const WRONG_WORD: u8 = 18;
 
 /// More places of a line are open than a checksum determines. The first detail is their number.
