@@ -72,19 +72,6 @@ export function isOpen(list, mark) {
 export const NO_REST = { letters: "", toFour: 0 };
 
 /**
- * Returns what may still come of the word before after a pause: nothing. Only of letters that came before the pause it isn't known yet
- * which word they belong to.
- *
- * @param {string} before the letters that came before the pause
- * @param {Rest} rest
- * @returns {Rest}
- */
-export function restAfterPause(before, rest) {
-  if (before === "") return NO_REST;
-  return rest.letters.startsWith(before) ? { letters: before, toFour: before.length } : rest;
-}
-
-/**
  * What a typist who types no space goes on with after the letters that make a word: nothing, letters up to four, or the whole word.
  *
  * @typedef {"none" | "four" | "whole"} Habit

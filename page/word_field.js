@@ -7,7 +7,7 @@
 import { button, element, input } from "./dom.js";
 import { say } from "./say.js";
 import { announce, setTouched } from "./screen.js";
-import { beginning, endsBefore, habitOf, isMark, isMistypedRest, isRestWhole, marksOf, nearest, NO_REST, NOTHING_SEEN, readings, restAfterPause, seenWith, wordsOf } from "./spelling.js";
+import { beginning, endsBefore, habitOf, isMark, isMistypedRest, isRestWhole, marksOf, nearest, NO_REST, NOTHING_SEEN, readings, seenWith, wordsOf } from "./spelling.js";
 
 /**
  * @typedef {object} Events
@@ -34,11 +34,6 @@ let arrived = null;
 
 // How the typist types, as far as the last words show it.
 let seen = NOTHING_SEEN;
-
-// After so many milliseconds without a letter, none comes that belongs to the word before.
-const PAUSE = 1000;
-// When the last letter came.
-let typedAt = 0;
 
 /** Forgets the letters that may still come of the last word. */
 function forgetRest() {
@@ -145,8 +140,6 @@ export class WordField {
   #typed(event) {
     const whole = this.#whole;
     let value = this.field.value.toLowerCase();
-    if (event.timeStamp - typedAt > PAUSE) rest = restAfterPause(value.slice(0, value.length - (event.data ?? "").length), rest);
-    typedAt = event.timeStamp;
     // A line stands for what can't be read, as a question mark does.
     if (this.#isDamaged && value.includes("_")) this.field.value = value = value.replace(/[?_]+/g, "?");
     if (this.#isRestOfOwn(value)) return;

@@ -19,7 +19,6 @@ import refusals
 import sources
 import steps
 import tasks
-import typists
 import ways_out
 from browsers import Failed, browser
 from hands import Page
@@ -123,8 +122,6 @@ FAULTS = [
     ("an answer is out of sight", "page/paper_entry.js", 'if (text !== "") this.#answer.scrollIntoView', 'if (false) this.#answer.scrollIntoView', of_page(lambda page: choices.check_phone(page, unseen))),
     ("too many other papers are asked for", "page/tell_paper.js", 'counted(memberThreshold - 1, "paper")', 'counted(memberThreshold, "paper")', of_page(lambda page: choices.check_what(page, unseen))),
     ("what a paper was told to be stays", "page/tell_paper.js", "    this.#found.replaceChildren();\n", "", of_page(lambda page: choices.check_what(page, unseen))),
-    ("after a pause, letters belong to the word before", "page/word_field.js", "event.timeStamp - typedAt > PAUSE", "false", of_page(lambda page: typists.check(page, unseen))),
-    ("a habit counts after one word", "page/spelling.js", "HABIT_WORDS = 5", "HABIT_WORDS = 1", of_page(lambda page: typists.check(page, unseen, 40, ["mixed"]))),
     ("how an owner types isn't learnt", "page/word_field.js", "if (isBySpelling && arrived === this", "if (false", of_page(lambda page: entry.check_habits(page, unseen))),
     ("forms of a plan that is refused", "page/blank_forms.js", 'if (fault !== "") continue;', "", of_page(lambda page: forms.check_blank(page, unseen))),
     ("words that were pasted are left without a question", "page/word_field.js", "    setTouched(true);\n", "", of_page(lambda page: entry.check_kept(page, unseen))),

@@ -1,4 +1,4 @@
-// Types papers into an entry of the page by events whose times are set, and returns how many of them went wrong. An expression, which
+// Types papers into an entry of the page by events, and returns how many of them went wrong. An expression, which
 // typists.py evaluates in the page: a function of the word list, the way, the number of papers, and a seed.
 (async (list, way, papers, seed) => {
   // A generator of numbers below `end`, the same ones for each seed.
@@ -12,34 +12,24 @@
     return count;
   };
   const SHORT = { least, four: () => 4, whole: (word) => word.length };
-  const QUICK = 150, LONG = 1200;
-  // Far beyond the times of what was typed before.
-  let clock = 1e9 + seed;
   const entry = new in_paper_entry.PaperEntry(list, 21, async () => ({ isTaken: false, text: "" }));
   document.getElementById("main").replaceChildren(entry.element);
   const fields = () => [...entry.element.querySelectorAll(".word input")];
   const letter = (sign) => {
     const field = document.activeElement;
     field.value += sign;
-    const event = new InputEvent("input", { inputType: "insertText", data: sign, bubbles: true });
-    Object.defineProperty(event, "timeStamp", { value: clock });
-    field.dispatchEvent(event);
+    field.dispatchEvent(new InputEvent("input", { inputType: "insertText", data: sign, bubbles: true }));
   };
   const named = (key) => {
     const field = document.activeElement;
     if (field.dispatchEvent(new KeyboardEvent("keydown", { key, bubbles: true, cancelable: true })) && key === "Tab") fields()[fields().indexOf(field) + 1]?.focus();
   };
   const type = (word, count, end) => {
-    for (const sign of word.slice(0, count)) {
-      letter(sign);
-      clock += QUICK;
-    }
+    for (const sign of word.slice(0, count)) letter(sign);
     if (end === " ") letter(" ");
-    else if (end === "pause") clock += LONG;
     else if (end) named(end);
-    clock += QUICK;
   };
-  const ENDS = ["space", "Enter", "Tab", "pause"];
+  const ENDS = ["space", "Enter", "Tab", "nothing"];
   const typed = (word) => {
     const [short, end] = way === "mixed" ? [Object.keys(SHORT)[below(3)], ENDS[below(4)]] : way.split(", ");
     type(word, SHORT[short](word), end === "space" ? " " : end === "nothing" ? "" : end);

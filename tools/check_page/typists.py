@@ -1,4 +1,4 @@
-"""How many papers go wrong that are typed in several ways, with and without pauses.
+"""How many papers go wrong that are typed in several ways, with and without a key after each word.
 
     python3 tools/check_page/typists.py [--papers N] [--browser NAME] [--page FILE] [WAY..]    500 papers in each way, if N isn't given
 
@@ -20,9 +20,9 @@ from texts import ROOT, say  # noqa: E402
 
 SCRIPT = (pathlib.Path(__file__).resolve().parent / "typists.js").read_text()
 # How much of each word is typed, and what follows it. In the last one, both change from word to word.
-WAYS = [f"{short}, {end}" for short in ("least", "four", "whole") for end in ("nothing", "space", "Enter", "Tab", "pause")] + ["mixed"]
-# With a key after each word, or a pause where the word is complete, all papers must be right.
-SURE = [way for way in WAYS if way.endswith((", space", ", Enter", ", Tab"))] + ["least, pause"]
+WAYS = [f"{short}, {end}" for short in ("least", "four", "whole") for end in ("nothing", "space", "Enter", "Tab")] + ["mixed"]
+# With a key after each word, all papers must be right.
+SURE = [way for way in WAYS if way.endswith((", space", ", Enter", ", Tab"))]
 PAPERS = 500
 # So many papers of each way are typed in a check, and so many at most at a time.
 FEW, PART = 6, 20
