@@ -46,6 +46,7 @@ typedef struct {
     u64 size;
     u64 pointer;       /* the stack pointer of the module */
     u64 lowest;        /* the lowest stack pointer of the call */
+    u32 is_busy;       /* a mark that the module sets while a call is made, and 0 before it */
     uintptr_t deepest; /* the lowest address of a frame in the C stack */
 } module;
 

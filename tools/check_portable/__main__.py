@@ -6,8 +6,7 @@
 In an empty folder, `cc` builds the library and runs the published vectors, and CMake installs it. Compilers of C and C++ take it without
 warnings. It exports the calls of the header alone. On generated calls, the builds for each processor and system give the
 answers of libshamir.so, without writing past an output: on x86-64 with gcc, clang, their sanitizers and threads, for other processors
-under qemu, and for Windows under wine. Without memory each call refuses. After calls nothing secret is left on the stack, and memcheck
-finds no branch and no address that depends on a secret, but in the functions that the answer shows too.
+under qemu, and for Windows under wine. Without memory each call refuses, and the memory of a call is clear when it is freed.
 
 With --speed, it measures calls beside those of libshamir.a, and checks nothing.
 
@@ -29,7 +28,6 @@ sys.path[:0] = [str(pathlib.Path(__file__).resolve().parent), str(pathlib.Path(_
 import agreement  # noqa: E402
 import builds  # noqa: E402
 import install  # noqa: E402
-import secrets_of  # noqa: E402
 import sources  # noqa: E402
 import speed  # noqa: E402
 from left_out import left_out  # noqa: E402
@@ -73,9 +71,6 @@ def other_tasks() -> List[Task]:
         *with_programs("a lack of memory", ["gcc"], sources.refuses_without_memory),
         *with_programs("the worked examples", ["gcc"], sources.has_worked_examples),
         *with_programs("the installation", ["cmake", "cc"], install.is_installed),
-        *with_programs("the stack with -O2", ["gcc", "ar"], lambda folder: secrets_of.leaves_nothing(folder, "-O2")),
-        *with_programs("the stack with -Os", ["gcc", "ar"], lambda folder: secrets_of.leaves_nothing(folder, "-Os")),
-        *with_programs("the timing", ["gcc", "ar", "valgrind"], secrets_of.has_no_other_branches),
     ]
 
 

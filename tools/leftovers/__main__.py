@@ -2,7 +2,6 @@
 secret in its memory.
 
     python3 tools/leftovers [--archive PATH] [--program PATH]
-    python3 tools/leftovers --plain-c PATH
 
 Of the library, it compiles tools/leftovers.c with libshamir.a. This program makes one call, and gives what then lies below the frame of the caller.
 There, the tool searches for the secret, the encrypted secret, the passphrase, the random bytes and the values of shares: their bytes
@@ -18,9 +17,6 @@ lines of the input, at a terminal, and if memory runs out. It stops the program 
 it can write for the same as above. It also checks that on the stack all is 0 below the frames of `main`. With too small a stack, a
 signal must end the program before it has read anything secret or written anything. For this it needs the right to trace a program,
 and for a lack of memory a C compiler, as tools/faults.c refuses the allocations.
-
-With --plain-c, it makes the same calls with an archive of dist/c, and looks at the stack alone. There, the frames of a call and of the
-clearing are in the highest FRAMES_OF_C bytes.
 
 It exits with status 1 if something is found, if a call or a run answers something else than it must, or if a call can reach further
 than it clears.
@@ -51,7 +47,6 @@ COMPILER = os.environ.get("CC", "cc").split()
 STRICT = ["-std=c11", "-O1", "-Wall", "-Wextra", "-Werror", "-pedantic", f"-I{ROOT}/include"]
 UNTOUCHED = b"\xa5"
 FRAMES = 384
-FRAMES_OF_C = 1024
 ADDRESS = 8
 SHOWN = 20
 
@@ -70,7 +65,7 @@ def answered(program: str, case: cases.Case) -> Tuple[int, bytes]:
     return code, rest[written:]
 
 
-def leftovers(program: str, case: cases.Case, needles: backups.Needles, frames_bytes: int) -> Tuple[List[str], int]:
+def leftovers(program: str, case: cases.Case, needles: backups.Needles) -> Tuple[List[str], int]:
     """Returns what a call leaves, and how many bytes below the caller the lowest is that it leaves other than 0."""
     name = f"shamir_{case.call} with the code {case.code}"
     code, stack = answered(program, case)
@@ -80,12 +75,12 @@ def leftovers(program: str, case: cases.Case, needles: backups.Needles, frames_b
     found = sorted({what: len(touched) - at for at, what in needles.within(touched)}.items())
     told = [f"{name} leaves {what}, {below} bytes below the caller" for what, below in found]
     lowest = len(touched[ADDRESS:].lstrip(b"\0"))
-    if lowest > frames_bytes:
+    if lowest > FRAMES:
         told.append(f"{name} leaves bytes other than 0, {lowest} bytes below the caller")
     return told, lowest
 
 
-def all_leftovers(archive: pathlib.Path, frames_bytes: int) -> Tuple[List[str], int, int]:
+def all_leftovers(archive: pathlib.Path) -> Tuple[List[str], int, int]:
     """Makes all calls. Returns what they leave, how many they are, and the lowest byte that one leaves other than 0."""
     told: List[str] = []
     count = deepest = 0
@@ -94,7 +89,7 @@ def all_leftovers(archive: pathlib.Path, frames_bytes: int) -> Tuple[List[str], 
         subprocess.run([*COMPILER, *STRICT, str(ROOT / "tools" / "leftovers.c"), str(archive), "-o", program], check=True)
         for backup, made in cases.all_cases():
             needles = backups.Needles(backup)
-            for found, lowest in pool.map(lambda case: leftovers(program, case, needles, frames_bytes), made):
+            for found, lowest in pool.map(lambda case: leftovers(program, case, needles), made):
                 told += [f"{len(backup.secret)} bytes: {it}" for it in found]
                 count, deepest = count + 1, max(deepest, lowest)
     return told, count, deepest
@@ -115,21 +110,13 @@ def of_calls(archive: pathlib.Path) -> List[str]:
     if not shutil.which(COMPILER[0]):
         left_out(f"{COMPILER[0]} isn't here, so nothing looks for what the calls of the library leave on the stack")
         return []
-    told, count, deepest = all_leftovers(archive, FRAMES)
+    told, count, deepest = all_leftovers(archive)
     if shutil.which("objdump"):
         told += too_deep(archive)
     else:
         left_out("objdump isn't here, so nothing says how far down a call can reach")
     if not told:
         print(f"after each of {count} calls of the library, nothing secret is left on its stack; below {deepest} bytes, all of it is 0")
-    return told
-
-
-def of_plain_c(archive: pathlib.Path) -> List[str]:
-    """Checks the calls of the library as plain C. Returns what is wrong."""
-    told, count, deepest = all_leftovers(archive, FRAMES_OF_C)
-    if not told:
-        print(f"after each of {count} calls of the library as plain C, nothing secret is left on its stack; below {deepest} bytes, all of it is 0")
     return told
 
 
@@ -159,12 +146,11 @@ def main() -> None:
     words = argparse.ArgumentParser()
     words.add_argument("--archive", type=pathlib.Path, default=ROOT / "libshamir.a")
     words.add_argument("--program", type=pathlib.Path, default=ROOT / "shamir")
-    words.add_argument("--plain-c", type=pathlib.Path)
     given = words.parse_args()
     if platform.machine() != "x86_64":
         left_out("this isn't x86-64, so nothing looks for what the library and the program leave in memory")
         return
-    told = of_plain_c(given.plain_c) if given.plain_c else of_calls(given.archive) + of_runs(given.program)
+    told = of_calls(given.archive) + of_runs(given.program)
     if told:
         more = [f"and {len(told) - SHOWN} more"] if len(told) > SHOWN else []
         sys.exit("tools/leftovers: something is left in memory\n  " + "\n  ".join(told[:SHOWN] + more))

@@ -1,0 +1,535 @@
+/*
+ * shamir.h: SLIP-0039 backups of a master secret, for C and C++.
+ *
+ * The library creates backups, reads mnemonics, recovers secrets and runs drills. It also reports whether mnemonics are enough
+ * for a recovery, computes lost mnemonics and fingerprints of secrets, finds words that can't be read, and lists words of the
+ * word list. docs/LIBRARY.md introduces it with examples, and the manual page shamir(3) is a reference.
+ *
+ * A backup consists of mnemonics, which are lines of words. A mnemonic spells a share, which has fields and a value: the bytes
+ * that a recovery combines. shamir_parse gives both. Each mnemonic is a member of a group. Groups and members are numbered from
+ * 0, and the name of a mnemonic has both numbers: 0.2 is member 2 of group 0.
+ *
+ * A group is complete if the number of its members at hand is at least its member threshold. Mnemonics are enough if the number
+ * of complete groups is at least the group threshold. A quorum is a minimal set of mnemonics that is enough: no mnemonic of it
+ * can be left out. A drill tries every quorum.
+ *
+ * The values of the members of a group combine to a group share, and the group shares combine to the encrypted secret. A digest
+ * is four bytes by which the library usually detects values that don't belong together. A group with the member threshold 1
+ * has no digest, and the group shares have none if the group threshold is 1.
+ *
+ * Each call works in buffers of its caller. It allocates no memory, makes no system call and keeps nothing between calls. It
+ * returns for every input. Calls share no data, so any number of threads can make calls at once. The library as plain C
+ * (dist/c) has this header too. There, each call but shamir_wipe takes memory from malloc, and frees it before it returns.
+ *
+ * A call uses at most SHAMIR_STACK_BYTES bytes of stack; the main thread has more by default. In a thread with a smaller stack,
+ * a call can crash the program. Give a thread more than SHAMIR_STACK_BYTES, because its own functions use some too.
+ *
+ * A buffer is a pointer and a length in bytes. If the length is 0, the pointer isn't used and may be NULL. A pointer to a
+ * struct must not be NULL. An output buffer or an output struct must not overlap any other argument. Lengths exclude any
+ * terminating NUL; an embedded NUL is part of the text. No call writes a terminating NUL. Texts have the type char, and
+ * secrets, values and random bytes have the type uint8_t. So a compiler can warn if a text and bytes are exchanged.
+ *
+ * Each call but shamir_wipe returns a shamir_answer. If its code is SHAMIR_DONE, the call succeeded. The output is at the start
+ * of the output buffer, and the bytes after it are unchanged. The answer's field "written" is the length of the output. Any
+ * other code is a refusal. On refusal the output buffer and the output struct are unchanged, and "written" is 0.
+ *
+ * Before a call that gets a secret, a passphrase or a mnemonic returns, it clears the stack that it used. This is tested, not
+ * proved. It clears no registers. The caller clears its own buffers, with shamir_wipe. examples/c/cleared.c keeps them out of swap
+ * and core files too. The time of a call can depend on secrets. docs/LIBRARY.md says what is promised and what isn't.
+ */
+#ifndef SHAMIR_H
+#define SHAMIR_H
+
+#include <stddef.h>
+#include <stdint.h>
+
+/*
+ * The version of this header, as a text and as a number. shamir_version gives the version of the library. The number is
+ * 1000000 * A + 1000 * B + C for the version A.B.C, so a later version has a greater number.
+ */
+#define SHAMIR_VERSION "1.0.0"
+#define SHAMIR_VERSION_NUMBER 1000000
+
+#ifdef __cplusplus
+extern "C" {
+#endif
+
+/* The minimum and maximum length of a master secret, and of the value of a mnemonic. The length is even. */
+#define SHAMIR_SECRET_BYTES_MIN 16
+#define SHAMIR_SECRET_BYTES_MAX 128
+
+/* The maximum number of random bytes that a backup takes. */
+#define SHAMIR_RANDOM_BYTES_MAX 32574
+
+/* The maximum length of a mnemonic that a call writes, and of all mnemonics of a backup with a line feed after each. */
+#define SHAMIR_MNEMONIC_BYTES_MAX 989
+#define SHAMIR_MNEMONICS_BYTES_MAX 253440
+
+/* The maximum number of mnemonics in a backup. */
+#define SHAMIR_MNEMONICS_MAX 256
+
+/* The maximum length of a line, without its line feed, for the calls that take lines. It applies to comments too. */
+#define SHAMIR_LINE_BYTES_MAX 1024
+
+/* The maximum length of a list of names, such as the cursor of shamir_drill. */
+#define SHAMIR_NAMES_BYTES_MAX 1215
+
+/* The maximum length of the output of shamir_status. */
+#define SHAMIR_STATUS_BYTES_MAX 1638
+
+/* The length of a fingerprint. */
+#define SHAMIR_FINGERPRINT_BYTES_MAX 8
+
+/* An output buffer of this length is enough for every call of shamir_drill. */
+#define SHAMIR_LISTING_BYTES_ENOUGH 2700
+
+/* The maximum length of the output of shamir_words: that of all 1,024 words, with a line feed after each. */
+#define SHAMIR_WORDS_BYTES_MAX 7231
+
+/* The maximum length of the output of shamir_repair: that of two mnemonics, each with its line feed. */
+#define SHAMIR_REPAIRED_BYTES_MAX 1980
+
+/* The forms in which a listing of shamir_drill tells secrets: their digits, their fingerprints, or whether one is expected. */
+#define SHAMIR_FORM_DIGITS 0
+#define SHAMIR_FORM_FINGERPRINTS 1
+#define SHAMIR_FORM_EXPECTED 2
+
+/* The maximum length of the output of shamir_text. */
+#define SHAMIR_TEXT_BYTES_MAX 64
+
+/* The maximum iteration exponent, which shamir_create explains. As max_exponent, it allows every exponent. */
+#define SHAMIR_EXPONENT_MAX 15
+
+/* The maximum number of bytes of stack that a call uses. It is measured, not proved. */
+#define SHAMIR_STACK_BYTES 524288
+
+/* If the code is SHAMIR_E_DIGEST_MISMATCH, first is the group whose digest doesn't match, or this number for the group shares. */
+#define SHAMIR_OF_GROUPS 16
+
+/*
+ * These attributes let a compiler warn if an answer is ignored, or if a pointer to a struct is NULL. GCC warns of an ignored
+ * answer even if the call is cast to void. If you mean to ignore an answer, assign it to a variable, and cast that variable to
+ * void. The answer of shamir_text can be ignored without a warning (SHAMIR_CALL_IGNORABLE).
+ */
+#if defined(__GNUC__)
+#define SHAMIR_CALL __attribute__((visibility("default"), warn_unused_result))
+#define SHAMIR_CALL_IGNORABLE __attribute__((visibility("default")))
+#define SHAMIR_STRUCT(position) __attribute__((nonnull(position)))
+#else
+#define SHAMIR_CALL
+#define SHAMIR_CALL_IGNORABLE
+#define SHAMIR_STRUCT(position)
+#endif
+
+/*
+ * The codes of an answer. A call that refuses gives the code of the first cause that applies. The command shamir uses the
+ * same numbers, except 1 to 4, which only the library gives. Only the library as plain C gives 4, and it gives 4 before any other
+ * code. Each comment says what the fields "first" and "second" of such a refusal are. A field that it doesn't mention is 0. Groups
+ * and members are numbered from 0. A later library of the same name may give further codes, so treat any other code as a refusal
+ * too.
+ */
+typedef enum shamir_code {
+    SHAMIR_DONE = 0,                      /* the call succeeded */
+    SHAMIR_E_TOO_SHORT = 1,               /* the output buffer is too short; first: the number of bytes needed */
+    SHAMIR_E_OUT_OF_RANGE = 2,            /* a number is out of range */
+    SHAMIR_E_HIGH_EXPONENT = 3,           /* the exponent of the mnemonics is above max_exponent; first: this exponent */
+    SHAMIR_E_NO_MEMORY = 4,               /* no memory is left for the call */
+    SHAMIR_E_UNKNOWN_WORD = 11,           /* a word isn't in the word list; first: which word of the line it is, from 1 */
+    SHAMIR_E_WORD_COUNT = 12,             /* a mnemonic can't have this number of words; first: the number of words */
+    SHAMIR_E_BAD_CHECKSUM = 13,           /* the checksum is wrong */
+    SHAMIR_E_BAD_PADDING = 14,            /* a padding bit isn't 0 */
+    SHAMIR_E_GROUP_THRESHOLD = 15,        /* the group threshold is above the group count */
+    SHAMIR_E_NO_MNEMONIC = 17,            /* no mnemonic fits a line of marks */
+    SHAMIR_E_WRONG_WORD = 18,             /* the checksum is wrong; first, second: see shamir_repair */
+    SHAMIR_E_UNREADABLE_WORDS = 19,       /* more than three places of a line are open; first: how many are */
+    SHAMIR_E_OTHER_IDENTIFIER = 21,       /* the identifier differs from that of earlier lines */
+    SHAMIR_E_OTHER_EXTENDABLE = 22,       /* the extendable flag differs from that of earlier lines */
+    SHAMIR_E_OTHER_EXPONENT = 23,         /* the iteration exponent differs from that of earlier lines */
+    SHAMIR_E_OTHER_GROUP_THRESHOLD = 24,  /* the group threshold differs from that of earlier lines */
+    SHAMIR_E_OTHER_GROUP_COUNT = 25,      /* the group count differs from that of earlier lines */
+    SHAMIR_E_OTHER_LENGTH = 26,           /* the length of the value differs from that of earlier lines */
+    SHAMIR_E_OTHER_MEMBER_THRESHOLD = 27, /* the group has another member threshold in earlier lines; first: the group */
+    SHAMIR_E_CONFLICTING_SHARE = 28,      /* this name has another value in an earlier line; first: the group, second: the member */
+    SHAMIR_E_NO_SHARES = 29,              /* no line holds a mnemonic */
+    SHAMIR_E_INCOMPLETE = 30,             /* too few groups are complete; first: how many are, second: the group threshold */
+    SHAMIR_E_BAD_PLAN = 31,               /* the text isn't a plan */
+    SHAMIR_E_PLAN_GROUPS = 32,            /* the plan has more than 16 groups, or fewer than its group threshold */
+    SHAMIR_E_PLAN_MEMBERS = 33,           /* a group has more than 16 members, or fewer than its threshold; first: the group */
+    SHAMIR_E_ONE_OF_MANY = 34,            /* a group has several members and the member threshold 1; first: the group */
+    SHAMIR_E_PASSPHRASE = 41,             /* a byte of the passphrase isn't printable ASCII; first: which byte it is, from 1 */
+    SHAMIR_E_SECRET_LENGTH = 42,          /* a secret can't have this number of bytes; first: the number of bytes */
+    SHAMIR_E_RANDOM_LENGTH = 43,          /* the number of random bytes is wrong; first: the number of bytes needed */
+    SHAMIR_E_BAD_FINGERPRINT = 44,        /* the expected fingerprint isn't eight hexadecimal digits */
+    SHAMIR_E_DIGEST_MISMATCH = 51,        /* a digest doesn't match; first: the group, or SHAMIR_OF_GROUPS for the group shares */
+    SHAMIR_E_OTHER_SECRET = 52,           /* the secret has another fingerprint than the expected one */
+    SHAMIR_E_BAD_CURSOR = 61,             /* the cursor isn't a list of names */
+    SHAMIR_E_NOT_A_QUORUM = 62,           /* the cursor doesn't name a quorum of these mnemonics */
+    SHAMIR_E_BAD_NAMES = 63,              /* the text isn't a list of names */
+    SHAMIR_E_NOT_IN_PLAN = 64,            /* a name isn't in the plan; first: the group, second: the member */
+    SHAMIR_E_OTHER_PLAN = 65,             /* a mnemonic can't belong to a backup of this plan */
+    SHAMIR_E_UNDETERMINED = 66,           /* a mnemonic isn't determined; first: 256 * group + member, second: see shamir_reissue */
+    SHAMIR_E_LINE_TOO_LONG = 71           /* a line has more than SHAMIR_LINE_BYTES_MAX bytes */
+} shamir_code;
+
+/*
+ * The answer of a call.
+ *
+ * line is the number of the refused line, counted from 1, for the codes 11 to 28 and 71 of calls that take lines. Otherwise
+ * it is 0. Only shamir_drill sets the field "mismatches"; in answers of other calls this field is 0. first and second are the
+ * details of a refusal. After success, first is a result of shamir_random_needed, shamir_create, shamir_drill, shamir_status and
+ * shamir_repair, and second of shamir_drill and shamir_status. Otherwise they are 0.
+ */
+typedef struct shamir_answer {
+    uint32_t code;       /* a shamir_code: SHAMIR_DONE, or the cause of the refusal */
+    uint32_t mismatches; /* how many listed quorums have a digest mismatch, or another secret than the expected one */
+    uint64_t line;       /* the refused line, or 0 */
+    uint64_t first;      /* the first detail or result, or 0 */
+    uint64_t second;     /* the second detail or result, or 0 */
+    uint64_t written;    /* how many bytes the call wrote to its output buffer */
+} shamir_answer;
+
+/* The fields of a mnemonic. Its value isn't among them. */
+typedef struct shamir_share {
+    uint16_t id;              /* the identifier of the backup, 0 to 32767 */
+    uint8_t extendable;       /* the extendable flag, 0 or 1 */
+    uint8_t exponent;         /* the iteration exponent, 0 to 15 */
+    uint8_t group_index;      /* the group, 0 to 15 */
+    uint8_t group_threshold;  /* 1 to group_count */
+    uint8_t group_count;      /* 1 to 16 */
+    uint8_t member_index;     /* the member of the group, 0 to 15 */
+    uint8_t member_threshold; /* 1 to 16 */
+} shamir_share;
+
+/*
+ * Reads one mnemonic.
+ *
+ * line is the mnemonic, without its line feed. Any number of spaces, tabs and carriage returns may stand before, between and
+ * after the words. Upper-case letters count as lower-case ones. A line feed in line counts as part of a word, and the call
+ * refuses that word with 11.
+ *
+ * The fields go to *share, and the value goes to the start of value. written is its length, an even number from
+ * SHAMIR_SECRET_BYTES_MIN to SHAMIR_SECRET_BYTES_MAX. The value is as secret as the mnemonic.
+ *
+ * The call refuses with the first of these that applies: 11 to 15, 1.
+ *
+ *     shamir_share share;
+ *     uint8_t value[SHAMIR_SECRET_BYTES_MAX];
+ *     shamir_answer answer = shamir_parse(line, strlen(line), &share, value, sizeof value);
+ */
+SHAMIR_CALL SHAMIR_STRUCT(3)
+shamir_answer shamir_parse(const char *line, size_t line_bytes, shamir_share *share, uint8_t *value, size_t value_bytes);
+
+/*
+ * Computes how many random bytes shamir_create takes. After success, the field first of the answer is this number.
+ *
+ * plan is the text of the plan: TofN for one group, or GT/T1ofN1,T2ofN2,.. for up to 16 groups. GT is the group threshold,
+ * and at most the number of groups. Each T is the member threshold of a group, and each N is its number of members. T is at
+ * most N, and may be 1 only if N is 1. Each number is from 1 to 16, without leading zeros. A plan has no spaces.
+ *
+ * secret_bytes is the length of the master secret.
+ *
+ * The call refuses with the first of these that applies: 31 to 34, 42. The groups of a plan are judged one after the other, so
+ * the first group that can't be in a plan is refused: 2/1of3,5of2 with 34 for group 0, and not with 33 for group 1.
+ *
+ *     shamir_answer answer = shamir_random_needed("2of3", 4, 16);
+ *     size_t random_bytes = (size_t)answer.first;
+ */
+SHAMIR_CALL
+shamir_answer shamir_random_needed(const char *plan, size_t plan_bytes, size_t secret_bytes);
+
+/*
+ * Creates a backup of a master secret.
+ *
+ * plan          the text of the plan, as for shamir_random_needed
+ * secret        the master secret: an even number of bytes, SHAMIR_SECRET_BYTES_MIN to SHAMIR_SECRET_BYTES_MAX
+ * passphrase    an additional secret, which a recovery needs too: printable ASCII, from the space to ~; it may be empty
+ * exponent      the iteration exponent, 0 to SHAMIR_EXPONENT_MAX
+ * extendable    0, or any other number to set the extendable flag, which leaves the identifier out of the encryption
+ * random        exactly as many bytes as shamir_random_needed gives; they must be unpredictable, and no other backup may use
+ *               them
+ * mnemonics     the output: the mnemonics in the order of groups and members, with a line feed after each; an output buffer
+ *               of SHAMIR_MNEMONICS_BYTES_MAX bytes is always enough
+ *
+ * After success, the field first of the answer is the number of mnemonics.
+ *
+ * Set the extendable flag of a new backup, as the example does. A later backup of the same secret, with the same passphrase and
+ * exponent and this flag, then gives the same secret as the first with every other passphrase too. Leave the flag out only if a
+ * wallet that has to read the backup doesn't know it, because the flag came into the standard later than the rest. For that
+ * reason, the command shamir leaves it out unless it is asked for.
+ *
+ * With a passphrase, give a new backup the exponent 1, as the standard's reference implementation does, or a greater one. The
+ * exponent slows down only guesses of the passphrase, so without one, as in the example, 0 is enough. The command takes 0 by
+ * default. Each step doubles the time of a guess, and of each recovery too, which takes longest in a hardware wallet.
+ *
+ * The call takes 10,000 * 2^exponent iterations of PBKDF2, and twice as many for a secret of more than 64 bytes. If mnemonics
+ * is too short, the call refuses with 1 only after these iterations, and first is the length of all mnemonics.
+ *
+ * The call refuses with the first of these that applies: 2 (an exponent above 15), 31 to 34, 41, 42, 43, 1.
+ *
+ *     static char mnemonics[SHAMIR_MNEMONICS_BYTES_MAX];
+ *     shamir_answer answer = shamir_create("2of3", 4, secret, 16, "", 0, 0, 1, random, 14, mnemonics, sizeof mnemonics);
+ */
+SHAMIR_CALL
+shamir_answer shamir_create(
+    const char *plan, size_t plan_bytes, const uint8_t *secret, size_t secret_bytes, const char *passphrase, size_t passphrase_bytes,
+    uint32_t exponent, uint32_t extendable, const uint8_t *random, size_t random_bytes, char *mnemonics, size_t mnemonics_bytes);
+
+/*
+ * Recovers the master secret from mnemonics.
+ *
+ * lines has any number of lines. Each is a mnemonic as for shamir_parse, or a comment, or blank. A comment starts with #,
+ * after any spaces, tabs and carriage returns. A blank line has only these. A line feed ends a line; the last line may lack
+ * it. A repeated mnemonic changes nothing.
+ *
+ * The call recovers the secret from the first quorum, in the order of shamir_drill, and doesn't try further mnemonics. The
+ * secret goes to the start of secret. written is its length, an even number from SHAMIR_SECRET_BYTES_MIN to
+ * SHAMIR_SECRET_BYTES_MAX.
+ *
+ * expected is the fingerprint that the secret should have: eight hexadecimal digits, in lower or upper case, as
+ * shamir_fingerprint gives them. If the secret has another fingerprint, the call refuses with 52. If expected is empty, nothing
+ * is compared: a wrong passphrase then isn't detected, and gives another secret.
+ *
+ * The exponent of the mnemonics determines how long the call takes: 10,000 * 2^exponent iterations of PBKDF2, and twice as
+ * many for a secret of more than 64 bytes. With the exponent 15 these take minutes. If no line is refused, the mnemonics have
+ * a quorum, and their exponent is above max_exponent, the call refuses with 3 before any iteration, whatever else it could
+ * refuse. SHAMIR_EXPONENT_MAX or a greater number allows every exponent. If secret is too short, the call refuses with 1 only
+ * after the iterations.
+ *
+ * The call refuses with the first of these that applies: 3, 44 (expected is neither empty nor such digits), 41, the code of the
+ * first refused line (11 to 28, 71), 29, 30, 51, 52, 1.
+ *
+ *     uint8_t secret[SHAMIR_SECRET_BYTES_MAX];
+ *     shamir_answer answer = shamir_recover(
+ *         lines, lines_bytes, "TREZOR", 6, SHAMIR_EXPONENT_MAX, "df41d8fe", SHAMIR_FINGERPRINT_BYTES_MAX, secret, sizeof secret);
+ */
+SHAMIR_CALL
+shamir_answer shamir_recover(
+    const char *lines, size_t lines_bytes, const char *passphrase, size_t passphrase_bytes, uint32_t max_exponent, const char *expected,
+    size_t expected_bytes, uint8_t *secret, size_t secret_bytes);
+
+/*
+ * Runs a drill: the call tries the quorums of mnemonics, and lists what each of them recovers.
+ *
+ * lines, passphrase and max_exponent are as for shamir_recover. The cursor is the parameter named "after". If it is empty, the
+ * call starts with the first quorum. If it names a quorum, such as 0.0+0.2+1.0, the call starts with the next one. The call
+ * lists at most limit quorums, and limit is 1 or more.
+ *
+ * The parameter "form" says how a line tells the secret that its quorum recovers. For SHAMIR_FORM_DIGITS, the line has the secret
+ * itself. For SHAMIR_FORM_FINGERPRINTS, it has the fingerprint of the secret, as shamir_fingerprint gives it, and the call writes
+ * no secret. For SHAMIR_FORM_EXPECTED, the line says whether the secret has the fingerprint "expected", which is then eight
+ * hexadecimal digits as for shamir_recover. The other forms don't use expected.
+ *
+ * The listing goes to the start of text, in the format of the command drill. It has a line for each quorum, and a last line:
+ *
+ *     NAMES SECRET                        the quorum recovers this secret, in lower-case hexadecimal digits; or SECRET is its
+ *                                         fingerprint
+ *     NAMES as expected                   the quorum recovers a secret with the expected fingerprint
+ *     NAMES other secret                  the quorum recovers a secret with another fingerprint
+ *     NAMES digest mismatch in group G    G is the lowest group whose digest doesn't match
+ *     NAMES digest mismatch of groups     the digest of the group shares doesn't match
+ *     end                                 this last line says that no quorum is left
+ *     more after NAMES                    this last line says that more quorums are left; NAMES are the next cursor
+ *
+ * A line feed ends every line. NAMES are the names of a quorum in ascending order, joined by plus signs. In the last line they
+ * are those of the last quorum listed. Names are ordered by their group, and then by their member, as numbers: 0.2 comes before
+ * 0.10. Quorums come in ascending order: they are compared by their first names, then by their second names, and so on.
+ *
+ * After success, the field first of the answer is the number of listed quorums, and second is the offset of the last line in
+ * text. The field "mismatches" is the number of listed quorums with a digest mismatch, or with another secret than the expected
+ * one. Neither is a refusal here.
+ *
+ * The call stops at the limit. It also stops before the first quorum whose line, with the last line after it, doesn't fit
+ * into text. A loop that passes the cursor in each last line to the next call lists every quorum exactly once. Copy the cursor
+ * before the next call, because it must not overlap the output buffer. A cursor has at most SHAMIR_NAMES_BYTES_MAX bytes.
+ *
+ * The call refuses with 1 if the line of the first quorum to list and the last line after it don't fit into text. Then
+ * the field "first" of the answer is their length. If no quorum comes after the cursor, the length is 4, for "end" and a line
+ * feed. SHAMIR_LISTING_BYTES_ENOUGH bytes are always enough.
+ *
+ * The mnemonics of a quorum combine to an encrypted secret. Decrypting it takes the iterations of shamir_recover. The quorums
+ * of one backup all combine to the same encrypted secret. A call keeps the results of its last four decryptions, so it
+ * decrypts this encrypted secret only once. The next call decrypts it anew. So use an output buffer of about 65536 bytes: a
+ * drill of a large backup takes many times as long if each call lists only one quorum. If text is too short for one quorum, the
+ * call refuses with 1 only after the iterations.
+ *
+ * The call refuses with the first of these that applies: 3 (as for shamir_recover), 2 (a limit of 0, or a form above 2), 61, 44
+ * (if the form is SHAMIR_FORM_EXPECTED), 41, the code of the first refused line (11 to 28, 71), 29, 30, 62, 1.
+ *
+ *     shamir_answer answer = shamir_drill(
+ *         lines, lines_bytes, "TREZOR", 6, SHAMIR_EXPONENT_MAX, after, after_bytes, 1000, SHAMIR_FORM_FINGERPRINTS, NULL, 0, text,
+ *         sizeof text);
+ *     const char *last_line = text + answer.second;
+ */
+SHAMIR_CALL
+shamir_answer shamir_drill(
+    const char *lines, size_t lines_bytes, const char *passphrase, size_t passphrase_bytes, uint32_t max_exponent, const char *after,
+    size_t after_bytes, uint32_t limit, uint32_t form, const char *expected, size_t expected_bytes, char *text, size_t text_bytes);
+
+/*
+ * Reports how many members of each group are among mnemonics, and whether the mnemonics are enough for a recovery.
+ *
+ * lines is as for shamir_recover. The call needs no passphrase, and decrypts nothing. A repeated mnemonic counts once. The
+ * output goes to the start of text, in the format of the command status. It has at most SHAMIR_STATUS_BYTES_MAX bytes. The first
+ * line is followed by a line for each group that has a member among the mnemonics, in ascending order:
+ *
+ *     groups C of R                   C groups are complete, and the group threshold is R
+ *     group G members N of T NAMES    group G has N members in lines, its member threshold is T, and NAMES are their names
+ *
+ * A line feed ends every line. NAMES are in ascending order, joined by plus signs. After success, the field first of the answer
+ * is C, and second is R. The mnemonics have a quorum if and only if first is at least second. If they have none, the code is
+ * still SHAMIR_DONE.
+ *
+ * The call refuses with the first of these that applies: the code of the first refused line (11 to 28, 71), 29, 1.
+ *
+ *     char text[SHAMIR_STATUS_BYTES_MAX];
+ *     shamir_answer answer = shamir_status(lines, lines_bytes, text, sizeof text);
+ *     int enough = answer.code == SHAMIR_DONE && answer.first >= answer.second;
+ */
+SHAMIR_CALL
+shamir_answer shamir_status(const char *lines, size_t lines_bytes, char *text, size_t text_bytes);
+
+/*
+ * Computes lost mnemonics of a backup from other mnemonics of it.
+ *
+ * plan          the text of the plan of the backup, or of that plan with more members in some groups; the added members are new
+ *               members of this backup
+ * names         the names of the wanted mnemonics, each once and in ascending order (see shamir_drill), joined by plus signs,
+ *               such as 0.1+2.0
+ * lines         the mnemonics, as for shamir_recover
+ * mnemonics     the output: the wanted mnemonics in the order of names, with a line feed after each; an output buffer of
+ *               SHAMIR_MNEMONICS_BYTES_MAX bytes is always enough
+ *
+ * The call needs no passphrase, and decrypts nothing. If a wanted mnemonic is among lines, it is the result. Otherwise the
+ * members of its group that are among lines determine it, if they are at least as many as the member threshold. One member
+ * fewer is enough if the number of other complete groups is at least the group threshold.
+ *
+ * In any other case the mnemonic isn't determined, and the call refuses with 66. Then first is 256 * group + member. Bits 24 to
+ * 31 of second are the number of members of the group in lines, and bits 16 to 23 are the member threshold. Bits 8 to 15 are
+ * the number of other complete groups, and bits 0 to 7 are the group threshold.
+ *
+ * This call is for mnemonics that were destroyed. If somebody else may have a lost mnemonic, create a new backup. If that
+ * person may have a quorum, use a new secret too.
+ *
+ * If mnemonics is too short, the call refuses with 1, and first is the length of all wanted mnemonics.
+ *
+ * The call refuses with the first of these that applies: 31 to 34, 63, 64, the code of the first refused line (11 to 28, 71),
+ * 29, 65, then for each name in turn 66 or 51, then 1.
+ *
+ *     shamir_answer answer = shamir_reissue("2of3", 4, "0.1", 3, lines, lines_bytes, mnemonics, sizeof mnemonics);
+ */
+SHAMIR_CALL
+shamir_answer shamir_reissue(
+    const char *plan, size_t plan_bytes, const char *names, size_t names_bytes, const char *lines, size_t lines_bytes, char *mnemonics,
+    size_t mnemonics_bytes);
+
+/*
+ * Finds the mnemonics that fit a line of which some words can't be read, or finds the place of a wrong word.
+ *
+ * The line is a list of marks, separated as the words of a mnemonic are. Upper-case letters count as lower-case ones. A word of
+ * the word list stands for itself. Letters followed by one "?" stand for every word that begins with these letters, so "?" alone
+ * stands for any word. A place is open if its mark stands for more than one word. A mnemonic fits if shamir_parse accepts it, it
+ * has as many words as the line has marks, and each mark stands for the word at its place. Two mnemonics fit at most, and two
+ * only if the second word is open, because that word holds the extendable flag.
+ *
+ * The mnemonics that fit go to the start of mnemonics, in ascending order of their words' indices in the word list. Each has
+ * lower-case words with single spaces, and a line feed after it. first is how many they are: 1 or 2. SHAMIR_REPAIRED_BYTES_MAX
+ * bytes are always enough.
+ *
+ * Each open place uses up one of the three words of the checksum. With three open places, a wrong word elsewhere isn't always
+ * found, and the call may give another mnemonic. So compare the answer with all that can be read.
+ *
+ * For 11, first is which mark stands for no word, counted from 1. The code is 19 if more than three places are open, and 17 if
+ * one to three are open and no mnemonic fits. The codes 13 to 15 and 18 are for lines with no open place. If the checksum is
+ * wrong and one other word would make a mnemonic of the line, the code is 18: if one word is wrong, it is word number first,
+ * counted from 1, or, if second isn't 0, one of the two. first is then below second. If there is no such word, the code is 13.
+ *
+ * The call refuses with the first of these that applies: 11, 12, 19, 17, 18, 13, 14, 15, 1.
+ *
+ *     char mnemonics[SHAMIR_REPAIRED_BYTES_MAX];
+ *     shamir_answer answer = shamir_repair(line, strlen(line), mnemonics, sizeof mnemonics);
+ */
+SHAMIR_CALL
+shamir_answer shamir_repair(const char *line, size_t line_bytes, char *mnemonics, size_t mnemonics_bytes);
+
+/*
+ * Computes the fingerprint of a master secret, by which its owner can recognise the secret without seeing it.
+ *
+ * The fingerprint is the first four bytes of the HMAC-SHA256 of the secret with the key "shamir fingerprint" (18 bytes). The
+ * call writes it as eight lower-case hexadecimal digits to the start of text. The command shamir gives the same digits.
+ *
+ * About one in 4,294,967,296 other secrets has the same fingerprint. Whoever has the fingerprint can test guesses of the secret
+ * with it.
+ *
+ * The call refuses with the first of these that applies: 42, 1.
+ *
+ *     char text[SHAMIR_FINGERPRINT_BYTES_MAX];
+ *     shamir_answer answer = shamir_fingerprint(secret, 16, text, sizeof text);
+ */
+SHAMIR_CALL
+shamir_answer shamir_fingerprint(const uint8_t *secret, size_t secret_bytes, char *text, size_t text_bytes);
+
+/*
+ * Lists the words of the word list that begin with some letters, such as those that somebody has typed so far.
+ *
+ * The words come in the order of the list, with a line feed after each. Upper-case letters count as lower-case ones. No word
+ * begins with any other byte. If there are no letters, the call gives all 1,024 words. If no word begins with the letters, it
+ * writes nothing, and the code is still SHAMIR_DONE.
+ *
+ * The words go to the start of text. SHAMIR_WORDS_BYTES_MAX bytes are always enough.
+ *
+ * The only refusal is 1.
+ *
+ *     char text[SHAMIR_WORDS_BYTES_MAX];
+ *     shamir_answer answer = shamir_words("em", 2, text, sizeof text);
+ */
+SHAMIR_CALL
+shamir_answer shamir_words(const char *letters, size_t letters_bytes, char *text, size_t text_bytes);
+
+/*
+ * Gives the text of an answer, without its code and its line. For the same refusal, the command shamir prints the same text.
+ *
+ * The call writes the text of the answer to the start of the output buffer. SHAMIR_TEXT_BYTES_MAX bytes are always enough. The
+ * text is "done" for the code 0, "buffer too short: N bytes needed" for 1, "number out of range" for 2, and "exponent E above
+ * the maximum" for 3. The library as plain C gives "no memory left for the call" for 4. If no call returns the code of this
+ * answer, the text is "unknown answer". If some call returns the code, but not together with the details of this answer, the
+ * text may be "unknown answer" too.
+ *
+ * The only refusal is 1.
+ *
+ *     char text[SHAMIR_TEXT_BYTES_MAX];
+ *     shamir_answer told = shamir_text(&answer, text, sizeof text);
+ *     printf("%.*s\n", (int)told.written, text);
+ */
+SHAMIR_CALL_IGNORABLE SHAMIR_STRUCT(1)
+shamir_answer shamir_text(const shamir_answer *answer, char *text, size_t text_bytes);
+
+/*
+ * Gives the version of the library, as SHAMIR_VERSION gives that of the header.
+ *
+ * The version goes to the start of text. SHAMIR_TEXT_BYTES_MAX bytes are enough for it.
+ *
+ * The only refusal is 1.
+ *
+ *     char text[SHAMIR_TEXT_BYTES_MAX];
+ *     shamir_answer told = shamir_version(text, sizeof text);
+ *     printf("%.*s\n", (int)told.written, text);
+ */
+SHAMIR_CALL
+shamir_answer shamir_version(char *text, size_t text_bytes);
+
+/*
+ * Clears a buffer of the caller, such as one that held a secret: every byte of it becomes 0.
+ *
+ * A compiler may leave out a memset of memory that nobody reads again, and can't leave out this call. It refuses nothing, so it
+ * returns no answer.
+ *
+ *     shamir_wipe(secret, sizeof secret);
+ */
+SHAMIR_CALL_IGNORABLE
+void shamir_wipe(void *buffer, size_t buffer_bytes);
+
+#ifdef __cplusplus
+}
+#endif
+
+#endif
