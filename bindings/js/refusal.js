@@ -6,7 +6,10 @@
  */
 export const OF_GROUPS = 16;
 
-/** The codes of an answer. `include/shamir.h` says what each code means, and the `text` of a `Refusal` says it in words. */
+/**
+ * The codes of an answer. The type `Codes` says what each means.
+ * @type {Readonly<import("./types.js").Codes>}
+ */
 export const Code = Object.freeze({
   DONE: 0,
   TOO_SHORT: 1,
@@ -49,7 +52,11 @@ export const Code = Object.freeze({
   LINE_TOO_LONG: 71,
 });
 
-/** The engine refuses the arguments of a call. No field of it holds a secret, a passphrase or a word of a mnemonic. */
+/**
+ * The engine refuses the arguments of a call. No field of it holds a secret, a passphrase or a word of a mnemonic.
+ *
+ * `structuredClone` and `postMessage` make a plain Error of it, and keep its fields in `cause`. `Refusal.from` makes the Refusal again.
+ */
 export class Refusal extends Error {
   /**
    * @param {number} code
@@ -58,15 +65,29 @@ export class Refusal extends Error {
    * @param {string} text
    */
   constructor(code, line, details, text) {
-    super(`${line === null ? "" : `line ${line}: `}${code} ${text}`);
+    super(`${line === null ? "" : `line ${line}: `}${code} ${text}`, { cause: { code, line, details, text } });
     this.name = "Refusal";
     /** The cause, one of `Code`. */
     this.code = code;
     /** The number of the refused line, counted from 1, or null. */
     this.line = line;
-    /** Two numbers; `include/shamir.h` says for each code what they mean. */
+    /** Two numbers; `Codes` says for each code what they mean. */
     this.details = details;
     /** The cause in words. */
     this.text = text;
+  }
+  /**
+   * Returns the refusal of which an error is a clone, or the error itself if it is another one.
+   *
+   *     worker.onmessage = ({ data }) => console.log(Refusal.from(data));
+   *
+   * @param {unknown} error
+   * @returns {unknown}
+   */
+  static from(error) {
+    if (error instanceof Refusal || !(error instanceof Error)) return error;
+    const { code, line, details, text } = /** @type {Partial<Refusal>} */ (error.cause ?? {});
+    if (code === undefined || line === undefined || details === undefined || text === undefined) return error;
+    return new Refusal(code, line, details, text);
   }
 }
