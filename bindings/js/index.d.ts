@@ -8,5 +8,6 @@
  * @returns {Promise<TheEngine>}
  */
 export function open(module?: URL | undefined): Promise<TheEngine>;
+export { refusalOf } from "./clones.js";
 export type TheEngine = import("./shamir.js").Engine;
 export { Code, Engine, EXPONENT_MAX, load, OF_GROUPS, Refusal } from "./shamir.js";

@@ -5,25 +5,12 @@
  */
 export const OF_GROUPS: 16;
 /**
- * The codes of an answer. The type `Codes` says what each means.
+ * The codes of an answer, and what each means.
  * @type {Readonly<import("./types.js").Codes>}
  */
 export const Code: Readonly<import("./types.js").Codes>;
-/**
- * The engine refuses the arguments of a call. No field of it holds a secret, a passphrase or a word of a mnemonic.
- *
- * `structuredClone` and `postMessage` make a plain Error of it, and keep its fields in `cause`. `Refusal.from` makes the Refusal again.
- */
+/** The engine refuses the arguments of a call. No field of it holds a secret, a passphrase or a word of a mnemonic. A clone keeps them in `cause`. */
 export class Refusal extends Error {
-    /**
-     * Returns the refusal of which an error is a clone, or the error itself if it is another one.
-     *
-     *     worker.onmessage = ({ data }) => console.log(Refusal.from(data));
-     *
-     * @param {unknown} error
-     * @returns {unknown}
-     */
-    static from(error: unknown): unknown;
     /**
      * @param {number} code
      * @param {number | null} line

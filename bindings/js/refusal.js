@@ -7,7 +7,7 @@
 export const OF_GROUPS = 16;
 
 /**
- * The codes of an answer. The type `Codes` says what each means.
+ * The codes of an answer, and what each means.
  * @type {Readonly<import("./types.js").Codes>}
  */
 export const Code = Object.freeze({
@@ -52,11 +52,7 @@ export const Code = Object.freeze({
   LINE_TOO_LONG: 71,
 });
 
-/**
- * The engine refuses the arguments of a call. No field of it holds a secret, a passphrase or a word of a mnemonic.
- *
- * `structuredClone` and `postMessage` make a plain Error of it, and keep its fields in `cause`. `Refusal.from` makes the Refusal again.
- */
+/** The engine refuses the arguments of a call. No field of it holds a secret, a passphrase or a word of a mnemonic. A clone keeps them in `cause`. */
 export class Refusal extends Error {
   /**
    * @param {number} code
@@ -75,19 +71,4 @@ export class Refusal extends Error {
     this.details = details;
     /** The cause in words. */
     this.text = text;
-  }
-  /**
-   * Returns the refusal of which an error is a clone, or the error itself if it is another one.
-   *
-   *     worker.onmessage = ({ data }) => console.log(Refusal.from(data));
-   *
-   * @param {unknown} error
-   * @returns {unknown}
-   */
-  static from(error) {
-    if (error instanceof Refusal || !(error instanceof Error)) return error;
-    const { code, line, details, text } = /** @type {Partial<Refusal>} */ (error.cause ?? {});
-    if (code === undefined || line === undefined || details === undefined || text === undefined) return error;
-    return new Refusal(code, line, details, text);
-  }
-}
+  }}

@@ -9,7 +9,7 @@
  *
  * Each call copies its arguments into the worker. Whoever clears arguments can't clear these copies: `end` drops them all.
  */
-import { Refusal } from "./refusal.js";
+import { refusalOf } from "./clones.js";
 
 /** @typedef {import("./types.js").CreateOptions} CreateOptions */
 /** @typedef {import("./types.js").DrillOptions} DrillOptions */
@@ -200,7 +200,7 @@ export class InWorker {
       signal?.addEventListener("abort", stop, { once: true });
       this.#take = ({ result, error }) => {
         signal?.removeEventListener("abort", stop);
-        return error === undefined ? resolve(result) : reject(Refusal.from(error));
+        return error === undefined ? resolve(result) : reject(refusalOf(error));
       };
       this.#fail = (error) => {
         signal?.removeEventListener("abort", stop);

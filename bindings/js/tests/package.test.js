@@ -1,7 +1,7 @@
 /** What the package adds to the engine: its loader, refusals that were cloned, and the engine in a worker. */
 import assert from "node:assert/strict";
 import test from "node:test";
-import { Code, open, Refusal } from "../index.js";
+import { Code, open, Refusal, refusalOf } from "../index.js";
 import { InWorker } from "../worker.js";
 import { FIVE, FIVE_QUORUMS, ONE, PLAN, SECRET, TWO, TWO_SECRET, counting, refused } from "./given.js";
 
@@ -20,11 +20,11 @@ test("a refusal that was cloned has its fields in its cause, and is made again",
   const refusal = refused(21, 2, [0, 0], () => shamir.recover([ONE, TWO[0]]));
   const clone = structuredClone(refusal);
   assert.deepEqual(clone.cause, FIELDS);
-  const again = Refusal.from(clone);
+  const again = refusalOf(clone);
   assert.ok(again instanceof Refusal);
   assert.deepEqual([again.code, again.line, again.details, again.text, again.message], [21, 2, [0, 0], "other identifier", refusal.message]);
-  assert.equal(Refusal.from(refusal), refusal);
-  for (const other of [new Error("other"), new Error("other", { cause: 7 }), "other", null, undefined]) assert.equal(Refusal.from(other), other);
+  assert.equal(refusalOf(refusal), refusal);
+  for (const other of [new Error("other"), new Error("other", { cause: 7 }), "other", null, undefined]) assert.equal(refusalOf(other), other);
 });
 
 test("each call in a worker", async () => {
