@@ -28,7 +28,8 @@ QUORUMS = ["0.0+0.1+1.0", "0.0+0.1+2.0", "0.0+0.2+1.0", "0.0+0.2+2.0", "0.1+0.2+
 COMMAND = [sys.executable, "-B", "-m", "shamir.command"]
 PACKAGE = str(pathlib.Path(shamir.__file__).parent.parent)
 OWN = {**os.environ, "PYTHONPATH": PACKAGE}
-ENOUGH = 60
+# One run may take this many seconds. Even a busy machine needs less.
+ENOUGH = 600
 
 
 def ran(*words, data=b"", **options):
