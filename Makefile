@@ -1,7 +1,7 @@
 # `make` proves and builds the program shamir. It proves as many libraries side by side as the machine can, so it needs no -j.
 # `make test` runs all checks, and `make quick` those that a change concerns. The other targets are:
 #
-#   make lib         proves and builds the library: libshamir.a and libshamir.so
+#   make lib         proves and builds the library: libshamir.a and libshamir.so. It leaves ./shamir-papers, which runs over it
 #   make prove-NAME  proves a library of crates/, after those that it uses
 #   make test-NAME   proves and runs the tests of a library, after the libraries that it uses
 #   make edits       tries the wrong bodies of wrong-bodies/ in rounds, as `make test` does
@@ -26,15 +26,17 @@
 #   make faults      makes each allocation, open, read and write of the program fail in turn
 #   make compare     compares the program, and the repair of the library, with a plain reading of the standard in Python, on
 #                    generated cases; and the page and shamir-papers with the program
+#   make check-command  compares the command shamir of the Python package with the program, on generated command lines
 #   make bench       measures speed
-#   make install     installs the program, the library and the page into the folders below, under DESTDIR. It proves nothing. If
-#                    one of them isn't up to date, it says so and installs nothing. Without DESTDIR, it lets the loader know of
-#                    the library if it can, and otherwise says what is left to do (packaging/loader)
-#   make install-bin, make install-lib, make install-page   install the program, the library or the page as it is here, up to
-#                    date or not
-#   make uninstall   uninstalls all three
-#   make wheel       builds a wheel of the Python package, with libshamir.so and shamir-papers in it
-#   make deb         builds the Debian packages shamir (with the page in it), libshamir1, libshamir-dev and shamir-papers
+#   make install     installs the program, the library, the page and shamir-papers into the folders below, under DESTDIR. It proves
+#                    nothing. If one of them isn't up to date, it says so and installs nothing. Without DESTDIR, it lets the loader
+#                    know of the library if it can, and otherwise says what is left to do (packaging/loader)
+#   make install-bin, make install-lib, make install-page, make install-papers   install the program, the library, the page or
+#                    shamir-papers as it is here, up to date or not
+#   make uninstall   uninstalls all four
+#   make wheel       builds a wheel of the Python package, with libshamir.so and the commands shamir and shamir-papers in it
+#   make deb         builds the Debian packages shamir (with the page in it), libshamir1, libshamir-dev, python3-shamir and
+#                    shamir-papers
 #   make check-packages  installs, runs and uninstalls what `make install`, `make wheel` and `make deb` make, and unpacks an
 #                    archive of the sources, such as `make dist` makes
 #   make dist        packs the committed sources, builds the page, and writes the sha256 of both and what they were made with.
@@ -53,6 +55,7 @@ INCLUDEDIR ?= $(PREFIX)/include
 MANDIR ?= $(PREFIX)/share/man
 DOCDIR ?= $(PREFIX)/share/doc/shamir
 PAGEDIR ?= $(PREFIX)/share/shamir
+PYTHONDIR ?= $(PREFIX)/share/shamir/python
 BASHDIR ?= $(PREFIX)/share/bash-completion/completions
 ZSHDIR ?= $(PREFIX)/share/zsh/site-functions
 FISHDIR ?= $(PREFIX)/share/fish/vendor_completions.d
@@ -69,7 +72,9 @@ override INCLUDEDIR := $(abspath $(INCLUDEDIR))
 CPU = x86-64
 # The logic of the kit decides what is proved. `rt version` prints its sum, and README.md names it.
 LOGIC = dac8208d650f15bf
-TELL_OF_KIT = @found=$$($(RT) version 2> /dev/null) || found="no version"; case "$$found" in *" logic $(LOGIC)") ;; \
+# Without rt, a target that proves says so before anything else.
+TELL_OF_KIT = @command -v $(RT) > /dev/null || { echo "make: $(RT) of the kit isn't on the path, so nothing can be proved or built: README.md says what the kit is, and whom to ask without it" >&2; exit 1; }; \
+	found=$$($(RT) version 2> /dev/null) || found="no version"; case "$$found" in *" logic $(LOGIC)") ;; \
 	*) echo "make: 'rt version' says '$$found', and README.md names a kit with logic $(LOGIC)" >&2 ;; esac
 # These crates are programs for measurements and checks.
 TOOLS = s39_bench s39_allocations s39_timing
@@ -93,7 +98,7 @@ SOURCES = $(shell find crates -path '*/out' -prune -o -type f -print) crates.txt
 
 TIMING = crates/s39_timing/out/timing
 
-.PHONY: all lib wasm portable page test quick edits twins check check-library check-js check-page check-papers check-packages check-secrets bench faults compare install install-bin install-lib install-page uninstall wheel deb dist clean
+.PHONY: all lib wasm portable page test quick edits twins check check-library check-js check-page check-papers check-packages check-secrets bench faults compare install install-bin install-lib install-page install-papers uninstall wheel deb dist clean
 
 all: shamir
 
@@ -104,7 +109,7 @@ shamir: $(SOURCES)
 	cd crates/$(PROGRAM) && $(RT) run --cpu=$(CPU) -- show < stdin > /dev/null
 	cp crates/$(PROGRAM)/out/$(PROGRAM) $@
 
-lib: libshamir.so $(SONAME)
+lib: libshamir.so $(SONAME) shamir-papers
 
 # Proves every crate that the library uses, and builds the archive.
 libshamir.a: $(SOURCES)
@@ -118,6 +123,10 @@ libshamir.so: libshamir.a packaging/libshamir.map
 		-o $@ -Wl,--whole-archive libshamir.a -Wl,--no-whole-archive
 	cp $@ bindings/python/shamir/libshamir.so
 	cp NOTICE bindings/python/NOTICE
+
+# Runs from this folder, over libshamir.so.
+shamir-papers: packaging/shamir-papers
+	cp $< $@
 
 # The loader looks for the library under this name, also for a program that is linked in this folder.
 $(SONAME): libshamir.so
@@ -142,7 +151,7 @@ PACKAGES_CHECKS = check-debs check-installed
 SECRETS_CHECKS = check-leftovers check-timing
 PAGE_PARTS = privacy refusals tasks entry looks astray hasty long agreement ways
 PAGE_CHECKS = $(foreach part,$(PAGE_PARTS),check-page-firefox-$(part) check-page-chromium-$(part)) check-page-sources
-CHECKS = $(LIBRARY_CHECKS) $(PACKAGES_CHECKS) check-allocations check-terminal check-recipes check-completions check-values \
+CHECKS = $(LIBRARY_CHECKS) $(PACKAGES_CHECKS) check-allocations check-terminal check-recipes check-completions check-values check-command \
 	check-examples check-texts check-figures check-manual check-version
 LONGEST = check-page-firefox-privacy check-page-chromium-privacy check-header check-rust check-leftovers check-papers check-vectors $(PACKAGES_CHECKS)
 PART = @$(PYTHON) tools/part $@
@@ -199,6 +208,9 @@ check-completions: shamir libshamir.so
 
 check-terminal: shamir
 	$(PART) tools/terminal
+
+check-command: shamir libshamir.so
+	$(PART) $(PYTHON) tools/command
 
 check-values: shamir
 	$(PART) tools/values
@@ -258,6 +270,7 @@ faults: shamir
 compare: shamir libshamir.so shamir32.wasm shamir.html
 	@tools/compare
 	@tools/repairs
+	@tools/command --lines 5000
 	@tools/module
 	@$(PYTHON) tools/check_page --cases 200 agreement
 	@$(PYTHON) tools/check_papers --cases 300 agreement
@@ -268,8 +281,8 @@ bench: shamir shamir32.wasm
 
 install:
 	@stale=; for file in shamir libshamir.a libshamir.so shamir.html; do $(MAKE) -s -q $$file 2> /dev/null || stale="$$stale $$file"; done; \
-	test -z "$$stale" || { echo "make install: first 'make$$stale', which proves them; or 'make install-bin install-lib install-page', which installs what is built here" >&2; exit 1; }
-	@$(MAKE) install-bin install-lib install-page
+	test -z "$$stale" || { echo "make install: first 'make$$stale', which proves them; or 'make install-bin install-lib install-page install-papers', which installs what is built here" >&2; exit 1; }
+	@$(MAKE) install-bin install-lib install-page install-papers
 
 install-bin:
 	@test -f shamir || { echo "make install-bin: ./shamir isn't here: 'make' proves and builds it" >&2; exit 1; }
@@ -309,12 +322,30 @@ install-page:
 	$(INSTALL) -d "$(DESTDIR)$(PAGEDIR)"
 	$(INSTALL) -m 644 shamir.html "$(DESTDIR)$(PAGEDIR)/shamir.html"
 
+# The command finds its modules and the library by the folders that are given here.
+install-papers:
+	$(INSTALL) -d "$(DESTDIR)$(BINDIR)" "$(DESTDIR)$(MANDIR)/man1" "$(DESTDIR)$(BASHDIR)" "$(DESTDIR)$(ZSHDIR)" "$(DESTDIR)$(FISHDIR)" \
+		"$(DESTDIR)$(PYTHONDIR)/shamir/command" "$(DESTDIR)$(PYTHONDIR)/shamir/papers"
+	printf '#!/bin/sh\nexec env "SHAMIR_LIBRARY=%s" "PYTHONPATH=%s" python3 -B -m shamir.papers "$$@"\n' "$(LIBDIR)/$(SONAME)" "$(PYTHONDIR)" > "$(DESTDIR)$(BINDIR)/shamir-papers"
+	chmod 755 "$(DESTDIR)$(BINDIR)/shamir-papers"
+	$(INSTALL) -m 644 bindings/python/shamir/*.py bindings/python/shamir/py.typed "$(DESTDIR)$(PYTHONDIR)/shamir"
+	$(INSTALL) -m 644 bindings/python/shamir/command/*.py "$(DESTDIR)$(PYTHONDIR)/shamir/command"
+	$(INSTALL) -m 644 bindings/python/shamir/papers/*.py page/texts.js "$(DESTDIR)$(PYTHONDIR)/shamir/papers"
+	$(INSTALL) -m 644 man/shamir-papers.1 "$(DESTDIR)$(MANDIR)/man1/shamir-papers.1"
+	$(INSTALL) -m 644 completions/shamir-papers.bash "$(DESTDIR)$(BASHDIR)/shamir-papers"
+	$(INSTALL) -m 644 completions/_shamir-papers "$(DESTDIR)$(ZSHDIR)/_shamir-papers"
+	$(INSTALL) -m 644 completions/shamir-papers.fish "$(DESTDIR)$(FISHDIR)/shamir-papers.fish"
+
 uninstall:
 	rm -f "$(DESTDIR)$(BINDIR)/shamir" "$(DESTDIR)$(MANDIR)/man1/shamir.1"
 	rm -f "$(DESTDIR)$(BASHDIR)/shamir" "$(DESTDIR)$(ZSHDIR)/_shamir" "$(DESTDIR)$(FISHDIR)/shamir.fish"
 	rm -f "$(DESTDIR)$(LIBDIR)/libshamir.a" "$(DESTDIR)$(LIBDIR)/libshamir.so" "$(DESTDIR)$(LIBDIR)/$(SONAME)" "$(DESTDIR)$(LIBDIR)/libshamir.so.$(VERSION)"
 	rm -f "$(DESTDIR)$(LIBDIR)/pkgconfig/shamir.pc" "$(DESTDIR)$(INCLUDEDIR)/shamir.h"
 	rm -f "$(DESTDIR)$(PAGEDIR)/shamir.html"
+	rm -f "$(DESTDIR)$(BINDIR)/shamir-papers" "$(DESTDIR)$(MANDIR)/man1/shamir-papers.1"
+	rm -f "$(DESTDIR)$(BASHDIR)/shamir-papers" "$(DESTDIR)$(ZSHDIR)/_shamir-papers" "$(DESTDIR)$(FISHDIR)/shamir-papers.fish"
+	rm -rf "$(DESTDIR)$(PYTHONDIR)/shamir"
+	rmdir "$(DESTDIR)$(PYTHONDIR)" 2> /dev/null; true
 	rmdir "$(DESTDIR)$(PAGEDIR)" 2> /dev/null; true
 	for page in shamir $$($(CALLS)); do rm -f "$(DESTDIR)$(MANDIR)/man3/$$page.3"; done
 	cd "$(DESTDIR)$(DOCDIR)" && rm -f $(DOCUMENTS) docs/*.md docs/*.png examples/*.txt examples/*.sh examples/c/*.c && \
@@ -353,7 +384,7 @@ shamir.html: shamir32.wasm tools/page $(wildcard page/*.js page/*.html page/*.cs
 	@tools/page
 
 clean:
-	rm -rf shamir libshamir.a libshamir.so $(SONAME) shamir.wasm shamir32.wasm shamir.html page/out bindings/python/shamir/libshamir.so bindings/python/NOTICE shamir-$(VERSION).tar.gz shamir-$(VERSION).sha256 shamir-$(VERSION).txt shamir-*.whl *.deb crates/*/out
+	rm -rf shamir shamir-papers libshamir.a libshamir.so $(SONAME) shamir.wasm shamir32.wasm shamir.html page/out bindings/python/shamir/libshamir.so bindings/python/NOTICE bindings/js/shamir32.wasm bindings/js/LICENSE bindings/js/NOTICE shamir-$(VERSION).tar.gz shamir-$(VERSION).sha256 shamir-$(VERSION).txt shamir-*.whl *.deb crates/*/out
 
 # prove-NAME proves the library NAME once those are proved that it uses. `rt` looks at the contents of all files, and proves only
 # what changed.

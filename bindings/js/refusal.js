@@ -6,7 +6,10 @@
  */
 export const OF_GROUPS = 16;
 
-/** The codes of an answer. `include/shamir.h` says what each code means, and the `text` of a `Refusal` says it in words. */
+/**
+ * The codes of an answer, and what each means.
+ * @type {Readonly<import("./types.js").Codes>}
+ */
 export const Code = Object.freeze({
   DONE: 0,
   TOO_SHORT: 1,
@@ -50,7 +53,7 @@ export const Code = Object.freeze({
   LINE_TOO_LONG: 71,
 });
 
-/** The engine refuses the arguments of a call. No field of it holds a secret, a passphrase or a word of a mnemonic. */
+/** The engine refuses the arguments of a call. No field of it holds a secret, a passphrase or a word of a mnemonic. A clone keeps them in `cause`. */
 export class Refusal extends Error {
   /**
    * @param {number} code
@@ -59,15 +62,14 @@ export class Refusal extends Error {
    * @param {string} text
    */
   constructor(code, line, details, text) {
-    super(`${line === null ? "" : `line ${line}: `}${code} ${text}`);
+    super(`${line === null ? "" : `line ${line}: `}${code} ${text}`, { cause: { code, line, details, text } });
     this.name = "Refusal";
     /** The cause, one of `Code`. */
     this.code = code;
     /** The number of the refused line, counted from 1, or null. */
     this.line = line;
-    /** Two numbers; `include/shamir.h` says for each code what they mean. */
+    /** Two numbers; `Codes` says for each code what they mean. */
     this.details = details;
     /** The cause in words. */
     this.text = text;
-  }
-}
+  }}

@@ -30,8 +30,12 @@ KEY = re.compile(r'\bsay\(\s*"([^"]+)"')
 
 
 def modules(page):
-    """Returns the sources that go into the page."""
-    return [*sorted(page.glob("*.js")), *sorted((page.parent / "bindings/js").glob("*.js")), page / "frame.html", page / "style.css"]
+    """Returns the sources that go into the page: its own, and those of bindings/js that these import."""
+    found = [path.resolve() for path in sorted(page.glob("*.js"))]
+    for path in found:
+        imported = [(path.parent / name).resolve() for name in re.findall(r'^(?:import|export) \{[^}]*\} from "(\.[^"]+)";$', path.read_text(), re.MULTILINE)]
+        found += [other for other in dict.fromkeys(imported) if other not in found]
+    return [*found, page / "frame.html", page / "style.css"]
 
 
 def check_forbidden(page):

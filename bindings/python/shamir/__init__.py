@@ -84,7 +84,50 @@ MORE = b"more after "
 class Code(enum.IntEnum):
     """The codes of an answer. Their names are those of shamir.h, without SHAMIR_ or SHAMIR_E_.
 
-    shamir.h says what each code means, and `Refusal.text` says it in words.
+    `Refusal.text` says in words what a code means. Here, what stands after "first" and "second" is the two numbers of
+    `Refusal.details`; others are 0. Groups and members are numbered from 0.
+
+    DONE (0): the call succeeded
+    TOO_SHORT (1): the output buffer is too short; first: the number of bytes needed
+    OUT_OF_RANGE (2): a number is out of range
+    HIGH_EXPONENT (3): the exponent of the mnemonics is above `max_exponent`; first: this exponent
+    NO_MEMORY (4): no memory is left for the call. Only the library as plain C gives this
+    UNKNOWN_WORD (11): a word isn't in the word list; first: which word of the line it is, from 1
+    WORD_COUNT (12): a mnemonic can't have this number of words; first: the number of words
+    BAD_CHECKSUM (13): the checksum is wrong
+    BAD_PADDING (14): a padding bit isn't 0
+    GROUP_THRESHOLD (15): the group threshold is above the group count
+    NO_MNEMONIC (17): no mnemonic fits a line of marks
+    WRONG_WORD (18): the checksum is wrong; first, second: see `repair`
+    UNREADABLE_WORDS (19): more than three places of a line are open; first: how many are
+    OTHER_IDENTIFIER (21): the identifier differs from that of earlier lines
+    OTHER_EXTENDABLE (22): the extendable flag differs from that of earlier lines
+    OTHER_EXPONENT (23): the iteration exponent differs from that of earlier lines
+    OTHER_GROUP_THRESHOLD (24): the group threshold differs from that of earlier lines
+    OTHER_GROUP_COUNT (25): the group count differs from that of earlier lines
+    OTHER_LENGTH (26): the length of the value differs from that of earlier lines
+    OTHER_MEMBER_THRESHOLD (27): the group has another member threshold in earlier lines; first: the group
+    CONFLICTING_SHARE (28): this name has another value in an earlier line; first: the group, second: the member
+    NO_SHARES (29): no line holds a mnemonic
+    INCOMPLETE (30): too few groups are complete; first: how many are, second: the group threshold
+    BAD_PLAN (31): the text isn't a plan
+    PLAN_GROUPS (32): the plan has more than 16 groups, or fewer than its group threshold
+    PLAN_MEMBERS (33): a group has more than 16 members, or fewer than its threshold; first: the group
+    ONE_OF_MANY (34): a group has several members and the member threshold 1; first: the group
+    PASSPHRASE (41): a byte of the passphrase isn't printable ASCII; first: which byte it is, from 1
+    SECRET_LENGTH (42): a secret can't have this number of bytes; first: the number of bytes
+    RANDOM_LENGTH (43): the number of random bytes is wrong; first: the number of bytes needed
+    BAD_FINGERPRINT (44): the expected fingerprint isn't eight hexadecimal digits
+    DIGEST_MISMATCH (51): a digest doesn't match; first: the group, or OF_GROUPS for the group shares
+    OTHER_SECRET (52): the secret has another fingerprint than the expected one
+    BAD_CURSOR (61): the cursor isn't a list of names
+    NOT_A_QUORUM (62): the cursor doesn't name a quorum of these mnemonics
+    BAD_NAMES (63): the text isn't a list of names
+    NOT_IN_PLAN (64): a name isn't in the plan; first: the group, second: the member
+    OTHER_PLAN (65): a mnemonic can't belong to a backup of this plan
+    UNDETERMINED (66): a mnemonic isn't determined; first: 256 * group + member, second: its four bytes are the
+        members at hand, the member threshold, the other complete groups, and the group threshold
+    LINE_TOO_LONG (71): a line has more than 1,024 bytes
     """
 
     DONE = 0
@@ -213,7 +256,7 @@ class Refusal(Exception):
 
     `code` is the cause, and `text` says it in words. The code is a member of `Code`, or an int if a later library gives a
     code that this version of the package doesn't know. `line` is the number of the refused line, counted from 1, or
-    None. `details` are two numbers, and shamir.h says for each code what they mean. For Code.INCOMPLETE they are the
+    None. `details` are two numbers, and `Code` says for each code what they mean. For Code.INCOMPLETE they are the
     number of complete groups and the group threshold.
     """
 
@@ -513,21 +556,44 @@ def drill(
 
     Raises `Refusal` with one of the codes 3, 11 to 30, 41, 44, 61, 62 or 71.
     """
-    data = _joined(lines)
-    options = _slice(_bytes(passphrase)) + (_number(max_exponent, ctypes.c_uint32),)
+    data, key = _joined(lines), _bytes(passphrase)
     form = _form(fingerprints, expect)
+    listing = _listed(data, key, after, LIMIT_MAX, form, expect, max_exponent)
+    while True:
+        yield from (_outcome(line, form) for line in listing.outcomes.splitlines())
+        if listing.cursor is None:
+            return
+        listing = _listed(data, key, listing.cursor, LIMIT_MAX, form, expect, max_exponent)
+
+
+@dataclass(frozen=True, repr=False)
+class _Listing:
+    """A part of a drill: the lines of its outcomes, its last line, and the cursor of the next part if there is one.
+
+    `quorums` is the number of outcomes, and `mismatches` counts those with a digest mismatch or another secret than the expected one.
+    """
+
+    outcomes: bytes
+    last: bytes
+    cursor: Optional[bytes]
+    quorums: int
+    mismatches: int
+
+
+def _listed(
+    data: bytes, key: bytes, after: Optional[Text], limit: int, form: int, expect: Optional[Text], max_exponent: int = EXPONENT_MAX
+) -> _Listing:
+    """Return the part of a drill after a quorum. It has at most `limit` quorums, and as many as fit into 64 KiB of output."""
     # For the library an empty cursor is the start. An empty `after` isn't a cursor here: a plus sign, which the library
     # refuses as a cursor, takes its place.
     cursor = b"" if after is None else _bytes(after) or b"+"
-    while True:
-        given = _slice(data) + options + _slice(cursor) + (LIMIT_MAX, form) + _slice(_expected(expect))
-        text, answer = _answered(lambda out, room: _library.shamir_drill(*given, out, room), DRILL_ROOM)
-        # The answer says where the last line begins.
-        listed, last = text[: answer.second], text[answer.second :].rstrip(b"\n")
-        yield from (_outcome(line, form) for line in listed.splitlines())
-        if not last.startswith(MORE):
-            return
-        cursor = last[len(MORE) :]
+    options = _slice(key) + (_number(max_exponent, ctypes.c_uint32),) + _slice(cursor)
+    given = _slice(data) + options + (limit, form) + _slice(_expected(expect))
+    text, answer = _answered(lambda out, room: _library.shamir_drill(*given, out, room), DRILL_ROOM)
+    # The answer says where the last line begins.
+    outcomes, last = text[: answer.second], text[answer.second :]
+    following = last[len(MORE) :].rstrip(b"\n") if last.startswith(MORE) else None
+    return _Listing(outcomes, last, following, answer.first, answer.mismatches)
 
 
 def _form(fingerprints: bool, expect: Optional[Text]) -> int:

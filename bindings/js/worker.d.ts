@@ -1,0 +1,85 @@
+/** The engine in a worker of its own, which starts at the first call. Calls run one after the other. */
+export class InWorker {
+    /** @param {URL} [module] Where the module of the engine is, if it isn't beside the package's files. */
+    constructor(module?: URL | undefined);
+    /** Ends the worker, and with it what its memory holds. The next call starts another one. */
+    end(): void;
+    /**
+     * @param {Text} plan
+     * @param {Uint8Array} secret
+     * @param {CreateOptions} [options]
+     * @param {AbortSignal} [signal]
+     * @returns {Promise<string[]>}
+     */
+    create(plan: Text, secret: Uint8Array, options?: import("./types.js").CreateOptions | undefined, signal?: AbortSignal | undefined): Promise<string[]>;
+    /**
+     * @param {Lines} lines
+     * @param {RecoverOptions} [options]
+     * @param {AbortSignal} [signal]
+     * @returns {Promise<Uint8Array>}
+     */
+    recover(lines: Lines, options?: import("./types.js").RecoverOptions | undefined, signal?: AbortSignal | undefined): Promise<Uint8Array>;
+    /**
+     * Yields what each quorum recovers, as `drill` of the engine does. The worker computes it in parts of a fifth of a second.
+     * @param {Lines} lines
+     * @param {DrillOptions} [options]
+     * @param {AbortSignal} [signal]
+     * @returns {AsyncGenerator<Outcome, void, void>}
+     */
+    drill(lines: Lines, options?: import("./types.js").DrillOptions | undefined, signal?: AbortSignal | undefined): AsyncGenerator<Outcome, void, void>;
+    /**
+     * @param {Lines} lines
+     * @param {AbortSignal} [signal]
+     * @returns {Promise<Status>}
+     */
+    status(lines: Lines, signal?: AbortSignal | undefined): Promise<Status>;
+    /**
+     * @param {Text} plan
+     * @param {Text} names
+     * @param {Lines} lines
+     * @param {AbortSignal} [signal]
+     * @returns {Promise<string[]>}
+     */
+    reissue(plan: Text, names: Text, lines: Lines, signal?: AbortSignal | undefined): Promise<string[]>;
+    /**
+     * @param {Text} line
+     * @param {AbortSignal} [signal]
+     * @returns {Promise<string[]>}
+     */
+    repair(line: Text, signal?: AbortSignal | undefined): Promise<string[]>;
+    /**
+     * @param {Text} mnemonic
+     * @param {AbortSignal} [signal]
+     * @returns {Promise<Share>}
+     */
+    parse(mnemonic: Text, signal?: AbortSignal | undefined): Promise<Share>;
+    /**
+     * @param {Uint8Array} secret
+     * @param {AbortSignal} [signal]
+     * @returns {Promise<string>}
+     */
+    fingerprint(secret: Uint8Array, signal?: AbortSignal | undefined): Promise<string>;
+    /**
+     * @param {Text} letters
+     * @param {AbortSignal} [signal]
+     * @returns {Promise<string[]>}
+     */
+    words(letters: Text, signal?: AbortSignal | undefined): Promise<string[]>;
+    #private;
+}
+export type CreateOptions = import("./types.js").CreateOptions;
+export type DrillOptions = import("./types.js").DrillOptions;
+export type Lines = import("./types.js").Lines;
+export type Outcome = import("./types.js").Outcome;
+export type RecoverOptions = import("./types.js").RecoverOptions;
+export type Share = import("./types.js").Share;
+export type Status = import("./types.js").Status;
+export type Text = import("./types.js").Text;
+export type Side = {
+    send(message: unknown): void;
+    end(): void;
+};
+export type Take = (message: {
+    result?: any;
+    error?: unknown;
+}) => void;

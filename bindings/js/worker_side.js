@@ -1,0 +1,52 @@
+/** What runs in the worker of `worker.js`: it makes one call after the other. */
+import { open } from "./index.js";
+
+/** @typedef {import("./types.js").Outcome} Outcome */
+/** @typedef {{ name: string, given: any[], module: string | undefined }} Request */
+
+// A part of a drill ends after this time, or at its end.
+const PART_MILLISECONDS = 200;
+const THREADS = "node:worker_threads";
+
+/** @type {Promise<import("./shamir.js").Engine> | undefined} */
+let opened;
+
+/**
+ * Returns the outcomes of a drill for a while, and whether that was its end.
+ * @param {import("./shamir.js").Engine} engine
+ * @param {any[]} given
+ */
+function part(engine, given) {
+  const start = Date.now();
+  /** @type {Outcome[]} */
+  const outcomes = [];
+  for (const outcome of engine.drill(given[0], given[1])) {
+    outcomes.push(outcome);
+    if (Date.now() - start > PART_MILLISECONDS) return { outcomes, isEnd: false };
+  }
+  return { outcomes, isEnd: true };
+}
+
+/**
+ * Makes a call, and returns its result or its error.
+ * @param {Request} request
+ */
+async function answered({ name, given, module }) {
+  try {
+    opened ??= module === undefined ? open() : open(new URL(module));
+    const engine = await opened;
+    const call = /** @type {Record<string, (...given: any[]) => unknown>} */ (/** @type {unknown} */ (engine))[name];
+    return { result: name === "drill" ? part(engine, given) : call.apply(engine, given) };
+  } catch (error) {
+    return { error };
+  }
+}
+
+/** @typedef {{ postMessage(message: unknown): void }} Outside */
+
+if (typeof globalThis.postMessage === "function") {
+  globalThis.onmessage = async ({ data }) => /** @type {Outside} */ (/** @type {unknown} */ (globalThis)).postMessage(await answered(data));
+} else {
+  const { parentPort } = await import(THREADS);
+  parentPort.on("message", async (/** @type {Request} */ request) => parentPort.postMessage(await answered(request)));
+}

@@ -1,0 +1,118 @@
+"""Checks of tools/packages for what is made of the Python package: the wheel of `make wheel`, which is installed in a fresh environment
+without a network, tried, and uninstalled; and an archive of the sources."""
+import os
+import pathlib
+import re
+import shutil
+import subprocess
+import sys
+import tarfile
+import tempfile
+
+from left_out import left_out
+
+ROOT = pathlib.Path(__file__).resolve().parent.parent
+
+
+def interpreter():
+    """Returns a Python that can build wheels, or None."""
+    for python in [sys.executable, "/usr/bin/python3"]:
+        wheels = "import setuptools; from setuptools.command.bdist_wheel import bdist_wheel", "import setuptools, wheel.bdist_wheel"
+        if shutil.which(python) and any(not subprocess.run([python, "-c", words], capture_output=True).returncode for words in wheels):
+            return python
+    return None
+
+
+def check_papers(library, command, environment):
+    """Checks that shamir-papers runs where it is installed: its version, its help, and what it says where there is no terminal."""
+    told = [subprocess.run([*command, *words], env=environment, stdin=subprocess.DEVNULL, capture_output=True, text=True) for words in (["--version"], ["new", "--help"], ["check"])]
+    version = f"shamir-papers {library.of_makefile('VERSION')}\n"
+    if [it.returncode for it in told] != [0, 0, 2] or told[0].stdout != version or "PLAN" not in told[1].stdout or "terminal" not in told[2].stderr:
+        sys.exit(f"shamir-papers where it is installed: {told}")
+
+
+def check_command(library, command, environment):
+    """Checks that the command `shamir` of the Python package runs where it is installed: its version, and a drill of an example."""
+    words = ["drill", "--expect", "df41d8fe", "--passphrase-file", str(ROOT / "examples" / "passphrase.txt"), "--limit", "2"]
+    mnemonics = (ROOT / "examples" / "three-groups.txt").read_bytes()
+    told = [subprocess.run([*command, *it], env=environment, input=mnemonics, capture_output=True) for it in (["--version"], words)]
+    listed = b"0.0+0.1+1.0 as expected\n0.0+0.1+2.0 as expected\nmore after 0.0+0.1+2.0\n"
+    version = f"shamir {library.of_makefile('VERSION')}\n".encode()
+    if [(it.returncode, it.stdout, it.stderr) for it in told] != [(0, version, b""), (0, listed, b"")]:
+        sys.exit(f"the command shamir where it is installed: {told}")
+
+
+def check_wheel(library, python):
+    """Builds the wheel twice, and compares the two. Installs it in a fresh environment without a network, runs the binding's
+    tests with it, and uninstalls it."""
+    with tempfile.TemporaryDirectory() as folder:
+        one, other = made_wheel(library, python, f"{folder}/one", 0o022), made_wheel(library, python, f"{folder}/other", 0o077)
+        if one.read_bytes() != other.read_bytes():
+            sys.exit("the same files give two wheels under two umasks")
+        environment = f"{folder}/venv"
+        library.output_of([sys.executable, "-m", "venv", environment])
+        pip, there = [f"{environment}/bin/python", "-m", "pip", "--disable-pip-version-check", "-q"], pathlib.Path(folder, "tests")
+        library.output_of([*pip, "install", "--no-index", "--no-deps", str(one)])
+        shutil.copytree(ROOT / "bindings" / "python" / "tests", there / "tests", ignore=shutil.ignore_patterns("__pycache__"))
+        clean = {name: value for name, value in os.environ.items() if name not in {"SHAMIR_LIBRARY", "PYTHONPATH"}}
+        run = [f"{environment}/bin/python", "-B", "-m", "unittest", "discover", "-s", str(there / "tests")]
+        done = subprocess.run(run, cwd=folder, env=clean, capture_output=True, text=True)
+        if done.returncode:
+            sys.exit(f"the binding's tests by the wheel: {done.stderr}")
+        check_papers(library, [f"{environment}/bin/shamir-papers"], clean)
+        check_command(library, [f"{environment}/bin/shamir"], clean)
+        files = library.output_of([*pip[:-1], "show", "-f", "shamir"])
+        if "NOTICE" not in files or "py.typed" not in files or f"Version: {library.of_makefile('VERSION')}\n" not in files:
+            sys.exit(f"the wheel lacks something: {files}")
+        library.output_of([*pip, "uninstall", "-y", "shamir"])
+
+
+def check_sources(python):
+    """Checks that an archive of the package's sources has no built library, even if one is there."""
+    with tempfile.TemporaryDirectory() as folder:
+        binding, result = pathlib.Path(folder, "python"), pathlib.Path(folder, "result")
+        shutil.copytree(ROOT / "bindings" / "python", binding, ignore=shutil.ignore_patterns("__pycache__"))
+        for name, kept in [("libshamir.so", binding / "shamir"), ("NOTICE", binding)]:
+            shutil.copy(ROOT / name, kept)
+        result.mkdir()
+        words = [python, "-c", "import sys; from setuptools import build_meta; build_meta.build_sdist(sys.argv[1])", str(result)]
+        done = subprocess.run(words, cwd=binding, capture_output=True, text=True)
+        if done.returncode:
+            sys.exit(f"no archive of the package's sources is made: {done.stderr}")
+        [archive] = result.iterdir()
+        with tarfile.open(archive) as opened:
+            names = {name.partition("/")[2] for name in opened.getnames()}
+    missing = {"setup.py", "pyproject.toml", "README.md", "MANIFEST.in", "shamir/__init__.py", "shamir/cuts.py", "shamir/mnemonic.py", "shamir/command/program.py", "shamir/py.typed"} - names
+    built = [name for name in names if ".so" in name]
+    if missing or built:
+        sys.exit(f"the archive of the package's sources lacks {sorted(missing)}, and has {built}")
+
+
+def made_wheel(library, python, folder, umask):
+    pathlib.Path(folder).mkdir()
+    library.output_of([python, "tools/wheel", folder], umask=umask)
+    [wheel] = pathlib.Path(folder).iterdir()
+    if not re.fullmatch(r"shamir-[0-9.]+-py3-none-manylinux_2_\d+_x86_64\.whl", wheel.name):
+        sys.exit(f"the wheel is named {wheel.name}")
+    return wheel
+
+
+def check_no_library(python):
+    """Checks that building a wheel without the library fails, and that the message says why."""
+    with tempfile.TemporaryDirectory() as folder:
+        for name in ["bindings/python", "page", "tools"]:
+            shutil.copytree(ROOT / name, f"{folder}/{name}", ignore=shutil.ignore_patterns("*.so", "__pycache__", "NOTICE", "out"))
+        done = subprocess.run([python, f"{folder}/tools/wheel", folder], capture_output=True, text=True)
+    if done.returncode == 0 or "libshamir.so isn't here, and the package is nothing without its library" not in done.stderr:
+        sys.exit(f"without its library the wheel ends with status {done.returncode}, {done.stderr!r}")
+
+
+def check(library):
+    """Makes all these checks, by tools/library."""
+    python = interpreter()
+    if python is None:
+        left_out("no Python here has setuptools and wheel, so no wheel is made")
+        return
+    check_wheel(library, python)
+    check_no_library(python)
+    check_sources(python)
