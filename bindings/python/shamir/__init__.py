@@ -98,7 +98,7 @@ class Code(enum.IntEnum):
     BAD_PADDING (14): a padding bit isn't 0
     GROUP_THRESHOLD (15): the group threshold is above the group count
     NO_MNEMONIC (17): no mnemonic fits a line of marks
-    WRONG_WORD (18): the checksum is wrong; first, second: see `repair`
+    WRONG_WORD (18): the checksum is wrong; first: the position of the wrong word, if only one is wrong
     UNREADABLE_WORDS (19): more than three places of a line are open; first: how many are
     OTHER_IDENTIFIER (21): the identifier differs from that of earlier lines
     OTHER_EXTENDABLE (22): the extendable flag differs from that of earlier lines
