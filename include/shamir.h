@@ -290,13 +290,12 @@ shamir_answer shamir_create(
  * is compared: a wrong passphrase then isn't detected, and gives another secret.
  *
  * The exponent of the mnemonics determines how long the call takes: 10,000 * 2^exponent iterations of PBKDF2, and twice as
- * many for a secret of more than 64 bytes. With the exponent 15 these take minutes. If no line is refused, the mnemonics have
- * a quorum, and their exponent is above max_exponent, the call refuses with 3 before any iteration, whatever else it could
- * refuse. SHAMIR_EXPONENT_MAX or a greater number allows every exponent. If secret is too short, the call refuses with 1 only
- * after the iterations.
+ * many for a secret of more than 64 bytes. With the exponent 15 these take minutes. If the exponent is above max_exponent, the
+ * call refuses with 3 before any iteration. SHAMIR_EXPONENT_MAX or a greater number allows every exponent. If secret is too
+ * short, the call refuses with 1 only after the iterations.
  *
- * The call refuses with the first of these that applies: 3, 44 (expected is neither empty nor such digits), 41, the code of the
- * first refused line (11 to 28, 71), 29, 30, 51, 52, 1.
+ * The call refuses with the first of these that applies: 44 (expected is neither empty nor such digits), 41, the code of the
+ * first refused line (11 to 28, 71), 29, 30, 3, 51, 52, 1.
  *
  *     uint8_t secret[SHAMIR_SECRET_BYTES_MAX];
  *     shamir_answer answer = shamir_recover(
@@ -352,8 +351,8 @@ shamir_answer shamir_recover(
  * drill of a large backup takes many times as long if each call lists only one quorum. If text is too short for one quorum, the
  * call refuses with 1 only after the iterations.
  *
- * The call refuses with the first of these that applies: 3 (as for shamir_recover), 2 (a limit of 0, or a form above 2), 61, 44
- * (if the form is SHAMIR_FORM_EXPECTED), 41, the code of the first refused line (11 to 28, 71), 29, 30, 62, 1.
+ * The call refuses with the first of these that applies: 2 (a limit of 0, or a form above 2), 61, 44 (if the form is
+ * SHAMIR_FORM_EXPECTED), 41, the code of the first refused line (11 to 28, 71), 29, 30, 3, 62, 1.
  *
  *     shamir_answer answer = shamir_drill(
  *         lines, lines_bytes, "TREZOR", 6, SHAMIR_EXPONENT_MAX, after, after_bytes, 1000, SHAMIR_FORM_FINGERPRINTS, NULL, 0, text,

@@ -71,6 +71,11 @@
     "academic academic academic acid disease prepare husky home result arcade lunar cover shame email oven tension nylon carpet prospect hand"
 #define UNEVEN_1 \
     "academic academic academic agency dragon mineral broken simple lips custody flame cylinder ending prune party scout beaver enlarge glasses bundle"
+/* The same with the exponent 1. */
+#define SLOW_UNEVEN_0 \
+    "academic acid academic acid disease prepare husky home result arcade lunar cover shame email oven tension nylon graduate hobo ivory"
+#define SLOW_UNEVEN_1 \
+    "academic acid academic agency dragon mineral broken simple lips custody flame cylinder ending prune party scout beaver deploy rhythm ancient"
 #define UNEVEN_GROUP_0 \
     "academic academic acrobat easy disease prepare husky home result arcade lunar cover shame email oven tension nylon lawsuit smear antenna"
 #define UNEVEN_GROUP_1 \
@@ -218,7 +223,9 @@ static const recover_example recover_examples[] = {
     {{ONE}, KEY, 0, NULL, DONE, SECRET},
     {{TWO_2, TWO_0}, KEY, 2, NULL, DONE, TWO_SECRET},
     {{TWO_2, TWO_0}, KEY, 1, NULL, HIGH, ""},
-    {{TWO_2, TWO_0}, "a\x07", 0, NULL, HIGH, ""},
+    {{TWO_2, TWO_0}, "a\x07", 0, NULL, {41, 0, 2, 0, "passphrase byte 2 not printable"}, ""},
+    {{SLOW_UNEVEN_0, SLOW_UNEVEN_1}, NULL, 0, NULL, {3, 0, 1, 0, "exponent 1 above the maximum"}, ""},
+    {{SLOW_UNEVEN_0, SLOW_UNEVEN_1}, NULL, 1, NULL, {51, 0, 0, 0, "digest mismatch in group 0"}, ""},
     {{FIVE}, KEY, SHAMIR_EXPONENT_MAX, NULL, DONE, SECRET},
     {{FIVE_3, "", "# a note", FIVE_4}, KEY, SHAMIR_EXPONENT_MAX, NULL, DONE, SECRET},
     {{ONE}, NULL, 0, NULL, DONE, "3972a9318cf16a33ee9b0564c5a0bd0b"},
@@ -237,7 +244,8 @@ static const recover_example recover_examples[] = {
     {{ONE}, KEY, 0, "df41d8f", {44, 0, 0, 0, "bad fingerprint"}, ""},
     {{ONE}, KEY, 0, "df41d8fe0", {44, 0, 0, 0, "bad fingerprint"}, ""},
     {{NULL}, "a\x07", 0, "df41d8fg", {44, 0, 0, 0, "bad fingerprint"}, ""},
-    {{TWO_2, TWO_0}, KEY, 1, "df41d8fg", HIGH, ""}
+    {{TWO_2, TWO_0}, KEY, 1, "df41d8fg", {44, 0, 0, 0, "bad fingerprint"}, ""},
+    {{TWO_2, TWO_0}, KEY, 1, "df41d8fe", HIGH, ""}
 };
 
 #define LISTED(names) names " " SECRET "\n"
@@ -253,7 +261,10 @@ static const drill_example drill_examples[] = {
     {{ONE}, KEY, 0, NULL, 9, SHAMIR_FORM_DIGITS, NULL, 41, DONE_WITH(1, 37), 0, LISTED("0.0") "end\n"},
     {{TWO_0, TWO_2}, KEY, 2, "", 9, SHAMIR_FORM_DIGITS, NULL, 45, DONE_WITH(1, 41), 0, "0.0+0.2 " TWO_SECRET "\nend\n"},
     {{TWO_0, TWO_2}, KEY, 1, "", 9, SHAMIR_FORM_DIGITS, NULL, 45, HIGH, 0, ""},
-    {{TWO_0, TWO_2}, "a\x07", 0, "0.1+", 0, SHAMIR_FORM_DIGITS, NULL, 0, HIGH, 0, ""},
+    {{TWO_0, TWO_2}, "a\x07", 0, "0.1+", 0, SHAMIR_FORM_DIGITS, NULL, 0, {2, 0, 0, 0, "number out of range"}, 0, ""},
+    {{TWO_0, TWO_2}, "a\x07", 0, "0.1", 1, SHAMIR_FORM_DIGITS, NULL, 0, {41, 0, 2, 0, "passphrase byte 2 not printable"}, 0, ""},
+    {{TWO_0, TWO_2}, KEY, 1, "0.1", 1, SHAMIR_FORM_DIGITS, NULL, 0, HIGH, 0, ""},
+    {{TWO_0, TWO_2}, KEY, 2, "0.1", 1, SHAMIR_FORM_DIGITS, NULL, 0, {62, 0, 0, 0, "cursor is no quorum"}, 0, ""},
     {{FIVE}, KEY, SHAMIR_EXPONENT_MAX, NULL, 4, SHAMIR_FORM_DIGITS, NULL, 203, DONE_WITH(4, 180), 0, FIRST_PART},
     {{FIVE}, KEY, SHAMIR_EXPONENT_MAX, NULL, 9, SHAMIR_FORM_DIGITS, NULL, 247, DONE_WITH(4, 180), 0, FIRST_PART},
     {{FIVE}, KEY, SHAMIR_EXPONENT_MAX, "0.0+0.2+2.0", 9, SHAMIR_FORM_DIGITS, NULL, 135, DONE_WITH(3, 131), 0, LAST_PART},

@@ -78,8 +78,8 @@ export class Engine {
      * isn't detected: it gives another secret. An empty `expect` is refused (44).
      *
      * The exponent of the mnemonics determines how long the call takes: 10,000 * 2^exponent iterations of PBKDF2, and twice as
-     * many for a secret of more than 64 bytes. If no line is refused and the mnemonics have a quorum, an exponent above
-     * `maxExponent` is refused before any iteration (3).
+     * many for a secret of more than 64 bytes. If the mnemonics have a quorum, an exponent above `maxExponent` is refused before
+     * any iteration (3).
      *
      * Throws a `Refusal` with one of the codes 3, 11 to 30, 41, 44, 51, 52 or 71.
      * @param {Lines} lines

@@ -515,8 +515,8 @@ def recover(
     another fingerprint is refused (52). If `expect` is None, a wrong passphrase isn't detected: it gives another secret.
 
     The exponent of the mnemonics determines how long the call takes: 10,000 * 2^exponent iterations of PBKDF2, and
-    twice as many for a secret of more than 64 bytes. With the exponent 15 these take minutes. If no line is refused and
-    the mnemonics have a quorum, an exponent above `max_exponent` is refused before any iteration (3).
+    twice as many for a secret of more than 64 bytes. With the exponent 15 these take minutes. If the mnemonics have a
+    quorum, an exponent above `max_exponent` is refused before any iteration (3).
 
     Raises `Refusal` with one of the codes 3, 11 to 30, 41, 44, 51, 52 or 71.
     """

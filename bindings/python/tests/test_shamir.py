@@ -204,7 +204,7 @@ class WorkedExamples(unittest.TestCase):
             self.refused(44, None, (0, 0), shamir.recover, "x", passphrase="a\x07", expect=noted)
             self.refused(44, None, (0, 0), next, shamir.drill("x", passphrase="a\x07", expect=noted))
             self.refused(61, None, (0, 0), next, shamir.drill("x", passphrase="a\x07", after="0.1+", expect=noted))
-            self.refused(3, None, (2, 0), shamir.recover, TWO, max_exponent=1, expect=noted)
+            self.refused(44, None, (0, 0), shamir.recover, TWO, max_exponent=1, expect=noted)
         self.refused(41, None, (2, 0), shamir.recover, "x", passphrase="a\x07", expect="df41d8fe")
         for other in [3745634558, ["df41d8fe"]]:
             self.assertRaises(TypeError, shamir.recover, FIVE, expect=other)
@@ -337,10 +337,13 @@ class WorkedExamples(unittest.TestCase):
             self.assertRaises(TypeError, shamir.fingerprint, other)
 
     def test_max_exponent(self):
-        """Mnemonics with exponent 2 are refused, whatever the passphrase and the cursor are, unless max_exponent allows it."""
-        for most, key in [(0, "TREZOR"), (1, "TREZOR"), (1, "a\x07")]:
-            self.refused(3, None, (2, 0), shamir.recover, TWO, passphrase=key, max_exponent=most)
-            self.refused(3, None, (2, 0), next, shamir.drill(TWO, passphrase=key, after="0.1+", max_exponent=most))
+        """Mnemonics with exponent 2 are refused, after a passphrase and before a cursor, unless max_exponent allows it."""
+        for most in (0, 1):
+            self.refused(3, None, (2, 0), shamir.recover, TWO, passphrase="TREZOR", max_exponent=most, expect="00000000")
+            self.refused(3, None, (2, 0), next, shamir.drill(TWO, passphrase="TREZOR", after="0.1", max_exponent=most))
+            self.refused(41, None, (2, 0), shamir.recover, TWO, passphrase="a\x07", max_exponent=most)
+            self.refused(41, None, (2, 0), next, shamir.drill(TWO, passphrase="a\x07", after="0.1", max_exponent=most))
+        self.refused(62, None, (0, 0), next, shamir.drill(TWO, passphrase="TREZOR", after="0.1", max_exponent=2))
         for most in (2, 15, 2**32 - 1):
             secret = shamir.recover(TWO, passphrase="TREZOR", max_exponent=most)
             self.assertEqual(secret.hex(), "b43ceb7e57a0ea8766221624d01b0864")

@@ -109,8 +109,8 @@ impl fmt::Debug for RecoverOptions<'_> {
 /// The exponent of the mnemonics determines how long the call takes: 10,000 * 2^exponent iterations of PBKDF2, and twice as many
 /// for a secret of more than 64 bytes. With the exponent 15 these take minutes.
 ///
-/// Gives the first of these errors that applies: [`Error::HighExponent`], [`Error::BadFingerprint`], [`Error::Passphrase`], that of
-/// the first refused line, [`Error::NoShares`], [`Error::Incomplete`], [`Error::DigestMismatch`], [`Error::OtherSecret`]. The errors
+/// Gives the first of these errors that applies: [`Error::BadFingerprint`], [`Error::Passphrase`], that of the first refused line,
+/// [`Error::NoShares`], [`Error::Incomplete`], [`Error::HighExponent`], [`Error::DigestMismatch`], [`Error::OtherSecret`]. The errors
 /// of a line are those with the codes 11 to 28 and 71.
 ///
 /// ```

@@ -1,23 +1,172 @@
--- Of calls that refuse an exponent above a most: what they give is one thing where what else they give is.
-use Rattle.std.proofs.Common.{◌≡◌, ℕ, ◌≤◌, List, sym, ap, ◌∙◌, inl, inr, arith}
-use Rattle.s39_reading.specs.Exponent.{HasExponent}
-use Rattle.s39_input.specs.Input.{Input, whole}
+-- Of calls that take the greatest exponent: what they give is one thing where what else they give is.
+use Rattle.std.proofs.Common.{◌≡◌, ◌⊎◌, ℕ, ◌<◌, ◌≤◌, Bool, true, false, nat_lt, List, [], All, sym, ap, subst, refl, ◌∙◌, inl, inr, arith}
+use Rattle.std.proofs.Common.{Option, Result, Ok, Err}
+use Rattle.std.specs.Prelude.{if◌then◌else◌}
+use Rattle.std.proofs.lemmas.Bool.{lt-ltb, le-ltb}
+use Rattle.s39_kdf.specs.Limits.{IsPrintable}
+use Rattle.s39_kdf.specs.declared.noted.NotedFingerprint.{NotedFingerprint}
+use Rattle.s39_kdf.specs.declared.secret_form.SecretForm.{SecretForm}
+use Rattle.s39_kdf.specs.declared.secret_form.SecretForm.TheVariants.{Digits}
+use Rattle.s39_words.specs.declared.ShareFields.{ShareFields}
+use Rattle.s39_set.specs.Names.{Names}
+use Rattle.s39_set.specs.ShareSet.{IsShareSet}
+use Rattle.s39_set.specs.Lack.{IsLack}
+use Rattle.s39_set.specs.declared.set_lack.SetLack.{SetLack}
+use Rattle.s39_input.specs.declared.fault.Fault.{Fault}
+use Rattle.s39_input.specs.declared.fault.Refusal.TheVariants.{Lack}
+use Rattle.s39_input.specs.Fault.{fault_of}
+use Rattle.s39_input.specs.Input.{whole}
+use Rattle.s39_input.specs.Accepted.{IsCheckedSet, CheckedSetLaws}
+use Rattle.s39_input.specs.Steps.{gives, refuses, nothing_for}
+use Rattle.s39_input.proofs.Steps.{AtMostOne, then_once}
+use Rattle.s39_input.proofs.Sets.Checked.{printable_of_checked}
+use Rattle.s39_drilling.specs.declared.drill.Done.{Done}
+use Rattle.s39_drilling.specs.declared.drill.Undrilled.TheVariants.{Lack as UndrilledLack}
+use Rattle.s39_drilling.specs.Drill.{IsDrillOutput}
+use Rattle.s39_reading.specs.Exponent.{exponent_of, IsExponent}
+use Rattle.s39_reading.specs.Recover.{IsRecoverOutput, WritesSecret}
 use Rattle.s39_c.specs.declared.answer.ShamirAnswer.{ShamirAnswer}
-use Rattle.s39_c.specs.Answers.{high_exponent}
-use Rattle.s39_c.specs.Exponents.{UpTo}
+use Rattle.s39_c.specs.Answers.{high_exponent, refused}
+use Rattle.s39_c.specs.Drilling.{GivesListing, GivesDrill}
+use Rattle.s39_c.specs.Exponents.{up_to, IsUpTo, GivesUpTo}
+use Rattle.s39_c.specs.Recovering.{GivesSecret, GivesExpectedSecret}
 
-module _ (one_exponent : (input : Input) (exponent other : ℕ) → HasExponent input exponent → HasExponent input other → exponent ≡ other)
-    (most : ℕ) (lines old new other : List ℕ) (answer another : ShamirAnswer) {Given Also : Type 0} where
-  pub up_to_once : (Given → Also → (new ≡ other) × (answer ≡ another)) → UpTo most lines old new answer Given
-      → UpTo most lines old other another Also → (new ≡ other) × (answer ≡ another)
-  up_to_once once (inl (e, has, high, is, says)) (inl (f, also, higher, same, too)) =
-      (is ∙ sym same, says ∙ ap high_exponent (one_exponent (whole lines) e f has also) ∙ sym too)
-  up_to_once once (inl (e, has, high, is, says)) (inr (low, gives)) = absurd (omega (arith, high, low e has))
-  up_to_once once (inr (low, gives)) (inl (e, has, high, is, says)) = absurd (omega (arith, high, low e has))
-  up_to_once once (inr (low, gives)) (inr (lower, also)) = once gives also
+abbrev chosen : Bool → ℕ → List ShareFields → Result (List ShareFields) ShamirAnswer
+chosen high exponent set = if high then Err (high_exponent exponent) else Ok set
 
--- where no exponent is above the most, a call gives what it gives without one
-pub up_to_all : ((input : Input) (exponent : ℕ) → HasExponent input exponent → exponent ≤ 15) → (most : ℕ) (lines old new : List ℕ) (answer : ShamirAnswer)
-    {Given : Type 0} → 15 ≤ most → UpTo most lines old new answer Given → Given
-up_to_all within most lines old new answer all (inl (e, has, high, is, says)) = absurd (omega (arith, high, all, within (whole lines) e has))
-up_to_all within most lines old new answer all (inr (low, gives)) = gives
+module _ (most exponent : ℕ) (set : List ShareFields) where
+  pub up_to_high : most < exponent → up_to most exponent set ≡ Err (high_exponent exponent)
+  up_to_high above = ap (λ (high : Bool). chosen high exponent set) (lt-ltb most exponent above)
+
+  pub up_to_low : exponent ≤ most → up_to most exponent set ≡ Ok set
+  up_to_low within = ap (λ (high : Bool). chosen high exponent set) (le-ltb most exponent within)
+
+chosen_set : (high : Bool) (exponent : ℕ) (set other : List ShareFields) → Ok other ≡ chosen high exponent set → set ≡ other
+chosen_set true exponent set other is = absurd (cc)
+chosen_set false exponent set other is = cc
+
+chosen_refusal : (high : Bool) (exponent : ℕ) (set : List ShareFields) (refusal : ShamirAnswer) → Err refusal ≡ chosen high exponent set
+    → refusal ≡ high_exponent exponent
+chosen_refusal true exponent set refusal is = cc
+chosen_refusal false exponent set refusal is = absurd (cc)
+
+-- an exponent is refused for itself
+pub refused_up_to : (most exponent : ℕ) (set : List ShareFields) (refusal : ShamirAnswer) → Err refusal ≡ up_to most exponent set
+    → refusal ≡ high_exponent exponent
+refused_up_to most exponent set refusal is = chosen_refusal (nat_lt most exponent) exponent set refusal is
+
+abbrev slice_of : List ℕ × ShamirAnswer → List ℕ
+slice_of given = given.0
+
+abbrev answer_of : List ℕ × ShamirAnswer → ShamirAnswer
+answer_of given = given.1
+
+module _ (most : ℕ) (passphrase lines : List ℕ) where
+  -- the set is that of the lines
+  pub checked_up_to : (set : List ShareFields) → IsUpTo most passphrase lines (Ok set) → IsCheckedSet passphrase (whole lines) (Ok set)
+  checked_up_to set (refuses fault checked is) = absurd (cc)
+  checked_up_to set (gives other checked (refuses fault lacks is)) = absurd (cc)
+  checked_up_to set (gives other checked (gives exponent has is)) =
+      subst (λ (s : List ShareFields). IsCheckedSet passphrase (whole lines) (Ok s)) (chosen_set (nat_lt most exponent) exponent other set is) checked
+
+  pub printable_up_to : (set : List ShareFields) → IsUpTo most passphrase lines (Ok set) → All IsPrintable passphrase
+  printable_up_to set is = printable_of_checked passphrase (whole lines) set (checked_up_to set is)
+
+  -- what a recovery of it gives is that of the lines
+  pub secret_of_checked : (expected : Option NotedFingerprint) (set : List ShareFields) → IsCheckedSet passphrase (whole lines) (Ok set)
+      → (old new : List ℕ) (answer : ShamirAnswer)
+      → GivesSecret (λ text written. WritesSecret Digits expected passphrase set (text, written)) old new answer
+      → GivesSecret (IsRecoverOutput Digits expected passphrase (whole lines)) old new answer
+  secret_of_checked expected set checked old new answer (inl (secret, writes, given)) = inl (secret, gives set checked writes, given)
+  secret_of_checked expected set checked old new answer (inr (fault, writes, same, says)) = inr (fault, gives set checked writes, same, says)
+
+  -- and one
+  pub one_up_to : CheckedSetLaws → ((set : List ShareFields) → AtMostOne (IsExponent set)) → AtMostOne (IsUpTo most passphrase lines)
+  one_up_to laws one_exponent =
+      then_once (IsCheckedSet passphrase (whole lines)) _ _ (laws.once passphrase (whole lines))
+      (λ set _. then_once (IsExponent set) _ _ (one_exponent set) (λ exponent _ r s p q. p ∙ sym q))
+
+  pub up_to_once : (Given : List ℕ → ShamirAnswer → Type 0) → AtMostOne (IsUpTo most passphrase lines)
+      → (old new other : List ℕ) (answer another : ShamirAnswer)
+      → (Given new answer → Given other another → (new ≡ other) × (answer ≡ another)) → GivesUpTo most passphrase lines Given old new answer
+      → GivesUpTo most passphrase lines Given old other another → (new ≡ other) × (answer ≡ another)
+  up_to_once Given once old new other answer another same (gives set is given) (gives set' is' also) = same given also
+  up_to_once Given once old new other answer another same (gives set is given) (refuses refusal is' at) =
+      let differ = once (Ok set) (Err refusal) is is' in absurd (cc)
+  up_to_once Given once old new other answer another same (refuses refusal is at) (gives set is' also) =
+      let differ = once (Err refusal) (Ok set) is is' in absurd (cc)
+  up_to_once Given once old new other answer another same (refuses refusal is at) (refuses refusal' is' at') =
+      let both = once (Err refusal) (Err refusal') is is' in
+      let refusals : refusal ≡ refusal' = cc in
+      (ap slice_of at ∙ sym (ap slice_of at'), ap answer_of at ∙ refusals ∙ sym (ap answer_of at'))
+
+  -- If no exponent is above the maximum, only the passphrase, a line or a lack is refused.
+  module _ (laws : CheckedSetLaws) (at_most_15 : (set : List ShareFields) → IsShareSet set → exponent_of set ≤ 15) (all : 15 ≤ most) where
+    abbrev IsRefusedSet : Fault → Type 0
+    IsRefusedSet fault =
+        IsCheckedSet passphrase (whole lines) (Err fault)
+        ⊎ ((set : List ShareFields) × (lack : SetLack) × IsCheckedSet passphrase (whole lines) (Ok set) × IsLack set lack
+        × (fault ≡ fault_of (Lack lack)))
+
+    refused_set : (refusal : ShamirAnswer) → IsUpTo most passphrase lines (Err refusal) → (fault : Fault) × IsRefusedSet fault × (refusal ≡ refused fault)
+    refused_set refusal (refuses fault checked is) = let says : refusal ≡ refused fault = cc in (fault, inl checked, says)
+    refused_set refusal (gives set checked (refuses fault (refuses lack lacks told) is)) =
+        let says : refusal ≡ refused fault = cc in let of : fault ≡ fault_of (Lack lack) = cc in (fault, inr (set, lack, checked, lacks, of), says)
+    refused_set refusal (gives set checked (refuses fault (gives names least says) is)) = absurd (cc)
+    refused_set refusal (gives set checked (gives exponent (refuses lack lacks says) is)) = absurd (cc)
+    refused_set refusal (gives set checked (gives exponent (gives names least says) is)) =
+        let same : exponent ≡ exponent_of set = cc in
+        let low = at_most_15 set (laws.is_set passphrase (whole lines) set checked) in
+        let differ = is ∙ up_to_low most exponent set (omega (arith, same, low, all)) in absurd (cc)
+
+    recover_refusal : (expected : Option NotedFingerprint) (fault : Fault) → IsRefusedSet fault
+        → IsRecoverOutput Digits expected passphrase (whole lines) [] (Err fault)
+    recover_refusal expected fault (inl checked) = refuses fault checked refl
+    recover_refusal expected fault (inr (set, lack, checked, lacks, is)) = gives set checked (refuses fault (refuses lack lacks (ap Err is)) refl)
+
+    pub every_secret : (digits old new : List ℕ) (answer : ShamirAnswer)
+        → GivesExpectedSecret (λ noted. GivesUpTo most passphrase lines
+        (GivesSecret (IsRecoverOutput Digits noted passphrase (whole lines)) old) old) digits old new answer
+        → GivesExpectedSecret (λ noted. GivesSecret (IsRecoverOutput Digits noted passphrase (whole lines)) old) digits old new answer
+    every_secret digits old new answer (inl refused) = inl refused
+    every_secret digits old new answer (inr (noted, is, gives set up given)) = inr (noted, is, given)
+    every_secret digits old new answer (inr (noted, is, refuses refusal up at)) =
+        let (fault, why, says) = refused_set refusal up in
+        inr (noted, is, inr (fault, recover_refusal noted fault why, ap slice_of at, ap answer_of at ∙ says))
+
+    abbrev nothing_listed : Fault → List ℕ × Result Done Fault
+    nothing_listed fault = nothing_for fault
+
+    drill_refusal : (form : SecretForm) (after : Option Names) (limit : ℕ) (fault : Fault) → IsRefusedSet fault
+        → IsDrillOutput form passphrase after limit (whole lines) [] (Err fault)
+    drill_refusal form after limit fault (inl checked) = refuses fault checked refl
+    drill_refusal form after limit fault (inr (set, lack, checked, lacks, is)) =
+        gives set checked (refuses (UndrilledLack lack) lacks (ap nothing_listed is))
+
+    pub every_listing : (cursor : List ℕ) (limit number : ℕ) (digits old new : List ℕ) (answer : ShamirAnswer)
+        → GivesDrill (λ form names. GivesUpTo most passphrase lines
+        (GivesListing (λ n. IsDrillOutput form passphrase names n (whole lines)) limit old) old) cursor limit number digits old new answer
+        → GivesDrill (λ form names. GivesListing (λ n. IsDrillOutput form passphrase names n (whole lines)) limit old)
+        cursor limit number digits old new answer
+    every_listing cursor limit number digits old new answer (inl refused) = inl refused
+    every_listing cursor limit number digits old new answer (inr (some, form, is, inl refused)) = inr (some, form, is, inl refused)
+    every_listing cursor limit number digits old new answer (inr (some, form, is, inr (after, names, inl refused))) =
+        inr (some, form, is, inr (after, names, inl refused))
+    every_listing cursor limit number digits old new answer (inr (some, form, is, inr (after, names, inr (kind, of, gives set up given)))) =
+        inr (some, form, is, inr (after, names, inr (kind, of, given)))
+    every_listing cursor limit number digits old new answer (inr (some, form, is, inr (after, names, inr (kind, of, refuses refusal up at)))) =
+        let (fault, why, says) = refused_set refusal up in
+        inr (
+          some,
+          form,
+          is,
+          inr (
+            after,
+            names,
+            inr (
+              kind,
+              of,
+              inr (inr (fault, drill_refusal kind after limit fault why, ap slice_of at, ap answer_of at ∙ says)),
+            ),
+          ),
+        )

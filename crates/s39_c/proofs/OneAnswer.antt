@@ -187,7 +187,6 @@ module _ (one_listing_in_a_slice : (form : SecretForm) (passphrase : List ℕ) (
     (answer another : Result Listing Unwritten)
     → Lists (λ n. IsDrillOutput form passphrase after n input) limit old new answer
     → Lists (λ n. IsDrillOutput form passphrase after n input) limit old other another → (new ≡ other) × (answer ≡ another))
-    (written_once : (text : List ℕ) (names others : Names) → IsWrittenForm text names → IsWrittenForm text others → names ≡ others)
     (passphrase lines : List ℕ) where
   -- what is put into a slice, and the answer for it
   puts : (form : SecretForm) (after : Option Names) (limit : ℕ) (old new : List ℕ) (answer : ShamirAnswer)
@@ -198,7 +197,7 @@ module _ (one_listing_in_a_slice : (form : SecretForm) (passphrase : List ℕ) (
   puts form after limit old new answer (inr (inl (short, is_short, is, says))) = (Err (SliceTooShort short), (is_short, is), says)
   puts form after limit old new answer (inr (inr (fault, output, is, says))) = (Err (Refused fault), (output, is), says)
 
-  listing_once : (form : SecretForm) (after : Option Names) (limit : ℕ) (old new other : List ℕ) (answer another : ShamirAnswer)
+  pub listing_once : (form : SecretForm) (after : Option Names) (limit : ℕ) (old new other : List ℕ) (answer another : ShamirAnswer)
       → GivesListing (λ n. IsDrillOutput form passphrase after n (whole lines)) limit old new answer
       → GivesListing (λ n. IsDrillOutput form passphrase after n (whole lines)) limit old other another → (new ≡ other) × (answer ≡ another)
   listing_once form after limit old new other answer another is also =
@@ -207,6 +206,8 @@ module _ (one_listing_in_a_slice : (form : SecretForm) (passphrase : List ℕ) (
       let same = one_listing_in_a_slice form passphrase after limit (whole lines) old new other result result' lists lists' in
       (same.0, says ∙ ap answer_of same.1 ∙ sym says')
 
+-- What is given with a text, a cursor and a number is one thing where it is with each form and each list of names.
+module _ (written_once : (text : List ℕ) (names others : Names) → IsWrittenForm text names → IsWrittenForm text others → names ≡ others) where
   -- a text writes one list of names, or none
   cursor_once : (cursor : List ℕ) (after other : Option Names) → IsCursor cursor after → IsCursor cursor other → after ≡ other
   cursor_once cursor None None is also = refl
@@ -226,32 +227,6 @@ module _ (one_listing_in_a_slice : (form : SecretForm) (passphrase : List ℕ) (
   not_refused : (form : Result SecretForm BadFingerprint) (kind : SecretForm) (bad : BadFingerprint) → form ≡ Ok kind → form ≡ Err bad → ⊥
   not_refused form kind bad is refused = let differ : form_result (Ok kind) ≡ form_result (Err bad) = sym is ∙ refused in cc
 
-  in_once : (form : Result SecretForm BadFingerprint) (after : Option Names) (limit : ℕ) (old new other : List ℕ) (answer another : ShamirAnswer)
-      → GivesDrillIn (λ kind n. IsDrillOutput kind passphrase after n (whole lines)) form limit old new answer
-      → GivesDrillIn (λ kind n. IsDrillOutput kind passphrase after n (whole lines)) form limit old other another
-      → (new ≡ other) × (answer ≡ another)
-  in_once form after limit old new other answer another (inl (bad, is, says)) (inl (bad', is', says')) = (is ∙ sym is', says ∙ sym says')
-  in_once form after limit old new other answer another (inl (bad, is, says)) (inr (kind, of, gives)) = absurd (not_refused form kind bad.0 of bad.1)
-  in_once form after limit old new other answer another (inr (kind, of, gives)) (inl (bad, is, says)) = absurd (not_refused form kind bad.0 of bad.1)
-  in_once form after limit old new other answer another (inr (kind, of, gives)) (inr (kind', of', gives')) =
-      listing_once kind after limit old new other answer another gives
-      (subst (λ (k : SecretForm). GivesListing (λ n. IsDrillOutput k passphrase after n (whole lines)) limit old other another)
-      (kind_once form kind' kind of' of) gives')
-
-  after_once : (form : Result SecretForm BadFingerprint) (cursor : List ℕ) (limit : ℕ) (old new other : List ℕ) (answer another : ShamirAnswer)
-      → GivesDrillAfter (λ kind names n. IsDrillOutput kind passphrase names n (whole lines)) form cursor limit old new answer
-      → GivesDrillAfter (λ kind names n. IsDrillOutput kind passphrase names n (whole lines)) form cursor limit old other another
-      → (new ≡ other) × (answer ≡ another)
-  after_once form cursor limit old new other answer another (inl (full, none, is, says)) (inl (full', none', is', says')) = (is ∙ sym is', says ∙ sym says')
-  after_once form cursor limit old new other answer another (inl (full, none, is, says)) (inr (after, is_cursor, gives)) =
-      absurd (no_form cursor after is_cursor full none)
-  after_once form cursor limit old new other answer another (inr (after, is_cursor, gives)) (inl (full, none, is, says)) =
-      absurd (no_form cursor after is_cursor full none)
-  after_once form cursor limit old new other answer another (inr (after, is_cursor, gives)) (inr (after', is_cursor', gives')) =
-      in_once form after limit old new other answer another gives
-      (subst (λ (a : Option Names). GivesDrillIn (λ kind n. IsDrillOutput kind passphrase a n (whole lines)) form limit old other another)
-      (cursor_once cursor after' after is_cursor' is_cursor) gives')
-
   -- a limit and a number are refused, or they aren't
   in_range : (limit number : ℕ) (text : List ℕ) (form : Result SecretForm BadFingerprint) → (limit ≡ 0) ⊎ (form_of number text ≡ None) → 1 ≤ limit
       → form_of number text ≡ Some form → ⊥
@@ -262,16 +237,35 @@ module _ (one_listing_in_a_slice : (form : SecretForm) (passphrase : List ℕ) (
       → form_of number text ≡ Some other → form ≡ other
   same_form number text form other is also = let same : Some form ≡ Some other = sym is ∙ also in cc
 
-  pub drill_once : (cursor : List ℕ) (limit number : ℕ) (text old new other : List ℕ) (answer another : ShamirAnswer)
-      → GivesDrill (λ kind names n. IsDrillOutput kind passphrase names n (whole lines)) cursor limit number text old new answer
-      → GivesDrill (λ kind names n. IsDrillOutput kind passphrase names n (whole lines)) cursor limit number text old other another
-      → (new ≡ other) × (answer ≡ another)
-  drill_once cursor limit number text old new other answer another (inl (none, is, says)) (inl (none', is', says')) = (is ∙ sym is', says ∙ sym says')
-  drill_once cursor limit number text old new other answer another (inl (none, is, says)) (inr (some, form, is_form, gives)) =
-      absurd (in_range limit number text form none some is_form)
-  drill_once cursor limit number text old new other answer another (inr (some, form, is_form, gives)) (inl (none, is, says)) =
-      absurd (in_range limit number text form none some is_form)
-  drill_once cursor limit number text old new other answer another (inr (some, form, is_form, gives)) (inr (some', form', is_form', gives')) =
-      after_once form cursor limit old new other answer another gives
-      (subst (λ (f : Result SecretForm BadFingerprint). GivesDrillAfter (λ kind names n. IsDrillOutput kind passphrase names n (whole lines)) f cursor limit old
-      other another) (same_form number text form' form is_form' is_form) gives')
+  module _ (Given : SecretForm → Option Names → List ℕ → ShamirAnswer → Type 0) (old new other : List ℕ) (answer another : ShamirAnswer)
+      (once : (form : SecretForm) (after : Option Names) → Given form after new answer → Given form after other another
+      → (new ≡ other) × (answer ≡ another)) where
+    in_once : (form : Result SecretForm BadFingerprint) (after : Option Names)
+        → GivesDrillIn (λ kind. Given kind after) form old new answer → GivesDrillIn (λ kind. Given kind after) form old other another
+        → (new ≡ other) × (answer ≡ another)
+    in_once form after (inl (bad, is, says)) (inl (bad', is', says')) = (is ∙ sym is', says ∙ sym says')
+    in_once form after (inl (bad, is, says)) (inr (kind, of, given)) = absurd (not_refused form kind bad.0 of bad.1)
+    in_once form after (inr (kind, of, given)) (inl (bad, is, says)) = absurd (not_refused form kind bad.0 of bad.1)
+    in_once form after (inr (kind, of, given)) (inr (kind', of', given')) =
+        once kind after given (subst (λ (k : SecretForm). Given k after other another) (kind_once form kind' kind of' of) given')
+
+    after_once : (form : Result SecretForm BadFingerprint) (cursor : List ℕ) → GivesDrillAfter Given form cursor old new answer
+        → GivesDrillAfter Given form cursor old other another → (new ≡ other) × (answer ≡ another)
+    after_once form cursor (inl (full, none, is, says)) (inl (full', none', is', says')) = (is ∙ sym is', says ∙ sym says')
+    after_once form cursor (inl (full, none, is, says)) (inr (after, is_cursor, given)) = absurd (no_form cursor after is_cursor full none)
+    after_once form cursor (inr (after, is_cursor, given)) (inl (full, none, is, says)) = absurd (no_form cursor after is_cursor full none)
+    after_once form cursor (inr (after, is_cursor, given)) (inr (after', is_cursor', given')) =
+        in_once form after given
+        (subst (λ (a : Option Names). GivesDrillIn (λ kind. Given kind a) form old other another) (cursor_once cursor after' after is_cursor' is_cursor) given')
+
+    pub drill_once : (cursor : List ℕ) (limit number : ℕ) (text : List ℕ) → GivesDrill Given cursor limit number text old new answer
+        → GivesDrill Given cursor limit number text old other another → (new ≡ other) × (answer ≡ another)
+    drill_once cursor limit number text (inl (none, is, says)) (inl (none', is', says')) = (is ∙ sym is', says ∙ sym says')
+    drill_once cursor limit number text (inl (none, is, says)) (inr (some, form, is_form, given)) =
+        absurd (in_range limit number text form none some is_form)
+    drill_once cursor limit number text (inr (some, form, is_form, given)) (inl (none, is, says)) =
+        absurd (in_range limit number text form none some is_form)
+    drill_once cursor limit number text (inr (some, form, is_form, given)) (inr (some', form', is_form', given')) =
+        after_once form cursor given
+        (subst (λ (f : Result SecretForm BadFingerprint). GivesDrillAfter Given f cursor old other another) (same_form number text form' form is_form' is_form)
+        given')

@@ -42,7 +42,7 @@ noted_result result = result
 module _ (one_recover_output : (expected : Option NotedFingerprint) (passphrase : List ℕ) (input : Input) (text other : List ℕ)
     (answer another : Result (Unit {0}) Fault) → IsRecoverOutput Digits expected passphrase input text answer
     → IsRecoverOutput Digits expected passphrase input other another → (text ≡ other) × (answer ≡ another)) where
-  secret_once : (expected : Option NotedFingerprint) (passphrase lines old new other : List ℕ) (answer another : ShamirAnswer) → AreBytes new → AreBytes other
+  pub secret_once : (expected : Option NotedFingerprint) (passphrase lines old new other : List ℕ) (answer another : ShamirAnswer) → AreBytes new → AreBytes other
       → GivesSecret (IsRecoverOutput Digits expected passphrase (whole lines)) old new answer
       → GivesSecret (IsRecoverOutput Digits expected passphrase (whole lines)) old other another → (new ≡ other) × (answer ≡ another)
   secret_once expected passphrase lines old new other answer another bytes others (inl (s, output, gives)) (inl (t, output', gives')) =
@@ -59,29 +59,25 @@ module _ (one_recover_output : (expected : Option NotedFingerprint) (passphrase 
       let faults : fault ≡ fault' = cc in
       (is ∙ sym is', says ∙ ap refused faults ∙ sym says')
 
-  -- a text stands for one fingerprint, or for none
-  expected_once : (text : List ℕ) (expected other : Option NotedFingerprint) → IsExpected text expected → IsExpected text other → expected ≡ other
-  expected_once text None None is also = refl
-  expected_once text None (Some noted) is also = absurd (also.0 is)
-  expected_once text (Some noted) None is also = absurd (is.0 also)
-  expected_once text (Some noted) (Some other) is also =
-      let same : noted_result (Ok noted) ≡ noted_result (Ok other) = sym is.1 ∙ also.1 in cc
+-- a text stands for one fingerprint, or for none
+expected_once : (text : List ℕ) (expected other : Option NotedFingerprint) → IsExpected text expected → IsExpected text other → expected ≡ other
+expected_once text None None is also = refl
+expected_once text None (Some noted) is also = absurd (also.0 is)
+expected_once text (Some noted) None is also = absurd (is.0 also)
+expected_once text (Some noted) (Some other) is also =
+    let same : noted_result (Ok noted) ≡ noted_result (Ok other) = sym is.1 ∙ also.1 in cc
 
-  not_bad : (text : List ℕ) (expected : Option NotedFingerprint) (bad : BadFingerprint) → IsExpected text expected → text ≢ [] → noted_in text ≡ Err bad → ⊥
-  not_bad text None bad is some refused = some is
-  not_bad text (Some noted) bad is some refused = let differ : noted_result (Ok noted) ≡ noted_result (Err bad) = sym is.1 ∙ refused in cc
+not_bad : (text : List ℕ) (expected : Option NotedFingerprint) (bad : BadFingerprint) → IsExpected text expected → text ≢ [] → noted_in text ≡ Err bad → ⊥
+not_bad text None bad is some refused = some is
+not_bad text (Some noted) bad is some refused = let differ : noted_result (Ok noted) ≡ noted_result (Err bad) = sym is.1 ∙ refused in cc
 
-  pub expected_secret_once : (passphrase lines text old new other : List ℕ) (answer another : ShamirAnswer) → AreBytes new → AreBytes other
-      → GivesExpectedSecret (λ noted. IsRecoverOutput Digits noted passphrase (whole lines)) text old new answer
-      → GivesExpectedSecret (λ noted. IsRecoverOutput Digits noted passphrase (whole lines)) text old other another
+-- What is given with a text is one thing where it is with each fingerprint.
+module _ (Given : Option NotedFingerprint → List ℕ → ShamirAnswer → Type 0) (text old new other : List ℕ) (answer another : ShamirAnswer)
+    (once : (expected : Option NotedFingerprint) → Given expected new answer → Given expected other another → (new ≡ other) × (answer ≡ another)) where
+  pub expected_secret_once : GivesExpectedSecret Given text old new answer → GivesExpectedSecret Given text old other another
       → (new ≡ other) × (answer ≡ another)
-  expected_secret_once passphrase lines text old new other answer another bytes others (inl (some, bad, is, says)) (inl (some', bad', is', says')) =
-      (is ∙ sym is', says ∙ sym says')
-  expected_secret_once passphrase lines text old new other answer another bytes others (inl (some, bad, is, says)) (inr (expected, of, gives)) =
-      absurd (not_bad text expected bad.0 of some bad.1)
-  expected_secret_once passphrase lines text old new other answer another bytes others (inr (expected, of, gives)) (inl (some, bad, is, says)) =
-      absurd (not_bad text expected bad.0 of some bad.1)
-  expected_secret_once passphrase lines text old new other answer another bytes others (inr (expected, of, gives)) (inr (expected', of', gives')) =
-      secret_once expected passphrase lines old new other answer another bytes others gives
-      (subst (λ (e : Option NotedFingerprint). GivesSecret (IsRecoverOutput Digits e passphrase (whole lines)) old other another)
-      (expected_once text expected' expected of' of) gives')
+  expected_secret_once (inl (some, bad, is, says)) (inl (some', bad', is', says')) = (is ∙ sym is', says ∙ sym says')
+  expected_secret_once (inl (some, bad, is, says)) (inr (expected, of, given)) = absurd (not_bad text expected bad.0 of some bad.1)
+  expected_secret_once (inr (expected, of, given)) (inl (some, bad, is, says)) = absurd (not_bad text expected bad.0 of some bad.1)
+  expected_secret_once (inr (expected, of, given)) (inr (expected', of', given')) =
+      once expected given (subst (λ (e : Option NotedFingerprint). Given e other another) (expected_once text expected' expected of' of) given')

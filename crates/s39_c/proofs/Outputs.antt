@@ -1,5 +1,5 @@
--- What calls give, by what is put into a slice; and what a drill gives where it is refused, and of mnemonics of a created backup.
-use Rattle.std.proofs.Common.{◌≡◌, ◌+◌, ℕ, List, [], ap, ◌∙◌, inl, inr}
+-- What calls give, by what is put into a slice, and what follows from it; and what a drill gives where it is refused.
+use Rattle.std.proofs.Common.{◌≡◌, ℕ, List, [], ap, ◌∙◌, inl, inr}
 use Rattle.std.specs.Prelude.{Option, Result, Ok, Err}
 use Rattle.s39_set.specs.Names.{Names}
 use Rattle.s39_drilling.specs.declared.drill.Done.{Done}
@@ -13,11 +13,18 @@ use Rattle.s39_kdf.specs.declared.secret_form.SecretForm.{SecretForm}
 use Rattle.s39_input.specs.Slices.{Puts}
 use Rattle.s39_reading.specs.Slices.{PutsStatus}
 use Rattle.s39_drilling.specs.Slices.{Lists}
-use Rattle.s39_input.specs.Input.{Input}
+use Rattle.s39_drilling.proofs.Drills.Weaker.{lists_weaker}
+use Rattle.s39_kdf.specs.declared.noted.NotedFingerprint.{NotedFingerprint}
+use Rattle.s39_kdf.specs.declared.secret_form.SecretForm.TheVariants.{Digits}
+use Rattle.s39_input.specs.Input.{Input, whole}
+use Rattle.s39_input.specs.Steps.{gives, refuses}
 use Rattle.s39_drilling.specs.Drill.{IsDrillOutput, DrillsCreated}
+use Rattle.s39_reading.specs.Recover.{secret_line, IsRecoverOutput, RecoversCreated}
+use Rattle.s39_c.specs.Exponents.{GivesUpTo}
 use Rattle.s39_c.specs.declared.answer.ShamirAnswer.{ShamirAnswer}
 use Rattle.s39_c.specs.Answers.{GivesOutput, done, counted, too_short, unwritten}
-use Rattle.s39_c.specs.Drilling.{GivesListing}
+use Rattle.s39_c.specs.Drilling.{GivesListing, GivesDrill}
+use Rattle.s39_c.specs.Recovering.{GivesSecret, GivesExpectedSecret}
 use Rattle.s39_c.specs.Status.{GivesStatus}
 
 -- the answer for what is put into a slice, or isn't
@@ -54,37 +61,60 @@ pub gives_refusal : (IsOutput : ℕ → List ℕ → Result Done Fault → Type 
 gives_refusal IsOutput limit old new (Refused fault) answer (output, same) is = inr (inr (fault, output, same, is))
 gives_refusal IsOutput limit old new (TooShort short) answer (is_short, same) is = inr (inl (short, is_short, same, is))
 
-module _ (created_backups_drill : (form : SecretForm) (passphrase : List ℕ) (after : Option Names) (limit : ℕ) (input : Input) (text : List ℕ)
+-- ---- what follows from what is given
+
+module _ {IsOutput Follows : ℕ → List ℕ → Result Done Fault → Type 0}
+    (follows : (n : ℕ) (text : List ℕ) (answer : Result Done Fault) → IsOutput n text answer → Follows n text answer) (limit : ℕ) (old new : List ℕ)
+    (answer : ShamirAnswer) where
+  pub listing_weaker : GivesListing IsOutput limit old new answer → GivesListing Follows limit old new answer
+  listing_weaker (inl (listing, fits, is)) = inl (listing, lists_weaker follows limit old new (Ok listing) fits, is)
+  listing_weaker (inr (inl (short, is_short, same, is))) =
+      let (also, again) = lists_weaker follows limit old new (Err (TooShort short)) (is_short, same) in inr (inl (short, also, again, is))
+  listing_weaker (inr (inr (fault, output, same, is))) = inr (inr (fault, follows limit [] (Err fault) output, same, is))
+
+-- ---- mnemonics of a created backup
+
+module _ (created : (expected : Option NotedFingerprint) (passphrase : List ℕ) (input : Input) (text : List ℕ) (answer : Result (Unit {0}) Fault)
+    → IsRecoverOutput Digits expected passphrase input text answer → RecoversCreated Digits expected passphrase input text answer)
+    (most : ℕ) (passphrase lines digits old new : List ℕ) (answer : ShamirAnswer) where
+  pub recovers_created : GivesExpectedSecret (λ noted. GivesUpTo most passphrase lines
+      (GivesSecret (IsRecoverOutput Digits noted passphrase (whole lines)) old) old) digits old new answer
+      → GivesExpectedSecret (λ noted. GivesUpTo most passphrase lines
+      (GivesSecret (RecoversCreated Digits noted passphrase (whole lines)) old) old) digits old new answer
+  recovers_created (inl refused) = inl refused
+  recovers_created (inr (noted, is, refuses refusal up at)) = inr (noted, is, refuses refusal up at)
+  recovers_created (inr (noted, is, gives set up (inl (secret, output, given)))) =
+      inr (noted, is, gives set up (inl (secret, created noted passphrase (whole lines) (secret_line Digits secret) (Ok tt) output, given)))
+  recovers_created (inr (noted, is, gives set up (inr (fault, output, same, says)))) =
+      inr (noted, is, gives set up (inr (fault, created noted passphrase (whole lines) [] (Err fault) output, same, says)))
+
+module _ (created : (form : SecretForm) (passphrase : List ℕ) (after : Option Names) (limit : ℕ) (input : Input) (text : List ℕ)
     (answer : Result Done Fault) → IsDrillOutput form passphrase after limit input text answer
     → DrillsCreated form passphrase after limit input text answer)
-    (form : SecretForm) (passphrase : List ℕ) (after : Option Names) (input : Input) (limit : ℕ) (old new : List ℕ) (answer : ShamirAnswer) where
-  drills : (n : ℕ) (text : List ℕ) (answer : Result Done Fault) → IsDrillOutput form passphrase after n input text answer
-      → DrillsCreated form passphrase after n input text answer
-  drills n = created_backups_drill form passphrase after n input
-
-  pub gives_created : GivesListing (λ n. IsDrillOutput form passphrase after n input) limit old new answer
-      → GivesListing (λ n. DrillsCreated form passphrase after n input) limit old new answer
-  gives_created (inl (listing, fits, is)) = inl (
-    listing,
-    record {
-      listed = fits.listed;
-      text = fits.text;
-      some = fits.some;
-      few = fits.few;
-      output = drills fits.listed fits.text (Ok (record { mismatches = listing.mismatches })) fits.output;
-      in_front = fits.in_front;
-      written = fits.written;
-      lines = fits.lines;
-      last = fits.last;
-      less_fits = λ n some less.
-          let (shorter, mismatches, output, short) = fits.less_fits n some less in
-          (shorter, mismatches, drills n shorter (Ok (record { mismatches = mismatches })) output, short);
-      more_is_too_long = λ below.
-          let (longer, mismatches, output, long) = fits.more_is_too_long below in
-          (longer, mismatches, drills (fits.listed + 1) longer (Ok (record { mismatches = mismatches })) output, long);
-    },
-    is,
-  )
-  gives_created (inr (inl (short, (text, mismatches, output, needed, room), same, is))) =
-      inr (inl (short, (text, mismatches, drills 1 text (Ok (record { mismatches = mismatches })) output, needed, room), same, is))
-  gives_created (inr (inr (fault, output, same, is))) = inr (inr (fault, drills limit [] (Err fault) output, same, is))
+    (most : ℕ) (passphrase lines cursor : List ℕ) (limit number : ℕ) (digits old new : List ℕ) (answer : ShamirAnswer) where
+  pub drills_created : GivesDrill (λ form names. GivesUpTo most passphrase lines
+      (GivesListing (λ n. IsDrillOutput form passphrase names n (whole lines)) limit old) old) cursor limit number digits old new answer
+      → GivesDrill (λ form names. GivesUpTo most passphrase lines
+      (GivesListing (λ n. DrillsCreated form passphrase names n (whole lines)) limit old) old) cursor limit number digits old new answer
+  drills_created (inl refused) = inl refused
+  drills_created (inr (some, form, is, inl refused)) = inr (some, form, is, inl refused)
+  drills_created (inr (some, form, is, inr (after, names, inl refused))) = inr (some, form, is, inr (after, names, inl refused))
+  drills_created (inr (some, form, is, inr (after, names, inr (kind, of, refuses refusal up at)))) =
+      inr (some, form, is, inr (after, names, inr (kind, of, refuses refusal up at)))
+  drills_created (inr (some, form, is, inr (after, names, inr (kind, of, gives set up listing)))) =
+      inr (
+        some,
+        form,
+        is,
+        inr (
+          after,
+          names,
+          inr (
+            kind,
+            of,
+            gives set up
+                (listing_weaker {IsOutput = λ n. IsDrillOutput kind passphrase after n (whole lines)} {Follows = λ n. DrillsCreated kind passphrase after n (whole lines)}
+                (λ n. created kind passphrase after n (whole lines)) limit old new answer listing),
+          ),
+        ),
+      )

@@ -1,5 +1,5 @@
 -- Which slices are too short for a call.
-use Rattle.std.proofs.Common.{◌≡◌, ℕ, ◌*◌, ◌<◌, ◌≤◌, List, length, codes, ap, ◌∙◌, inl, inr, arith, Option, Result, Ok}
+use Rattle.std.proofs.Common.{◌≡◌, ℕ, ◌*◌, ◌<◌, ◌≤◌, List, length, codes, ap, ◌∙◌, inl, inr, arith, Option, Result, Ok, Err}
 use Rattle.s39_refusal.specs.declared.cause.Cause.{Cause}
 use Rattle.std.proofs.lemmas.List.{length-take-le}
 use Rattle.hex.specs.Hex.{lower_digits, encode_lower}
@@ -52,8 +52,10 @@ use Rattle.s39_reading.specs.Status.{IsStatusOutput}
 use Rattle.s39_c.specs.declared.answer.ShamirAnswer.{ShamirAnswer}
 use Rattle.s39_c.specs.Answers.{Gives, done, too_short, refusal, refused}
 use Rattle.s39_c.specs.Creating.{Wanted, GivesMnemonics, GivesBackup}
-use Rattle.s39_c.specs.Drilling.{GivesListing, GivesDrillIn, GivesDrillAfter, GivesDrill}
-use Rattle.s39_c.specs.Exponents.{UpTo}
+use Rattle.s39_c.specs.Drilling.{GivesListing, GivesDrill}
+use Rattle.s39_c.specs.Exponents.{IsUpTo, GivesUpTo}
+use Rattle.s39_c.proofs.MostExponents.{refused_up_to}
+use Rattle.s39_input.specs.Steps.{gives as goes_on, refuses}
 use Rattle.s39_c.specs.Fingerprinting.{GivesFingerprint}
 use Rattle.s39_c.specs.Reissuing.{GivesNamed, GivesReissued}
 use Rattle.s39_c.specs.Status.{GivesStatus}
@@ -116,6 +118,16 @@ module _ (needed : ℕ) where
 
 -- ---- the calls
 
+-- nor is a refusal of lines up to an exponent
+not_short : (most : ℕ) (passphrase lines : List ℕ) (needed : ℕ) (refusal : ShamirAnswer) → IsUpTo most passphrase lines (Err refusal)
+    → too_short needed ≡ refusal → ⊥
+not_short most passphrase lines needed refusal (refuses fault checked is) says =
+    let same : refusal ≡ refused fault = cc in no_fault needed fault (says ∙ same)
+not_short most passphrase lines needed refusal (goes_on set checked (refuses fault lacks is)) says =
+    let same : refusal ≡ refused fault = cc in no_fault needed fault (says ∙ same)
+not_short most passphrase lines needed refusal (goes_on set checked (goes_on exponent has is)) says =
+    let code : 3 ≡ 1 = no_other needed _ (says ∙ refused_up_to most exponent set refusal is) in absurd (omega (arith, code))
+
 module _ (short : (form : SecretForm) (passphrase : List ℕ) (after : Option Names) (input : Input) (text : List ℕ) (answer : Result Done Fault)
     → IsDrillOutput form passphrase after 1 input text answer → length text ≤ longest_listing)
     (passphrase lines cursor : List ℕ) (limit number : ℕ) (digits old new : List ℕ) (needed : ℕ) where
@@ -126,28 +138,20 @@ module _ (short : (form : SecretForm) (passphrase : List ℕ) (after : Option Na
       omega (arith, less, short form passphrase after (whole lines) text (Ok (record { mismatches = mismatches })) output)
   listing_fits form after (inr (inr (fault, output, same, says))) = absurd (no_fault needed fault says)
 
-  in_fits : (form : Result SecretForm BadFingerprint) (after : Option Names)
-      → GivesDrillIn (λ kind n. IsDrillOutput kind passphrase after n (whole lines)) form limit old new (too_short needed)
+  up_to_fits : (most : ℕ) (form : SecretForm) (after : Option Names)
+      → GivesUpTo most passphrase lines (GivesListing (λ n. IsDrillOutput form passphrase after n (whole lines)) limit old) old new (too_short needed)
       → length old < longest_listing
-  in_fits form after (inl (bad, same, says)) = let code : 44 ≡ 1 = no_other needed _ says in absurd (omega (arith, code))
-  in_fits form after (inr (kind, is, lists)) = listing_fits kind after lists
+  up_to_fits most form after (goes_on set is lists) = listing_fits form after lists
+  up_to_fits most form after (refuses refusal is at) = absurd (not_short most passphrase lines needed refusal is (ap (λ (given : List ℕ × ShamirAnswer). given.1) at))
 
-  after_fits : (form : Result SecretForm BadFingerprint)
-      → GivesDrillAfter (λ kind names n. IsDrillOutput kind passphrase names n (whole lines)) form cursor limit old new (too_short needed)
-      → length old < longest_listing
-  after_fits form (inl (given, no_names, same, says)) = let code : 61 ≡ 1 = no_other needed _ says in absurd (omega (arith, code))
-  after_fits form (inr (after, is, lists)) = in_fits form after lists
-
-  drill_fits : GivesDrill (λ form names n. IsDrillOutput form passphrase names n (whole lines)) cursor limit number digits old new (too_short needed)
-      → length old < longest_listing
-  drill_fits (inl (none, same, says)) = let code : 2 ≡ 1 = no_other needed _ says in absurd (omega (arith, code))
-  drill_fits (inr (some, form, is, gives)) = after_fits form gives
-
-  pub drill_up_to_fits : (most : ℕ) → UpTo most lines old new (too_short needed)
-      (GivesDrill (λ form names n. IsDrillOutput form passphrase names n (whole lines)) cursor limit number digits old new (too_short needed))
-      → length old < longest_listing
-  drill_up_to_fits most (inl (exponent, has, high, same, says)) = let code : 3 ≡ 1 = no_other needed _ says in absurd (omega (arith, code))
-  drill_up_to_fits most (inr (low, gives)) = drill_fits gives
+  pub drill_fits : (most : ℕ) → GivesDrill (λ form names. GivesUpTo most passphrase lines
+      (GivesListing (λ n. IsDrillOutput form passphrase names n (whole lines)) limit old) old)
+      cursor limit number digits old new (too_short needed) → length old < longest_listing
+  drill_fits most (inl (none, same, says)) = let code : 2 ≡ 1 = no_other needed _ says in absurd (omega (arith, code))
+  drill_fits most (inr (some, form, is, inl (given, no_names, same, says))) = let code : 61 ≡ 1 = no_other needed _ says in absurd (omega (arith, code))
+  drill_fits most (inr (some, form, is, inr (after, names, inl (bad, same, says)))) =
+      let code : 44 ≡ 1 = no_other needed _ says in absurd (omega (arith, code))
+  drill_fits most (inr (some, form, is, inr (after, names, inr (kind, read, lists)))) = up_to_fits most kind after lists
 
 module _ (short : (asked : Asked) (input : Input) (text : List ℕ) → IsCreateOutput asked input text (Ok tt) → length text ≤ longest_backup)
     (random old new : List ℕ) (needed : ℕ) where

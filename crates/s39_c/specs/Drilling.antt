@@ -41,26 +41,26 @@ form_of number text =
     else if number == 2 then Some (expecting (noted_in text))
     else None
 
--- The first that applies: a text that writes no fingerprint; and then what a drill gives that has these outputs in each form.
-abbrev pub GivesDrillIn : (SecretForm → ℕ → List ℕ → Result Done Fault → Type 0) → Result SecretForm BadFingerprint → ℕ → List ℕ → List ℕ
-    → ShamirAnswer → Type 0
-GivesDrillIn IsOutput form limit old new answer =
+-- The first that applies: a text that writes no fingerprint; and then what is given for the form.
+abbrev pub GivesDrillIn : (SecretForm → List ℕ → ShamirAnswer → Type 0) → Result SecretForm BadFingerprint → List ℕ → List ℕ → ShamirAnswer
+    → Type 0
+GivesDrillIn Given form old new answer =
     (((bad : BadFingerprint) × (form ≡ Err bad)) × (new ≡ old) × (answer ≡ fingerprint_refused))
-    ⊎ ((kind : SecretForm) × (form ≡ Ok kind) × GivesListing (IsOutput kind) limit old new answer)
+    ⊎ ((kind : SecretForm) × (form ≡ Ok kind) × Given kind new answer)
 
--- The first that applies: a cursor that is no written form; and then what a drill gives that has these outputs in each form after
--- each list of names, or after none.
-abbrev pub GivesDrillAfter : (SecretForm → Option Names → ℕ → List ℕ → Result Done Fault → Type 0) → Result SecretForm BadFingerprint → List ℕ
-    → ℕ → List ℕ → List ℕ → ShamirAnswer → Type 0
-GivesDrillAfter IsOutput form cursor limit old new answer =
+-- The first that applies: a cursor that is no written form; and then what is given for the form and the names of the cursor, or
+-- for none.
+abbrev pub GivesDrillAfter : (SecretForm → Option Names → List ℕ → ShamirAnswer → Type 0) → Result SecretForm BadFingerprint → List ℕ → List ℕ
+    → List ℕ → ShamirAnswer → Type 0
+GivesDrillAfter Given form cursor old new answer =
     ((cursor ≢ []) × ((names : Names) → ¬ IsWrittenForm cursor names) × (new ≡ old) × (answer ≡ cursor_refused))
-    ⊎ ((after : Option Names) × IsCursor cursor after × GivesDrillIn (λ kind. IsOutput kind after) form limit old new answer)
+    ⊎ ((after : Option Names) × IsCursor cursor after × GivesDrillIn (λ kind. Given kind after) form old new answer)
 
--- The first that applies: a limit of 0, or a number that stands for no form; and then what a drill gives that has these outputs
--- in each form.
-abbrev pub GivesDrill : (SecretForm → Option Names → ℕ → List ℕ → Result Done Fault → Type 0) → List ℕ → ℕ → ℕ → List ℕ → List ℕ → List ℕ
+-- The first that applies: a limit of 0, or a number that stands for no form; and then what is given for the form that the number
+-- stands for, and the cursor.
+abbrev pub GivesDrill : (SecretForm → Option Names → List ℕ → ShamirAnswer → Type 0) → List ℕ → ℕ → ℕ → List ℕ → List ℕ → List ℕ
     → ShamirAnswer → Type 0
-GivesDrill IsOutput cursor limit number text old new answer =
+GivesDrill Given cursor limit number text old new answer =
     (((limit ≡ 0) ⊎ (form_of number text ≡ None)) × (new ≡ old) × (answer ≡ out_of_range))
     ⊎ ((1 ≤ limit) × (form : Result SecretForm BadFingerprint) × (form_of number text ≡ Some form)
-    × GivesDrillAfter IsOutput form cursor limit old new answer)
+    × GivesDrillAfter Given form cursor old new answer)

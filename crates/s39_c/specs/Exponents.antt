@@ -1,13 +1,25 @@
--- What a call gives that refuses an exponent above a most.
-use Rattle.std.specs.Prelude.{◌≡◌, ◌⊎◌, ℕ, ◌<◌, ◌≤◌, List}
-use Rattle.s39_reading.specs.Exponent.{HasExponent}
+-- What a call gives that takes the greatest exponent for mnemonics.
+use Rattle.std.specs.Prelude.{◌≡◌, ℕ, nat_lt, if◌then◌else◌, List, Result, Ok, Err}
+use Rattle.s39_words.specs.declared.ShareFields.{ShareFields}
 use Rattle.s39_input.specs.Input.{whole}
+use Rattle.s39_input.specs.Accepted.{IsCheckedSet}
+use Rattle.s39_input.specs.Steps.{Then}
+use Rattle.s39_reading.specs.Exponent.{IsExponent}
 use Rattle.s39_c.specs.declared.answer.ShamirAnswer.{ShamirAnswer}
-use Rattle.s39_c.specs.Answers.{high_exponent}
+use Rattle.s39_c.specs.Answers.{high_exponent, refused}
 
--- Lines that are accepted, have a quorum, and have an exponent above the maximum are refused for it before all else, and the
--- slice is as it was. Of any others the call gives this.
-abbrev pub UpTo : ℕ → List ℕ → List ℕ → List ℕ → ShamirAnswer → Type 0 → Type 0
-UpTo most lines old new answer Given =
-    ((exponent : ℕ) × HasExponent (whole lines) exponent × (most < exponent) × (new ≡ old) × (answer ≡ high_exponent exponent))
-    ⊎ (((exponent : ℕ) → HasExponent (whole lines) exponent → exponent ≤ most) × Given)
+-- a set with this exponent, or the refusal of the exponent if it is above the maximum
+abbrev pub up_to : ℕ → ℕ → List ShareFields → Result (List ShareFields) ShamirAnswer
+up_to most exponent set = if nat_lt most exponent then Err (high_exponent exponent) else Ok set
+
+-- The set of the lines, or the first refusal that applies: of the passphrase, of a line, of a set without a quorum, of an
+-- exponent above the maximum.
+abbrev pub IsUpTo : ℕ → List ℕ → List ℕ → Result (List ShareFields) ShamirAnswer → Type 0
+IsUpTo most passphrase lines =
+    Then (IsCheckedSet passphrase (whole lines)) (λ fault. Err (refused fault)) (λ set.
+    Then (IsExponent set) (λ fault. Err (refused fault)) (λ exponent result. result ≡ up_to most exponent set))
+
+-- What a call leaves in a slice, and answers. If the lines are refused, the slice is as it was. Otherwise the call gives this.
+abbrev pub GivesUpTo : ℕ → List ℕ → List ℕ → (List ℕ → ShamirAnswer → Type 0) → List ℕ → List ℕ → ShamirAnswer → Type 0
+GivesUpTo most passphrase lines Given old new answer =
+    Then (IsUpTo most passphrase lines) (λ refusal. (old, refusal)) (λ _ (given : List ℕ × ShamirAnswer). Given given.0 given.1) (new, answer)

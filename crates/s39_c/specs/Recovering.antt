@@ -21,10 +21,10 @@ abbrev pub IsExpected : List ℕ → Option NotedFingerprint → Type 0
 IsExpected text None = text ≡ []
 IsExpected text (Some noted) = (text ≢ []) × (noted_in text ≡ Ok noted)
 
--- The first that applies: a text that writes no fingerprint; and then what a recovery gives that has these outputs for each
--- fingerprint that is expected, or for none.
-abbrev pub GivesExpectedSecret : (Option NotedFingerprint → List ℕ → Result (Unit {0}) Fault → Type 0) → List ℕ → List ℕ → List ℕ
-    → ShamirAnswer → Type 0
-GivesExpectedSecret IsOutput text old new answer =
+-- The first that applies: a text that writes no fingerprint; and then what is given for the fingerprint that is expected, or for
+-- none.
+abbrev pub GivesExpectedSecret : (Option NotedFingerprint → List ℕ → ShamirAnswer → Type 0) → List ℕ → List ℕ → List ℕ → ShamirAnswer
+    → Type 0
+GivesExpectedSecret Given text old new answer =
     ((text ≢ []) × ((bad : BadFingerprint) × (noted_in text ≡ Err bad)) × (new ≡ old) × (answer ≡ fingerprint_refused))
-    ⊎ ((expected : Option NotedFingerprint) × IsExpected text expected × GivesSecret (IsOutput expected) old new answer)
+    ⊎ ((expected : Option NotedFingerprint) × IsExpected text expected × Given expected new answer)

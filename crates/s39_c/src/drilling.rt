@@ -1,21 +1,22 @@
 //! The call that drills.
 ghost use Rattle.std.specs.Option.{option_copied};
-ghost use Rattle.std.specs.Prelude.{◌≡◌, ◌≤◌};
-ghost use Rattle.s39_drilling.specs.Drill.{IsDrillOutput, DrillsCreated};
+ghost use Rattle.std.specs.Prelude.{◌≡◌, ◌≤◌, All};
+ghost use Rattle.s39_drilling.specs.Drill.{IsDrillOutput, DrillsCreated, WritesDrillOf};
 ghost use Rattle.s39_input.specs.Input.{whole};
 ghost use Rattle.s39_c.specs.Drilling.{expecting, form_of, GivesListing, GivesDrillIn, GivesDrillAfter, GivesDrill};
+ghost use Rattle.s39_kdf.specs.Limits.{IsPrintable};
 ghost use Rattle.s39_kdf.specs.Noted.{noted_in};
-ghost use Rattle.s39_c.specs.Exponents.{UpTo};
+ghost use Rattle.s39_c.specs.Exponents.{GivesUpTo};
 
 use crate::answer::ShamirAnswer;
 use crate::clearing::DRILL;
-use crate::exponent::exponent_above;
+use crate::exponent::set_up_to;
 use s39_clearing::clear_stack;
-use s39_drilling::drill_lines;
+use s39_drilling::drill_set;
 use s39_drilling::laws::created_backups_drill;
 use s39_input::SecretForm;
 use s39_kdf::{BadFingerprint, parse_fingerprint};
-use s39_set::{Quorum, parse_quorum};
+use s39_set::{Quorum, ShareSet, parse_quorum};
 
 /// Lists what each quorum recovers, in the format of the command `drill`. A quorum is a minimal set of mnemonics that
 /// meets the thresholds. The call lists the quorums that come after the one that `after` names, or all if `after` is
@@ -33,11 +34,11 @@ use s39_set::{Quorum, parse_quorum};
 ///
 /// The call refuses with the first of these that applies, and `text` is then unchanged:
 ///
-/// - 3, if no line is refused, the mnemonics have a quorum, and their exponent is above `max_exponent`; the call then
-///   derives no key;
 /// - 2 (a limit of 0, or a form above 2), 61 (`after` isn't a list of names), 44 (the form is 2, and `expected` isn't a
 ///   fingerprint), 41 (the passphrase);
-/// - the code of the first refused line (11 to 28, 71), then 29, 30, 62 (the names aren't those of a quorum);
+/// - the code of the first refused line (11 to 28, 71), then 29, 30;
+/// - 3, if the exponent of the mnemonics is above `max_exponent`; the call then derives no key;
+/// - 62 (the names aren't those of a quorum);
 /// - 1, if `text` is too short for one quorum, or for `end` if no quorum is left.
 ///
 /// ```c
@@ -55,15 +56,16 @@ pub extern "C" fn shamir_drill(
     expected: &[u8],
     text: &mut [u8],
 ) -> ShamirAnswer
-    ensures drills { UpTo max_exponent lines.now text.old text.new result
-        (GivesDrill (λ kind names n. IsDrillOutput kind passphrase.now names n (whole lines.now))
-        after.now limit form expected.now text.old text.new result) }
+    ensures drills { GivesDrill (λ kind names. GivesUpTo max_exponent passphrase.now lines.now
+        (GivesListing (λ n. IsDrillOutput kind passphrase.now names n (whole lines.now)) limit text.old) text.old)
+        after.now limit form expected.now text.old text.new result }
     // For mnemonics of a created backup and its passphrase, the call lists their quorums and no others, each with the secret
     // in this form. Or the refusal says that they have no quorum, or that the cursor doesn't name one.
-    ensures complete { UpTo max_exponent lines.now text.old text.new result
-        (GivesDrill (λ kind names n. DrillsCreated kind passphrase.now names n (whole lines.now))
-        after.now limit form expected.now text.old text.new result) }
+    ensures complete { GivesDrill (λ kind names. GivesUpTo max_exponent passphrase.now lines.now
+        (GivesListing (λ n. DrillsCreated kind passphrase.now names n (whole lines.now)) limit text.old) text.old)
+        after.now limit form expected.now text.old text.new result }
 {
+    created_backups_drill();
     let answer = drill_answer(
         lines,
         passphrase,
@@ -90,18 +92,16 @@ fn drill_answer(
     expected: &[u8],
     text: &mut [u8],
 ) -> ShamirAnswer
-    ensures drills { UpTo max_exponent lines.now text.old text.new result
-        (GivesDrill (λ kind names n. IsDrillOutput kind passphrase.now names n (whole lines.now))
-        after.now limit form expected.now text.old text.new result) }
-    // For mnemonics of a created backup and its passphrase, the call lists their quorums and no others, each with the secret
-    // in this form. Or the refusal says that they have no quorum, or that the cursor doesn't name one.
-    ensures complete { UpTo max_exponent lines.now text.old text.new result
-        (GivesDrill (λ kind names n. DrillsCreated kind passphrase.now names n (whole lines.now))
-        after.now limit form expected.now text.old text.new result) }
+    ensures { GivesDrill (λ kind names. GivesUpTo max_exponent passphrase.now lines.now
+        (GivesListing (λ n. IsDrillOutput kind passphrase.now names n (whole lines.now)) limit text.old) text.old)
+        after.now limit form expected.now text.old text.new result }
 {
-    match exponent_above(max_exponent, lines) {
-        Some(exponent) => ShamirAnswer::high_exponent(exponent),
-        None => drill(lines, passphrase, after, limit, form, expected, text),
+    if limit == 0 {
+        return ShamirAnswer::out_of_range();
+    }
+    match form_of(form, expected) {
+        Some(kind) => drill_after(kind, passphrase, max_exponent, after, limit, lines, text),
+        None => ShamirAnswer::out_of_range(),
     }
 }
 
@@ -128,53 +128,34 @@ fn expecting(text: &[u8]) -> Result<SecretForm, BadFingerprint>
     }
 }
 
-/// Drills lines with any exponent.
-fn drill(
-    lines: &[u8],
-    passphrase: &[u8],
-    after: &[u8],
-    limit: u32,
-    form: u32,
-    expected: &[u8],
-    text: &mut [u8],
-) -> ShamirAnswer
-    ensures drills { GivesDrill (λ kind names n. IsDrillOutput kind passphrase.now names n (whole lines.now))
-        after.now limit form expected.now text.old text.new result }
-    ensures complete { GivesDrill
-        (λ kind names n. DrillsCreated kind passphrase.now names n (whole lines.now))
-        after.now limit form expected.now text.old text.new result }
-{
-    if limit == 0 {
-        return ShamirAnswer::out_of_range();
-    }
-    match form_of(form, expected) {
-        Some(kind) => drill_after(kind, passphrase, after, limit, lines, text),
-        None => ShamirAnswer::out_of_range(),
-    }
-}
-
 /// Drills lines from the quorum on that comes after the one of a cursor, or from the first one on.
 fn drill_after(
     form: Result<SecretForm, BadFingerprint>,
     passphrase: &[u8],
+    max_exponent: u32,
     after: &[u8],
     limit: u32,
     lines: &[u8],
     text: &mut [u8],
 ) -> ShamirAnswer
     requires { 1 ≤ limit }
-    ensures drills { GivesDrillAfter
-        (λ kind names n. IsDrillOutput kind passphrase.now names n (whole lines.now))
-        form after.now limit text.old text.new result }
-    ensures complete { GivesDrillAfter
-        (λ kind names n. DrillsCreated kind passphrase.now names n (whole lines.now))
-        form after.now limit text.old text.new result }
+    ensures { GivesDrillAfter (λ kind names. GivesUpTo max_exponent passphrase.now lines.now
+        (GivesListing (λ n. IsDrillOutput kind passphrase.now names n (whole lines.now)) limit text.old) text.old)
+        form after.now text.old text.new result }
 {
     if after.is_empty() {
-        return drill_in(form, passphrase, None, limit, lines, text);
+        return drill_in(form, passphrase, max_exponent, None, limit, lines, text);
     }
     match parse_quorum(after) {
-        Ok(quorum) => drill_in(form, passphrase, Some(&quorum), limit, lines, text),
+        Ok(quorum) => drill_in(
+            form,
+            passphrase,
+            max_exponent,
+            Some(&quorum),
+            limit,
+            lines,
+            text,
+        ),
         Err(error) => ShamirAnswer::from(error),
     }
 }
@@ -184,41 +165,62 @@ fn drill_after(
 fn drill_in(
     form: Result<SecretForm, BadFingerprint>,
     passphrase: &[u8],
+    max_exponent: u32,
     after: Option<&Quorum>,
     limit: u32,
     lines: &[u8],
     text: &mut [u8],
 ) -> ShamirAnswer
     requires { 1 ≤ limit }
-    ensures drills { GivesDrillIn
-        (λ kind n. IsDrillOutput kind passphrase.now (option_copied after.entry) n (whole lines.now))
-        form limit text.old text.new result }
-    ensures complete { GivesDrillIn
-        (λ kind n. DrillsCreated kind passphrase.now (option_copied after.entry) n (whole lines.now))
-        form limit text.old text.new result }
+    ensures { GivesDrillIn (λ kind. GivesUpTo max_exponent passphrase.now lines.now
+        (GivesListing (λ n. IsDrillOutput kind passphrase.now (option_copied after.entry) n (whole lines.now))
+        limit text.old) text.old)
+        form text.old text.new result }
 {
-    created_backups_drill();
     match form {
-        Ok(kind) => give_listing(kind, passphrase, after, limit, lines, text),
+        Ok(kind) => drill_up_to(kind, passphrase, max_exponent, after, limit, lines, text),
         Err(bad) => ShamirAnswer::from(bad),
     }
 }
 
-/// Writes the listing of the quorums after a given one, or of all quorums, up to the first line that doesn't fit.
+/// Drills lines from the quorum on that comes after a given one, or from the first one on.
+fn drill_up_to(
+    form: SecretForm,
+    passphrase: &[u8],
+    max_exponent: u32,
+    after: Option<&Quorum>,
+    limit: u32,
+    lines: &[u8],
+    text: &mut [u8],
+) -> ShamirAnswer
+    requires { 1 ≤ limit }
+    ensures { GivesUpTo max_exponent passphrase.now lines.now
+        (GivesListing (λ n. IsDrillOutput form passphrase.now (option_copied after.entry) n (whole lines.now))
+        limit text.old) text.old text.new result }
+{
+    match set_up_to(max_exponent, passphrase, lines) {
+        Ok(set) => give_listing(form, passphrase, after, limit, &set, text),
+        Err(refusal) => refusal,
+    }
+}
+
+/// Writes the listing of the quorums of a set after a given one, or of all of them, up to the first line that doesn't
+/// fit.
 fn give_listing(
     form: SecretForm,
     passphrase: &[u8],
     after: Option<&Quorum>,
     limit: u32,
-    lines: &[u8],
+    set: &ShareSet,
     text: &mut [u8],
 ) -> ShamirAnswer
-    requires { 1 ≤ limit }
-    ensures { GivesListing
-        (λ n. IsDrillOutput form passphrase.now (option_copied after.entry) n (whole lines.now))
+    requires printable { All IsPrintable passphrase.now }
+    requires some { 1 ≤ limit }
+    ensures { GivesListing (λ n text answer.
+        WritesDrillOf form passphrase.now (option_copied after.entry) n set.now (text, answer))
         limit text.old text.new result }
 {
-    match drill_lines(form, passphrase, after, limit, lines, text) {
+    match drill_set(form, passphrase, after, limit, set, text) {
         Ok(listing) => ShamirAnswer::listed(listing),
         Err(cause) => ShamirAnswer::from(cause),
     }

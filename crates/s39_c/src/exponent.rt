@@ -1,26 +1,25 @@
-//! The check of mnemonics against the caller's maximum for the iteration exponent.
-ghost use Rattle.std.specs.Prelude.{◌≡◌, ℕ, ◌<◌, ◌≤◌, None, IfSome};
-ghost use Rattle.s39_reading.specs.Exponent.{HasExponent};
-ghost use Rattle.s39_input.specs.Input.{whole};
+//! The set of mnemonics whose exponent the caller allows.
+ghost use Rattle.s39_c.specs.Exponents.{IsUpTo};
 
-use s39_reading::exponent_in;
-use s39_reading::laws::one_exponent;
+use crate::answer::ShamirAnswer;
+use s39_input::checked_set_in;
+use s39_reading::exponent_of;
+use s39_set::ShareSet;
 
-/// The iteration exponent of the mnemonics in `lines`, if they have a quorum and it is above the maximum `most`. It is
-/// `None` also if a line is refused.
-pub(crate) fn exponent_above(most: u32, lines: &[u8]) -> Option<u8>
-    ensures some { IfSome result (λ exponent.
-        HasExponent (whole lines.now) exponent × (most < exponent)) }
-    ensures none { result ≡ None → (exponent : ℕ) → HasExponent (whole lines.now) exponent
-        → exponent ≤ most }
+/// The set of the mnemonics in `lines`, or the answer of the first refusal that applies: the passphrase isn't printable,
+/// a line is refused, there is no quorum, or the iteration exponent is above the maximum `most`.
+pub(crate) fn set_up_to(
+    most: u32,
+    passphrase: &[u8],
+    lines: &[u8],
+) -> Result<ShareSet, ShamirAnswer>
+    ensures { IsUpTo most passphrase.now lines.now result }
 {
-    one_exponent();
-    let Some(exponent) = exponent_in(lines) else {
-        return None;
-    };
+    let set = checked_set_in(passphrase, lines)?;
+    let exponent = exponent_of(&set)?;
     let said = u32::from(exponent);
     if most < said {
-        return Some(exponent);
+        return Err(ShamirAnswer::high_exponent(exponent));
     }
-    None
+    Ok(set)
 }

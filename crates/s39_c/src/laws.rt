@@ -13,11 +13,11 @@ ghost use Rattle.s39_reading.specs.Status.{IsStatusOutput};
 ghost use Rattle.s39_c.specs.declared.answer.ShamirAnswer.{ShamirAnswer as Answer};
 ghost use Rattle.s39_c.specs.declared.parsing.ShamirShare.{ShamirShare as Header};
 ghost use Rattle.s39_c.specs.Creating.{Wanted, GivesBackup, GivesNumber};
-ghost use Rattle.s39_c.specs.Drilling.{GivesDrill};
-ghost use Rattle.s39_c.specs.Exponents.{UpTo};
+ghost use Rattle.s39_c.specs.Drilling.{GivesDrill, GivesListing};
+ghost use Rattle.s39_c.specs.Exponents.{GivesUpTo};
 ghost use Rattle.s39_c.specs.Fingerprinting.{GivesFingerprint};
 ghost use Rattle.s39_c.specs.Parsing.{GivesShare};
-ghost use Rattle.s39_c.specs.Recovering.{GivesExpectedSecret};
+ghost use Rattle.s39_c.specs.Recovering.{GivesExpectedSecret, GivesSecret};
 ghost use Rattle.s39_c.specs.Reissuing.{GivesReissued};
 ghost use Rattle.s39_c.specs.Repairing.{GivesRepaired};
 ghost use Rattle.s39_c.specs.Status.{GivesStatus};
@@ -26,7 +26,8 @@ ghost use Rattle.s39_c.specs.Words.{GivesWords};
 use s39_backup::laws::one_plan_reading;
 use s39_creating::laws::{one_create_output, one_reissue_output};
 use s39_drilling::laws::one_listing_in_a_slice;
-use s39_reading::laws::{every_exponent_is_at_most_15, one_exponent, one_recover_output};
+use s39_input::laws::one_checked_set;
+use s39_reading::laws::{one_exponent, one_recover_output, shares_have_the_exponent};
 use s39_repair::laws::one_answer;
 use s39_set::laws::written_forms;
 use s39_words::laws::one_printed_form;
@@ -76,12 +77,13 @@ pub fn one_list_of_words()
 pub fn one_secret()
     ensures { (most : ℕ) (passphrase lines digits old new other : List ℕ) (answer another : Answer)
         → AreBytes new → AreBytes other
-        → UpTo most lines old new answer
-        (GivesExpectedSecret (λ noted. IsRecoverOutput Digits noted passphrase (whole lines)) digits old new answer)
-        → UpTo most lines old other another
-        (GivesExpectedSecret (λ noted. IsRecoverOutput Digits noted passphrase (whole lines)) digits old other another)
+        → GivesExpectedSecret (λ noted. GivesUpTo most passphrase lines
+        (GivesSecret (IsRecoverOutput Digits noted passphrase (whole lines)) old) old) digits old new answer
+        → GivesExpectedSecret (λ noted. GivesUpTo most passphrase lines
+        (GivesSecret (IsRecoverOutput Digits noted passphrase (whole lines)) old) old) digits old other another
         → (new ≡ other) × (answer ≡ another) }
 {
+    one_checked_set();
     one_exponent();
     one_recover_output();
 }
@@ -91,14 +93,15 @@ pub fn one_secret()
 pub fn one_drill()
     ensures { (most : ℕ) (passphrase lines cursor : List ℕ) (limit number : ℕ) (digits old new other : List ℕ)
         (answer another : Answer)
-        → UpTo most lines old new answer
-        (GivesDrill (λ form names n. IsDrillOutput form passphrase names n (whole lines))
-        cursor limit number digits old new answer)
-        → UpTo most lines old other another
-        (GivesDrill (λ form names n. IsDrillOutput form passphrase names n (whole lines))
-        cursor limit number digits old other another)
+        → GivesDrill (λ form names. GivesUpTo most passphrase lines
+        (GivesListing (λ n. IsDrillOutput form passphrase names n (whole lines)) limit old) old)
+        cursor limit number digits old new answer
+        → GivesDrill (λ form names. GivesUpTo most passphrase lines
+        (GivesListing (λ n. IsDrillOutput form passphrase names n (whole lines)) limit old) old)
+        cursor limit number digits old other another
         → (new ≡ other) × (answer ≡ another) }
 {
+    one_checked_set();
     one_exponent();
     one_listing_in_a_slice();
     written_forms();
@@ -139,16 +142,18 @@ pub fn one_repair()
 /// A maximum exponent of 15 or more refuses nothing: a recovery and a drill then give what they give without a maximum.
 pub fn a_most_of_15_refuses_nothing()
     ensures recovers { (most : ℕ) (passphrase lines digits old new : List ℕ) (answer : Answer) → 15 ≤ most
-        → UpTo most lines old new answer
-        (GivesExpectedSecret (λ noted. IsRecoverOutput Digits noted passphrase (whole lines)) digits old new answer)
-        → GivesExpectedSecret (λ noted. IsRecoverOutput Digits noted passphrase (whole lines)) digits old new answer }
+        → GivesExpectedSecret (λ noted. GivesUpTo most passphrase lines
+        (GivesSecret (IsRecoverOutput Digits noted passphrase (whole lines)) old) old) digits old new answer
+        → GivesExpectedSecret (λ noted. GivesSecret (IsRecoverOutput Digits noted passphrase (whole lines)) old)
+        digits old new answer }
     ensures drills { (most : ℕ) (passphrase lines cursor : List ℕ) (limit number : ℕ)
         (digits old new : List ℕ) (answer : Answer) → 15 ≤ most
-        → UpTo most lines old new answer
-        (GivesDrill (λ form names n. IsDrillOutput form passphrase names n (whole lines))
-        cursor limit number digits old new answer)
-        → GivesDrill (λ form names n. IsDrillOutput form passphrase names n (whole lines))
+        → GivesDrill (λ form names. GivesUpTo most passphrase lines
+        (GivesListing (λ n. IsDrillOutput form passphrase names n (whole lines)) limit old) old)
+        cursor limit number digits old new answer
+        → GivesDrill (λ form names. GivesListing (λ n. IsDrillOutput form passphrase names n (whole lines)) limit old)
         cursor limit number digits old new answer }
 {
-    every_exponent_is_at_most_15();
+    one_checked_set();
+    shares_have_the_exponent();
 }

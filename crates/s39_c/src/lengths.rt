@@ -15,8 +15,8 @@ ghost use Rattle.s39_reading.specs.Status.{IsStatusOutput};
 ghost use Rattle.s39_c.specs.declared.lengths.TheConstants.{NAMES_BYTES_MAX, LISTING_BYTES_ENOUGH, MNEMONICS_BYTES_MAX, STATUS_BYTES_MAX, FINGERPRINT_BYTES_MAX, WORDS_BYTES_MAX, REPAIRED_BYTES_MAX, TEXT_BYTES_MAX};
 ghost use Rattle.s39_c.specs.Answers.{done, too_short};
 ghost use Rattle.s39_c.specs.Creating.{Wanted, GivesBackup};
-ghost use Rattle.s39_c.specs.Drilling.{GivesDrill};
-ghost use Rattle.s39_c.specs.Exponents.{UpTo};
+ghost use Rattle.s39_c.specs.Drilling.{GivesDrill, GivesListing};
+ghost use Rattle.s39_c.specs.Exponents.{GivesUpTo};
 ghost use Rattle.s39_c.specs.Fingerprinting.{GivesFingerprint};
 ghost use Rattle.s39_c.specs.Reissuing.{GivesReissued};
 ghost use Rattle.s39_c.specs.Repairing.{longest_repaired, GivesRepaired};
@@ -77,9 +77,9 @@ pub fn names_fit()
 /// If a drill refuses a buffer as too short, the buffer is shorter than `LISTING_BYTES_ENOUGH`.
 pub fn listings_fit()
     ensures { (most : ℕ) (passphrase lines cursor : List ℕ) (limit number : ℕ) (digits old new : List ℕ)
-        (needed : ℕ) → UpTo most lines old new (too_short needed)
-        (GivesDrill (λ form names n. IsDrillOutput form passphrase names n (whole lines))
-        cursor limit number digits old new (too_short needed))
+        (needed : ℕ) → GivesDrill (λ form names. GivesUpTo most passphrase lines
+        (GivesListing (λ n. IsDrillOutput form passphrase names n (whole lines)) limit old) old)
+        cursor limit number digits old new (too_short needed)
         → length old < LISTING_BYTES_ENOUGH }
 {
     first_lines_are_short();

@@ -3,6 +3,7 @@ pub mod Counts
 pub mod Drilling
 pub mod LinesOfDrills
 pub mod Filling
+pub mod Weaker
 pub mod Complete
 pub mod OneDrill
 pub mod OneListing

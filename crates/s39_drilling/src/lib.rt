@@ -1,5 +1,5 @@
 //! The command `drill` of the program `shamir`, over readers and writers: `run_drill`. `drill_lines` does the same for
-//! lines in memory, and puts the text into a slice.
+//! lines in memory, and puts the text into a slice. `drill_set` does so for a set.
 //!
 //! A quorum is a set of shares that meets the thresholds, while none of its proper subsets does.
 //!
@@ -13,4 +13,4 @@ mod listing;
 mod round_trips;
 
 pub use drill::{Done, Undrilled, run_drill};
-pub use listing::{Listing, drill_lines};
+pub use listing::{Listing, drill_lines, drill_set};

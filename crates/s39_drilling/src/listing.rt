@@ -7,9 +7,8 @@ ghost use Rattle.s39_set.specs.Looks.{most_step_looks};
 ghost use Rattle.s39_set.specs.Quorums.{IsQuorum, IsFirstQuorumAfter};
 ghost use Rattle.s39_set.specs.ShareSet.{IsShareSet};
 ghost use Rattle.s39_backup.specs.Outcome.{AreParams};
-ghost use Rattle.s39_input.specs.Accepted.{IsCheckedSet};
 ghost use Rattle.s39_input.specs.Input.{whole};
-ghost use Rattle.s39_drilling.specs.Drill.{IsDrillOutput, StartsAt, last_line};
+ghost use Rattle.s39_drilling.specs.Drill.{IsDrillOutput, StartsAt, WritesDrillOf, last_line};
 ghost use Rattle.s39_input.specs.Slices.{IsInFront};
 ghost use Rattle.s39_drilling.specs.Slices.{Lists, IsTried, Fills};
 
@@ -78,36 +77,68 @@ pub fn drill_lines(
         (option_copied after.entry) n (whole lines.now))
         limit text.old text.new result }
 {
+    let set = checked_set_in(passphrase, lines)?;
+    drill_set(form, passphrase, after, limit, &set, text)
+}
+
+/// Tries the quorums of a set that come after a given one, or all of them if none is given, and puts the text at the
+/// front of `text`, as `drill_lines` does for the lines of the set.
+///
+/// The first error that applies is returned, and then `text` is unchanged:
+///
+/// - `Lack` if the shares have no quorum;
+/// - `NotAQuorum` if the given names aren't a quorum of the shares;
+/// - `TooShort`, with the number of bytes needed, if the line of the first quorum and the last line don't fit, or, if
+///   no quorum is left, the line `end`.
+///
+/// The caller passes a printable passphrase, and a `limit` of at least 1.
+///
+/// ```rust
+/// let line =
+///     b"duckling enlarge academic academic agency result length solution fridge kidney coal \
+///     piece deal husband erode duke ajar critical decision keyboard\n";
+/// let set = checked_set_in(b"TREZOR", line)?;
+/// let mut text = [7; 17];
+/// let listing = drill_set(SecretForm::Fingerprint, b"TREZOR", None, 1000, &set, &mut text)?;
+/// assert_eq!(rt; (listing.last, listing.written), (13, 17));
+/// assert_eq!(rt; text, *b"0.0 df41d8fe\nend\n");
+/// ```
+pub fn drill_set(
+    form: SecretForm,
+    passphrase: &[u8],
+    after: Option<&Quorum>,
+    limit: u32,
+    set: &ShareSet,
+    text: &mut [u8],
+) -> Result<Listing, Unwritten>
+    requires printable { All IsPrintable passphrase.now }
+    requires some { 1 ≤ limit }
+    ensures { Lists (λ n text answer. WritesDrillOf form passphrase.now
+        (option_copied after.entry) n set.now (text, answer))
+        limit text.old text.new result }
+{
     listings_join();
     let mut looks = Looks::new();
-    let (set, start) = start_in(passphrase, after, lines, &mut looks)?;
-    match start {
-        Some(start) => Ok(fill(form, &set, start, passphrase, limit, &mut looks, text)?),
+    match start_in(set, after, &mut looks)? {
+        Some(start) => Ok(fill(form, set, start, passphrase, limit, &mut looks, text)?),
         None => Ok(put_end(text)?),
     }
 }
 
-/// The set of the lines' shares, and the quorum at which a drill of it starts, if there is one.
+/// The quorum at which a drill of a set starts, if there is one.
 fn start_in(
-    passphrase: &[u8],
+    set: &ShareSet,
     after: Option<&Quorum>,
-    lines: &[u8],
     looks: &mut Looks,
-) -> Result<(ShareSet, Option<Quorum>), Fault>
+) -> Result<Option<Quorum>, Fault>
     requires looks { looks.old ≤ u64.MAX - most_step_looks }
-    ensures checked { IfOk result (λ found.
-        IsCheckedSet passphrase.now (whole lines.now) (Ok found.0)) }
-    ensures is_set { IfOk result (λ found. IsShareSet found.0) }
-    ensures starts { IfOk result (λ found.
-        StartsAt found.0 (option_copied after.entry) found.1) }
-    ensures refused { IfErr result (λ fault. (form : SecretForm) (limit : ℕ)
-        → IsDrillOutput form passphrase.now (option_copied after.entry) limit (whole lines.now)
-        [] (Err fault)) }
+    ensures is_set { IsShareSet set.now }
+    ensures starts { IfOk result (StartsAt set.now (option_copied after.entry)) }
+    ensures refused { IfErr result (λ fault. (form : SecretForm) (passphrase : List ℕ) (limit : ℕ)
+        → WritesDrillOf form passphrase (option_copied after.entry) limit set.now ([], Err fault)) }
     ensures looks { looks.new ≤ looks.old + most_step_looks }
 {
-    let set = checked_set_in(passphrase, lines)?;
-    let start = start_of(&set, after, looks)?;
-    Ok((set, start))
+    Ok(start_of(set, after, looks)?)
 }
 
 /// Puts the text of a drill without a quorum at the front of a slice.

@@ -15,7 +15,7 @@ ghost use Rattle.s39_set.specs.declared.status.Status.{Status};
 ghost use Rattle.s39_reading.specs.Status.{IsStatusOutput};
 ghost use Rattle.s39_reading.specs.Recover.{RecoversCreated};
 
-pub use crate::exponent::{every_exponent_is_at_most_15, one_exponent, some_exponent};
+pub use crate::exponent::{one_exponent, shares_have_the_exponent};
 pub use crate::length_laws::statuses_are_short;
 pub use crate::round_trips::{one_output_of_a_backup, written_mnemonics_recover};
 use s39_backup::laws::{every_quorum_has_an_outcome, every_quorum_recovers, one_outcome};

@@ -1,6 +1,6 @@
 //! The commands `recover` and `status` of the program `shamir`, over readers and writers: `run_recover` and
-//! `run_status`. `recover_secret` and `status_lines` do the same for lines in memory, and `exponent_in` gives the
-//! iteration exponent of such lines.
+//! `run_status`. `recover_secret` and `status_lines` do the same for lines in memory, and `recover_set` recovers the secret
+//! of a set. `exponent_of` gives the iteration exponent of a set.
 //!
 //! The examples use `Counting` and `SecretForm` of `s39_input` too. In them `rt` is the runtime, or a reference to it.
 #![tactic(auto)]
@@ -12,6 +12,6 @@ mod recover;
 mod round_trips;
 mod status;
 
-pub use exponent::exponent_in;
-pub use recover::{recover_secret, run_recover};
+pub use exponent::exponent_of;
+pub use recover::{recover_secret, recover_set, run_recover};
 pub use status::{WrittenStatus, run_status, status_lines};

@@ -72,7 +72,7 @@ pub fn run_recover<R: Read, W: Write>(
 {
     created_backups_recover();
     let set = checked_set(passphrase, input)?;
-    let secret = secret_of(&set, expected, passphrase)?;
+    let secret = recover_set(expected, passphrase, &set)?;
     write_text(output, secret_line(form, &secret).as_slice())?;
     Ok(())
 }
@@ -114,14 +114,30 @@ pub fn recover_secret(
         IsRecoverOutput SecretForm.Digits expected passphrase.now (whole lines.now) [] (Err fault)) }
 {
     let set = checked_set_in(passphrase, lines)?;
-    secret_of(&set, expected, passphrase)
+    recover_set(expected, passphrase, &set)
 }
 
-/// The secret that the least quorum of a set recovers, if it is the expected one.
-fn secret_of(
-    set: &ShareSet,
+/// Returns the secret that the first quorum (`s39_set::first`) of a set recovers with the passphrase, as `recover_secret`
+/// does for the lines of the set.
+///
+/// The first error that applies is returned:
+///
+/// - `Lack` if the shares have no quorum;
+/// - `DigestMismatch` if a digest of the first quorum doesn't match;
+/// - `OtherSecret` if a fingerprint is expected that the secret doesn't have.
+///
+/// ```rust
+/// let line =
+///     b"duckling enlarge academic academic agency result length solution fridge kidney coal \
+///     piece deal husband erode duke ajar critical decision keyboard\n";
+/// let set = checked_set_in(b"TREZOR", line)?;
+/// let secret = recover_set(None, b"TREZOR", &set)?;
+/// assert!(rt; secret.starts_with(b"\xbb\x54\xaa\xc4\xb8\x9d\xc8\x68"));
+/// ```
+pub fn recover_set(
     expected: Option<NotedFingerprint>,
     passphrase: &[u8],
+    set: &ShareSet,
 ) -> Result<Bytes, Fault>
     ensures secret { IfOk result (λ secret.
         IsRecovered expected passphrase.now set.now (Ok secret.items)) }

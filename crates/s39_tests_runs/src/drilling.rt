@@ -1,7 +1,7 @@
 //! The examples of the doc comments of `s39_drilling`, line for line. The values come from published vectors, or from a plain reading of
 //! the standard in Python.
-use s39_drilling::{drill_lines, run_drill};
-use s39_input::{Counting, SecretForm};
+use s39_drilling::{drill_lines, drill_set, run_drill};
+use s39_input::{Counting, SecretForm, checked_set_in};
 use std::alloc::AllocGlobal;
 use std::process::Abort;
 use std::test::Fail;
@@ -33,5 +33,21 @@ fn drills(rt: &(impl Abort + AllocGlobal)) -> Result<(), Fail> {
     assert_eq!(rt; (listing.listed, listing.mismatches), (1, 0));
     assert_eq!(rt; (listing.last, listing.written), (37, 41));
     assert!(rt; text.starts_with(b"0.0 bb54aac4b89dc868ba37d9cc21b2cece\nend\n"));
+
+    let line =
+        b"duckling enlarge academic academic agency result length solution fridge kidney coal \
+        piece deal husband erode duke ajar critical decision keyboard\n";
+    let set = checked_set_in(b"TREZOR", line)?;
+    let mut text = [7; 17];
+    let listing = drill_set(
+        SecretForm::Fingerprint,
+        b"TREZOR",
+        None,
+        1000,
+        &set,
+        &mut text,
+    )?;
+    assert_eq!(rt; (listing.last, listing.written), (13, 17));
+    assert_eq!(rt; text, *b"0.0 df41d8fe\nend\n");
     Ok(())
 }

@@ -1,8 +1,10 @@
 //! The examples of the doc comments of `s39_reading`, line for line. The values come from published vectors, or from a plain reading of
 //! the standard in Python.
-use s39_input::{Counting, SecretForm};
+use s39_input::{Counting, SecretForm, checked_set_in};
 use s39_kdf::parse_fingerprint;
-use s39_reading::{exponent_in, recover_secret, run_recover, run_status, status_lines};
+use s39_reading::{
+    exponent_of, recover_secret, recover_set, run_recover, run_status, status_lines,
+};
 use std::alloc::AllocGlobal;
 use std::process::Abort;
 use std::test::Fail;
@@ -11,7 +13,7 @@ use std::test::Fail;
 fn examples(rt: HostRuntime) -> Result<(), Fail> {
     recoveries(&rt)?;
     statuses(&rt)?;
-    exponents(&rt)
+    sets(&rt)
 }
 
 fn recoveries(rt: &(impl Abort + AllocGlobal)) -> Result<(), Fail> {
@@ -58,11 +60,20 @@ fn statuses(rt: &(impl Abort + AllocGlobal)) -> Result<(), Fail> {
     Ok(())
 }
 
-fn exponents(rt: &impl Abort) -> Result<(), Fail> {
+fn sets(rt: &impl Abort) -> Result<(), Fail> {
     let line =
         b"duckling enlarge academic academic agency result length solution fridge kidney coal \
         piece deal husband erode duke ajar critical decision keyboard\n";
-    assert_eq!(rt; exponent_in(line), Some(0));
-    assert_eq!(rt; exponent_in(b""), None);
+    let set = checked_set_in(b"TREZOR", line)?;
+    let secret = recover_set(None, b"TREZOR", &set)?;
+    assert!(rt; secret.starts_with(b"\xbb\x54\xaa\xc4\xb8\x9d\xc8\x68"));
+
+    let line =
+        b"duckling enlarge academic academic agency result length solution fridge kidney coal \
+        piece deal husband erode duke ajar critical decision keyboard\n";
+    let set = checked_set_in(b"TREZOR", line)?;
+    assert_eq!(rt; exponent_of(&set)?, 0);
+    let none = exponent_of(&checked_set_in(b"", b"")?).err();
+    assert_eq!(rt; none.map(|fault| fault.refusal.cause().code), Some(29));
     Ok(())
 }

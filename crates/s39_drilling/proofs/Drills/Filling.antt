@@ -14,10 +14,10 @@ use Rattle.s39_drilling.specs.declared.listing.Listing.{Listing}
 use Rattle.s39_input.specs.declared.slices.TooShort.{TooShort}
 use Rattle.s39_input.specs.declared.slices.Unwritten.{Unwritten}
 use Rattle.s39_input.specs.declared.slices.Unwritten.TheVariants.{TooShort as SliceTooShort}
-use Rattle.s39_input.specs.Input.{Input}
-use Rattle.s39_input.specs.Accepted.{IsCheckedSet}
 use Rattle.s39_input.specs.Steps.{gives}
-use Rattle.s39_drilling.specs.Drill.{DrillLaws, last_line, IsDrill, IsDrillOutput, IsNext, StartsAt}
+use Rattle.s39_input.specs.declared.fault.Fault.{Fault}
+use Rattle.s39_drilling.specs.declared.drill.Done.{Done}
+use Rattle.s39_drilling.specs.Drill.{DrillLaws, last_line, IsDrill, IsNext, StartsAt, WritesDrillOf}
 use Rattle.s39_input.specs.Slices.{IsInFront}
 use Rattle.s39_drilling.specs.Slices.{Lists, IsLines, more_after, IsTried, DrillFits, FillsSlice, Fills, IsFilling}
 use Rattle.s39_input.proofs.Texts.Fronts.{put_at}
@@ -225,14 +225,17 @@ answered (Ok listing) = Ok listing
 answered (Err short) = Err (SliceTooShort short)
 
 module _ (none : (set : List ShareFields) (given : Option Names) (limit : ℕ) → HasNoQuorumAfter set given → IsListing set given limit [])
-    (form : SecretForm) (passphrase : List ℕ) (after : Option Names) (input : Input) (set : List ShareFields) (checked : IsCheckedSet passphrase input (Ok set))
-    (next : Option Names) (starts : StartsAt set after next) (limit : ℕ) (old new : List ℕ) where
+    (form : SecretForm) (passphrase : List ℕ) (after : Option Names) (set : List ShareFields) (next : Option Names) (starts : StartsAt set after next) (limit : ℕ) (old new : List ℕ) where
+  -- the set is drilled so
+  abbrev Writes : ℕ → List ℕ → Result Done Fault → Type 0
+  Writes n text answer = WritesDrillOf form passphrase after n set (text, answer)
+
   output : (listed : ℕ) (lines : List ℕ) (more : Option Names) (m : ℕ) → IsDrill form set passphrase after listed lines more m
-      → IsDrillOutput form passphrase after listed input (lines ++ last_line more) (Ok (record { mismatches = m }))
-  output listed lines more m d = gives set checked (gives tt (starts.no_lack, starts.cursor) (lines, more, m, d, refl))
+      → Writes listed (lines ++ last_line more) (Ok (record { mismatches = m }))
+  output listed lines more m d = gives tt (starts.no_lack, starts.cursor) (lines, more, m, d, refl)
 
   lists : (result : Result Listing TooShort) → Fills form set passphrase after limit old new result
-      → Lists (λ n. IsDrillOutput form passphrase after n input) limit old new (answered result)
+      → Lists Writes limit old new (answered result)
   lists (Ok listing) f = record {
     listed = f.listed;
     text = f.lines ++ last_line f.more;
@@ -250,10 +253,10 @@ module _ (none : (set : List ShareFields) (given : Option Names) (limit : ℕ) �
   lists (Err short) f =
       let ((lines, more, m, d, needed, long), same) = f in ((lines ++ last_line more, m, output 1 lines more m d, needed, long), same)
 
-  -- the drill of the input's set is that of the input
+  -- the drill from this quorum on is that of the set
   pub fills_lists : (start : Names) → next ≡ Some start → (result : Result Listing TooShort)
       → ((given : Option Names) → IsFirstQuorumAfter set given start → Fills form set passphrase given limit old new result)
-      → Lists (λ n. IsDrillOutput form passphrase after n input) limit old new (answered result)
+      → Lists Writes limit old new (answered result)
   fills_lists start is result fills = lists result (fills after (subst (IsNext set after) is starts.starts))
 
   -- no quorum is left
@@ -261,13 +264,13 @@ module _ (none : (set : List ShareFields) (given : Option Names) (limit : ℕ) �
       → IfOk result (λ listing. IsInFront (last_line None) old new × (listing.written ≡ length (last_line None)) × (listing.listed ≡ 0)
       × (listing.last ≡ 0) × (listing.mismatches ≡ 0))
       → IfErr result (λ short. (short.needed ≡ length (last_line None)) × (length old < length (last_line None)) × (new ≡ old))
-      → Lists (λ n. IsDrillOutput form passphrase after n input) limit old new (answered result)
+      → Lists Writes limit old new (answered result)
   end_lists is some (Ok listing) ok err = let over : HasNoQuorumAfter set after = subst (IsNext set after) is starts.starts in record {
     listed = limit;
     text = last_line None;
     some = some;
     few = omega arith;
-    output = subst (λ m. IsDrillOutput form passphrase after limit input (last_line None) (Ok (record { mismatches = m }))) (sym ok.4)
+    output = subst (λ m. Writes limit (last_line None) (Ok (record { mismatches = m }))) (sym ok.4)
         (output limit [] None 0 (drill_ends set passphrase after limit (none set after limit over) over));
     in_front = ok.0;
     written = ok.1;

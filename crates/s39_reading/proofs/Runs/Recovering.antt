@@ -48,42 +48,48 @@ recovered_fault P lacks mismatches other expected passphrase set fault (gives na
 recovered_fault P lacks mismatches other expected passphrase set fault (gives names least (gives secret outcome is)) =
     subst P (not_expected (is_other_than expected secret) secret fault is) other
 
--- each set has one least quorum or one lack, and each quorum one outcome
+-- each set has one least quorum or one lack
 module _ (one_lack : SetsHaveOneLack) (no_lack : SetsWithQuorumsHaveNone)
     (one_first_quorum : (set : List ShareFields) (given : Option Names) (names others : Names)
-    → IsFirstQuorumAfter set given names → IsFirstQuorumAfter set given others → names ≡ others)
-    (one_outcome : (set : List ShareFields) (names : Names) (passphrase : List ℕ) (outcome other : Result (List ℕ) Mismatch) → IsShareSet set
-    → IsQuorum set names
-    → IsOutcome set names passphrase outcome → IsOutcome set names passphrase other → outcome ≡ other) where
-  least_once : (set : List ShareFields) → AtMostOne (IsLeastOrLack set)
+    → IsFirstQuorumAfter set given names → IsFirstQuorumAfter set given others → names ≡ others) where
+  pub least_once : (set : List ShareFields) → AtMostOne (IsLeastOrLack set)
   least_once set (Ok names) (Ok others) p q = ap Ok (one_first_quorum set None names others p q)
   least_once set (Ok names) (Err lack) p q = absurd (no_lack set names lack p.quorum q)
   least_once set (Err lack) (Ok names) p q = absurd (no_lack set names lack q.quorum p)
   least_once set (Err lack) (Err other) p q = ap Err (one_lack set lack other p q)
 
-  pub secret_once : (form : SecretForm) (expected : Option NotedFingerprint) (passphrase : List ℕ) (set : List ShareFields) → IsShareSet set
+  -- and each quorum one outcome
+  pub secret_once : ((set : List ShareFields) (names : Names) (passphrase : List ℕ) (outcome other : Result (List ℕ) Mismatch) → IsShareSet set
+      → IsQuorum set names
+      → IsOutcome set names passphrase outcome → IsOutcome set names passphrase other → outcome ≡ other)
+      → (form : SecretForm) (expected : Option NotedFingerprint) (passphrase : List ℕ) (set : List ShareFields) → IsShareSet set
       → AtMostOne (WritesSecret form expected passphrase set)
-  secret_once form expected passphrase set is =
+  secret_once one_outcome form expected passphrase set is =
       then_once (IsRecovered expected passphrase set) nothing_for _
       (then_once (IsLeastOrLack set) _ _ (least_once set) (λ names least.
       then_once (IsOutcome set names passphrase) _ _ (λ o p. one_outcome set names passphrase o p is least.quorum) (λ secret _ r s p q. p ∙ sym q)))
       (λ secret _ r s p q. p ∙ sym q)
 
 -- every set has a least quorum or a lack
+pub least_or_lack : ((set : List ShareFields) → IsShareSet set
+    → ((names : Names) × IsFirstQuorumAfter set None names) ⊎ ((lack : SetLack) × IsLack set lack)) → (set : List ShareFields) → IsShareSet set
+    → AtLeastOne (IsLeastOrLack set)
+least_or_lack quorum_or_lack set is =
+    elim (quorum_or_lack set is) [
+      | inl (names, least) ↦ (Ok names, least)
+      | inr (lack, lacks) ↦ (Err lack, lacks)
+    ]
+
 module _ (quorum_or_lack : (set : List ShareFields) → IsShareSet set
     → ((names : Names) × IsFirstQuorumAfter set None names) ⊎ ((lack : SetLack) × IsLack set lack)) (form : SecretForm)
     (expected : Option NotedFingerprint) where
-  -- and every quorum an outcome
+  -- every quorum has an outcome
   pub some_secret : ((set : List ShareFields) (names : Names) (passphrase : List ℕ) → IsShareSet set → IsQuorum set names
       → (outcome : Result (List ℕ) Mismatch) × IsOutcome set names passphrase outcome)
       → (passphrase : List ℕ) (set : List ShareFields) → IsShareSet set → AtLeastOne (WritesSecret form expected passphrase set)
   some_secret every_outcome passphrase set is =
-      let least : AtLeastOne (IsLeastOrLack set) = elim (quorum_or_lack set is) [
-        | inl (names, least) ↦ (Ok names, least)
-        | inr (lack, lacks) ↦ (Err lack, lacks)
-      ] in
       then_some (IsRecovered expected passphrase set) nothing_for _
-      (then_some (IsLeastOrLack set) _ _ least (λ names first.
+      (then_some (IsLeastOrLack set) _ _ (least_or_lack quorum_or_lack set is) (λ names first.
       then_some (IsOutcome set names passphrase) _ _ (every_outcome set names passphrase is first.quorum) (λ secret _. (as_expected expected secret, refl))))
       (λ secret _. ((secret_line form secret, Ok tt), refl))
 

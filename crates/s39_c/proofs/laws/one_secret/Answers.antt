@@ -1,9 +1,16 @@
+use Rattle.s39_input.specs.Input.{whole}
 use Rattle.s39_kdf.specs.declared.secret_form.SecretForm.TheVariants.{Digits}
-use Rattle.s39_c.proofs.OneSecret.{expected_secret_once}
-use Rattle.s39_c.proofs.MostExponents.{up_to_once}
+use Rattle.s39_reading.specs.Recover.{IsRecoverOutput}
+use Rattle.s39_c.specs.Exponents.{GivesUpTo}
+use Rattle.s39_c.specs.Recovering.{GivesSecret}
+use Rattle.s39_c.proofs.OneSecret.{secret_once, expected_secret_once}
+use Rattle.s39_c.proofs.MostExponents.{one_up_to, up_to_once}
 use Rattle.s39_c.proofs.laws.one_secret.Goals as goal
 
 pub returns : goal.returns
 returns c = λ most passphrase lines digits old new other answer another bytes others.
-    up_to_once c.one_exponent.ensures most lines old new other answer another
-    (expected_secret_once (c.one_recover_output.ensures Digits) passphrase lines digits old new other answer another bytes others)
+    expected_secret_once (λ noted. GivesUpTo most passphrase lines (GivesSecret (IsRecoverOutput Digits noted passphrase (whole lines)) old) old)
+    digits old new other answer another (λ noted.
+    up_to_once most passphrase lines (GivesSecret (IsRecoverOutput Digits noted passphrase (whole lines)) old)
+    (one_up_to most passphrase lines c.one_checked_set.ensures c.one_exponent.ensures.once) old new other answer another
+    (secret_once (c.one_recover_output.ensures Digits) noted passphrase lines old new other answer another bytes others))

@@ -1,7 +1,7 @@
 use Rattle.std.proofs.Common.{refl, sym}
 use Rattle.std.proofs.lemmas.Result.{err_from_is_err_and, IfOk-weaker, IfErr-weaker}
 use Rattle.s39_input.specs.Steps.{gives, refuses}
-use Rattle.s39_reading.proofs.recover.secret_of.Goals as goal
+use Rattle.s39_reading.proofs.recover.recover_set.Goals as goal
 
 pub returns-in_err-quorum-clause-refused : goal.returns-in_err-quorum-clause-refused
 returns-in_err-quorum-clause-refused c =
