@@ -39,6 +39,8 @@
 #                    shamir-papers
 #   make check-packages  installs, runs and uninstalls what `make install`, `make wheel` and `make deb` make, and unpacks an
 #                    archive of the sources, such as `make dist` makes
+#   make release     writes dist/, which holds what needs no build: the page and the library as plain C
+#   make check-dist  makes the files of dist/ anew, and compares them byte for byte
 #   make dist        packs the committed sources, builds the page, and writes the sha256 of both and what they were made with.
 #                    The same commit and tools give the same bytes
 #   make clean       removes what these targets build, and what checks kept in crates/*/out
@@ -98,7 +100,7 @@ SOURCES = $(shell find crates -path '*/out' -prune -o -type f -print) crates.txt
 
 TIMING = crates/s39_timing/out/timing
 
-.PHONY: all lib wasm portable page test quick edits twins check check-library check-js check-page check-papers check-packages check-secrets bench faults compare install install-bin install-lib install-page install-papers uninstall wheel deb dist clean
+.PHONY: all lib wasm portable page test quick edits twins check check-library check-js check-page check-papers check-packages check-secrets bench faults compare install install-bin install-lib install-page install-papers uninstall wheel deb release dist clean
 
 all: shamir
 
@@ -151,7 +153,7 @@ PACKAGES_CHECKS = check-debs check-installed
 SECRETS_CHECKS = check-leftovers check-timing
 PAGE_PARTS = privacy refusals tasks entry looks astray hasty long agreement ways
 PAGE_CHECKS = $(foreach part,$(PAGE_PARTS),check-page-firefox-$(part) check-page-chromium-$(part)) check-page-sources
-CHECKS = $(LIBRARY_CHECKS) $(PACKAGES_CHECKS) check-allocations check-terminal check-recipes check-completions check-values check-command \
+CHECKS = $(LIBRARY_CHECKS) $(PACKAGES_CHECKS) check-allocations check-terminal check-recipes check-completions check-values check-command check-dist \
 	check-examples check-texts check-figures check-manual check-version
 LONGEST = check-page-firefox-privacy check-page-chromium-privacy check-header check-rust check-leftovers check-papers check-vectors $(PACKAGES_CHECKS)
 PART = @$(PYTHON) tools/part $@
@@ -211,6 +213,10 @@ check-terminal: shamir
 
 check-command: shamir libshamir.so
 	$(PART) $(PYTHON) tools/command
+
+# Without wasm-opt there is no page, and the check says so.
+check-dist: $(PAGE)
+	$(PART) $(PYTHON) tools/release --check
 
 check-values: shamir
 	$(PART) tools/values
@@ -356,6 +362,9 @@ wheel: libshamir.so
 
 deb: shamir libshamir.so shamir.html
 	tools/deb
+
+release: shamir.html
+	@$(PYTHON) tools/release
 
 dist:
 	@top=$$(git rev-parse --show-toplevel 2>&1); test "$$top" = "$$(pwd -P)" || \
