@@ -1,6 +1,7 @@
 # `make` proves and builds the program shamir. It proves as many libraries side by side as the machine can, so it needs no -j.
 # `make test` runs all checks, and `make quick` those that a change concerns. The other targets are:
 #
+#   make try         needs no kit: it compiles dist/c, and drills a backup with it. It leaves ./shamir-papers, which runs over it
 #   make lib         proves and builds the library: libshamir.a and libshamir.so. It leaves ./shamir-papers, which runs over it
 #   make prove-NAME  proves a library of crates/, after those that it uses
 #   make test-NAME   proves and runs the tests of a library, after the libraries that it uses
@@ -39,6 +40,8 @@
 #                    shamir-papers
 #   make check-packages  installs, runs and uninstalls what `make install`, `make wheel` and `make deb` make, and unpacks an
 #                    archive of the sources, such as `make dist` makes
+#   make release     writes dist/, which holds what needs no build: the page and the library as plain C
+#   make check-dist  makes the files of dist/ anew, and compares them byte for byte
 #   make dist        packs the committed sources, builds the page, and writes the sha256 of both and what they were made with.
 #                    The same commit and tools give the same bytes
 #   make clean       removes what these targets build, and what checks kept in crates/*/out
@@ -73,7 +76,7 @@ CPU = x86-64
 # The logic of the kit decides what is proved. `rt version` prints its sum, and README.md names it.
 LOGIC = dac8208d650f15bf
 # Without rt, a target that proves says so before anything else.
-TELL_OF_KIT = @command -v $(RT) > /dev/null || { echo "make: $(RT) of the kit isn't on the path, so nothing can be proved or built: README.md says what the kit is, and whom to ask without it" >&2; exit 1; }; \
+TELL_OF_KIT = @command -v $(RT) > /dev/null || { echo "make: $(RT) of the kit isn't on the path, so nothing can be proved or built (README.md says what the kit is); without it, 'make try' works, and dist/shamir.html opens in a browser" >&2; exit 1; }; \
 	found=$$($(RT) version 2> /dev/null) || found="no version"; case "$$found" in *" logic $(LOGIC)") ;; \
 	*) echo "make: 'rt version' says '$$found', and README.md names a kit with logic $(LOGIC)" >&2 ;; esac
 # These crates are programs for measurements and checks.
@@ -98,7 +101,7 @@ SOURCES = $(shell find crates -path '*/out' -prune -o -type f -print) crates.txt
 
 TIMING = crates/s39_timing/out/timing
 
-.PHONY: all lib wasm portable page test quick edits twins check check-library check-js check-page check-papers check-packages check-secrets bench faults compare install install-bin install-lib install-page install-papers uninstall wheel deb dist clean
+.PHONY: all lib wasm portable page test quick edits twins check check-library check-js check-page check-papers check-packages check-secrets bench faults compare try install install-bin install-lib install-page install-papers uninstall wheel deb release dist clean
 
 all: shamir
 
@@ -124,9 +127,12 @@ libshamir.so: libshamir.a packaging/libshamir.map
 	cp $@ bindings/python/shamir/libshamir.so
 	cp NOTICE bindings/python/NOTICE
 
-# Runs from this folder, over libshamir.so.
+# Runs from this folder, over libshamir.so, or else over what `make try` compiled.
 shamir-papers: packaging/shamir-papers
 	cp $< $@
+
+try: shamir-papers
+	@$(PYTHON) tools/try
 
 # The loader looks for the library under this name, also for a program that is linked in this folder.
 $(SONAME): libshamir.so
@@ -151,7 +157,7 @@ PACKAGES_CHECKS = check-debs check-installed
 SECRETS_CHECKS = check-leftovers check-timing
 PAGE_PARTS = privacy refusals tasks entry looks astray hasty long agreement ways
 PAGE_CHECKS = $(foreach part,$(PAGE_PARTS),check-page-firefox-$(part) check-page-chromium-$(part)) check-page-sources
-CHECKS = $(LIBRARY_CHECKS) $(PACKAGES_CHECKS) check-allocations check-terminal check-recipes check-completions check-values check-command \
+CHECKS = $(LIBRARY_CHECKS) $(PACKAGES_CHECKS) check-allocations check-terminal check-recipes check-completions check-values check-command check-dist \
 	check-examples check-texts check-figures check-manual check-version
 LONGEST = check-page-firefox-privacy check-page-chromium-privacy check-header check-rust check-leftovers check-papers check-vectors $(PACKAGES_CHECKS)
 PART = @$(PYTHON) tools/part $@
@@ -211,6 +217,10 @@ check-terminal: shamir
 
 check-command: shamir libshamir.so
 	$(PART) $(PYTHON) tools/command
+
+# Without wasm-opt there is no page, and the check says so.
+check-dist: $(PAGE)
+	$(PART) $(PYTHON) tools/release --check
 
 check-values: shamir
 	$(PART) tools/values
@@ -357,6 +367,9 @@ wheel: libshamir.so
 deb: shamir libshamir.so shamir.html
 	tools/deb
 
+release: shamir.html
+	@$(PYTHON) tools/release
+
 dist:
 	@top=$$(git rev-parse --show-toplevel 2>&1); test "$$top" = "$$(pwd -P)" || \
 	{ echo "make dist: this folder isn't the top of a git checkout, so there is no commit to pack: $$top" >&2; exit 1; }
@@ -384,7 +397,7 @@ shamir.html: shamir32.wasm tools/page $(wildcard page/*.js page/*.html page/*.cs
 	@tools/page
 
 clean:
-	rm -rf shamir shamir-papers libshamir.a libshamir.so $(SONAME) shamir.wasm shamir32.wasm shamir.html page/out bindings/python/shamir/libshamir.so bindings/python/NOTICE bindings/js/shamir32.wasm bindings/js/LICENSE bindings/js/NOTICE shamir-$(VERSION).tar.gz shamir-$(VERSION).sha256 shamir-$(VERSION).txt shamir-*.whl *.deb crates/*/out
+	rm -rf shamir shamir-papers libshamir.a libshamir.so $(SONAME) shamir.wasm shamir32.wasm shamir.html page/out bindings/python/shamir/libshamir.so bindings/python/shamir/portable.so bindings/python/NOTICE bindings/js/shamir32.wasm bindings/js/LICENSE bindings/js/NOTICE shamir-$(VERSION).tar.gz shamir-$(VERSION).sha256 shamir-$(VERSION).txt shamir-*.whl *.deb crates/*/out
 
 # prove-NAME proves the library NAME once those are proved that it uses. `rt` looks at the contents of all files, and proves only
 # what changed.

@@ -23,8 +23,9 @@ so does an object whose memory is no longer there, such as a released memoryview
 fit the C type raises OverflowError. No exception holds a secret, a passphrase or a word of a mnemonic.
 
 The module loads the library that the environment variable SHAMIR_LIBRARY names. Without the variable it loads
-libshamir.so in the folder of this package, where `make lib` puts it, or else the system's libshamir.so.1. If the
-library isn't there, lacks a call, or has another first version number than the package, it raises ImportError.
+libshamir.so in the folder of this package, where `make lib` puts it, or else portable.so there, which is compiled from the
+library as plain C, or else the system's libshamir.so.1. If the library isn't there, lacks a call, or has another first
+version number than the package, it raises ImportError.
 
 Calls share no data, so any number of threads can make calls at once. A call uses at most 512 KiB of stack. A call in a
 thread with a smaller `threading.stack_size` can crash the program; 1,048,576 is enough for every call. The library
@@ -208,8 +209,8 @@ _Call = Callable[[Any, int], Any]
 
 
 def _loaded() -> ctypes.CDLL:
-    beside = pathlib.Path(__file__).parent / "libshamir.so"
-    name = os.environ.get("SHAMIR_LIBRARY") or (str(beside) if beside.exists() else "libshamir.so.1")
+    beside = (pathlib.Path(__file__).parent / name for name in ("libshamir.so", "portable.so"))
+    name = os.environ.get("SHAMIR_LIBRARY") or next((str(path) for path in beside if path.exists()), "libshamir.so.1")
     try:
         library = _declared(ctypes.CDLL(name))
     except (OSError, AttributeError) as error:
