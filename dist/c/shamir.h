@@ -140,7 +140,7 @@ typedef enum shamir_code {
     SHAMIR_E_BAD_PADDING = 14,            /* a padding bit isn't 0 */
     SHAMIR_E_GROUP_THRESHOLD = 15,        /* the group threshold is above the group count */
     SHAMIR_E_NO_MNEMONIC = 17,            /* no mnemonic fits a line of marks */
-    SHAMIR_E_WRONG_WORD = 18,             /* the checksum is wrong; first, second: see shamir_repair */
+    SHAMIR_E_WRONG_WORD = 18,             /* the checksum is wrong; first: see shamir_repair */
     SHAMIR_E_UNREADABLE_WORDS = 19,       /* more than three places of a line are open; first: how many are */
     SHAMIR_E_OTHER_IDENTIFIER = 21,       /* the identifier differs from that of earlier lines */
     SHAMIR_E_OTHER_EXTENDABLE = 22,       /* the extendable flag differs from that of earlier lines */
@@ -290,13 +290,12 @@ shamir_answer shamir_create(
  * is compared: a wrong passphrase then isn't detected, and gives another secret.
  *
  * The exponent of the mnemonics determines how long the call takes: 10,000 * 2^exponent iterations of PBKDF2, and twice as
- * many for a secret of more than 64 bytes. With the exponent 15 these take minutes. If no line is refused, the mnemonics have
- * a quorum, and their exponent is above max_exponent, the call refuses with 3 before any iteration, whatever else it could
- * refuse. SHAMIR_EXPONENT_MAX or a greater number allows every exponent. If secret is too short, the call refuses with 1 only
- * after the iterations.
+ * many for a secret of more than 64 bytes. With the exponent 15 these take minutes. If the exponent is above max_exponent, the
+ * call refuses with 3 before any iteration. SHAMIR_EXPONENT_MAX or a greater number allows every exponent. If secret is too
+ * short, the call refuses with 1 only after the iterations.
  *
- * The call refuses with the first of these that applies: 3, 44 (expected is neither empty nor such digits), 41, the code of the
- * first refused line (11 to 28, 71), 29, 30, 51, 52, 1.
+ * The call refuses with the first of these that applies: 44 (expected is neither empty nor such digits), 41, the code of the
+ * first refused line (11 to 28, 71), 29, 30, 3, 51, 52, 1.
  *
  *     uint8_t secret[SHAMIR_SECRET_BYTES_MAX];
  *     shamir_answer answer = shamir_recover(
@@ -352,8 +351,8 @@ shamir_answer shamir_recover(
  * drill of a large backup takes many times as long if each call lists only one quorum. If text is too short for one quorum, the
  * call refuses with 1 only after the iterations.
  *
- * The call refuses with the first of these that applies: 3 (as for shamir_recover), 2 (a limit of 0, or a form above 2), 61, 44
- * (if the form is SHAMIR_FORM_EXPECTED), 41, the code of the first refused line (11 to 28, 71), 29, 30, 62, 1.
+ * The call refuses with the first of these that applies: 2 (a limit of 0, or a form above 2), 61, 44 (if the form is
+ * SHAMIR_FORM_EXPECTED), 41, the code of the first refused line (11 to 28, 71), 29, 30, 3, 62, 1.
  *
  *     shamir_answer answer = shamir_drill(
  *         lines, lines_bytes, "TREZOR", 6, SHAMIR_EXPONENT_MAX, after, after_bytes, 1000, SHAMIR_FORM_FINGERPRINTS, NULL, 0, text,
@@ -440,8 +439,8 @@ shamir_answer shamir_reissue(
  *
  * For 11, first is which mark stands for no word, counted from 1. The code is 19 if more than three places are open, and 17 if
  * one to three are open and no mnemonic fits. The codes 13 to 15 and 18 are for lines with no open place. If the checksum is
- * wrong and one other word would make a mnemonic of the line, the code is 18: if one word is wrong, it is word number first,
- * counted from 1, or, if second isn't 0, one of the two. first is then below second. If there is no such word, the code is 13.
+ * wrong and another word in one place would make a mnemonic of the line, the code is 18: if one word is wrong, it is word number
+ * first, counted from 1. There is at most one such place. If there is none, the code is 13.
  *
  * The call refuses with the first of these that applies: 11, 12, 19, 17, 18, 13, 14, 15, 1.
  *
