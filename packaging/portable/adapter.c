@@ -97,23 +97,22 @@ static int begin(call *c)
     return 1;
 }
 
-/* Clears this many bytes of the C stack below its own frame. */
-NOINLINE static void clear_stack(size_t bytes)
-{
-    clear(STACK_ROOM(bytes), bytes);
-}
-
-/* Clears what the call used, and frees it. */
+/* Clears what the call used of its block, and frees it. */
 static void end(call *c)
 {
-    uintptr_t here = FRAME();
-    size_t reached = here > c->m.deepest ? (size_t)(here - c->m.deepest) : 0;
     size_t from = (size_t)c->m.lowest - RED_ZONE_BYTES;
 
     clear(c->m.data + from, STACK_BYTES - from);
     clear(c->m.data + ANSWER, (size_t)(c->m.size - ANSWER));
     SHAMIR_RELEASE(c->m.data);
-    clear_stack(at_most(reached, SHAMIR_STACK_BYTES - 2 * FRAMES_BYTES) + FRAMES_BYTES);
+}
+
+/* Returns how many bytes of the C stack to clear below this frame. */
+static size_t stack_bytes(const call *c, uintptr_t frame)
+{
+    size_t reached = frame > c->m.deepest ? (size_t)(frame - c->m.deepest) : 0;
+
+    return at_most(reached, SHAMIR_STACK_BYTES - 2 * FRAMES_BYTES) + FRAMES_BYTES;
 }
 
 static shamir_answer no_memory(void)
@@ -149,6 +148,18 @@ static shamir_answer finish(call *c, void *output)
     return answer;
 }
 
+/*
+ * Ends the call, clears the C stack below the frame of the function that makes it, and returns the answer. What is cleared begins at
+ * that frame, which has nothing secret. A function of its own would clear less: its frame would lie where those of the call lay.
+ */
+#define RETURN_ANSWER(c, output) \
+    do { \
+        shamir_answer answered = finish(c, output); \
+        size_t reached = stack_bytes(c, FRAME()); \
+        clear(STACK_ROOM(reached), reached); \
+        return answered; \
+    } while (0)
+
 static void copy_share(const module *m, u32 at, shamir_share *share)
 {
     share->id = (uint16_t)i32_load16_u(m, at);
@@ -173,7 +184,7 @@ shamir_answer shamir_parse(const char *line, size_t line_bytes, shamir_share *sh
     module_parse(&c.m, ANSWER, from, line_bytes, fields, c.room, room_bytes);
     if (i32_load(&c.m, ANSWER) == SHAMIR_DONE)
         copy_share(&c.m, fields, share);
-    return finish(&c, value);
+    RETURN_ANSWER(&c, value);
 }
 
 shamir_answer shamir_random_needed(const char *plan, size_t plan_bytes, size_t secret_bytes)
@@ -184,7 +195,7 @@ shamir_answer shamir_random_needed(const char *plan, size_t plan_bytes, size_t s
     if (!begin(&c))
         return no_memory();
     module_random_needed(&c.m, ANSWER, from, plan_bytes, secret_bytes);
-    return finish(&c, NULL);
+    RETURN_ANSWER(&c, NULL);
 }
 
 shamir_answer shamir_create(
@@ -202,7 +213,7 @@ shamir_answer shamir_create(
     module_create(
         &c.m, ANSWER, from, plan_bytes, key, secret_bytes, words, passphrase_bytes, exponent, extendable, chance, random_bytes, c.room,
         room_bytes);
-    return finish(&c, mnemonics);
+    RETURN_ANSWER(&c, mnemonics);
 }
 
 shamir_answer shamir_recover(
@@ -218,7 +229,7 @@ shamir_answer shamir_recover(
         return no_memory();
     module_recover(
         &c.m, ANSWER, from, lines_bytes, words, passphrase_bytes, max_exponent, print, expected_bytes, c.room, room_bytes);
-    return finish(&c, secret);
+    RETURN_ANSWER(&c, secret);
 }
 
 shamir_answer shamir_drill(
@@ -235,7 +246,7 @@ shamir_answer shamir_drill(
     module_drill(
         &c.m, ANSWER, from, lines_bytes, words, passphrase_bytes, max_exponent, cursor, after_bytes, limit, form, print, expected_bytes,
         c.room, text_bytes);
-    return finish(&c, text);
+    RETURN_ANSWER(&c, text);
 }
 
 shamir_answer shamir_status(const char *lines, size_t lines_bytes, char *text, size_t text_bytes)
@@ -248,7 +259,7 @@ shamir_answer shamir_status(const char *lines, size_t lines_bytes, char *text, s
     if (!begin(&c))
         return no_memory();
     module_status(&c.m, ANSWER, from, lines_bytes, c.room, room_bytes);
-    return finish(&c, text);
+    RETURN_ANSWER(&c, text);
 }
 
 shamir_answer shamir_reissue(
@@ -263,7 +274,7 @@ shamir_answer shamir_reissue(
     if (!begin(&c))
         return no_memory();
     module_reissue(&c.m, ANSWER, of, plan_bytes, wanted, names_bytes, from, lines_bytes, c.room, room_bytes);
-    return finish(&c, mnemonics);
+    RETURN_ANSWER(&c, mnemonics);
 }
 
 shamir_answer shamir_repair(const char *line, size_t line_bytes, char *mnemonics, size_t mnemonics_bytes)
@@ -276,7 +287,7 @@ shamir_answer shamir_repair(const char *line, size_t line_bytes, char *mnemonics
     if (!begin(&c))
         return no_memory();
     module_repair(&c.m, ANSWER, from, line_bytes, c.room, room_bytes);
-    return finish(&c, mnemonics);
+    RETURN_ANSWER(&c, mnemonics);
 }
 
 shamir_answer shamir_fingerprint(const uint8_t *secret, size_t secret_bytes, char *text, size_t text_bytes)
@@ -289,7 +300,7 @@ shamir_answer shamir_fingerprint(const uint8_t *secret, size_t secret_bytes, cha
     if (!begin(&c))
         return no_memory();
     module_fingerprint(&c.m, ANSWER, from, secret_bytes, c.room, room_bytes);
-    return finish(&c, text);
+    RETURN_ANSWER(&c, text);
 }
 
 shamir_answer shamir_words(const char *letters, size_t letters_bytes, char *text, size_t text_bytes)
@@ -302,7 +313,7 @@ shamir_answer shamir_words(const char *letters, size_t letters_bytes, char *text
     if (!begin(&c))
         return no_memory();
     module_words(&c.m, ANSWER, from, letters_bytes, c.room, room_bytes);
-    return finish(&c, text);
+    RETURN_ANSWER(&c, text);
 }
 
 /* Gives the text of the code 4, which the module doesn't know. It needs no memory. */
@@ -339,7 +350,7 @@ shamir_answer shamir_text(const shamir_answer *answer, char *text, size_t text_b
     i64_store(&c.m, from + 24, answer->second);
     i64_store(&c.m, from + 32, answer->written);
     module_text(&c.m, ANSWER, from, c.room, room_bytes);
-    return finish(&c, text);
+    RETURN_ANSWER(&c, text);
 }
 
 shamir_answer shamir_version(char *text, size_t text_bytes)
@@ -351,7 +362,7 @@ shamir_answer shamir_version(char *text, size_t text_bytes)
     if (!begin(&c))
         return no_memory();
     module_version(&c.m, ANSWER, c.room, room_bytes);
-    return finish(&c, text);
+    RETURN_ANSWER(&c, text);
 }
 
 void shamir_wipe(void *buffer, size_t buffer_bytes)

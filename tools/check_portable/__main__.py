@@ -6,7 +6,8 @@
 In an empty folder, `cc` builds the library and runs the published vectors, and CMake installs it. Compilers of C and C++ take it without
 warnings. It exports the calls of the header alone. On generated calls, the builds for each processor and system give the
 answers of libshamir.so, without writing past an output: on x86-64 with gcc, clang, their sanitizers and threads, for other processors
-under qemu, and for Windows under wine. Without memory each call refuses, and the memory of a call is clear when it is freed.
+under qemu, and for Windows under wine. Without memory each call refuses, and the memory of a call is clear when it is freed. On
+x86-64, no call leaves anything secret on the stack.
 
 With --speed, it measures calls beside those of libshamir.a, and checks nothing.
 
@@ -16,6 +17,7 @@ import argparse
 import functools
 import os
 import pathlib
+import platform
 import shutil
 import sys
 import tempfile
@@ -30,6 +32,7 @@ import builds  # noqa: E402
 import install  # noqa: E402
 import sources  # noqa: E402
 import speed  # noqa: E402
+import stack  # noqa: E402
 from left_out import left_out  # noqa: E402
 
 Task = Tuple[str, Callable[[str], Optional[str]]]
@@ -63,8 +66,21 @@ def builds_to_compare(folder: str, calls: List[str], right: List[bytes]) -> List
     return tasks
 
 
+def stacks() -> List[Task]:
+    """Returns a task for each build in which the stack is looked at after each call."""
+    if platform.machine() != "x86_64":
+        left_out("this isn't x86-64, so nothing looks for what dist/c leaves on the stack")
+        return []
+    return [
+        task
+        for target in stack.TARGETS
+        for task in with_programs(target.name, [target.compiler], functools.partial(stack.is_cleared, target))
+    ]
+
+
 def other_tasks() -> List[Task]:
     return [
+        *stacks(),
         *with_programs("the empty folder", ["cc"], sources.works_in_an_empty_folder),
         *with_programs("what shamir.c exports", ["gcc", "nm"], sources.has_right_symbols),
         *with_programs("the form", ["gcc"], sources.compiles_strictly),

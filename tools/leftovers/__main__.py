@@ -29,14 +29,13 @@ import shutil
 import subprocess
 import sys
 import tempfile
-from concurrent.futures import ThreadPoolExecutor
-from typing import List, Tuple
+from typing import List
 
 ROOT = pathlib.Path(__file__).resolve().parents[2]
 sys.path[:0] = [str(ROOT / "tools" / "leftovers"), str(ROOT / "tools")]
 sys.dont_write_bytecode = True
 
-import backups  # noqa: E402
+import calls  # noqa: E402
 import cases  # noqa: E402
 import ends  # noqa: E402
 import exits  # noqa: E402
@@ -45,54 +44,8 @@ from left_out import left_out  # noqa: E402
 
 COMPILER = os.environ.get("CC", "cc").split()
 STRICT = ["-std=c11", "-O1", "-Wall", "-Wextra", "-Werror", "-pedantic", f"-I{ROOT}/include"]
-UNTOUCHED = b"\xa5"
 FRAMES = 384
-ADDRESS = 8
 SHOWN = 20
-
-
-def answered(program: str, case: cases.Case) -> Tuple[int, bytes]:
-    """Makes a call. Returns its code, and the stack below the caller."""
-    texts = [it if isinstance(it, bytes) else str(it).encode() for it in case.arguments]
-    given = b"".join(b"%d\n%b\n" % (len(text), text) for text in texts)
-    done = subprocess.run([program, case.call], input=given, capture_output=True)
-    if done.returncode:
-        sys.exit(f"tools/leftovers: {case.call} ends with status {done.returncode}")
-    head, _, rest = done.stdout.partition(b"\n")
-    code, written, count = map(int, head.split())
-    if len(rest) != written + count:
-        sys.exit(f"tools/leftovers: {case.call} gives {len(rest)} bytes instead of {written} and {count}")
-    return code, rest[written:]
-
-
-def leftovers(program: str, case: cases.Case, needles: backups.Needles) -> Tuple[List[str], int]:
-    """Returns what a call leaves, and how many bytes below the caller the lowest is that it leaves other than 0."""
-    name = f"shamir_{case.call} with the code {case.code}"
-    code, stack = answered(program, case)
-    if code != case.code:
-        return [f"{name} answers {code}"], 0
-    touched = stack.lstrip(UNTOUCHED)
-    found = sorted({what: len(touched) - at for at, what in needles.within(touched)}.items())
-    told = [f"{name} leaves {what}, {below} bytes below the caller" for what, below in found]
-    lowest = len(touched[ADDRESS:].lstrip(b"\0"))
-    if lowest > FRAMES:
-        told.append(f"{name} leaves bytes other than 0, {lowest} bytes below the caller")
-    return told, lowest
-
-
-def all_leftovers(archive: pathlib.Path) -> Tuple[List[str], int, int]:
-    """Makes all calls. Returns what they leave, how many they are, and the lowest byte that one leaves other than 0."""
-    told: List[str] = []
-    count = deepest = 0
-    with tempfile.TemporaryDirectory() as folder, ThreadPoolExecutor() as pool:
-        program = f"{folder}/leftovers"
-        subprocess.run([*COMPILER, *STRICT, str(ROOT / "tools" / "leftovers.c"), str(archive), "-o", program], check=True)
-        for backup, made in cases.all_cases():
-            needles = backups.Needles(backup)
-            for found, lowest in pool.map(lambda case: leftovers(program, case, needles), made):
-                told += [f"{len(backup.secret)} bytes: {it}" for it in found]
-                count, deepest = count + 1, max(deepest, lowest)
-    return told, count, deepest
 
 
 def too_deep(archive: pathlib.Path) -> List[str]:
@@ -110,7 +63,7 @@ def of_calls(archive: pathlib.Path) -> List[str]:
     if not shutil.which(COMPILER[0]):
         left_out(f"{COMPILER[0]} isn't here, so nothing looks for what the calls of the library leave on the stack")
         return []
-    told, count, deepest = all_leftovers(archive)
+    told, count, deepest = calls.all_leftovers([*COMPILER, *STRICT], str(archive), cases.LENGTHS, FRAMES)
     if shutil.which("objdump"):
         told += too_deep(archive)
     else:

@@ -1,0 +1,29 @@
+"""Looks for what calls of the library as plain C leave on the stack, as tools/leftovers does for the native library."""
+import sys
+
+import builds
+from builds import ROOT, Failed
+
+sys.path[:0] = [str(ROOT / "tools" / "leftovers"), str(ROOT / "tools")]
+
+import calls  # noqa: E402
+
+TARGETS = [
+    builds.Target("the stack with gcc -O2", "gcc", ["-O2"]),
+    builds.Target("the stack with gcc -Os", "gcc", ["-Os"]),
+    builds.Target("the stack with clang -O2", "clang", ["-O2"]),
+]
+# The lengths of the secrets.
+LENGTHS = [16, 128]
+# Only so many bytes below the caller may be other than 0: the frame of the call itself, which has nothing secret.
+FRAME = 1024
+SHOWN = 8
+
+
+def is_cleared(target: builds.Target, folder: str) -> str:
+    """Sees that no call leaves anything secret on the stack, and all of it 0 below its own frame. Returns how many calls were made."""
+    compiler = [target.compiler, "-std=c11", *builds.STRICT, *target.words, f"-I{builds.DIST}"]
+    told, count, deepest = calls.all_leftovers(compiler, str(builds.DIST / "shamir.c"), LENGTHS, FRAME)
+    if told:
+        raise Failed(f"{target.name}: something is left on the stack\n  " + "\n  ".join(told[:SHOWN]))
+    return f"{target.name}: after each of {count} calls, nothing secret is left on the stack; below {deepest} bytes, all of it is 0"
