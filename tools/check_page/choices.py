@@ -196,6 +196,11 @@ def said_kind(line):
     return [say("what.backup", first=first, second=second), others, flag, say("what.exponent", exponent=share["exponent"]), say("what.secret", bytes=len(share["value"]))]
 
 
+def told_of(page):
+    """Returns the lines that tell what a paper is."""
+    return page.evaluate("[...document.querySelectorAll('.told li')].map((it) => it.innerText).join('\\n')").split("\n")
+
+
 def check_what(page, see):
     """One paper says what it is. A damaged one doesn't, nor does a phrase of BIP-39."""
     begin(page, "what")
@@ -204,9 +209,10 @@ def check_what(page, see):
         share = plain.parse(line.encode())
         paste(page, line)
         page.wait_text(say("what.sound", name=f"{share['group']}.{share['member']}"))
-        told = page.evaluate("[...document.querySelectorAll('.told li')].map((it) => it.innerText).join('\\n')").split("\n")
-        if [it for it in said_kind(line) if it not in told] or len(told) != 6:
-            raise Failed(f"the page says of {line!r}: {told}")
+        # The paper before may have the same name, and its answer may still stand there.
+        page.wait(lambda: set(said_kind(line)) <= set(told_of(page)), f"what {line!r} is")
+        if len(told_of(page)) != 6:
+            raise Failed(f"the page says of {line!r}: {told_of(page)}")
         if line == THREE_GROUPS[2]:
             see("what a paper is")
     check_green(page, [])
