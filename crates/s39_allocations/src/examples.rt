@@ -5,7 +5,7 @@ use s39_kdf::check_secret;
 use s39_set::parse_names;
 use s39_tool::{
     Counting, Fault, Options, Plan, SecretForm, run_create, run_drill, run_recover, run_reissue,
-    run_repair, run_show, run_status,
+    run_repair, run_resplit, run_show, run_status,
 };
 use std::io::{Read, Write};
 
@@ -97,6 +97,18 @@ const REPAIR: Example = Example {
     status: 1,
 };
 
+/// The random bytes of `RESPLIT`, which stand in a file.
+pub const RANDOM: &[u8] = b"\x12\n";
+
+/// Another program computes the mnemonics.
+const RESPLIT: Example = Example {
+    words: &["shamir", "resplit", "1of1", "--random-file", "random.bin"],
+    input: b"crush again academic academic device visitor diminish clogs chemical prospect expect python adequate clogs enlarge extend flexible aircraft smoking staff\n",
+    output: b"clay favorite academic academic device visitor diminish clogs chemical prospect expect python adequate clogs enlarge extend flexible bracelet slice dining\n",
+    errors: b"",
+    status: 0,
+};
+
 const REFUSED_PLAN: Example = Example {
     words: &["shamir", "create", "1of3", "--master-secret", SECRET],
     input: b"",
@@ -123,6 +135,7 @@ pub fn example_of(letter: u8) -> Option<Example> {
         b't' => Some(STATUS),
         b'i' => Some(REISSUE),
         b'm' => Some(REPAIR),
+        b'n' => Some(RESPLIT),
         b'p' => Some(REFUSED_PLAN),
         b'w' => Some(REFUSED_WORDS),
         _ => None,
@@ -162,6 +175,19 @@ fn reissue_one<R: Read, W: Write>(
     run_reissue(&plan, &names, input, output)
 }
 
+fn resplit_one<R: Read, W: Write>(
+    input: &mut Counting<R>,
+    output: &mut Counting<W>,
+) -> Result<(), Fault>
+    requires readable { input.old.failures < u64.MAX }
+    requires writable { output.old.failures < u64.MAX }
+{
+    let Ok(plan) = Plan::parse("1of1") else {
+        return Ok(());
+    };
+    run_resplit(&plan, RANDOM, input, output)
+}
+
 /// Runs the command of a letter; whether it ends without a fault.
 pub fn run_of<R: Read + Drop, W: Write + Drop>(letter: u8, input: R, output: W) -> bool {
     let mut input = Counting::new(input);
@@ -182,6 +208,7 @@ pub fn run_of<R: Read + Drop, W: Write + Drop>(letter: u8, input: R, output: W) 
         b'T' => run_status(&mut input, &mut output).is_ok(),
         b'I' => reissue_one(&mut input, &mut output).is_ok(),
         b'M' => run_repair(&mut input, &mut output).is_ok(),
+        b'N' => resplit_one(&mut input, &mut output).is_ok(),
         _ => false,
     }
 }

@@ -1,6 +1,6 @@
 //! Runs worked examples over arrays, and says how each ended. Its standard input has a letter for each: `s`, `r`, `c`, `d`,
-//! `t` (status), `i` (reissue) and `m` (repair) for the commands, `p` for a refused plan and `w` for refused words, each by
-//! the program, and `S`, `R`, `C`, `D`, `T`, `I` and `M` for the runs below it.
+//! `t` (status), `i` (reissue), `m` (repair) and `n` (resplit) for the commands, `p` for a refused plan and `w` for refused words, each
+//! by the program, and `S`, `R`, `C`, `D`, `T`, `I`, `M` and `N` for the runs below it.
 //!
 //! It takes no memory itself, so that `make faults` can refuse each allocation of an example in turn. The example then
 //! ends as it does otherwise, or it runs out of memory. In that case it ends with status 4, which this program returns, and
@@ -10,8 +10,8 @@
 mod arrays;
 mod examples;
 
-use crate::arrays::{NoFiles, Sheet, Source};
-use crate::examples::{Example, example_of, run_of};
+use crate::arrays::{OneFile, Sheet, Source};
+use crate::examples::{Example, RANDOM, example_of, run_of};
 use s39_cli::{Destination, Messages, program};
 use std::alloc::Global;
 use std::io;
@@ -35,7 +35,7 @@ fn ending_of(alloc: Global, example: &Example) -> Ending {
     let mut output = Sheet::new();
     let mut errors = Sheet::new();
     let status = program(
-        &NoFiles,
+        &OneFile { bytes: RANDOM },
         alloc,
         example.words,
         &mut input,

@@ -25,3 +25,4 @@ pub mod Chosen
 pub mod HeldGroups
 pub mod AfterFirst
 pub mod Refitted
+pub mod Resplits

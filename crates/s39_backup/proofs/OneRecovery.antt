@@ -53,7 +53,7 @@ same_params p q id extendable exponent =
     q.id_in_range
 
 -- a set has one list of parameters
-one_params : (set : List ShareFields) (p q : Params) → AreParams set p → AreParams set q → p ≡ q
+pub one_params : (set : List ShareFields) (p q : Params) → AreParams set p → AreParams set q → p ≡ q
 one_params [] p q a b = absurd a
 one_params (s ∷ ss) p q a b = same_params p q (a.0 ∙ sym b.0) (a.1 ∙ sym b.1) (a.2 ∙ sym b.2)
 
@@ -80,7 +80,7 @@ module _ (set : List ShareFields) (names : Names) (encrypts_once : EncryptsOneSe
       ap (λ (m : Mismatch). Err m) same
 
 -- the shares of a set have parameters
-params_of_share : (set : List ShareFields) (share : ShareFields) → IsShareSet set → Contains set share → (params : Params) × AreParams set params
+pub params_of_share : (set : List ShareFields) (share : ShareFields) → IsShareSet set → Contains set share → (params : Params) × AreParams set params
 params_of_share [] share is (k, below, here) = absurd (omega arith)
 params_of_share (s ∷ ss) share is among =
     let valid = All-head IsShare s ss is.each in

@@ -9,6 +9,7 @@ pub mod Asking
 pub mod Building
 pub mod Memo
 pub mod Reissue
+pub mod Resplit
 pub mod Reissuing
 pub mod LargerPlan
 pub mod TwoShort

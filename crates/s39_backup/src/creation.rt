@@ -6,8 +6,9 @@ ghost use Rattle.s39_split.specs.Shares.{bytes_of};
 ghost use Rattle.s39_split.specs.Sharing.{random_needed as level_random_needed, IsSplit};
 ghost use Rattle.s39_set.specs.Names.{most_groups, most_members};
 ghost use Rattle.s39_backup.specs.Plan.{IsPlan, IsGroup};
-ghost use Rattle.s39_backup.specs.Created.{identifier_of, AreCreatedParams, IsCreatedFrom, IsCreation, created_share, created_group, random_needed};
+ghost use Rattle.s39_backup.specs.Created.{identifier_length, identifier_of, AreCreatedParams, IsCreatedFrom, IsCreation, created_share, created_group, random_needed};
 ghost use Rattle.s39_backup.specs.Asking.{asked_of};
+ghost use Rattle.s39_backup.specs.Resplit.{AreSplitByPlan};
 ghost use Rattle.s39_backup.specs.Building.{IsHeader, ShareOneLength, AreCreatedGroups};
 
 use crate::create_error::CreateError;
@@ -89,11 +90,28 @@ fn create_shares(
     let (id, levels) = random.split_at(ID_BYTES);
     let params = params_from(id[0], id[1], options);
     let encrypted = encrypt(secret, passphrase, params);
+    split_encrypted(plan, &encrypted, params, levels, out);
+}
+
+/// Replaces the shares with those of a backup with these parameters, in which an encrypted secret is split by a plan.
+pub(crate) fn split_encrypted(
+    plan: &Plan,
+    encrypted: &Bytes,
+    params: Params,
+    random: &[u8],
+    out: &mut Created,
+)
+    requires secret { IsSecretLength (array_vec_len encrypted.now) }
+    requires random { identifier_length + length random.now
+        ≡ random_needed plan.now.group_threshold plan.now.groups.items (array_vec_len encrypted.now) }
+    ensures { AreSplitByPlan params plan.now.group_threshold plan.now.groups.items
+        encrypted.now.items random.now out.new }
+{
     let needed = random_needed(plan.group_threshold, encrypted.len());
-    let (piece, pieces) = levels.split_at(needed);
+    let (piece, pieces) = random.split_at(needed);
     let mut group_shares: [Bytes; MAX_SHARES] = Default::default();
     let group_shares = &mut group_shares[..plan.groups.len()];
-    split(plan.group_threshold, &encrypted, piece, group_shares);
+    split(plan.group_threshold, encrypted, piece, group_shares);
     let header = Header {
         params,
         group_threshold: plan.group_threshold,

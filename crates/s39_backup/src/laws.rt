@@ -1,4 +1,5 @@
-//! Facts about the definitions. Each is the contract of a function that does nothing.
+//! Facts about the definitions. Each is the contract of a function that does nothing. `resplit_laws` has those about
+//! encrypted secrets that are split anew.
 ghost use Rattle.std.specs.Prelude.{◌≡◌, ◌≢◌, ℕ, ◌<◌, List, [], length, map, All, Contains, Result, Ok, Err, None, Some, codes, replicate};
 ghost use Rattle.std.specs.List.{slice_get};
 ghost use Rattle.s39_kdf.specs.Bytes.{AreBytes};

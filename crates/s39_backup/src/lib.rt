@@ -1,6 +1,7 @@
 //! Backups by SLIP-0039: this crate parses plans (`Plan`), creates backups (`create`), combines the shares of a quorum
 //! (`combine_quorum`), recovers its secret (`recover_by`, `recover_quorum`), and computes missing shares from others
-//! (`reissue`). `refit` computes random bytes by which a backup of another secret has the same shares.
+//! (`reissue`). `resplit` splits the encrypted secret of an extendable backup by another plan. `refit` computes random
+//! bytes by which a backup of another secret has the same shares.
 //!
 //! A quorum is a set of shares that meets the thresholds, while none of its proper subsets does.
 //!
@@ -25,6 +26,9 @@ mod plan_error;
 mod plan_text;
 mod refitting;
 mod reissue_error;
+mod resplit_error;
+pub mod resplit_laws;
+mod resplitting;
 mod two_short;
 
 pub use at_hand::is_of_plan;
@@ -40,3 +44,5 @@ pub use plan::{Members, Plan};
 pub use plan_error::PlanError;
 pub use refitting::refit;
 pub use reissue_error::{ReissueError, TooFew};
+pub use resplit_error::ResplitError;
+pub use resplitting::resplit;

@@ -2,6 +2,7 @@ mod Outputs
 mod OneAnswer
 mod OneSecret
 mod OneReissue
+mod OneSplit
 mod MostExponents
 mod Rooms
 mod WordLines

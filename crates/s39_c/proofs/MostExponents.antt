@@ -77,7 +77,7 @@ module _ (most : ℕ) (passphrase lines : List ℕ) where
       → (old new : List ℕ) (answer : ShamirAnswer)
       → GivesSecret (λ text written. WritesSecret Digits expected passphrase set (text, written)) old new answer
       → GivesSecret (IsRecoverOutput Digits expected passphrase (whole lines)) old new answer
-  secret_of_checked expected set checked old new answer (inl (secret, writes, given)) = inl (secret, gives set checked writes, given)
+  secret_of_checked expected set checked old new answer (inl (secret, bytes, writes, given)) = inl (secret, bytes, gives set checked writes, given)
   secret_of_checked expected set checked old new answer (inr (fault, writes, same, says)) = inr (fault, gives set checked writes, same, says)
 
   -- and one

@@ -1,8 +1,6 @@
 -- A recovery of the same lines gives one answer and one memory.
-use Rattle.std.proofs.Common.{◌≡◌, ◌≢◌, ℕ, ◌<◌, List, [], ◌++◌, length, drop, length-append, refl, sym, ap, subst, ◌∙◌, inl, inr}
-use Rattle.std.proofs.Common.{arith}
+use Rattle.std.proofs.Common.{◌≡◌, ◌≢◌, ℕ, List, [], refl, sym, ap, subst, ◌∙◌, inl, inr}
 use Rattle.std.proofs.Common.{Option, Some, None, Result, Ok, Err}
-use Rattle.std.proofs.lemmas.List.{get_or_append_left}
 use Rattle.s39_kdf.specs.Bytes.{AreBytes}
 use Rattle.s39_input.specs.declared.fault.Fault.{Fault}
 use Rattle.s39_kdf.specs.Noted.{noted_in}
@@ -11,30 +9,17 @@ use Rattle.s39_kdf.specs.declared.noted.NotedFingerprint.{NotedFingerprint}
 use Rattle.s39_kdf.specs.declared.secret_form.SecretForm.TheVariants.{Digits}
 use Rattle.s39_input.specs.Input.{Input, whole}
 use Rattle.s39_reading.specs.Recover.{secret_line, IsRecoverOutput}
-use Rattle.s39_reading.proofs.Texts.SecretLines.{same_secret, same_size}
+use Rattle.s39_reading.proofs.Texts.SecretLines.{same_secret}
 use Rattle.s39_c.specs.declared.answer.ShamirAnswer.{ShamirAnswer}
-use Rattle.s39_c.specs.Answers.{Gives, too_short, refused}
+use Rattle.s39_c.specs.Answers.{Gives, refused}
 use Rattle.s39_c.specs.Recovering.{IsExpected, GivesSecret, GivesExpectedSecret}
 use Rattle.s39_c.proofs.OneAnswer.{gives_once}
 
--- what stands in front of bytes are bytes
-front_bytes : (front rest : List ℕ) → AreBytes (front ++ rest) → AreBytes front
-front_bytes front rest bytes k d within =
-    subst (λ (b : ℕ). b < 256) (get_or_append_left front rest d k within) (bytes k d (omega (arith, within, length-append front rest)))
-
-secret_given_once : (s t old new other : List ℕ) (answer another : ShamirAnswer) → AreBytes new → AreBytes other → secret_line Digits s ≡ secret_line Digits t
+secret_given_once : (s t old new other : List ℕ) (answer another : ShamirAnswer) → AreBytes s → AreBytes t → secret_line Digits s ≡ secret_line Digits t
     → Gives s old new answer → Gives t old other another → (new ≡ other) × (answer ≡ another)
-secret_given_once s t old new other answer another bytes others same (inl (fits, is, says)) (inl (fits', is', says')) =
-    let secrets : t ≡ s = same_secret t s (front_bytes t (drop (length t) old) (subst AreBytes is' others))
-    (front_bytes s (drop (length s) old) (subst AreBytes is bytes)) (sym same) in
-    gives_once s old new other answer another (inl (fits, is, says))
-    (subst (λ (x : List ℕ). Gives x old other another) secrets (inl (fits', is', says')))
-secret_given_once s t old new other answer another bytes others same (inl (fits, is, says)) (inr (long, is', says')) =
-    absurd (omega (arith, fits, long, same_size s t same))
-secret_given_once s t old new other answer another bytes others same (inr (long, is, says)) (inl (fits, is', says')) =
-    absurd (omega (arith, fits, long, same_size s t same))
-secret_given_once s t old new other answer another bytes others same (inr (long, is, says)) (inr (long', is', says')) =
-    (is ∙ sym is', says ∙ ap too_short (same_size s t same) ∙ sym says')
+secret_given_once s t old new other answer another bytes others same given also =
+    gives_once s old new other answer another given
+    (subst (λ (x : List ℕ). Gives x old other another) (same_secret t s others bytes (sym same)) also)
 
 abbrev noted_result : Result NotedFingerprint BadFingerprint → Result NotedFingerprint BadFingerprint
 noted_result result = result
@@ -42,19 +27,19 @@ noted_result result = result
 module _ (one_recover_output : (expected : Option NotedFingerprint) (passphrase : List ℕ) (input : Input) (text other : List ℕ)
     (answer another : Result (Unit {0}) Fault) → IsRecoverOutput Digits expected passphrase input text answer
     → IsRecoverOutput Digits expected passphrase input other another → (text ≡ other) × (answer ≡ another)) where
-  pub secret_once : (expected : Option NotedFingerprint) (passphrase lines old new other : List ℕ) (answer another : ShamirAnswer) → AreBytes new → AreBytes other
+  pub secret_once : (expected : Option NotedFingerprint) (passphrase lines old new other : List ℕ) (answer another : ShamirAnswer)
       → GivesSecret (IsRecoverOutput Digits expected passphrase (whole lines)) old new answer
       → GivesSecret (IsRecoverOutput Digits expected passphrase (whole lines)) old other another → (new ≡ other) × (answer ≡ another)
-  secret_once expected passphrase lines old new other answer another bytes others (inl (s, output, gives)) (inl (t, output', gives')) =
+  secret_once expected passphrase lines old new other answer another (inl (s, bytes, output, gives)) (inl (t, others, output', gives')) =
       let same = (one_recover_output expected passphrase (whole lines) (secret_line Digits s) (secret_line Digits t) (Ok tt) (Ok tt) output output').0 in
       secret_given_once s t old new other answer another bytes others same gives gives'
-  secret_once expected passphrase lines old new other answer another bytes others (inl (s, output, gives)) (inr (fault, output', is, says)) =
+  secret_once expected passphrase lines old new other answer another (inl (s, bytes, output, gives)) (inr (fault, output', is, says)) =
       let same = (one_recover_output expected passphrase (whole lines) (secret_line Digits s) [] (Ok tt) (Err fault) output output').1 in
       absurd (cc)
-  secret_once expected passphrase lines old new other answer another bytes others (inr (fault, output', is, says)) (inl (s, output, gives)) =
+  secret_once expected passphrase lines old new other answer another (inr (fault, output', is, says)) (inl (s, bytes, output, gives)) =
       let same = (one_recover_output expected passphrase (whole lines) (secret_line Digits s) [] (Ok tt) (Err fault) output output').1 in
       absurd (cc)
-  secret_once expected passphrase lines old new other answer another bytes others (inr (fault, output, is, says)) (inr (fault', output', is', says')) =
+  secret_once expected passphrase lines old new other answer another (inr (fault, output, is, says)) (inr (fault', output', is', says')) =
       let same = (one_recover_output expected passphrase (whole lines) [] [] (Err fault) (Err fault') output output').1 in
       let faults : fault ≡ fault' = cc in
       (is ∙ sym is', says ∙ ap refused faults ∙ sym says')

@@ -83,8 +83,8 @@ module _ (created : (expected : Option NotedFingerprint) (passphrase : List ℕ)
       (GivesSecret (RecoversCreated Digits noted passphrase (whole lines)) old) old) digits old new answer
   recovers_created (inl refused) = inl refused
   recovers_created (inr (noted, is, refuses refusal up at)) = inr (noted, is, refuses refusal up at)
-  recovers_created (inr (noted, is, gives set up (inl (secret, output, given)))) =
-      inr (noted, is, gives set up (inl (secret, created noted passphrase (whole lines) (secret_line Digits secret) (Ok tt) output, given)))
+  recovers_created (inr (noted, is, gives set up (inl (secret, bytes, output, given)))) =
+      inr (noted, is, gives set up (inl (secret, bytes, created noted passphrase (whole lines) (secret_line Digits secret) (Ok tt) output, given)))
   recovers_created (inr (noted, is, gives set up (inr (fault, output, same, says)))) =
       inr (noted, is, gives set up (inr (fault, created noted passphrase (whole lines) [] (Err fault) output, same, says)))
 

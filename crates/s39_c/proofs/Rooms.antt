@@ -48,6 +48,7 @@ use Rattle.s39_drilling.specs.Lengths.{longest_listing}
 use Rattle.s39_creating.specs.Lengths.{longest_backup}
 use Rattle.s39_reading.specs.Lengths.{longest_status}
 use Rattle.s39_creating.specs.Reissue.{IsReissueOutput}
+use Rattle.s39_creating.specs.Resplit.{IsResplitOutput}
 use Rattle.s39_reading.specs.Status.{IsStatusOutput}
 use Rattle.s39_c.specs.declared.answer.ShamirAnswer.{ShamirAnswer}
 use Rattle.s39_c.specs.Answers.{Gives, done, too_short, refusal, refused}
@@ -58,6 +59,7 @@ use Rattle.s39_c.proofs.MostExponents.{refused_up_to}
 use Rattle.s39_input.specs.Steps.{gives as goes_on, refuses}
 use Rattle.s39_c.specs.Fingerprinting.{GivesFingerprint}
 use Rattle.s39_c.specs.Reissuing.{GivesNamed, GivesReissued}
+use Rattle.s39_c.specs.Resplitting.{GivesSplit}
 use Rattle.s39_c.specs.Status.{GivesStatus}
 use Rattle.s39_c.specs.Telling.{longest_text, GivesText}
 
@@ -215,6 +217,18 @@ module _ (short : (group_threshold : ℕ) (groups : List Members) (names : Names
   pub reissue_fits : GivesReissued Is plan listed old new (too_short needed) → length old < longest_backup
   reissue_fits (inl (error, reads, same, says)) = absurd (no_refusal needed (plan_cause_of error) 0 (above-plan error) says)
   reissue_fits (inr (threshold, groups, reads, gives)) = named_fits threshold groups gives
+
+module _ (short : (group_threshold : ℕ) (groups : List Members) (random : List ℕ) (input : Input) (text : List ℕ)
+    → IsResplitOutput group_threshold groups random input text (Ok tt) → length text ≤ longest_backup)
+    (plan lines random old new : List ℕ) (needed : ℕ) where
+  pub split_fits : GivesSplit (λ threshold groups. IsResplitOutput threshold groups random (whole lines)) plan old new (too_short needed)
+      → length old < longest_backup
+  split_fits (inl (error, reads, same, says)) = absurd (no_refusal needed (plan_cause_of error) 0 (above-plan error) says)
+  split_fits (inr (threshold, groups, reads, inl (text, output, inl (fits, is, says)))) =
+      let code : 0 ≡ 1 = no_other needed _ says in absurd (omega (arith, code))
+  split_fits (inr (threshold, groups, reads, inl (text, output, inr (less, same, says)))) =
+      omega (arith, less, short threshold groups random (whole lines) text output)
+  split_fits (inr (threshold, groups, reads, inr (fault, output, same, says))) = absurd (no_fault needed fault says)
 
 -- ---- the text of an answer
 

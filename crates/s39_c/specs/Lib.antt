@@ -6,8 +6,10 @@ pub mod Fingerprinting
 pub mod Recovering
 pub mod Drilling
 pub mod Reissuing
+pub mod Resplitting
 pub mod Repairing
 pub mod Status
+pub mod Counting
 pub mod Telling
 pub mod Version
 pub mod Words

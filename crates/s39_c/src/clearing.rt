@@ -15,6 +15,10 @@ pub(crate) const CREATE: usize = 96 * KIB;
 
 pub(crate) const STATUS: usize = 224 * KIB;
 
+pub(crate) const QUORUMS: usize = 224 * KIB;
+
+pub(crate) const RESPLIT: usize = 256 * KIB;
+
 pub(crate) const RECOVER: usize = 264 * KIB;
 
 pub(crate) const DRILL: usize = 352 * KIB;

@@ -2,16 +2,22 @@
 //!
 //! The arguments of a call, with what its buffers held before, determine its answer and what its buffers hold
 //! afterwards. A `max_exponent` of 15 or more refuses nothing. `lengths.rt` has the laws about the lengths that the header names.
-ghost use Rattle.std.specs.Prelude.{◌≡◌, ℕ, ◌≤◌, List};
-ghost use Rattle.s39_kdf.specs.Bytes.{AreBytes};
+ghost use Rattle.std.specs.Prelude.{◌≡◌, ◌≢◌, ℕ, ◌-◌, ◌^◌, ◌≤◌, min, List, [], length, None, Ok};
 ghost use Rattle.s39_kdf.specs.declared.secret_form.SecretForm.TheVariants.{Digits};
+ghost use Rattle.s39_words.specs.declared.ShareFields.{ShareFields};
+ghost use Rattle.s39_set.specs.Names.{Names};
+ghost use Rattle.s39_set.specs.ShareSet.{IsShareSet};
+ghost use Rattle.s39_set.specs.Listing.{AreAllQuorumsAfter};
 ghost use Rattle.s39_drilling.specs.Drill.{IsDrillOutput};
 ghost use Rattle.s39_input.specs.Input.{whole};
 ghost use Rattle.s39_reading.specs.Recover.{IsRecoverOutput};
 ghost use Rattle.s39_creating.specs.Reissue.{IsReissueOutput};
+ghost use Rattle.s39_creating.specs.Resplit.{IsResplitOutput};
 ghost use Rattle.s39_reading.specs.Status.{IsStatusOutput};
 ghost use Rattle.s39_c.specs.declared.answer.ShamirAnswer.{ShamirAnswer as Answer};
 ghost use Rattle.s39_c.specs.declared.parsing.ShamirShare.{ShamirShare as Header};
+ghost use Rattle.s39_c.specs.Answers.{number};
+ghost use Rattle.s39_c.specs.Counting.{counted_answer};
 ghost use Rattle.s39_c.specs.Creating.{Wanted, GivesBackup, GivesNumber};
 ghost use Rattle.s39_c.specs.Drilling.{GivesDrill, GivesListing};
 ghost use Rattle.s39_c.specs.Exponents.{GivesUpTo};
@@ -20,16 +26,17 @@ ghost use Rattle.s39_c.specs.Parsing.{GivesShare};
 ghost use Rattle.s39_c.specs.Recovering.{GivesExpectedSecret, GivesSecret};
 ghost use Rattle.s39_c.specs.Reissuing.{GivesReissued};
 ghost use Rattle.s39_c.specs.Repairing.{GivesRepaired};
+ghost use Rattle.s39_c.specs.Resplitting.{GivesSplit};
 ghost use Rattle.s39_c.specs.Status.{GivesStatus};
 ghost use Rattle.s39_c.specs.Words.{GivesWords};
 
 use s39_backup::laws::one_plan_reading;
-use s39_creating::laws::{one_create_output, one_reissue_output};
+use s39_creating::laws::{one_create_output, one_reissue_output, one_resplit_output};
 use s39_drilling::laws::one_listing_in_a_slice;
 use s39_input::laws::one_checked_set;
 use s39_reading::laws::{one_exponent, one_recover_output, shares_have_the_exponent};
 use s39_repair::laws::one_answer;
-use s39_set::laws::written_forms;
+use s39_set::laws::{quorums_are_counted, written_forms};
 use s39_words::laws::one_printed_form;
 
 /// A line determines the fields, the buffer of the value and the answer of `shamir_parse`.
@@ -76,7 +83,6 @@ pub fn one_list_of_words()
 /// `shamir_recover`.
 pub fn one_secret()
     ensures { (most : ℕ) (passphrase lines digits old new other : List ℕ) (answer another : Answer)
-        → AreBytes new → AreBytes other
         → GivesExpectedSecret (λ noted. GivesUpTo most passphrase lines
         (GivesSecret (IsRecoverOutput Digits noted passphrase (whole lines)) old) old) digits old new answer
         → GivesExpectedSecret (λ noted. GivesUpTo most passphrase lines
@@ -121,6 +127,19 @@ pub fn one_reissue()
     one_reissue_output();
 }
 
+/// The text of a plan, lines and random bytes determine the buffer of mnemonics and the answer of `shamir_resplit`.
+pub fn one_split()
+    ensures { (plan lines random old new other : List ℕ) (answer another : Answer)
+        → GivesSplit (λ threshold groups. IsResplitOutput threshold groups random (whole lines))
+        plan old new answer
+        → GivesSplit (λ threshold groups. IsResplitOutput threshold groups random (whole lines))
+        plan old other another
+        → (new ≡ other) × (answer ≡ another) }
+{
+    one_plan_reading();
+    one_resplit_output();
+}
+
 /// Lines determine the buffer and the answer of `shamir_status`.
 pub fn one_status()
     ensures { (lines old new other : List ℕ) (answer another : Answer)
@@ -137,6 +156,16 @@ pub fn one_repair()
 {
     one_answer();
     one_printed_form();
+}
+
+/// If lines give a set with shares, `shamir_quorums` answers how many quorums the set has: the length of the list of all of
+/// them, each once, or 2^64 - 1 if it is longer.
+pub fn all_quorums_are_counted()
+    ensures { (set : List ShareFields) (quorums : List Names)
+        → IsShareSet set → set ≢ [] → AreAllQuorumsAfter set None quorums
+        → counted_answer (Ok set) ≡ number (min (length quorums) (2 ^ 64 - 1)) }
+{
+    quorums_are_counted();
 }
 
 /// A maximum exponent of 15 or more refuses nothing: a recovery and a drill then give what they give without a maximum.

@@ -7,6 +7,7 @@
 
 mod answer;
 mod clearing;
+mod counting;
 mod creating;
 mod drilling;
 mod exponent;
@@ -18,6 +19,7 @@ mod parsing;
 mod recovering;
 mod reissuing;
 mod repairing;
+mod resplitting;
 mod status;
 mod telling;
 mod version;
@@ -25,6 +27,7 @@ mod wiping;
 mod words;
 
 pub use answer::ShamirAnswer;
+pub use counting::shamir_quorums;
 pub use creating::{shamir_create, shamir_random_needed};
 pub use drilling::shamir_drill;
 pub use fingerprinting::shamir_fingerprint;
@@ -32,6 +35,7 @@ pub use parsing::{ShamirShare, shamir_parse};
 pub use recovering::shamir_recover;
 pub use reissuing::shamir_reissue;
 pub use repairing::shamir_repair;
+pub use resplitting::shamir_resplit;
 pub use status::shamir_status;
 pub use telling::shamir_text;
 pub use version::shamir_version;
@@ -48,6 +52,8 @@ mod fingerprint_tests;
 mod reissue_tests;
 #[cfg(test)]
 mod repair_tests;
+#[cfg(test)]
+mod resplit_tests;
 #[cfg(test)]
 mod telling_tests;
 #[cfg(test)]

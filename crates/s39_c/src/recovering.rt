@@ -1,4 +1,5 @@
 //! The call that recovers a secret.
+ghost use Rattle.s39_kdf.specs.Bytes.{AreBytes};
 ghost use Rattle.s39_kdf.specs.declared.secret_form.SecretForm.TheVariants.{Digits};
 ghost use Rattle.s39_input.specs.Input.{whole};
 ghost use Rattle.s39_reading.specs.Recover.{IsRecoverOutput, RecoversCreated, WritesSecret};
@@ -108,7 +109,16 @@ fn give_secret(
         secret.old secret.new result }
 {
     match recover_set(expected, passphrase, set) {
-        Ok(recovered) => give(recovered.as_slice(), secret),
+        Ok(recovered) => {
+            let bytes = recovered.as_slice();
+            are_bytes(bytes);
+            give(bytes, secret)
+        }
         Err(fault) => ShamirAnswer::from(fault),
     }
 }
+
+/// The elements of a slice of bytes are bytes.
+fn are_bytes(bytes: &[u8])
+    ensures { AreBytes bytes.now }
+{}

@@ -1,4 +1,4 @@
-//! Tests of `shamir_status` and `shamir_reissue`, with values that another program computed.
+//! Tests of `shamir_status`, `shamir_quorums` and `shamir_reissue`, with values that another program computed.
 use super::*;
 use arrayvec::ArrayVec;
 
@@ -211,5 +211,22 @@ fn refuses_statuses(rt: HostRuntime) {
         let mut text = [7; ROOM];
         assert_eq!(rt; shamir_status(lines.as_slice(), &mut text), refused);
         assert_eq!(rt; text, [7; ROOM]);
+    }
+}
+
+#[test]
+fn counts_quorums(rt: HostRuntime) {
+    let cases: [(&[&[u8]], ShamirAnswer); 7] = [
+        (&[FIRST, SECOND, THIRD, GROUP_1], answer(0, 0, 3, 0, 0)),
+        (&[FIRST, SECOND, GROUP_1, GROUP_2], answer(0, 0, 3, 0, 0)),
+        (&[FIRST, GROUP_1, FIRST], answer(0, 0, 0, 0, 0)),
+        (&[GROUP_2, FIRST, GROUP_1], answer(0, 0, 1, 0, 0)),
+        (&[], answer(29, 0, 0, 0, 0)),
+        (&[FIRST, b"#\nacademia\n"], answer(11, 3, 1, 0, 0)),
+        (&[FIRST, FORGED_FIRST], answer(28, 2, 0, 0, 0)),
+    ];
+    for (held, told) in cases {
+        let lines = joined(held);
+        assert_eq!(rt; shamir_quorums(lines.as_slice()), told);
     }
 }

@@ -70,7 +70,7 @@ fn tells(rt: HostRuntime) {
         (refusal(66, 0, 0x1_00_00, 0), b"unknown answer"),
         (refusal(71, 4, 0, 0), b"line too long"),
         (refusal(4, 0, 0, 0), b"unknown answer"),
-        (refusal(67, 0, 0, 0), b"unknown answer"),
+        (refusal(69, 0, 0, 0), b"unknown answer"),
         (refusal(72, 0, 0, 0), b"unknown answer"),
         (refusal(27, 2, 256, 0), b"unknown answer"),
         (refusal(28, 2, 3, 256), b"unknown answer"),

@@ -14,10 +14,11 @@ use Rattle.s39_input.specs.declared.fault.Fault.{Fault}
 use Rattle.s39_input.specs.Input.{Input, whole}
 use Rattle.s39_input.specs.Create.{IsCreateOutput}
 use Rattle.s39_creating.specs.Reissue.{IsReissueOutput, ReissuesCreated}
+use Rattle.s39_creating.specs.Resplit.{IsResplitOutput, ResplitsCreated}
 use Rattle.s39_drilling.specs.declared.drill.Done.{Done}
 use Rattle.s39_drilling.specs.Drill.{DrillsCreated, IsDrillOutput}
 use Rattle.s39_reading.specs.Recover.{IsRecoverOutput, RecoversCreated, secret_line}
-use Rattle.s39_cli.specs.Headline.{CreatedJobsRecover, DrillJobsList, RecoverJobsRecover, ReissueJobsReissue}
+use Rattle.s39_cli.specs.Headline.{CreatedJobsRecover, DrillJobsList, RecoverJobsRecover, ReissueJobsReissue, ResplitJobsResplit}
 use Rattle.s39_cli.specs.Outcome.{CreatesFrom, judged, status_of, status_of_refusal, told_in, where_done}
 
 pub drill_jobs_list : ((form : SecretForm) (passphrase : List ℕ) (after : Option Names) (limit : ℕ) (input : Input) (text : List ℕ)
@@ -45,6 +46,16 @@ reissue_jobs_reissue created plan names secret passphrase input text status (ans
     by.names_are,
     (plain, created by.group_threshold by.groups by.names input text plain by.output, ends ∙ ap status_of is),
   ),
+)
+
+pub resplit_jobs_resplit : ((group_threshold : ℕ) (groups : List Members) (random : List ℕ) (input : Input) (text : List ℕ)
+    (answer : Result (Unit {0}) Fault) → IsResplitOutput group_threshold groups random input text answer
+    → ResplitsCreated group_threshold groups random input text answer) → ResplitJobsResplit
+resplit_jobs_resplit created plan file random passphrase input text status (answer, (plain, by, is), ends) = (
+  by.group_threshold,
+  by.groups,
+  by.plan_is,
+  (plain, created by.group_threshold by.groups random input text plain by.output, ends ∙ ap status_of is),
 )
 
 -- ---- a creation, and a recovery of what it wrote

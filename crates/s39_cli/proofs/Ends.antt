@@ -1,9 +1,12 @@
 -- How the program ends, from how its parts do.
-use Rattle.std.proofs.Common.{◌≡◌, ◌⊎◌, ◌∙◌, ⊎_elim, ℕ, List, [], Option, string_bytes, true, true≢false, inl, inr, refl, subst, sym}
+use Rattle.std.proofs.Common.{◌≡◌, ◌⊎◌, ◌∙◌, ⊎_elim, ℕ, Bor, List, [], Option, Some, None, Err, string_bytes, take, true, true≢false, inl, inr, refl, subst, sym}
 use Rattle.clap.specs.Words.{Text, fault_of, takes}
 use Rattle.s39_command.specs.declared.command.BadValues.{BadValues}
 use Rattle.s39_command.specs.declared.command.Call.{Call}
+use Rattle.s39_backup.specs.declared.plan_error.PlanError.{PlanError}
+use Rattle.s39_backup.specs.Plan.{IsPlanReading}
 use Rattle.s39_command.specs.declared.command.Job.{Job}
+use Rattle.s39_command.specs.declared.command.Job.TheVariants.{Resplit}
 use Rattle.s39_command.specs.declared.command.NoJob.{NoJob}
 use Rattle.s39_command.specs.declared.command.NoJob.TheVariants.{Help, Refused, Values, Memory}
 use Rattle.s39_cli.specs.declared.runner.Ended.{Ended}
@@ -11,8 +14,9 @@ use Rattle.s39_cli.specs.declared.runner.Ended.TheVariants.{With, NoMemory}
 use Rattle.s39_cli.specs.declared.runner.Source.{Source}
 use Rattle.s39_cli.specs.declared.work.Work.{Work}
 use Rattle.s39_command.specs.Command.{AnswersWords, GivesCall, shamir_app}
-use Rattle.s39_cli.specs.Ending.{Delivers, DoesJob, Ends, EndsAs, EndsUnread, EndsWithoutJob, HasStatus, IsTyped, OnEnd, TakesCall}
-use Rattle.s39_cli.specs.Values.{HasLong, LacksValue, TakesValues, Told, text_of}
+use Rattle.s39_cli.specs.Ending.{AwaitsRandom, Delivers, DoesDrawn, DoesJob, EndsAtOnce, IsDoneWith, Ends, EndsAs, EndsUnread, EndsWithoutJob, HasStatus, IsTyped, OnEnd, TakesCall}
+use Rattle.s39_cli.specs.Values.{AreDrawn, HasLong, LacksValue, TakesValues, Told, most_drawn, text_of}
+use Rattle.s39_cli.specs.Outcome.{GivesPlan, HasBadPlan}
 use Rattle.s39_cli.specs.Work.{IsWorkOf, IsWorkOutput}
 use Rattle.s39_cli.proofs.Deliveries.{Delivers-map}
 use Rattle.s39_command.proofs.Jobs.{asks_none}
@@ -30,6 +34,47 @@ module _ {R W : Type 0} (remaining : R → Option (List ℕ)) (contents : W → 
         Delivers-map remaining contents _ _ reader writer status read_to written_to delivers
             (λ input text full out. (out.0, output_of_job job secret passphrase w is input text out.0 out.1, out.2)),
       ))))))
+
+-- some bytes are those that are drawn from a file
+some_drawn : (known : Option (List ℕ)) → (random : List ℕ) × AreDrawn known random
+some_drawn None = ([], tt)
+some_drawn (Some bytes) = (take most_drawn bytes, refl)
+
+module _ {R W : Type 0} (told : Told) (remaining : R → Option (List ℕ)) (contents : W → Option (List ℕ)) (job : Job) (secret passphrase : Text) (reader : R)
+    (writer : W) where
+  -- a job that is done with this
+  pub does_with : (given : Text) (ended : Ended R W) → IsDoneWith told job secret given
+      → OnEnd ended (DoesJob remaining contents job given passphrase reader writer)
+      → OnEnd ended (DoesDrawn told remaining contents job secret passphrase reader writer)
+  does_with given NoMemory is does = tt
+  does_with given (With status read_to written_to) is does = inr (given, is, does)
+
+  module _ (plan file : Bor Text) (is : job ≡ Resplit plan file) where
+    -- a split anew with the random bytes of its file
+    pub does_drawn : (random : Text) (ended : Ended R W) → AreDrawn (told file.now) random
+        → OnEnd ended (DoesJob remaining contents job random passphrase reader writer)
+        → OnEnd ended (DoesDrawn told remaining contents job secret passphrase reader writer)
+    does_drawn random ended drawn does =
+        does_with random ended (subst (λ (j : Job). IsDoneWith told j secret random) (sym is) drawn) does
+
+    -- one whose plan is none
+    pub bad_plan : (error : PlanError) (ended : Ended R W) → IsPlanReading plan.now (Err error) → OnEnd ended (EndsAtOnce 1 reader writer)
+        → OnEnd ended (DoesDrawn told remaining contents job secret passphrase reader writer)
+    bad_plan error NoMemory refused ends = tt
+    bad_plan error (With status read_to written_to) refused ends =
+        let (random, drawn) = some_drawn (told file.now) in
+        inr (
+          random,
+          subst (λ (j : Job). IsDoneWith told j secret random) (sym is) drawn,
+          inr (inl ((error, subst (λ (j : Job). HasBadPlan j random error) (sym is) refused), ends)),
+        )
+
+    -- one whose file isn't read
+    pub unread_file : (P : Type 0) (ended : Ended R W) → GivesPlan plan.now → EndsUnread P reader writer ended
+        → OnEnd ended (λ status read_to written_to. status ≡ 3) → OnEnd ended (DoesDrawn told remaining contents job secret passphrase reader writer)
+    unread_file P NoMemory gives ends three = tt
+    unread_file P (With status read_to written_to) gives ends three =
+        inl (subst AwaitsRandom (sym is) gives, (three, ends.0, ends.1.1))
 
 module _ {R W : Type 0} (told : Told) (remaining : R → Option (List ℕ)) (contents : W → Option (List ℕ)) (source : Source) (words : List Text)
     (reader : R) (writer : W) where
@@ -84,7 +129,7 @@ module _ {R W : Type 0} (told : Told) (remaining : R → Option (List ℕ)) (con
 
     pub ends_by_job : (secret passphrase : Option (List ℕ)) (s p : Text) (behind : R) (ended : Ended R W) → (IsTyped source call.job → ⊥)
         → TakesValues told remaining call.files secret passphrase reader behind → s ≡ text_of secret call.given.secret
-        → p ≡ text_of passphrase call.given.passphrase → OnEnd ended (DoesJob remaining contents call.job s p behind writer)
+        → p ≡ text_of passphrase call.given.passphrase → OnEnd ended (DoesDrawn told remaining contents call.job s p behind writer)
         → Ends told remaining contents source words reader writer ended
     ends_by_job secret passphrase s p behind NoMemory untyped takes same_s same_p does = tt
     ends_by_job secret passphrase s p behind (With status read_to written_to) untyped takes same_s same_p does =
@@ -95,7 +140,7 @@ module _ {R W : Type 0} (told : Told) (remaining : R → Option (List ℕ)) (con
             passphrase,
             behind,
             takes,
-            subst (λ t. DoesJob remaining contents call.job t (text_of passphrase call.given.passphrase) behind writer status read_to written_to) same_s
-                (subst (λ t. DoesJob remaining contents call.job s t behind writer status read_to written_to) same_p does),
+            subst (λ t. DoesDrawn told remaining contents call.job t (text_of passphrase call.given.passphrase) behind writer status read_to written_to)
+                same_s (subst (λ t. DoesDrawn told remaining contents call.job s t behind writer status read_to written_to) same_p does),
           ),
         )))

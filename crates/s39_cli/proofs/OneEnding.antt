@@ -17,14 +17,14 @@ use Rattle.s39_command.proofs.OneCall.{one_call, said_same}
 use Rattle.s39_cli.specs.declared.runner.Source.{Source}
 use Rattle.s39_cli.specs.declared.values.Until.{Until}
 use Rattle.s39_cli.specs.declared.values.Until.TheVariants.{End, LineEnd}
-use Rattle.s39_cli.specs.Ending.{AreAllOf, Delivers, DoesJob, EndsAs, EndsAtOnce, IsOutcome, IsTyped, TakesCall}
+use Rattle.s39_cli.specs.Ending.{AreAllOf, Delivers, DoesDrawn, DoesJob, EndsAs, EndsAtOnce, IsDoneWith, IsOutcome, IsTyped, TakesCall}
 use Rattle.s39_cli.specs.Headline.{OneOutcome}
 use Rattle.s39_cli.specs.OneEnding.{OneEnding, SomeEnding, telling}
 use Rattle.s39_cli.specs.Outcome.{GivesPlan, HasBadSecret, HasBadPlan, HasBadCursor, HasBadFingerprint, HasBadNames, IsNotHexadecimal, IsReady}
 use Rattle.s39_cli.specs.Outcome.{WritesFingerprint, WritesNames}
 use Rattle.s39_cli.specs.Values.{HasLong, HasLongValue, IsLongFile, IsLongLine, IsValueIn, TakesValue, TakesValues, part, text_of}
 use Rattle.s39_cli.specs.Values.{without_line_end}
-use Rattle.s39_cli.proofs.SameValues.{same_values_write_the_same}
+use Rattle.s39_cli.proofs.SameValues.{same_done, same_values_write_the_same}
 use Rattle.s39_cli.proofs.Works.{no_cause}
 
 -- ---- a value
@@ -136,6 +136,18 @@ same_ready job.Status k s same ready = subst (λ (other : Job). IsReady other s)
 same_ready (job.Reissue t n) k s (t', n', same, plans, names) ready =
     subst (λ (other : Job). IsReady other s) (sym same) (subst GivesPlan plans ready.0, subst WritesNames names ready.1)
 same_ready job.Repair k s same ready = subst (λ (other : Job). IsReady other s) (sym same) ready
+same_ready (job.Resplit t f) k s (t', f', same, plans, files) ready = subst (λ (other : Job). IsReady other s) (sym same) (subst GivesPlan plans ready)
+
+-- a job is done with one thing
+one_given : (files : Text → List ℕ) (j : Job) (s a b : Text) → IsDoneWith (telling files) j s a → IsDoneWith (telling files) j s b → a ≡ b
+one_given files (job.Resplit plan file) s a b is also = is ∙ sym also
+one_given files job.Show s a b is also = is ∙ sym also
+one_given files (job.Create plan e x) s a b is also = is ∙ sym also
+one_given files (job.Recover f e) s a b is also = is ∙ sym also
+one_given files (job.Drill a l f e) s given other is also = is ∙ sym also
+one_given files job.Status s a b is also = is ∙ sym also
+one_given files (job.Reissue t n) s a b is also = is ∙ sym also
+one_given files job.Repair s a b is also = is ∙ sym also
 
 -- a cause other than that of the secret
 abbrev HasOther : Job → Text → Type 0
@@ -246,6 +258,16 @@ module _ {R W : Type 0} (files : Text → List ℕ) (remaining : R → Option (L
         by (inr (inl bad)) (inr (inr ready)) = absurd (ready_or_other j k s back bad.0 ready.0)
         by (inr (inr ready)) (inr (inl bad)) = absurd (ready_or_other k j s same bad.0 ready.0)
 
+    one_drawn : (j k : Job) (s p : Text) → HaveSameValues j k → HaveSameValues k j → AreAlike files remaining reader first → status ≢ 3 → another ≢ 3
+        → DoesDrawn (telling files) remaining contents j s p reader writer status read_to written_to
+        → DoesDrawn (telling files) remaining contents k s p first output another last given_to → IsOne held kept status written_to another given_to
+    one_drawn j k s p same back alike sound well (inl failed) gives = absurd (sound failed.1.0)
+    one_drawn j k s p same back alike sound well does (inl failed) = absurd (well failed.1.0)
+    one_drawn j k s p same back alike sound well (inr (a, is, does)) (inr (b, also, gives)) =
+        let one = one_given files k s a b (same_done (telling files) j k s a same is) also in
+        one_job j k b p same back alike sound well
+        (subst (λ (t : Text). DoesJob remaining contents j t p reader writer status read_to written_to) one does) gives
+
   -- ---- a call
 
   same_text : (v w : Option (List ℕ)) (a b : Option (Bor Text)) → v ≡ w → text_in a ≡ text_in b → text_of v a ≡ text_of w b
@@ -281,10 +303,12 @@ module _ {R W : Type 0} (files : Text → List ℕ) (remaining : R → Option (L
         same.files.passphrase secret.1 takes.2 takes'.2 in
         let texts = same_text s t call.given.secret other.given.secret secret.0 same.given.secret in
         let words = same_text p q call.given.passphrase other.given.passphrase passphrase.0 same.given.passphrase in
-        one_job held kept behind behind' writer output held_is kept_is status another read_to last written_to given_to call.job other.job
+        one_drawn held kept behind behind' writer output held_is kept_is status another read_to last written_to given_to call.job other.job
         (text_of t other.given.secret) (text_of q other.given.passphrase) same.values back.values passphrase.1 sound well
-        (subst (λ (x : Text). DoesJob remaining contents call.job x (text_of q other.given.passphrase) behind writer status read_to written_to) texts
-        (subst (λ (y : Text). DoesJob remaining contents call.job (text_of s call.given.secret) y behind writer status read_to written_to) words does))
+        (subst (λ (x : Text). DoesDrawn (telling files) remaining contents call.job x (text_of q other.given.passphrase) behind writer status read_to
+        written_to) texts
+        (subst (λ (y : Text). DoesDrawn (telling files) remaining contents call.job (text_of s call.given.secret) y behind writer status read_to
+        written_to) words does))
         does'
 
     one_end_of_words : (words : List Text) → (AsksForText words → ⊥)
@@ -317,7 +341,7 @@ one_ending remaining contents once files source words input output other status 
     (one.0, one.1 output other is.output_is also.output_is)
 
 pub some_ending : SomeEnding
-some_ending files source words j given input output status taken unasked gives untyped ready outcome sound = record {
+some_ending files source words j given secret input output status taken unasked gives untyped done_with ready outcome sound = record {
   reader = input;
   writer = [];
   read_to = [];
@@ -338,14 +362,18 @@ some_ending files source words j given input output status taken unasked gives u
           None,
           input,
           (input, (refl, refl), (refl, refl)),
-          inr (inr (inr (inr (inr (
-            ready,
-            record {
-              read = (input, sym (append-nil input));
-              done = λ _. (input, refl, (output, outcome, refl));
-              failed = λ three. absurd (sound three);
-            },
-          ))))),
+          inr (
+            secret,
+            done_with,
+            inr (inr (inr (inr (inr (
+              ready,
+              record {
+                read = (input, sym (append-nil input));
+                done = λ _. (input, refl, (output, outcome, refl));
+                failed = λ three. absurd (sound three);
+              },
+            ))))),
+          ),
         ),
       )),
     );

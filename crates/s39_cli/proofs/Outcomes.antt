@@ -22,6 +22,7 @@ use Rattle.s39_reading.specs.Recover.{IsRecoverOutput}
 use Rattle.s39_drilling.specs.Drill.{IsDrillOutput}
 use Rattle.s39_reading.specs.Status.{IsStatusOutput}
 use Rattle.s39_creating.specs.Reissue.{IsReissueOutput}
+use Rattle.s39_creating.specs.Resplit.{IsResplitOutput}
 use Rattle.s39_command.specs.declared.command.Job.{Job}
 use Rattle.s39_command.specs.declared.command.Job.TheVariants as job
 use Rattle.s39_cli.specs.Headline.{OneOutcome}
@@ -73,6 +74,7 @@ module _ (shows : IsOnce IsShowOutput) (creates : (asked : Asked) → IsOnce (Is
     (statuses : IsOnce IsStatusOutput)
     (reissues : (group_threshold : ℕ) (groups : List Members) (names : Names) → IsPlan group_threshold groups
     → IsOnce (IsReissueOutput group_threshold groups names))
+    (resplits : (group_threshold : ℕ) (groups : List Members) (random : List ℕ) → IsOnce (IsResplitOutput group_threshold groups random))
     (repairs : IsOnce IsRepairOutput)
     (plan_once : (text : List ℕ) (reading other : Result (ℕ × List Members) PlanError) → IsPlanReading text reading → IsPlanReading text other
     → reading ≡ other)
@@ -120,6 +122,16 @@ module _ (shows : IsOnce IsShowOutput) (creates : (asked : Asked) → IsOnce (Is
       (subst (λ (n : Names). IsReissueOutput x.group_threshold x.groups n input text a.0) listed x.output)) y.output in
       (same.0, a.2 ∙ ap (judged where_done) same.1 ∙ sym b.2)
 
+  resplit_once : (random passphrase : List ℕ) (plan file : Bor (List ℕ)) → IsOnce (IsJobOutput (job.Resplit plan file) random passphrase)
+  resplit_once random passphrase plan file input text other answer another a b =
+      let x = a.1 in
+      let y = b.1 in
+      let plans : (x.group_threshold, x.groups) ≡ (y.group_threshold, y.groups) =
+      same_ok (plan_once plan.now (Ok (x.group_threshold, x.groups)) (Ok (y.group_threshold, y.groups)) x.plan_is y.plan_is) in
+      let same = resplits y.group_threshold y.groups random input text other a.0 b.0
+      (subst (λ (p : ℕ × List Members). IsResplitOutput p.0 p.1 random input text a.0) plans x.output) y.output in
+      (same.0, a.2 ∙ ap (judged where_done) same.1 ∙ sym b.2)
+
   output_once : (j : Job) (secret passphrase : List ℕ) → IsOnce (IsJobOutput j secret passphrase)
   output_once job.Show s p = judged_once where_done IsShowOutput shows
   output_once (job.Create plan e x) s p = judged_once where_done (CreatesFrom plan.now s p e x) (creates_once plan.now s p e x)
@@ -128,6 +140,7 @@ module _ (shows : IsOnce IsShowOutput) (creates : (asked : Asked) → IsOnce (Is
   output_once job.Status s p = judged_once is_enough IsStatusOutput statuses
   output_once (job.Reissue plan names) s p = reissue_once s p plan names
   output_once job.Repair s p = repairs
+  output_once (job.Resplit plan file) s p = resplit_once s p plan file
 
   pub one_outcome : OneOutcome
   one_outcome j s p input text other status another a b =

@@ -81,6 +81,7 @@ work_sound (work.Drill drill) input text answer output none bad =
 work_sound work.Status input text answer output none bad = bad
 work_sound (work.Reissue reissue) input text answer output none bad = bad
 work_sound work.Repair input text answer output none bad = bad
+work_sound (work.Resplit resplit) input text answer output none bad = bad
 
 -- ---- the lines
 
@@ -199,6 +200,16 @@ module _ {E : Type 0} (contents : E → Option (List ℕ)) where
   said_unbegun j types tells (unready.Cursor bad) ended old new says = refused_unbegun j types tells ended old new says
   said_unbegun j types tells (unready.Fingerprint bad) ended old new says = refused_unbegun j types tells ended old new says
   said_unbegun j types tells (unready.Names bad) ended old new says = refused_unbegun j types tells ended old new says
+
+  -- a job whose random bytes aren't read
+  pub said_undrawn : {R W : Type 0} (j : Job) (types tells : Bool) (ended : Ended R W) (old new : Messages E)
+      → OnStatus ended (λ status. 2 ≤ status) → OnEnd ended (λ status read_to written_to. status ≡ 3) → IsSaidOfJob contents j types tells old new ended
+  said_undrawn j types tells NoMemory old new other three = absurd other
+  said_undrawn j types tells (With status read_to written_to) old new other three = record {
+    done = λ none. absurd (omega (arith, none, three));
+    refused = λ one. absurd (omega (arith, one, three));
+    wrong = λ two. absurd (omega (arith, two, three));
+  }
 
   -- ---- the program
 

@@ -10,9 +10,10 @@ use Rattle.s39_command.specs.declared.command.Job.TheVariants as job
 use Rattle.s39_command.specs.Command.{HaveSameValues, text_in}
 use Rattle.s39_command.proofs.OneCall.{said_same}
 use Rattle.s39_cli.specs.declared.runner.Source.{Source}
-use Rattle.s39_cli.specs.Ending.{IsTyped}
+use Rattle.s39_cli.specs.Ending.{AwaitsRandom, IsDoneWith, IsTyped}
 use Rattle.s39_cli.specs.Headline.{SameValuesWriteTheSame}
-use Rattle.s39_cli.specs.Outcome.{CreatesFrom, GivesPlan, IsCursor, IsJobOutput, IsNoted, IsReady, Reissues, WritesFingerprint, WritesNames}
+use Rattle.s39_cli.specs.Values.{AreDrawn, Told}
+use Rattle.s39_cli.specs.Outcome.{CreatesFrom, GivesPlan, IsCursor, IsJobOutput, IsNoted, IsReady, Reissues, Resplits, WritesFingerprint, WritesNames}
 
 same_cursor : (a b : Option (Bor Text)) → text_in a ≡ text_in b → (names : Option Names) → IsCursor a names → IsCursor b names
 same_cursor None None same names is = is
@@ -41,6 +42,9 @@ same_output (job.Reissue t n) k (t', n', same, plans, names) s w input text answ
       is.2,
     )
 same_output job.Repair k same s w input text answer is = subst (λ (other : Job). IsJobOutput other s w input text answer) (sym same) is
+same_output (job.Resplit t f) k (t', f', same, plans, files) s w input text answer is =
+    subst (λ (other : Job). IsJobOutput other s w input text answer) (sym same)
+    (is.0, subst (λ (p : Text). Resplits p s input text is.0) plans is.1, is.2)
 
 pub same_values_write_the_same : SameValuesWriteTheSame
 same_values_write_the_same j k same s w input text status is = (is.0, same_output j k same s w input text is.0 is.1, is.2)
@@ -60,7 +64,24 @@ same_ready job.Status k same s is = subst (λ (other : Job). IsReady other s) (s
 same_ready (job.Reissue t n) k (t', n', same, plans, names) s is =
     subst (λ (other : Job). IsReady other s) (sym same) (subst GivesPlan plans is.0, subst WritesNames names is.1)
 same_ready job.Repair k same s is = subst (λ (other : Job). IsReady other s) (sym same) is
+same_ready (job.Resplit t f) k (t', f', same, plans, files) s is =
+    subst (λ (other : Job). IsReady other s) (sym same) (subst GivesPlan plans is)
 
 pub same_typed : (source : Source) (j k : Job) → HaveSameValues j k → IsTyped source j → IsTyped source k
 same_typed source (job.Create t e x) k (t', same, plans) is = subst (IsTyped source) (sym same) is
 same_typed source j k same is = absurd is
+
+pub same_await : (j k : Job) → HaveSameValues j k → AwaitsRandom j → AwaitsRandom k
+same_await (job.Resplit t f) k (t', f', same, plans, files) is = subst AwaitsRandom (sym same) (subst GivesPlan plans is)
+same_await _ k same is = absurd is
+
+pub same_done : (told : Told) (j k : Job) (secret given : Text) → HaveSameValues j k → IsDoneWith told j secret given → IsDoneWith told k secret given
+same_done told job.Show k s g same is = subst (λ (other : Job). IsDoneWith told other s g) (sym same) is
+same_done told (job.Create t e x) k s g (t', same, plans) is = subst (λ (other : Job). IsDoneWith told other s g) (sym same) is
+same_done told (job.Recover f e) k s g (e', same, noted) is = subst (λ (other : Job). IsDoneWith told other s g) (sym same) is
+same_done told (job.Drill a l f e) k s g (a', e', same, cursors, noted) is = subst (λ (other : Job). IsDoneWith told other s g) (sym same) is
+same_done told job.Status k s g same is = subst (λ (other : Job). IsDoneWith told other s g) (sym same) is
+same_done told (job.Reissue t n) k s g (t', n', same, plans, names) is = subst (λ (other : Job). IsDoneWith told other s g) (sym same) is
+same_done told job.Repair k s g same is = subst (λ (other : Job). IsDoneWith told other s g) (sym same) is
+same_done told (job.Resplit t f) k s g (t', f', same, plans, files) is =
+    subst (λ (other : Job). IsDoneWith told other s g) (sym same) (subst (λ (name : Text). AreDrawn (told name) g) files is)

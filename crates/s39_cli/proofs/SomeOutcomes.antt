@@ -22,10 +22,11 @@ use Rattle.s39_reading.specs.Recover.{IsRecoverOutput}
 use Rattle.s39_drilling.specs.Drill.{IsDrillOutput}
 use Rattle.s39_reading.specs.Status.{IsStatusOutput}
 use Rattle.s39_creating.specs.Reissue.{IsReissueOutput}
+use Rattle.s39_creating.specs.Resplit.{IsResplitOutput}
 use Rattle.s39_command.specs.declared.command.Job.{Job}
 use Rattle.s39_command.specs.declared.command.Job.TheVariants as job
 use Rattle.s39_command.specs.Command.{IsInRange, text_in}
-use Rattle.s39_cli.specs.Headline.{SomeOutcome}
+use Rattle.s39_cli.specs.Headline.{DrawsBytes, SomeOutcome}
 use Rattle.s39_cli.specs.Outcome.{IsCursor, IsHexadecimal, IsJobOutput, IsNoted, IsReady, WritesFingerprint, WritesNames, judged, status_of, told_in, where_done}
 use Rattle.s39_cli.specs.Outcome.{without_mismatches}
 
@@ -66,15 +67,18 @@ module _ (shows : (input : Input) → Some_of (IsShowOutput input))
     (statuses : (input : Input) → Some_of (IsStatusOutput input))
     (reissues : (group_threshold : ℕ) (groups : List Members) (names : Names) (input : Input) → IsPlan group_threshold groups
     → Some_of (IsReissueOutput group_threshold groups names input))
+    (resplits : (group_threshold : ℕ) (groups : List Members) (random : List ℕ) (input : Input) → IsPlan group_threshold groups → AreBytes random
+    → Some_of (IsResplitOutput group_threshold groups random input))
     (repairs : (input : Input) → Some_of (IsRepairOutput input)) where
   some_drill : (form : SecretForm) (passphrase : List ℕ) (after : Option Names) (limit : ℕ) (input : Input) → 1 ≤ limit
       → Some_of (IsDrillOutput form passphrase after limit input)
   some_drill form passphrase after zero input low = absurd (omega arith)
   some_drill form passphrase after (suc limit) input low = drills form passphrase after limit input
 
-  some_output : (j : Job) (s p : Text) (input : Input) → IsReady j s → IsInRange j → AreBytes input.bytes → Some_of (IsJobOutput j s p input)
-  some_output job.Show s p input ready low bytes = judged_some where_done (IsShowOutput input) (shows input)
-  some_output (job.Create plan e x) s p input ready low bytes =
+  some_output : (j : Job) (s p : Text) (input : Input) → IsReady j s → IsInRange j → DrawsBytes j s → AreBytes input.bytes
+      → Some_of (IsJobOutput j s p input)
+  some_output job.Show s p input ready low drawn bytes = judged_some where_done (IsShowOutput input) (shows input)
+  some_output (job.Create plan e x) s p input ready low drawn bytes =
       let options = options_of e x low in
       let asked = asked_for ready.0.0 p ready.1.0 ready.1.1 options in
       let some = creates asked input ready.1.2.1 (decoded_bytes s ready.0) bytes in (
@@ -94,19 +98,19 @@ module _ (shows : (input : Input) → Some_of (IsShowOutput input))
           refl,
         ),
       )
-  some_output (job.Recover form expected) s p input ready low bytes =
+  some_output (job.Recover form expected) s p input ready low drawn bytes =
       let noted = some_noted (text_in expected) ready in
       let some = judged_some where_done (IsRecoverOutput form noted.0 p input) (recovers form noted.0 p input) in
       (some.0, some.1, (noted.0, noted.1, some.2))
-  some_output (job.Drill after limit form expected) s p input ready low bytes =
+  some_output (job.Drill after limit form expected) s p input ready low drawn bytes =
       let from = some_cursor after ready.0 in
       let noted = some_noted (text_in expected) ready.1 in
       let told = told_in form noted.0 in
       let some = judged_some without_mismatches (IsDrillOutput told p from.0 limit input)
       (some_drill told p from.0 limit input low) in
       (some.0, some.1, (from.0, from.1, (noted.0, noted.1, some.2)))
-  some_output job.Status s p input ready low bytes = judged_some is_enough (IsStatusOutput input) (statuses input)
-  some_output (job.Reissue plan names) s p input ready low bytes =
+  some_output job.Status s p input ready low drawn bytes = judged_some is_enough (IsStatusOutput input) (statuses input)
+  some_output (job.Reissue plan names) s p input ready low drawn bytes =
       let some = reissues ready.0.0 ready.0.1 ready.1.0 input ready.0.2.1 in (
         some.0,
         judged where_done some.1,
@@ -123,9 +127,15 @@ module _ (shows : (input : Input) → Some_of (IsShowOutput input))
           refl,
         ),
       )
-  some_output job.Repair s p input ready low bytes = repairs input
+  some_output job.Repair s p input ready low drawn bytes = repairs input
+  some_output (job.Resplit plan file) s p input ready low drawn bytes =
+      let some = resplits ready.0 ready.1 s input ready.2.1 drawn in (
+        some.0,
+        judged where_done some.1,
+        (some.1, record { group_threshold = ready.0; groups = ready.1; plan_is = ready.2; output = some.2 }, refl),
+      )
 
   pub some_outcome : SomeOutcome
-  some_outcome j s p input ready low bytes =
-      let some = some_output j s p input ready low bytes in
+  some_outcome j s p input ready low drawn bytes =
+      let some = some_output j s p input ready low drawn bytes in
       (some.0, status_of some.1, (some.1, some.2, refl))

@@ -42,6 +42,7 @@ same_alike (job.Drill after limit form expected) other same at = absurd at
 same_alike job.Status other same at = absurd at
 same_alike (job.Reissue plan names) other same at = subst WritesAtItsEnd (sym same.2) tt
 same_alike job.Repair other same at = absurd at
+same_alike (job.Resplit plan file) other same at = subst WritesAtItsEnd (sym same.2) tt
 
 -- so is its work
 pub work_alike : (j : Job) (secret passphrase : Text) (w : Work) → IsWorkOf j secret passphrase w → WritesAtItsEnd j → IsAtItsEnd w
@@ -52,6 +53,7 @@ work_alike (job.Drill after limit form expected) s p w is at = absurd at
 work_alike job.Status s p w is at = absurd at
 work_alike (job.Reissue plan names) s p w is at = subst IsAtItsEnd (sym is.1) tt
 work_alike job.Repair s p w is at = absurd at
+work_alike (job.Resplit plan file) s p w is at = subst IsAtItsEnd (sym is.1) tt
 
 -- ---- how the program ends
 

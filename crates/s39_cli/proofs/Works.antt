@@ -18,6 +18,7 @@ use Rattle.s39_input.specs.Runs.{Runs}
 use Rattle.s39_input.proofs.Runs.Devices.{OfInput-map}
 use Rattle.s39_input.specs.Create.{IsCreateOutput}
 use Rattle.s39_reading.specs.Recover.{IsRecoverOutput}
+use Rattle.s39_creating.specs.Resplit.{IsResplitOutput}
 use Rattle.s39_drilling.specs.Drill.{IsDrillOutput}
 use Rattle.s39_command.specs.declared.command.Job.{Job}
 use Rattle.s39_command.specs.declared.command.Job.TheVariants as job
@@ -100,6 +101,7 @@ ready_of_work (job.Recover form expected) s p w is = noted_written (text_in expe
 ready_of_work job.Show s p w is = tt
 ready_of_work job.Status s p w is = tt
 ready_of_work job.Repair s p w is = tt
+ready_of_work (job.Resplit plan file) s p w is = (is.0.plan.group_threshold, is.0.plan.groups.items, is.2.plan_is)
 
 -- and has no cause for which it isn't begun
 pub no_cause : (j : Job) (secret : Text) → IsReady j secret → HasNoCause j secret
@@ -130,6 +132,13 @@ no_cause (job.Reissue plan names) s ready = record {
   no_bad_cursor = λ bad. bad;
   no_bad_fingerprint = λ bad. bad;
   no_bad_names = λ bad. bad.1 ready.1.0 ready.1.1;
+}
+no_cause (job.Resplit plan file) s ready = record {
+  no_bad_secret = λ bad. bad;
+  no_bad_plan = λ error bad. plan_or_error plan.now error ready bad;
+  no_bad_cursor = λ bad. bad;
+  no_bad_fingerprint = λ bad. bad;
+  no_bad_names = λ bad. bad;
 }
 no_cause job.Show s ready = record {
   no_bad_secret = λ bad. bad;
@@ -197,6 +206,19 @@ output_of_job (job.Drill after limit form expected) s p w is input text answer o
           written.2,
         ),
       ),
+    )
+output_of_job (job.Resplit plan file) s p w is input text answer output =
+    let resplit = is.0 in
+    let written = subst (λ (x : Work). IsWorkOutput x input text answer) is.1 output in (
+      written.0,
+      record {
+        group_threshold = resplit.plan.group_threshold;
+        groups = resplit.plan.groups.items;
+        plan_is = is.2.plan_is;
+        output = subst (λ (random : List ℕ). IsResplitOutput resplit.plan.group_threshold resplit.plan.groups.items random input text written.0)
+            is.2.random_is written.1;
+      },
+      written.2,
     )
 output_of_job job.Status s p w is input text answer output = subst (λ (x : Work). IsWorkOutput x input text answer) is output
 output_of_job job.Repair s p w is input text answer output = subst (λ (x : Work). IsWorkOutput x input text answer) is output

@@ -9,7 +9,7 @@ use Rattle.s39_input.specs.declared.fault.Fault.{Fault}
 use Rattle.s39_input.specs.Fault.{fault_of}
 use Rattle.s39_input.specs.Input.{Input, whole}
 use Rattle.s39_command.specs.declared.command.Job.{Job}
-use Rattle.s39_command.specs.declared.command.Job.TheVariants.{Create}
+use Rattle.s39_command.specs.declared.command.Job.TheVariants.{Create, Resplit}
 use Rattle.s39_command.specs.declared.command.NoJob.{NoJob}
 use Rattle.s39_command.specs.declared.command.NoJob.TheVariants as no_job
 use Rattle.s39_cli.specs.declared.runner.Ended.{Ended}
@@ -21,8 +21,8 @@ use Rattle.s39_cli.specs.declared.work.Unready.TheVariants as unready
 use Rattle.s39_command.specs.Command.{AsksForText, GivesBadValues, GivesCall, shamir_app}
 use Rattle.s39_command.specs.declared.command.BadValues.{BadValues}
 use Rattle.s39_command.specs.declared.command.Call.{Call}
-use Rattle.s39_cli.specs.Values.{HasLong, LacksValue, TakesValues, Told, text_of}
-use Rattle.s39_cli.specs.Outcome.{HasBadSecret, HasBadPlan, HasBadCursor, HasBadFingerprint, HasBadNames, IsJobOutput, IsReady, status_of}
+use Rattle.s39_cli.specs.Values.{AreDrawn, HasLong, LacksValue, TakesValues, Told, text_of}
+use Rattle.s39_cli.specs.Outcome.{GivesPlan, HasBadSecret, HasBadPlan, HasBadCursor, HasBadFingerprint, HasBadNames, IsJobOutput, IsReady, status_of}
 
 -- the text is written for the input by an answer with this exit status
 abbrev pub HasStatus : (Input → List ℕ → Result Bool Fault → Type 0) → Input → List ℕ → ℕ → Type 0
@@ -36,6 +36,16 @@ IsOutcome job secret passphrase = HasStatus (IsJobOutput job secret passphrase)
 abbrev pub IsTyped : Source → Job → Type 0
 IsTyped source (Create plan exponent extendable) = source ≡ Terminal
 IsTyped source _ = ⊥
+
+-- the job takes random bytes from a file: it splits anew, and its plan is one
+abbrev pub AwaitsRandom : Job → Type 0
+AwaitsRandom (Resplit plan file) = GivesPlan plan.now
+AwaitsRandom _ = ⊥
+
+-- the job is done with this: with the random bytes of its file if it splits anew, and else with the text of its secret
+abbrev pub IsDoneWith : Told → Job → Text → Text → Type 0
+IsDoneWith told (Resplit plan file) secret given = AreDrawn (told file.now) given
+IsDoneWith told _ secret given = given ≡ secret
 
 -- these are all bytes of a reader, if it tells them
 abbrev pub AreAllOf : Option (List ℕ) → List ℕ → Type 0
@@ -99,6 +109,20 @@ module _ {R W : Type 0} (remaining : R → Option (List ℕ)) (contents : W → 
       ⊎ (IsReady job secret × Delivers (IsOutcome job secret passphrase) reader writer status read_to written_to)
 
 module _ {R W : Type 0} (told : Told) (remaining : R → Option (List ℕ)) (contents : W → Option (List ℕ)) where
+  -- The job is done, with this text of its secret and this passphrase, or with the random bytes of its file. If this file isn't read,
+  -- the status is 3, and nothing is read or written.
+  abbrev pub DoesDrawn : Job → Text → Text → R → W → ℕ → R → W → Type 0
+  DoesDrawn job secret passphrase reader writer status read_to written_to =
+      (AwaitsRandom job × EndsAtOnce 3 reader writer status read_to written_to)
+      ⊎ ((given : Text) × IsDoneWith told job secret given × DoesJob remaining contents job given passphrase reader writer status read_to written_to)
+
+  -- The job's output goes out; or the file of its random bytes isn't read, and then nothing is read or written.
+  abbrev pub DeliversDrawn : Job → Text → Text → R → W → ℕ → R → W → Type 0
+  DeliversDrawn job secret passphrase reader writer status read_to written_to =
+      (AwaitsRandom job × EndsAtOnce 3 reader writer status read_to written_to)
+      ⊎ ((given : Text) × IsDoneWith told job secret given
+      × Delivers remaining contents (IsOutcome job given passphrase) reader writer status read_to written_to)
+
   -- The call is done. In this order: a creation whose random bytes would be typed ends with 2, and nothing is read or written; if a
   -- value isn't read, the status is 2 because one is too long, or 3, and nothing is written; else the job with the values is done.
   abbrev pub TakesCall : Source → Call → R → W → ℕ → R → W → Type 0
@@ -107,7 +131,7 @@ module _ {R W : Type 0} (told : Told) (remaining : R → Option (List ℕ)) (con
       ⊎ ((IsTyped source call.job → ⊥) × (LacksValue call.files reader read_to
       × EndsUnwritten (HasLong told remaining call.files reader) writer status written_to))
       ⊎ ((IsTyped source call.job → ⊥) × ((secret passphrase : Option (List ℕ)) × (behind : R)
-      × TakesValues told remaining call.files secret passphrase reader behind × DoesJob remaining contents call.job
+      × TakesValues told remaining call.files secret passphrase reader behind × DoesDrawn call.job
       (text_of secret call.given.secret) (text_of passphrase call.given.passphrase) behind writer status read_to written_to))
 
   -- How the program ends with these words and this source of its input: with help or the version if they ask for it; with 2 if they

@@ -14,11 +14,12 @@ use Rattle.s39_input.specs.Input.{Input, lines_of, whole}
 use Rattle.s39_input.specs.Repair.{IsRepairOutput, TwoFit}
 use Rattle.s39_input.specs.declared.fault.Fault.{Fault}
 use Rattle.s39_creating.specs.Reissue.{ReissuesCreated}
+use Rattle.s39_creating.specs.Resplit.{ResplitsCreated}
 use Rattle.s39_drilling.specs.declared.drill.Done.{Done}
 use Rattle.s39_drilling.specs.Drill.{DrillsCreated}
 use Rattle.s39_reading.specs.Recover.{RecoversCreated, secret_line}
 use Rattle.s39_command.specs.declared.command.Job.{Job}
-use Rattle.s39_command.specs.declared.command.Job.TheVariants.{Create, Recover, Drill, Reissue, Repair}
+use Rattle.s39_command.specs.declared.command.Job.TheVariants.{Create, Recover, Drill, Reissue, Repair, Resplit}
 use Rattle.s39_command.specs.Command.{HaveSameValues, IsInRange, text_in}
 use Rattle.s39_cli.specs.Ending.{IsOutcome}
 use Rattle.s39_cli.specs.Outcome.{IsCursor, IsNoted, IsReady, judged, status_of, told_in, where_done, without_mismatches}
@@ -43,9 +44,14 @@ RepairsTellOfTwo = (secret passphrase : Text) (input : Input) (text : List ℕ) 
     → (TwoFitSome input → status ≢ 0)
     × (status ≡ 1 → TwoFitSome input ⊎ ((fault : Fault) × IsRepairOutput input text (Err fault)))
 
+-- what a split anew has for random bytes is bytes
+abbrev pub DrawsBytes : Job → Text → Type 0
+DrawsBytes (Resplit plan file) random = AreBytes random
+DrawsBytes _ secret = Unit {0}
+
 -- a job that can be begun, with its numbers in their ranges, writes some text for each input of bytes, with some exit status
 abbrev pub SomeOutcome : Type 0
-SomeOutcome = (job : Job) (secret passphrase : Text) (input : Input) → IsReady job secret → IsInRange job → AreBytes input.bytes
+SomeOutcome = (job : Job) (secret passphrase : Text) (input : Input) → IsReady job secret → IsInRange job → DrawsBytes job secret → AreBytes input.bytes
     → (text : List ℕ) × (status : ℕ) × IsOutcome job secret passphrase input text status
 
 -- ---- created backups
@@ -76,6 +82,15 @@ ReissueJobsReissue = (plan names : Bor Text) (secret passphrase : Text) (input :
     × ((listed : Names) × IsWrittenForm names.now listed
     × ((plain : Result (Unit {0}) Fault) × ReissuesCreated group_threshold groups listed input text plain
     × (status ≡ status_of (judged where_done plain))))
+
+-- What a split anew writes for them is what `ResplitsCreated` says, by the job's plan and these random bytes. The exit status tells
+-- whether the mnemonics are written.
+abbrev pub ResplitJobsResplit : Type 0
+ResplitJobsResplit = (plan file : Bor Text) (random passphrase : Text) (input : Input) (text : List ℕ) (status : ℕ)
+    → IsOutcome (Resplit plan file) random passphrase input text status
+    → (group_threshold : ℕ) × (groups : List Members) × IsPlanReading plan.now (Ok (group_threshold, groups))
+    × ((plain : Result (Unit {0}) Fault) × ResplitsCreated group_threshold groups random input text plain
+    × (status ≡ status_of (judged where_done plain)))
 
 -- the line, in this form, of the secret that these digits write is written, and the exit status is 0
 abbrev pub GivesSecret : SecretForm → Text → List ℕ → ℕ → Type 0

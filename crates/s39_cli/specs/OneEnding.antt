@@ -7,7 +7,7 @@ use Rattle.s39_command.specs.declared.command.Texts.{Texts}
 use Rattle.s39_command.specs.Command.{AsksForText, shamir_app}
 use Rattle.s39_command.specs.Jobs.{GivesJob}
 use Rattle.s39_cli.specs.declared.runner.Source.{Source}
-use Rattle.s39_cli.specs.Ending.{EndsAs, IsOutcome, IsTyped}
+use Rattle.s39_cli.specs.Ending.{EndsAs, IsDoneWith, IsOutcome, IsTyped}
 use Rattle.s39_cli.specs.Outcome.{IsReady}
 use Rattle.s39_cli.specs.Values.{Told, text_of}
 
@@ -40,10 +40,11 @@ module _ {R W : Type 0} (remaining : R → Option (List ℕ)) (contents : W → 
 abbrev pub in_memory : List ℕ → Option (List ℕ)
 in_memory bytes = Some bytes
 
--- Words that give a job which can be begun end as its outcome says, if nothing is typed that mustn't be.
+-- Words that give a job which can be begun end as its outcome says, if nothing is typed that mustn't be. A split anew is done with
+-- the random bytes of its file.
 abbrev pub SomeEnding : Type 0
-SomeEnding = (files : Text → List ℕ) (source : Source) (words : List Text) (job : Job) (given : Texts) (input output : List ℕ) (status : ℕ)
+SomeEnding = (files : Text → List ℕ) (source : Source) (words : List Text) (job : Job) (given : Texts) (secret : Text) (input output : List ℕ) (status : ℕ)
     → takes shamir_app words ≡ true → (AsksForText words → ⊥) → GivesJob words job given → (IsTyped source job → ⊥)
-    → IsReady job (text_of None given.secret)
-    → IsOutcome job (text_of None given.secret) (text_of None given.passphrase) (whole input) output status → status ≢ 3
+    → IsDoneWith (telling files) job (text_of None given.secret) secret → IsReady job secret
+    → IsOutcome job secret (text_of None given.passphrase) (whole input) output status → status ≢ 3
     → EndsWith in_memory in_memory files source words input status output

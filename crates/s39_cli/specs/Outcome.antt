@@ -29,9 +29,10 @@ use Rattle.s39_reading.specs.Recover.{IsRecoverOutput}
 use Rattle.s39_drilling.specs.Drill.{IsDrillOutput}
 use Rattle.s39_reading.specs.Status.{IsStatusOutput}
 use Rattle.s39_creating.specs.Reissue.{IsReissueOutput}
+use Rattle.s39_creating.specs.Resplit.{IsResplitOutput}
 use Rattle.s39_command.specs.Command.{text_in}
 use Rattle.s39_command.specs.declared.command.Job.{Job}
-use Rattle.s39_command.specs.declared.command.Job.TheVariants.{Show, Create, Recover, Drill, Status, Reissue, Repair}
+use Rattle.s39_command.specs.declared.command.Job.TheVariants.{Show, Create, Recover, Drill, Status, Reissue, Repair, Resplit}
 
 -- ---- a job that isn't begun
 
@@ -72,6 +73,7 @@ HasBadSecret _ secret = ⊥
 abbrev pub HasBadPlan : Job → Text → PlanError → Type 0
 HasBadPlan (Create plan exponent extendable) secret error = IsHexadecimal secret × IsPlanReading plan.now (Err error)
 HasBadPlan (Reissue plan names) secret error = IsPlanReading plan.now (Err error)
+HasBadPlan (Resplit plan file) secret error = IsPlanReading plan.now (Err error)
 HasBadPlan _ secret error = ⊥
 
 -- the text after whose quorum the job goes on is the written form of no names
@@ -99,6 +101,7 @@ IsReady (Recover form expected) secret = IfSome (text_in expected) WritesFingerp
 IsReady (Drill after limit form expected) secret =
     IfSome (text_in after) WritesNames × IfSome (text_in expected) WritesFingerprint
 IsReady (Reissue plan names) secret = GivesPlan plan.now × WritesNames names.now
+IsReady (Resplit plan file) secret = GivesPlan plan.now
 IsReady _ secret = Unit {0}
 
 -- the job has no cause for which it isn't begun
@@ -162,6 +165,13 @@ pub record Reissues (plan_text names_text : Text) (input : Input) (text : List �
   pub names_are : IsWrittenForm names_text names
   pub output : IsReissueOutput group_threshold groups names input text answer
 
+-- `resplit` writes this text for the text of a plan, these random bytes and the input, and answers so
+pub record Resplits (plan_text random : Text) (input : Input) (text : List ℕ) (answer : Result (Unit {0}) Fault) : Type 0 where
+  pub group_threshold : ℕ
+  pub groups : List Members
+  pub plan_is : IsPlanReading plan_text (Ok (group_threshold, groups))
+  pub output : IsResplitOutput group_threshold groups random input text answer
+
 -- whether all is well, by what a run answers that is done, or its fault
 abbrev pub judged : {T : Type 0} → (T → Bool) → Result T Fault → Result Bool Fault
 judged is_well (Ok found) = Ok (is_well found)
@@ -176,7 +186,7 @@ abbrev pub without_mismatches : Done → Bool
 without_mismatches done = done.mismatches == 0
 
 -- With this text of its secret and this passphrase, the job writes this text for the input, and answers so, whether all is well: each
--- other value is the job's, and its texts are read as above.
+-- other value is the job's, and its texts are read as above. In place of a secret, a split anew has its random bytes.
 abbrev pub IsJobOutput : Job → Text → Text → Input → List ℕ → Result Bool Fault → Type 0
 IsJobOutput Show secret passphrase input text answer =
     (plain : Result (Unit {0}) Fault) × IsShowOutput input text plain × (answer ≡ judged where_done plain)
@@ -195,6 +205,8 @@ IsJobOutput Status secret passphrase input text answer =
 IsJobOutput (Reissue plan names) secret passphrase input text answer =
     (plain : Result (Unit {0}) Fault) × Reissues plan.now names.now input text plain × (answer ≡ judged where_done plain)
 IsJobOutput Repair secret passphrase input text answer = IsRepairOutput input text answer
+IsJobOutput (Resplit plan file) random passphrase input text answer =
+    (plain : Result (Unit {0}) Fault) × Resplits plan.now random input text plain × (answer ≡ judged where_done plain)
 
 -- the exit status of a refusal: 3 if a device failed, and otherwise 1
 abbrev pub status_of_refusal : Refusal → ℕ

@@ -1,9 +1,10 @@
 -- Values of a command that stand in files, or in the first lines of the input.
-use Rattle.std.specs.Prelude.{◌≡◌, ◌≢◌, ◌⊎◌, ◌<◌, ◌≤◌, ℕ, List, [], ◌∷◌, All, Option, Some, None, IfSome, codes, if◌then◌else◌, length, take, unwrap_or}
+use Rattle.std.specs.Prelude.{◌≡◌, ◌≢◌, ◌⊎◌, ◌<◌, ◌≤◌, ◌+◌, ℕ, List, [], ◌∷◌, All, Option, Some, None, IfSome, codes, if◌then◌else◌, length, take, unwrap_or}
 use Rattle.std.specs.Borrow.{Bor}
 use Rattle.std.specs.Io.BufRead.{ends_with_byte, strip_last, take_through}
 use Rattle.std.specs.Io.KnownBytes.{Consumes, IsAtEnd, Keeps}
 use Rattle.clap.specs.Words.{Text}
+use Rattle.s39_backup.specs.Created.{most_random}
 use Rattle.s39_command.specs.Command.{text_in}
 use Rattle.s39_command.specs.FewerWords.{or_empty}
 use Rattle.s39_command.specs.declared.command.Texts.{Texts}
@@ -91,6 +92,16 @@ module _ {R : Type 0} (told : Told) (remaining : R → Option (List ℕ)) where
   HasLong files old = (IsLongFile told files.secret ⊎ IsLongFile told files.passphrase)
       ⊎ (IsLongLine files.secret old
       ⊎ ((between : R) × ((secret : Option (List ℕ)) × TakesValue told remaining files.secret secret old between) × IsLongLine files.passphrase between))
+
+-- ---- random bytes
+
+-- the most random bytes that are read of a file: one more than a backup takes at most
+abbrev pub most_drawn : ℕ
+most_drawn = most_random + 1
+
+-- these are the first bytes of a file, as many as are read at most; line feeds are bytes like others
+abbrev pub AreDrawn : Option (List ℕ) → List ℕ → Type 0
+AreDrawn told random = IfSome told (λ known. random ≡ take most_drawn known)
 
 -- ---- within the program; no public contract cites this
 

@@ -19,12 +19,14 @@ use Rattle.s39_reading.specs.Recover.{IsRecoverOutput}
 use Rattle.s39_drilling.specs.Drill.{IsDrillOutput}
 use Rattle.s39_reading.specs.Status.{IsStatusOutput}
 use Rattle.s39_creating.specs.Reissue.{IsReissueOutput}
+use Rattle.s39_creating.specs.Resplit.{IsResplitOutput}
 use Rattle.s39_command.specs.Command.{text_in}
 use Rattle.s39_command.specs.declared.command.Job.{Job}
 use Rattle.s39_command.specs.declared.command.Job.TheVariants as job
 use Rattle.s39_cli.specs.declared.work.Creation.{Creation}
 use Rattle.s39_cli.specs.declared.work.Drill.{Drill}
 use Rattle.s39_cli.specs.declared.work.Reissue.{Reissue}
+use Rattle.s39_cli.specs.declared.work.Resplit.{Resplit}
 use Rattle.s39_cli.specs.declared.work.Work.{Work}
 use Rattle.s39_cli.specs.declared.work.Work.TheVariants as work
 use Rattle.s39_cli.specs.Outcome.{AreRead, AreOptions, IsCursor, IsNoted, judged, told_in, where_done, without_mismatches}
@@ -50,6 +52,11 @@ pub record IsReissueOf (plan_text names_text : Text) (reissue : Reissue) : Type 
   pub plan_is : IsPlanReading plan_text (Ok (reissue.plan.group_threshold, reissue.plan.groups.items))
   pub names_are : IsWrittenForm names_text reissue.names
 
+-- what is split anew has what the text of a plan gives, and these random bytes
+pub record IsResplitOf (plan_text given_random : Text) (resplit : Resplit) : Type 0 where
+  pub plan_is : IsPlanReading plan_text (Ok (resplit.plan.group_threshold, resplit.plan.groups.items))
+  pub random_is : resplit.random.now ≡ given_random
+
 -- the work is the job's, with this text of its secret and this passphrase
 abbrev pub IsWorkOf : Job → Text → Text → Work → Type 0
 IsWorkOf job.Show secret passphrase w = w ≡ work.Show
@@ -62,6 +69,7 @@ IsWorkOf (job.Drill after limit form expected) secret passphrase w =
 IsWorkOf job.Status secret passphrase w = w ≡ work.Status
 IsWorkOf (job.Reissue plan names) secret passphrase w = (reissue : Reissue) × (w ≡ work.Reissue reissue) × IsReissueOf plan.now names.now reissue
 IsWorkOf job.Repair secret passphrase w = w ≡ work.Repair
+IsWorkOf (job.Resplit plan file) random passphrase w = (resplit : Resplit) × (w ≡ work.Resplit resplit) × IsResplitOf plan.now random resplit
 
 -- a byte of the work's passphrase isn't printable
 abbrev pub HasBadPassphrase : Work → Type 0
@@ -93,3 +101,7 @@ IsWorkOutput (work.Reissue reissue) input text answer =
     × IsReissueOutput reissue.plan.group_threshold reissue.plan.groups.items reissue.names input text plain
     × (answer ≡ judged where_done plain)
 IsWorkOutput work.Repair input text answer = IsRepairOutput input text answer
+IsWorkOutput (work.Resplit resplit) input text answer =
+    (plain : Result (Unit {0}) Fault)
+    × IsResplitOutput resplit.plan.group_threshold resplit.plan.groups.items resplit.random.now input text plain
+    × (answer ≡ judged where_done plain)

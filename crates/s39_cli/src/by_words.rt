@@ -10,7 +10,7 @@ ghost use Rattle.s39_command.specs.declared.command.Job.TheVariants.{Create, Rec
 ghost use Rattle.s39_command.specs.declared.command.Texts.{Texts};
 ghost use Rattle.s39_command.specs.Command.{shamir_app};
 ghost use Rattle.s39_command.specs.Jobs.{GivesJob};
-ghost use Rattle.s39_cli.specs.Ending.{Delivers, Ends, IsOutcome, IsTyped, OnEnd, status_in};
+ghost use Rattle.s39_cli.specs.Ending.{DeliversDrawn, Ends, IsTyped, OnEnd, status_in};
 ghost use Rattle.s39_cli.specs.Headline.{GivesSecret};
 ghost use Rattle.s39_cli.specs.Outcome.{IsReady};
 ghost use Rattle.s39_cli.specs.Values.{text_of};
@@ -25,7 +25,7 @@ use std::io::{Read, Write};
 
 /// Runs the program with any words that it takes and that give a job, and delivers what this job writes, with its exit status. The
 /// job's secret and passphrase stand in the words, and each of its texts gives a value. If it is a creation, its random bytes
-/// aren't typed.
+/// aren't typed. If it splits anew, it writes by the first bytes of the named file, or it ends with 3 as this file isn't read.
 pub fn run<S: Shelf, R: Read + Drop, W: Write + Drop, E: Write>(
     shelf: &S,
     alloc: Global,
@@ -40,8 +40,8 @@ pub fn run<S: Shelf, R: Read + Drop, W: Write + Drop, E: Write>(
         → takes shamir_app (map (λ word. word.now) words.now) ≡ true
         → GivesJob (map (λ word. word.now) words.now) job given
         → IsReady job (text_of None given.secret) → (IsTyped source job → ⊥)
-        → OnEnd result (Delivers R.remaining W.contents
-        (IsOutcome job (text_of None given.secret) (text_of None given.passphrase)) input output) }
+        → OnEnd result (DeliversDrawn (S.told shelf.now) R.remaining W.contents job
+        (text_of None given.secret) (text_of None given.passphrase) input output) }
 {
     program(
         shelf,

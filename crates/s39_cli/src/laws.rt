@@ -7,13 +7,16 @@ ghost use Rattle.s39_cli.specs.declared.telling.TheConstants.{MESSAGE_BYTES};
 ghost use Rattle.s39_cli.specs.Said.{IsSilentAtNone, longest_message, said_of};
 ghost use Rattle.s39_cli.specs.Ending.{AreAllOf, HoldsBeginning};
 ghost use Rattle.s39_cli.specs.Outcome.{HasNoCause, IsReady};
-ghost use Rattle.s39_cli.specs.Headline.{CreatedJobsRecover, DrillJobsList, OneOutcome, RecoverJobsRecover, ReissueJobsReissue};
+ghost use Rattle.s39_cli.specs.Headline.{CreatedJobsRecover, DrillJobsList, OneOutcome, RecoverJobsRecover, ReissueJobsReissue, ResplitJobsResplit};
 ghost use Rattle.s39_cli.specs.OneEnding.{OneEnding, SomeEnding};
 ghost use Rattle.s39_cli.specs.Headline.{RepairsTellOfTwo, SameValuesWriteTheSame, SomeOutcome};
 
 use crate::runner::{Destination, Ended, Source};
 use s39_backup::laws::one_plan_reading;
-use s39_creating::laws::{created_backups_reissue, one_create_output, one_reissue_output};
+use s39_creating::laws::{
+    created_backups_are_split_anew, created_backups_reissue, one_create_output, one_reissue_output,
+    one_resplit_output,
+};
 use s39_drilling::laws::{created_backups_drill, one_drill_output, some_drill_output};
 use s39_input::laws::{
     one_repair_output, one_show_output, some_repair_output, some_show_output,
@@ -62,7 +65,8 @@ pub fn ready_jobs_have_no_cause()
     ensures { (job : Job) (secret : List ℕ) → IsReady job secret → HasNoCause job secret }
 {}
 
-/// A job that can be begun writes a text for each input of bytes, and ends with an exit status.
+/// A job that can be begun writes a text for each input of bytes, and ends with an exit status. The random bytes of a split anew are
+/// bytes too.
 pub fn some_outcome()
     ensures { SomeOutcome }
 {
@@ -72,6 +76,7 @@ pub fn some_outcome()
     some_drill_output();
     one_status_output();
     one_reissue_output();
+    one_resplit_output();
     some_repair_output();
 }
 
@@ -85,6 +90,7 @@ pub fn one_outcome()
     one_drill_output();
     one_status_output();
     one_reissue_output();
+    one_resplit_output();
     one_repair_output();
     one_plan_reading();
     written_forms();
@@ -99,7 +105,7 @@ pub fn one_ending<R, W>()
     one_outcome();
 }
 
-/// There is such an ending: words whose job can be begun end as its outcome says.
+/// There is such an ending: words that name no file of a secret or a passphrase, and whose job can be begun, end as its outcome says.
 pub fn some_ending()
     ensures { SomeEnding }
 {}
@@ -134,6 +140,14 @@ pub fn reissue_jobs_reissue()
     ensures { ReissueJobsReissue }
 {
     created_backups_reissue();
+}
+
+/// For mnemonics of a created backup, a split anew writes what a creation by its plan and its random bytes writes from the secret of
+/// that backup, or nothing, and then its answer is why.
+pub fn resplit_jobs_resplit()
+    ensures { ResplitJobsResplit }
+{
+    created_backups_are_split_anew();
 }
 
 /// A recovery of what a creation with the same passphrase wrote gives the secret back.

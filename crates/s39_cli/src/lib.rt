@@ -8,6 +8,7 @@ pub mod laws;
 mod messages;
 mod notes;
 mod patient;
+mod random_file;
 mod runner;
 mod secret_text;
 mod telling;

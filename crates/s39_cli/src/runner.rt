@@ -1,7 +1,9 @@
 //! The program: a command line, a reader and two writers.
-ghost use Rattle.std.specs.Prelude.{◌≡◌, ◌≢◌, ◌≤◌, ◌⊎◌, map, false, IsFalse, IsTrue};
+ghost use Rattle.std.specs.Prelude.{◌≡◌, ◌≢◌, ◌≤◌, ◌⊎◌, map, false, IfNone, IfSome, IsFalse, IsTrue};
+ghost use Rattle.clap.specs.Words.{Text};
 ghost use Rattle.s39_command.specs.Command.{IsInRange};
-ghost use Rattle.s39_cli.specs.Ending.{DoesJob, Ends, EndsUnread, EndsWithoutJob, IsTyped, OnEnd, status_in};
+ghost use Rattle.s39_cli.specs.Ending.{DoesDrawn, DoesJob, Ends, EndsUnread, EndsWithoutJob, IsDoneWith, IsTyped, OnEnd, status_in};
+ghost use Rattle.s39_cli.specs.Values.{Told};
 ghost use Rattle.s39_cli.specs.Said.{IsSaid, IsSaidOfJob, IsSaidWithoutJob, IsSilentAtNone, OnStatus, Says, is_attended, long_line, typed_line};
 ghost use Rattle.s39_cli.specs.Untouched.{IsUntouchedBy, IsUntouchedIfRefused};
 ghost use Rattle.s39_cli.specs.Work.{HasBadPassphrase};
@@ -9,10 +11,12 @@ ghost use Rattle.s39_cli.specs.Work.{HasBadPassphrase};
 use crate::delivery::{by_buffer, by_lines, show, write_failed};
 use crate::messages::Messages;
 use crate::notes::{Notes, SHOWN, TYPING};
+use crate::random_file::{NoRandom, random_of};
 use crate::telling::{REASON_BYTES, answered, no_memory_left, report, say_of_file, unbegun};
 use crate::values::{NoValue, Secrets, Shelf, Unread, Values};
-use crate::work::Work;
+use crate::work::{Unready, Work};
 use s39_command::{Job, NoJob, read_words};
+use s39_tool::Plan;
 use std::alloc::Global;
 use std::fmt::InlineText;
 use std::io::{Read, Write};
@@ -77,7 +81,7 @@ impl<R: Drop, W: Drop> Ended<R, W> {
 /// | 4 | the program is out of memory |
 ///
 /// If the words name files for values, the program reads these values first: those in files of `shelf`, and then those in the
-/// first lines of `input`. Results and help go to `output`: the lines of `drill`, and at a terminal those of `show` and `repair`,
+/// first lines of `input`. The file of random bytes is read once the plan is judged. Results and help go to `output`: the lines of `drill`, and at a terminal those of `show` and `repair`,
 /// as soon as each is known. A fault is a line on `errors`, where the text of a refused command line goes too, and what a person at a
 /// terminal is told. The program takes all its memory before it reads `input`. Only lines that hold values are read before that. A
 /// failing `errors` changes no status.
@@ -116,6 +120,7 @@ pub fn program<S: Shelf, R: Read + Drop, W: Write + Drop, E: Write>(
         Err(unread) => return without_value(unread, input, output, errors),
     };
     by_job(
+        shelf,
         alloc,
         call.job,
         values.texts(call.given),
@@ -127,8 +132,62 @@ pub fn program<S: Shelf, R: Read + Drop, W: Write + Drop, E: Write>(
     )
 }
 
+/// Does the job with these texts, or with the random bytes of its file once its plan is judged.
+fn by_job<S: Shelf, R: Read + Drop, W: Write + Drop, E: Write>(
+    shelf: &S,
+    alloc: Global,
+    job: Job,
+    texts: Secrets,
+    input: R,
+    output: W,
+    errors: &mut Messages<E>,
+    notes: Notes,
+    destination: Destination,
+) -> Ended<R, W>
+    requires { IsInRange job }
+    ensures ends { OnEnd result (DoesDrawn (S.told shelf.now) R.remaining W.contents job.entry
+        texts.entry.secret.now texts.entry.passphrase.now input output) }
+    ensures untouched { IsUntouchedBy job.entry result output }
+    ensures said { IsSaidOfJob E.contents job.entry notes.types_mnemonics notes.tells_of_none
+        errors.old errors.new result }
+    ensures silent { IsFalse notes.types_mnemonics
+        → IsSilentAtNone notes.tells_of_none result errors.old errors.new }
+{
+    let Some((plan, name)) = random_file(&job) else {
+        return by_texts(alloc, job, texts, input, output, errors, notes, destination);
+    };
+    let _judged = match Plan::parse(plan) {
+        Ok(judged) => judged,
+        Err(error) => return unbegun(Unready::Plan(error), input, output, errors),
+    };
+    let random = match random_of(alloc, shelf, name) {
+        Ok(random) => random,
+        Err(NoRandom::Memory) => return no_memory_left(errors),
+        Err(NoRandom::Failed(error)) => {
+            let cause = NoValue::Failed(error);
+            return without_value(Unread { name, cause }, input, output, errors);
+        }
+    };
+    let texts = Secrets {
+        secret: random.bytes.as_slice(),
+        passphrase: texts.passphrase,
+    };
+    by_texts(alloc, job, texts, input, output, errors, notes, destination)
+}
+
+/// The plan and the file of random bytes of a job that takes some from a file.
+fn random_file<'a>(job: &Job<'a>) -> Option<(&'a str, &'a str)>
+    ensures some { IfSome result (λ found. job.now ≡ Job.Resplit found.0 found.1) }
+    ensures none { IfNone result ((told : Told) (secret : Text) → IsDoneWith told job.now secret secret) }
+{
+    match job {
+        Job::Resplit { plan, random_file } => Some((*plan, *random_file)),
+        _ => None,
+    }
+}
+
 /// Does the job with these texts.
-fn by_job<R: Read + Drop, W: Write + Drop, E: Write>(
+fn by_texts<R: Read + Drop, W: Write + Drop, E: Write>(
     alloc: Global,
     job: Job,
     texts: Secrets,

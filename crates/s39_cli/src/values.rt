@@ -52,7 +52,7 @@ impl From<io::Error> for NoValue {
 }
 
 /// The next byte, or `None` at the end. A read that the system interrupted is tried again.
-fn next_byte<R: Read>(input: &mut R) -> io::Result<Option<u8>>
+pub(crate) fn next_byte<R: Read>(input: &mut R) -> io::Result<Option<u8>>
     ensures byte { IfOk result (TakesByte (R.remaining input.old) (R.remaining input.new)) }
 {
     for _ in 0..u64::MAX {

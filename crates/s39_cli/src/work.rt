@@ -16,7 +16,7 @@ use s39_kdf::{BadFingerprint, NotedFingerprint, check_passphrase, parse_fingerpr
 use s39_set::{BadCursor, BadNames, Quorum, Status, parse_names, parse_quorum};
 use s39_tool::{
     Counting, Done, Fault, Options, Plan, PlanError, SecretForm, run_create, run_drill,
-    run_recover, run_reissue, run_repair, run_show, run_status,
+    run_recover, run_reissue, run_repair, run_resplit, run_show, run_status,
 };
 use std::alloc::Global;
 use std::io::{Read, Write};
@@ -47,6 +47,13 @@ pub(crate) struct Reissue {
     names: Quorum,
 }
 
+/// What is split anew, beside the mnemonics.
+#[derive(Drop)]
+pub(crate) struct Resplit<'a> {
+    plan: Plan,
+    random: &'a [u8],
+}
+
 /// A command that is ready to run: it needs no more memory.
 #[derive(Drop)]
 pub(crate) enum Work<'a> {
@@ -68,6 +75,8 @@ pub(crate) enum Work<'a> {
     Reissue(Reissue),
     /// Finds the mnemonics that fit lines in which words can't be read.
     Repair,
+    /// Creates another backup of a secret.
+    Resplit(Resplit<'a>),
 }
 
 /// Why a command can't be begun.
@@ -178,7 +187,8 @@ impl<'a> Work<'a> {
     ghost use Rattle.s39_cli.specs.Work.{HasBadPassphrase, IsWorkOf, IsWorkOutput};
 
     /// The work of a job, whose texts are read here: those of `create` are the secret and then the plan, those of `drill`
-    /// the cursor and then the fingerprint, and those of `reissue` the plan and then the names.
+    /// the cursor and then the fingerprint, and those of `reissue` the plan and then the names. In place of a secret, `resplit` has its
+    /// random bytes.
     pub(crate) fn of(alloc: Global, job: Job<'a>, texts: Secrets<'a>) -> Result<Work<'a>, Unready>
         requires { IsInRange job }
         ensures work { IfOk result (IsWorkOf job.entry texts.entry.secret.now texts.entry.passphrase.now) }
@@ -226,6 +236,10 @@ impl<'a> Work<'a> {
             Job::Status => Ok(Work::Status),
             Job::Reissue { plan, names } => Ok(Work::Reissue(Reissue::of(plan, names)?)),
             Job::Repair => Ok(Work::Repair),
+            Job::Resplit { plan, .. } => Ok(Work::Resplit(Resplit {
+                plan: Plan::parse(plan)?,
+                random: texts.secret,
+            })),
         }
     }
 
@@ -236,7 +250,11 @@ impl<'a> Work<'a> {
         match self {
             Work::Show | Work::Repair => destination == Destination::Terminal,
             Work::Drill(_) => true,
-            Work::Create(_) | Work::Recover { .. } | Work::Status | Work::Reissue(_) => false,
+            Work::Create(_)
+            | Work::Recover { .. }
+            | Work::Status
+            | Work::Reissue(_)
+            | Work::Resplit(_) => false,
         }
     }
 
@@ -294,6 +312,9 @@ impl<'a> Work<'a> {
                 where_done(run_reissue(&reissue.plan, &reissue.names, input, output))
             }
             Work::Repair => run_repair(input, output),
+            Work::Resplit(resplit) => {
+                where_done(run_resplit(&resplit.plan, resplit.random, input, output))
+            }
         }
     }
 }

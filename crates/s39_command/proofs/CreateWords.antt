@@ -75,6 +75,7 @@ create_values plan secret p e = record {
   flag = None;
   plan = Some plan;
   names = None;
+  random_file = None;
   exponent = Some (without_minus (unwrap_or e (codes "0")));
   extendable = Some (flag_text false);
 }

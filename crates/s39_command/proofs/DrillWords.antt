@@ -103,6 +103,7 @@ drill_values form e p q n = record {
   flag = Some (flag_text (is_fingerprint form));
   plan = None;
   names = None;
+  random_file = None;
   exponent = None;
   extendable = None;
 }

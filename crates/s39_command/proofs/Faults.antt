@@ -1,10 +1,10 @@
 -- Of the faults of values the first is told, and it is one.
-use Rattle.std.proofs.Common.{◌≡◌, ◌⊎◌, ◌≤◌, Bool, true, false, List, codes, Option, Some, None, arith, inl, inr, refl, subst}
+use Rattle.std.proofs.Common.{◌≡◌, ◌⊎◌, ◌∙◌, ◌≤◌, Bool, true, false, List, codes, Option, Some, None, arith, inl, inr, refl, subst, sym}
 use Rattle.std.specs.Str.{bytes_eq}
 use Rattle.std.proofs.lemmas.Slice.Eq.{bytes_eq-Decides}
 use Rattle.clap.specs.Words.{Row, Text, first_of, subcommand_of}
 use Rattle.s39_command.specs.declared.command.BadValues.{BadValues}
-use Rattle.s39_command.specs.declared.command.BadValues.TheVariants.{NoSecret, TwoSecrets, TwoPassphrases, TwoForms}
+use Rattle.s39_command.specs.declared.command.BadValues.TheVariants.{NoSecret, TwoSecrets, TwoPassphrases, TwoForms, RandomInput}
 use Rattle.s39_command.specs.Command.{HasBadValues, HasTwoPassphrases, HasTwoSecrets, LacksSecret, shamir_app}
 use Rattle.s39_command.specs.Faults.{FirstFault, HasFault, OneFault, SomeFault, place_of}
 use Rattle.s39_command.proofs.OneCall.{one_found, other_text}
@@ -58,6 +58,7 @@ first_fault name rows TwoPassphrases (whole, single, two) = (two, later)
     later TwoSecrets has = absurd (single has)
     later TwoPassphrases has = omega arith
     later TwoForms has = omega arith
+    later RandomInput has = omega arith
 first_fault name rows TwoForms (whole, single, one, two) = (two, later)
   where
     later : (other : BadValues) → HasFault name rows other → 2 ≤ place_of other
@@ -65,6 +66,15 @@ first_fault name rows TwoForms (whole, single, one, two) = (two, later)
     later TwoSecrets has = absurd (single has)
     later TwoPassphrases has = absurd (one has)
     later TwoForms has = omega arith
+    later RandomInput has = omega arith
+first_fault name rows RandomInput (whole, single, one, same, input) = (input, later)
+  where
+    later : (other : BadValues) → HasFault name rows other → 3 ≤ place_of other
+    later NoSecret has = absurd (whole has)
+    later TwoSecrets has = absurd (single has)
+    later TwoPassphrases has = absurd (one has)
+    later TwoForms has = absurd (same has)
+    later RandomInput has = omega arith
 
 pub some_fault : SomeFault
 some_fault name rows fault has =
@@ -81,12 +91,15 @@ some_fault name rows fault has =
     by (inr whole) (inr single) (inr one) TwoSecrets has = absurd (single has)
     by (inr whole) (inr single) (inr one) TwoPassphrases has = absurd (one has)
     by (inr whole) (inr single) (inr one) TwoForms has = (TwoForms, (whole, single, one, has))
+    by (inr whole) (inr single) (inr one) RandomInput has =
+        (RandomInput, (whole, single, one, (λ forms. other_text (codes "resplit") (codes "drill") refl (sym has.0 ∙ forms.0)), has))
 
 one_told : (name : Text) (rows : List Row) (bad other : BadValues) → HasBadValues name rows bad → HasBadValues name rows other → bad ≡ other
 one_told name rows NoSecret NoSecret is also = refl
 one_told name rows TwoSecrets TwoSecrets is also = refl
 one_told name rows TwoPassphrases TwoPassphrases is also = refl
 one_told name rows TwoForms TwoForms is also = refl
+one_told name rows RandomInput RandomInput is also = refl
 one_told name rows NoSecret TwoSecrets is also = absurd (not_lacking name rows is also)
 one_told name rows TwoSecrets NoSecret is also = absurd (not_lacking name rows also is)
 one_told name rows NoSecret TwoPassphrases is also = absurd (also.0 is)
@@ -99,6 +112,14 @@ one_told name rows TwoPassphrases TwoSecrets is also = absurd (is.1 also)
 one_told name rows TwoForms TwoSecrets is also = absurd (is.1 also)
 one_told name rows TwoPassphrases TwoForms is also = absurd (also.2 is.2)
 one_told name rows TwoForms TwoPassphrases is also = absurd (is.2 also.2)
+one_told name rows NoSecret RandomInput is also = absurd (also.0 is)
+one_told name rows TwoSecrets RandomInput is also = absurd (also.1 is)
+one_told name rows TwoPassphrases RandomInput is also = absurd (also.2 is.2)
+one_told name rows TwoForms RandomInput is also = absurd (also.3 is.3)
+one_told name rows RandomInput NoSecret is also = absurd (is.0 also)
+one_told name rows RandomInput TwoSecrets is also = absurd (is.1 also)
+one_told name rows RandomInput TwoPassphrases is also = absurd (is.2 also.2)
+one_told name rows RandomInput TwoForms is also = absurd (is.3 also.3)
 
 pub one_fault : OneFault
 one_fault = record {

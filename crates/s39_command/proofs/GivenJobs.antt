@@ -7,19 +7,20 @@ use Rattle.clap.specs.Words.{Row, Text, first_of, subcommand_of, takes}
 use Rattle.s39_kdf.specs.declared.secret_form.SecretForm.{SecretForm}
 use Rattle.s39_kdf.specs.declared.secret_form.SecretForm.TheVariants.{Digits, Fingerprint}
 use Rattle.s39_command.specs.declared.command.BadValues.{BadValues}
-use Rattle.s39_command.specs.declared.command.BadValues.TheVariants.{NoSecret, TwoSecrets, TwoPassphrases, TwoForms}
+use Rattle.s39_command.specs.declared.command.BadValues.TheVariants.{NoSecret, TwoSecrets, TwoPassphrases, TwoForms, RandomInput}
 use Rattle.s39_command.specs.declared.command.Job.{Job}
 use Rattle.s39_command.specs.declared.command.Job.TheVariants as job
 use Rattle.s39_command.specs.Command.{Gives, HasBadValues, IsGiven, flag_text, shamir_app, text_in}
 use Rattle.s39_command.specs.FewerWords.{or_default}
 use Rattle.s39_command.specs.Jobs.{ExpectingDrillWordsGive, ExpectingRecoverWordsGive, FewCreateWordsGive, FewDrillWordsGive, FewRecoverWordsGive}
-use Rattle.s39_command.specs.Jobs.{GivesJobWith, ReissueWordsGive, exponent_of, flag_last, plan_first}
+use Rattle.s39_command.specs.Jobs.{GivesJobWith, ReissueWordsGive, ResplitWordsGive, exponent_of, flag_last, plan_first}
 use Rattle.s39_command.specs.Words.{AskFor, limit_of}
 use Rattle.s39_command.proofs.CreateWords.{create_values, creation_met}
 use Rattle.s39_command.proofs.DrillWords.{IsDrill, drill_met, drill_values, expecting_is_drill, few_is_drill}
 use Rattle.s39_command.proofs.OneCall.{other_text, said_same}
 use Rattle.s39_command.proofs.RecoverWords.{IsRecovery, expecting_is_recovery, few_is_recovery, recover_values, recovery_met}
 use Rattle.s39_command.proofs.ReissueWords.{reissue_met, reissue_values}
+use Rattle.s39_command.proofs.ResplitWords.{resplit_met, resplit_values}
 use Rattle.s39_command.proofs.Words.{Found, IsMet, form_said, found_in, is_fingerprint}
 
 -- ---- texts that are lent
@@ -41,6 +42,7 @@ record IsPlain (f : Found) : Type 0 where
   pub no_passphrase_file : f.passphrase_file ≡ None
   pub no_lack : f.name ≡ codes "create" → f.secret ≡ None → ⊥
   pub one_form : f.name ≡ codes "drill" → (text : Text) → f.expected ≡ Some text → f.flag ≡ Some (flag_text true) → ⊥
+  pub no_input : f.name ≡ codes "resplit" → f.random_file ≡ Some (codes "-") → ⊥
 
 none_given : (id : Text) (rows : List Row) → first_of id rows ≡ None → IsGiven id rows → ⊥
 none_given id rows none given = cc
@@ -55,6 +57,8 @@ no_fault name rows f same plain TwoPassphrases two =
 no_fault name rows f same plain TwoForms two =
     plain.one_form (sym (ap (λ (g : Found). g.name) same) ∙ two.3.0) two.3.1.0 (sym (ap (λ (g : Found). g.expected) same) ∙ two.3.1.1)
     (sym (ap (λ (g : Found). g.flag) same) ∙ two.3.2)
+no_fault name rows f same plain RandomInput input =
+    plain.no_input (sym (ap (λ (g : Found). g.name) same) ∙ input.4.0) (sym (ap (λ (g : Found). g.random_file) same) ∙ input.4.1)
 
 -- what is found gives a job with the texts that are found
 gives_job : (words : List Text) (f : Found) → IsMet words f → IsPlain f → (j : Job)
@@ -97,6 +101,7 @@ drill_gives form e p q n words is = gives_job words (drill_values form e p q n) 
       no_passphrase_file = refl;
       no_lack = λ named. absurd (other_text (codes "drill") (codes "create") refl named);
       one_form = λ named. one_form form e is.one_form;
+      no_input = λ named. absurd (other_text (codes "drill") (codes "resplit") refl named);
     })
     (job.Drill (lent_if q) (limit_of (or_default n)) form (lent_if e)) (λ name rows same. (
       ap (λ (f : Found). f.name) same,
@@ -123,6 +128,7 @@ recovery_found form e p words met form_words asked = gives_job words (recover_va
       no_passphrase_file = refl;
       no_lack = λ named. absurd (other_text (codes "recover") (codes "create") refl named);
       one_form = λ named. absurd (other_text (codes "recover") (codes "drill") refl named);
+      no_input = λ named. absurd (other_text (codes "recover") (codes "resplit") refl named);
     })
     (job.Recover form (lent_if e)) (λ name rows same. (
       ap (λ (f : Found). f.name) same,
@@ -140,7 +146,7 @@ few_recover_words_give form p words are = recovery_gives form None p words (few_
 pub expecting_recover_words_give : ExpectingRecoverWordsGive
 expecting_recover_words_give form e p words are = (lent e, refl, recovery_gives form (Some e) (Some p) words (expecting_is_recovery form e p words are))
 
--- ---- a creation and a reissue
+-- ---- a creation, a reissue and a split anew
 
 some_none : (text : Text) → Some text ≡ None → ⊥
 some_none text same = cc
@@ -155,6 +161,7 @@ few_create_words_give plan secret p e words are = (
         no_passphrase_file = refl;
         no_lack = λ named lacks. some_none secret lacks;
         one_form = λ named. absurd (other_text (codes "create") (codes "drill") refl named);
+        no_input = λ named. absurd (other_text (codes "create") (codes "resplit") refl named);
       })
       (job.Create (lent plan) (exponent_of (unwrap_or e (codes "0"))) false) (λ name rows same. (
         ap (λ (f : Found). f.name) same,
@@ -176,11 +183,33 @@ reissue_words_give plan names words are = (
         no_passphrase_file = refl;
         no_lack = λ named. absurd (other_text (codes "reissue") (codes "create") refl named);
         one_form = λ named. absurd (other_text (codes "reissue") (codes "drill") refl named);
+        no_input = λ named. absurd (other_text (codes "reissue") (codes "resplit") refl named);
       })
       (job.Reissue (lent plan) (lent names)) (λ name rows same. (
         ap (λ (f : Found). f.name) same,
         ap (λ (f : Found). f.plan) same,
         ap (λ (f : Found). f.names) same,
+      )),
+)
+
+pub resplit_words_give : ResplitWordsGive
+resplit_words_give plan file words are other = (
+  lent plan,
+  lent file,
+  refl,
+  refl,
+  gives_job words (resplit_values plan file) (resplit_met plan file words are)
+      (record {
+        no_secret_file = refl;
+        no_passphrase_file = refl;
+        no_lack = λ named. absurd (other_text (codes "resplit") (codes "create") refl named);
+        one_form = λ named. absurd (other_text (codes "resplit") (codes "drill") refl named);
+        no_input = λ named is. other (said_same is);
+      })
+      (job.Resplit (lent plan) (lent file)) (λ name rows same. (
+        ap (λ (f : Found). f.name) same,
+        ap (λ (f : Found). f.plan) same,
+        ap (λ (f : Found). f.random_file) same,
       )),
 )
 
@@ -214,6 +243,7 @@ plan_first_gives = gives_job plan_first plan_first_values plan_first_met
       no_passphrase_file = refl;
       no_lack = λ named lacks. some_none (codes "00112233445566778899aabbccddeeff") lacks;
       one_form = λ named. absurd (other_text (codes "create") (codes "drill") refl named);
+      no_input = λ named. absurd (other_text (codes "create") (codes "resplit") refl named);
     })
     (job.Create (lent (codes "2of3")) 0 true) (λ name rows same. (
       ap (λ (f : Found). f.name) same,

@@ -27,7 +27,7 @@ use Rattle.s39_clap.proofs.Agreement.{faultless_taken, one_request_or_mistakes, 
 use Rattle.s39_clap.proofs.Entered.{enters_some, taken_enters_one}
 use Rattle.s39_clap.proofs.Values.{flag_said, has_value, number_read}
 use Rattle.s39_command.specs.Command.{AnswersKind, AnswersWords, AsksForText, IsFormSaid, commands, exponent_rule, extendable_rule, fingerprint_rule, flag_text}
-use Rattle.s39_command.specs.Command.{limit_rule, names_rule}
+use Rattle.s39_command.specs.Command.{limit_rule, names_rule, random_file_rule}
 use Rattle.s39_command.specs.Command.{plan_rule}
 use Rattle.s39_command.specs.Command.{IsGiven, IsHelp, SaysHelp, shamir_app}
 use Rattle.s39_kdf.specs.declared.secret_form.SecretForm.{SecretForm}
@@ -90,6 +90,11 @@ reissue_rules : List Rule
 unfolding shamir_app
 reissue_rules = option_map_or (λ s. s.rules) (slice_get commands 5) []
 
+-- and those of `resplit`
+resplit_rules : List Rule
+unfolding shamir_app
+resplit_rules = option_map_or (λ s. s.rules) (slice_get commands 7) []
+
 -- words that enter `create` have values for its arguments
 create_filled : (rows : List Row) → EntersOne commands (Some (codes "create", rows)) → IsFilled create_rules rows
 unfolding shamir_app create_rules
@@ -100,7 +105,8 @@ create_filled rows (inr (inr (inr (inl drill)))) = absurd (other_name (codes "cr
 create_filled rows (inr (inr (inr (inr (inl status))))) = absurd (other_name (codes "create") (codes "status") refl (same_entered _ _ status.1).0)
 create_filled rows (inr (inr (inr (inr (inr (inl reissue)))))) = absurd (other_name (codes "create") (codes "reissue") refl (same_entered _ _ reissue.1).0)
 create_filled rows (inr (inr (inr (inr (inr (inr (inl repair))))))) = absurd (other_name (codes "create") (codes "repair") refl (same_entered _ _ repair.1).0)
-create_filled rows (inr (inr (inr (inr (inr (inr (inr none))))))) = absurd none
+create_filled rows (inr (inr (inr (inr (inr (inr (inr (inl resplit)))))))) = absurd (other_name (codes "create") (codes "resplit") refl (same_entered _ _ resplit.1).0)
+create_filled rows (inr (inr (inr (inr (inr (inr (inr (inr none)))))))) = absurd none
 
 -- and those that enter `recover`
 recover_filled : (rows : List Row) → EntersOne commands (Some (codes "recover", rows)) → IsFilled recover_rules rows
@@ -112,7 +118,8 @@ recover_filled rows (inr (inr (inr (inl drill)))) = absurd (other_name (codes "r
 recover_filled rows (inr (inr (inr (inr (inl status))))) = absurd (other_name (codes "recover") (codes "status") refl (same_entered _ _ status.1).0)
 recover_filled rows (inr (inr (inr (inr (inr (inl reissue)))))) = absurd (other_name (codes "recover") (codes "reissue") refl (same_entered _ _ reissue.1).0)
 recover_filled rows (inr (inr (inr (inr (inr (inr (inl repair))))))) = absurd (other_name (codes "recover") (codes "repair") refl (same_entered _ _ repair.1).0)
-recover_filled rows (inr (inr (inr (inr (inr (inr (inr none))))))) = absurd none
+recover_filled rows (inr (inr (inr (inr (inr (inr (inr (inl resplit)))))))) = absurd (other_name (codes "recover") (codes "resplit") refl (same_entered _ _ resplit.1).0)
+recover_filled rows (inr (inr (inr (inr (inr (inr (inr (inr none)))))))) = absurd none
 
 -- and those that enter `drill`
 drill_filled : (rows : List Row) → EntersOne commands (Some (codes "drill", rows)) → IsFilled drill_rules rows
@@ -124,7 +131,8 @@ drill_filled rows (inr (inr (inr (inl drill)))) = subst (IsFilled drill_rules) (
 drill_filled rows (inr (inr (inr (inr (inl status))))) = absurd (other_name (codes "drill") (codes "status") refl (same_entered _ _ status.1).0)
 drill_filled rows (inr (inr (inr (inr (inr (inl reissue)))))) = absurd (other_name (codes "drill") (codes "reissue") refl (same_entered _ _ reissue.1).0)
 drill_filled rows (inr (inr (inr (inr (inr (inr (inl repair))))))) = absurd (other_name (codes "drill") (codes "repair") refl (same_entered _ _ repair.1).0)
-drill_filled rows (inr (inr (inr (inr (inr (inr (inr none))))))) = absurd none
+drill_filled rows (inr (inr (inr (inr (inr (inr (inr (inl resplit)))))))) = absurd (other_name (codes "drill") (codes "resplit") refl (same_entered _ _ resplit.1).0)
+drill_filled rows (inr (inr (inr (inr (inr (inr (inr (inr none)))))))) = absurd none
 
 -- and those that enter `reissue`
 reissue_filled : (rows : List Row) → EntersOne commands (Some (codes "reissue", rows)) → IsFilled reissue_rules rows
@@ -136,7 +144,21 @@ reissue_filled rows (inr (inr (inr (inl drill)))) = absurd (other_name (codes "r
 reissue_filled rows (inr (inr (inr (inr (inl status))))) = absurd (other_name (codes "reissue") (codes "status") refl (same_entered _ _ status.1).0)
 reissue_filled rows (inr (inr (inr (inr (inr (inl reissue)))))) = subst (IsFilled reissue_rules) (sym (same_entered _ _ reissue.1).1) reissue.2
 reissue_filled rows (inr (inr (inr (inr (inr (inr (inl repair))))))) = absurd (other_name (codes "reissue") (codes "repair") refl (same_entered _ _ repair.1).0)
-reissue_filled rows (inr (inr (inr (inr (inr (inr (inr none))))))) = absurd none
+reissue_filled rows (inr (inr (inr (inr (inr (inr (inr (inl resplit)))))))) = absurd (other_name (codes "reissue") (codes "resplit") refl (same_entered _ _ resplit.1).0)
+reissue_filled rows (inr (inr (inr (inr (inr (inr (inr (inr none)))))))) = absurd none
+
+-- and those that enter `resplit`
+resplit_filled : (rows : List Row) → EntersOne commands (Some (codes "resplit", rows)) → IsFilled resplit_rules rows
+unfolding shamir_app resplit_rules
+resplit_filled rows (inl show) = absurd (other_name (codes "resplit") (codes "show") refl (same_entered _ _ show.1).0)
+resplit_filled rows (inr (inl create)) = absurd (other_name (codes "resplit") (codes "create") refl (same_entered _ _ create.1).0)
+resplit_filled rows (inr (inr (inl recover))) = absurd (other_name (codes "resplit") (codes "recover") refl (same_entered _ _ recover.1).0)
+resplit_filled rows (inr (inr (inr (inl drill)))) = absurd (other_name (codes "resplit") (codes "drill") refl (same_entered _ _ drill.1).0)
+resplit_filled rows (inr (inr (inr (inr (inl status))))) = absurd (other_name (codes "resplit") (codes "status") refl (same_entered _ _ status.1).0)
+resplit_filled rows (inr (inr (inr (inr (inr (inl reissue)))))) = absurd (other_name (codes "resplit") (codes "reissue") refl (same_entered _ _ reissue.1).0)
+resplit_filled rows (inr (inr (inr (inr (inr (inr (inl repair))))))) = absurd (other_name (codes "resplit") (codes "repair") refl (same_entered _ _ repair.1).0)
+resplit_filled rows (inr (inr (inr (inr (inr (inr (inr (inl resplit)))))))) = subst (IsFilled resplit_rules) (sym (same_entered _ _ resplit.1).1) resplit.2
+resplit_filled rows (inr (inr (inr (inr (inr (inr (inr (inr none)))))))) = absurd none
 
 -- what was found enters `create`
 abbrev EntersCreate : Found → Type 0
@@ -170,6 +192,25 @@ unfolding shamir_app reissue_rules
 names_there f got enters given =
     let value = has_value reissue_rules (rows_of f) (with_index 2 (filled names_rule)) (codes "names") refl refl (reissue_filled (rows_of f) enters) in
     some_of_rows f (codes "names") got value.0 given value.1.first
+
+-- what was found enters `resplit`
+abbrev EntersResplit : Found → Type 0
+EntersResplit f = EntersOne commands (Some (codes "resplit", rows_of f))
+
+pub resplit_plan_there : (f : Found) (got : Option (Bor Text)) → EntersResplit f → option_map (λ t. t.now) got ≡ first_value f (codes "plan")
+    → is_some got ≡ true
+unfolding shamir_app resplit_rules
+resplit_plan_there f got enters given =
+    let value = has_value resplit_rules (rows_of f) (with_index 1 (filled plan_rule)) (codes "plan") refl refl (resplit_filled (rows_of f) enters) in
+    some_of_rows f (codes "plan") got value.0 given value.1.first
+
+pub random_file_there : (f : Found) (got : Option (Bor Text)) → EntersResplit f
+    → option_map (λ t. t.now) got ≡ first_value f (codes "random-file") → is_some got ≡ true
+unfolding shamir_app resplit_rules
+random_file_there f got enters given =
+    let value = has_value resplit_rules (rows_of f) (with_index 2 (filled random_file_rule)) (codes "random-file") refl refl
+    (resplit_filled (rows_of f) enters) in
+    some_of_rows f (codes "random-file") got value.0 given value.1.first
 
 -- the number that a getter of a `u8` reads of the exponent
 pub exponent_there : (f : Found) (got : Option ℕ) → EntersCreate f

@@ -6,5 +6,6 @@ pub mod DrillWords
 pub mod RecoverWords
 pub mod CreateWords
 pub mod ReissueWords
+pub mod ResplitWords
 pub mod Faults
 pub mod GivenJobs

@@ -37,6 +37,7 @@ name_of (job.Drill a l f e) = codes "drill"
 name_of job.Status = codes "status"
 name_of (job.Reissue t n) = codes "reissue"
 name_of job.Repair = codes "repair"
+name_of (job.Resplit t f) = codes "resplit"
 
 name_given : (name : Text) (rows : List Row) (j : Job) → Gives name rows j → name ≡ name_of j
 name_given name rows job.Show is = is
@@ -46,6 +47,7 @@ name_given name rows (job.Drill a l f e) is = is.0
 name_given name rows job.Status is = is
 name_given name rows (job.Reissue t n) is = is.0
 name_given name rows job.Repair is = is
+name_given name rows (job.Resplit t f) is = is.0
 
 same_flag : (o : Option Text) (x y : Bool) → o ≡ Some (flag_text x) → o ≡ Some (flag_text y) → x ≡ y
 same_flag o true true is also = refl
@@ -73,6 +75,8 @@ module _ (name : Text) (rows : List Row) where
   same_values (job.Reissue t n) (job.Reissue t' n') same is also =
       (t', n', refl, said_same (sym is.1 ∙ also.1), said_same (sym is.2 ∙ also.2))
   same_values job.Repair job.Repair same is also = refl
+  same_values (job.Resplit t f) (job.Resplit t' f') same is also =
+      (t', f', refl, said_same (sym is.1 ∙ also.1), said_same (sym is.2 ∙ also.2))
   same_values _ _ same is also = cc same
 
 pub one_found : (o : Option (Text × List Row)) (x y : Text × List Row) → o ≡ Some x → o ≡ Some y → x ≡ y

@@ -78,6 +78,7 @@ recover_values form e p = record {
   flag = Some (flag_text (is_fingerprint form));
   plan = None;
   names = None;
+  random_file = None;
   exponent = None;
   extendable = None;
 }

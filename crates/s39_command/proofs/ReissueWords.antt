@@ -49,6 +49,7 @@ reissue_values plan names = record {
   flag = None;
   plan = Some plan;
   names = Some names;
+  random_file = None;
   exponent = None;
   extendable = None;
 }

@@ -87,6 +87,7 @@ pub record Found : Type 0 where
   pub flag : Option Text
   pub plan : Option Text
   pub names : Option Text
+  pub random_file : Option Text
   pub exponent : Option Text
   pub extendable : Option Text
 
@@ -104,6 +105,7 @@ found_in f = record {
   flag = first_of (codes "fingerprint") f.1;
   plan = first_of (codes "plan") f.1;
   names = first_of (codes "names") f.1;
+  random_file = first_of (codes "random-file") f.1;
   exponent = one_of (codes "exponent") f.1;
   extendable = one_of (codes "extendable") f.1;
 }

@@ -12,13 +12,13 @@ use Rattle.s39_kdf.specs.Limits.{exponent_bits}
 use Rattle.s39_kdf.specs.declared.secret_form.SecretForm.{SecretForm}
 use Rattle.s39_kdf.specs.declared.secret_form.SecretForm.TheVariants.{Digits, Fingerprint, Expected}
 use Rattle.s39_command.specs.declared.command.Job.{Job}
-use Rattle.s39_command.specs.declared.command.Job.TheVariants.{Show, Create, Recover, Drill, Status, Reissue, Repair}
+use Rattle.s39_command.specs.declared.command.Job.TheVariants.{Show, Create, Recover, Drill, Status, Reissue, Repair, Resplit}
 use Rattle.s39_command.specs.declared.command.NoJob.{NoJob}
 use Rattle.s39_command.specs.declared.command.NoJob.TheVariants.{Help, Refused, Values, Memory}
 use Rattle.s39_command.specs.declared.command.Call.{Call}
 use Rattle.s39_command.specs.declared.command.Texts.{Texts}
 use Rattle.s39_command.specs.declared.command.BadValues.{BadValues}
-use Rattle.s39_command.specs.declared.command.BadValues.TheVariants.{NoSecret, TwoSecrets, TwoPassphrases, TwoForms}
+use Rattle.s39_command.specs.declared.command.BadValues.TheVariants.{NoSecret, TwoSecrets, TwoPassphrases, TwoForms, RandomInput}
 
 -- the command `show`
 abbrev pub show_app : App
@@ -125,6 +125,16 @@ reissue_app = with_rule (with_rule (new_app (codes "reissue")) plan_rule) names_
 abbrev pub repair_app : App
 repair_app = new_app (codes "repair")
 
+-- the option `--random-file FILE`, which has to be given
+abbrev pub random_file_rule : Rule
+random_file_rule = record (option_rule (codes "random-file")) {
+  required = true;
+}
+
+-- the command `resplit`, with a plan and this
+abbrev pub resplit_app : App
+resplit_app = with_rule (with_rule (new_app (codes "resplit")) plan_rule) random_file_rule
+
 -- the program, which has a version and has to be given a command; without any argument, its error has the text of help
 abbrev pub shamir_top : Shape
 shamir_top = record (new_app (codes "shamir")).top {
@@ -136,9 +146,9 @@ shamir_top = record (new_app (codes "shamir")).top {
 
 -- the program with its commands
 unfoldable pub shamir_app : App
-shamir_app = with_subcommand (with_subcommand (with_subcommand (with_subcommand (with_subcommand (with_subcommand
+shamir_app = with_subcommand (with_subcommand (with_subcommand (with_subcommand (with_subcommand (with_subcommand (with_subcommand
     (with_subcommand (record { top = shamir_top; subs = [] }) show_app.top) create_app.top)
-    recover_app.top) drill_app.top) status_app.top) reissue_app.top) repair_app.top
+    recover_app.top) drill_app.top) status_app.top) reissue_app.top) repair_app.top) resplit_app.top
 
 -- its commands, built
 abbrev pub commands : List Shape
@@ -174,6 +184,9 @@ Gives name rows (Reissue plan names) = (name ≡ codes "reissue")
     × (first_of (codes "plan") rows ≡ Some plan.now)
     × (first_of (codes "names") rows ≡ Some names.now)
 Gives name rows Repair = name ≡ codes "repair"
+Gives name rows (Resplit plan random_file) = (name ≡ codes "resplit")
+    × (first_of (codes "plan") rows ≡ Some plan.now)
+    × (first_of (codes "random-file") rows ≡ Some random_file.now)
 
 -- these texts are found for the id of the secret's and for that of the passphrase's
 pub record AreFound (secret passphrase : Text) (rows : List Row) (texts : Texts) : Type 0 where
@@ -202,14 +215,21 @@ abbrev pub HasTwoForms : Text → List Row → Type 0
 HasTwoForms name rows =
     (name ≡ codes "drill") × IsGiven (codes "expect") rows × (first_of (codes "fingerprint") rows ≡ Some (flag_text true))
 
--- this is the first fault of the values of the command of this name: one of the secret comes before one of the passphrase, and
--- this one before one of the form
+-- the random bytes would come from standard input, which has the mnemonics
+abbrev pub HasRandomInput : Text → List Row → Type 0
+HasRandomInput name rows = (name ≡ codes "resplit") × (first_of (codes "random-file") rows ≡ Some (codes "-"))
+
+-- this is the first fault of the values of the command of this name: one of the secret comes before one of the passphrase, this
+-- one before one of the form, and that of random bytes comes last
 abbrev pub HasBadValues : Text → List Row → BadValues → Type 0
 HasBadValues name rows NoSecret = LacksSecret name rows
 HasBadValues name rows TwoSecrets = HasTwoSecrets rows
 HasBadValues name rows TwoPassphrases = (LacksSecret name rows → ⊥) × (HasTwoSecrets rows → ⊥) × HasTwoPassphrases rows
 HasBadValues name rows TwoForms =
     (LacksSecret name rows → ⊥) × (HasTwoSecrets rows → ⊥) × (HasTwoPassphrases rows → ⊥) × HasTwoForms name rows
+HasBadValues name rows RandomInput =
+    (LacksSecret name rows → ⊥) × (HasTwoSecrets rows → ⊥) × (HasTwoPassphrases rows → ⊥) × (HasTwoForms name rows → ⊥)
+    × HasRandomInput name rows
 
 -- the last line of a text that refuses values
 abbrev pub more_text : Text
@@ -221,6 +241,7 @@ bad_text NoSecret = codes "error: one of --master-secret <HEX> and --master-secr
 bad_text TwoSecrets = codes "error: --master-secret <HEX> and --master-secret-file <FILE> can't be given together" ++ more_text
 bad_text TwoPassphrases = codes "error: --passphrase <TEXT> and --passphrase-file <FILE> can't be given together" ++ more_text
 bad_text TwoForms = codes "error: --expect <FINGERPRINT> and --fingerprint can't be given together" ++ more_text
+bad_text RandomInput = codes "error: --random-file <FILE> can't be -: standard input has the mnemonics" ++ more_text
 
 -- the words give the command with its values and the files of such, by the definition of a simple command, and its values are sound
 abbrev pub GivesCall : List Text → Call → Type 0
@@ -251,6 +272,7 @@ HaveSameValues (Drill after limit form expected) other = (a e : Option (Bor Text
 HaveSameValues Status other = other ≡ Status
 HaveSameValues (Reissue plan names) other = (p n : Bor Text) × (other ≡ Reissue p n) × (plan.now ≡ p.now) × (names.now ≡ n.now)
 HaveSameValues Repair other = other ≡ Repair
+HaveSameValues (Resplit plan file) other = (p f : Bor Text) × (other ≡ Resplit p f) × (plan.now ≡ p.now) × (file.now ≡ f.now)
 
 -- the texts are the same, which may be lent from elsewhere
 pub record AreSameTexts (texts other : Texts) : Type 0 where

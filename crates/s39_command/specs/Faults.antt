@@ -3,8 +3,8 @@ use Rattle.std.specs.Prelude.{◌≡◌, ◌≤◌, ℕ, List}
 use Rattle.clap.specs.Words.{Row, Text}
 use Rattle.s39_command.specs.declared.command.Call.{Call}
 use Rattle.s39_command.specs.declared.command.BadValues.{BadValues}
-use Rattle.s39_command.specs.declared.command.BadValues.TheVariants.{NoSecret, TwoSecrets, TwoPassphrases, TwoForms}
-use Rattle.s39_command.specs.Command.{GivesBadValues, GivesCall, HasBadValues, HasTwoForms, HasTwoPassphrases, HasTwoSecrets, LacksSecret}
+use Rattle.s39_command.specs.declared.command.BadValues.TheVariants.{NoSecret, TwoSecrets, TwoPassphrases, TwoForms, RandomInput}
+use Rattle.s39_command.specs.Command.{GivesBadValues, GivesCall, HasBadValues, HasRandomInput, HasTwoForms, HasTwoPassphrases, HasTwoSecrets, LacksSecret}
 
 -- the values of the command of this name have this fault, whatever else is wrong with them
 abbrev pub HasFault : Text → List Row → BadValues → Type 0
@@ -12,13 +12,16 @@ HasFault name rows NoSecret = LacksSecret name rows
 HasFault name rows TwoSecrets = HasTwoSecrets rows
 HasFault name rows TwoPassphrases = HasTwoPassphrases rows
 HasFault name rows TwoForms = HasTwoForms name rows
+HasFault name rows RandomInput = HasRandomInput name rows
 
--- the place of a fault in the order in which faults are told: the secret's, the passphrase's, and that of the form
+-- the place of a fault in the order in which faults are told: the secret's, the passphrase's, that of the form, and that of random
+-- bytes
 abbrev pub place_of : BadValues → ℕ
 place_of NoSecret = 0
 place_of TwoSecrets = 0
 place_of TwoPassphrases = 1
 place_of TwoForms = 2
+place_of RandomInput = 3
 
 -- the fault that is told is one of the values, and none of theirs has an earlier place
 abbrev pub FirstFault : Type 0

@@ -1,4 +1,5 @@
--- The words of a drill, of a recovery and of a creation, each option there or not, and the words of a reissue.
+-- The words of a drill, of a recovery and of a creation, each option there or not, and the words of a reissue and
+-- of a split anew.
 use Rattle.std.specs.Prelude.{◌≡◌, ◌++◌, true, List, [], ◌∷◌, codes, Option, Some, None, pos, unwrap_or}
 use Rattle.clap.specs.Words.{IsSignedIn, Text, takes}
 use Rattle.s39_clap.specs.Options.{AreOptionWords, HasNoDash}
@@ -64,6 +65,14 @@ pub record AreReissueWords (plan names : Text) (words : List Text) : Type 0 wher
   pub names_given : HasNoDash names
   pub words_are : words ≡ program ∷ codes "reissue" ∷ plan ∷ names ∷ []
 
+-- These are the words of a split anew: `shamir resplit PLAN --random-file FILE`.
+pub record AreResplitWords (plan file : Text) (words : List Text) : Type 0 where
+  pub program : Text
+  pub file_words : List Text
+  pub plan_given : HasNoDash plan
+  pub file_given : AreOptionWords (codes "random-file") file file_words
+  pub words_are : words ≡ program ∷ codes "resplit" ∷ plan ∷ file_words
+
 -- words with every option are such words
 abbrev pub DrillWordsAreFew : Type 0
 DrillWordsAreFew = (form : SecretForm) (passphrase after limit : Text) (words : List Text) → AreDrillWords form passphrase after limit words
@@ -95,3 +104,7 @@ FewCreateWordsAreTaken = (plan secret : Text) (passphrase exponent : Option Text
 -- and those of a reissue
 abbrev pub ReissueWordsAreTaken : Type 0
 ReissueWordsAreTaken = (plan names : Text) (words : List Text) → AreReissueWords plan names words → takes shamir_app words ≡ true
+
+-- and those of a split anew
+abbrev pub ResplitWordsAreTaken : Type 0
+ResplitWordsAreTaken = (plan file : Text) (words : List Text) → AreResplitWords plan file words → takes shamir_app words ≡ true

@@ -1,5 +1,5 @@
 -- Which job the words of each command give, if its values stand in the words.
-use Rattle.std.specs.Prelude.{◌≡◌, ℕ, false, List, [], ◌∷◌, codes, Option, Some, None, unwrap_or}
+use Rattle.std.specs.Prelude.{◌≡◌, ◌≢◌, ℕ, false, List, [], ◌∷◌, codes, Option, Some, None, unwrap_or}
 use Rattle.std.specs.Borrow.{Bor}
 use Rattle.std.specs.Str.Parse.{digits_value, without_leading_plus}
 use Rattle.clap.specs.Lexer.{without_minus}
@@ -7,10 +7,10 @@ use Rattle.clap.specs.Words.{Text}
 use Rattle.s39_kdf.specs.declared.secret_form.SecretForm.{SecretForm}
 use Rattle.s39_kdf.specs.declared.secret_form.SecretForm.TheVariants.{Digits}
 use Rattle.s39_command.specs.declared.command.Job.{Job}
-use Rattle.s39_command.specs.declared.command.Job.TheVariants.{Create, Recover, Drill, Reissue}
+use Rattle.s39_command.specs.declared.command.Job.TheVariants.{Create, Recover, Drill, Reissue, Resplit}
 use Rattle.s39_command.specs.declared.command.Texts.{Texts}
 use Rattle.s39_command.specs.Command.{GivesCall, text_in}
-use Rattle.s39_command.specs.FewerWords.{AreFewCreateWords, AreFewDrillWords, AreFewRecoverWords, AreReissueWords, or_default}
+use Rattle.s39_command.specs.FewerWords.{AreFewCreateWords, AreFewDrillWords, AreFewRecoverWords, AreReissueWords, AreResplitWords, or_default}
 use Rattle.s39_command.specs.Words.{AreExpectingDrillWords, AreExpectingRecoverWords, limit_of}
 
 -- the words give this job and these texts of values, and name no file of a value
@@ -61,6 +61,11 @@ FewCreateWordsGive = (plan secret : Text) (passphrase exponent : Option Text) (w
 abbrev pub ReissueWordsGive : Type 0
 ReissueWordsGive = (plan names : Text) (words : List Text) → AreReissueWords plan names words
     → (lent listed : Bor Text) × (lent.now ≡ plan) × (listed.now ≡ names) × GivesJobWith words (Reissue lent listed) None None
+
+-- those of a split anew give one, unless the file has the name of standard input
+abbrev pub ResplitWordsGive : Type 0
+ResplitWordsGive = (plan file : Text) (words : List Text) → AreResplitWords plan file words → file ≢ codes "-"
+    → (lent named : Bor Text) × (lent.now ≡ plan) × (named.now ≡ file) × GivesJobWith words (Resplit lent named) None None
 
 -- words of a creation with its plan first, and with the extendable flag
 abbrev pub plan_first : List Text

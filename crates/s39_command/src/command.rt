@@ -8,6 +8,7 @@ ghost use Rattle.s39_command.specs.Command.{AreFound, HasBadValues, IsGiven, IsH
 ghost use Rattle.s39_command.specs.declared.command.BadValues.{BadValues};
 
 use crate::definition::shamir;
+use crate::values::bad_values;
 use clap::error::ErrorKind;
 use clap::{ArgMatches, Error};
 use s39_kdf::SecretForm;
@@ -57,6 +58,13 @@ pub enum Job<'a> {
     },
     /// Finds the mnemonics that fit the lines on standard input, in which words can't be read.
     Repair,
+    /// Creates another backup of the secret of the mnemonics on standard input, without a passphrase.
+    Resplit {
+        /// The text of the plan.
+        plan: &'a str,
+        /// The name of the file with the random bytes.
+        random_file: &'a str,
+    },
 }
 
 /// A text for the secret and one for the passphrase, each if it was given.
@@ -90,6 +98,8 @@ pub enum BadValues {
     TwoPassphrases,
     /// A drill is asked both to print fingerprints and to compare with one.
     TwoForms,
+    /// The random bytes would come from standard input, which has the mnemonics.
+    RandomInput,
 }
 
 impl BadValues {
@@ -115,6 +125,11 @@ For more information, try '--help'.
 ",
             BadValues::TwoForms =>
                 "error: --expect <FINGERPRINT> and --fingerprint can't be given together
+
+For more information, try '--help'.
+",
+            BadValues::RandomInput =>
+                "error: --random-file <FILE> can't be -: standard input has the mnemonics
 
 For more information, try '--help'.
 ",
@@ -159,27 +174,6 @@ fn no_job(alloc: Global, error: &Error) -> NoJob
     }
 }
 
-/// Whether a text was found for this id.
-fn is_given(options: &ArgMatches, id: &str) -> bool
-    ensures given { IsTrue result → IsGiven id.now (rows_of (found_of options.now)) }
-    ensures missing { IsFalse result → first_of id.now (rows_of (found_of options.now)) ≡ None }
-{
-    options.get_str(id).is_some()
-}
-
-/// Whether the flag `--fingerprint` was found.
-fn asks_for_fingerprints(options: &ArgMatches) -> bool
-    ensures said { IsTrue result → first_of (codes "fingerprint") (rows_of (found_of options.now))
-        ≡ Some (codes "true") }
-    ensures unsaid { IsFalse result → first_of (codes "fingerprint") (rows_of (found_of options.now))
-        ≢ Some (codes "true") }
-{
-    match options.get_str("fingerprint") {
-        Some(text) => text == "true",
-        None => false,
-    }
-}
-
 /// The texts that were found for these ids.
 fn texts_of<'a>(options: &ArgMatches<'a>, secret: &str, passphrase: &str) -> Texts<'a>
     ensures { AreFound secret.now passphrase.now (rows_of (found_of options.now)) result }
@@ -188,33 +182,6 @@ fn texts_of<'a>(options: &ArgMatches<'a>, secret: &str, passphrase: &str) -> Tex
         secret: options.get_str(secret),
         passphrase: options.get_str(passphrase),
     }
-}
-
-/// What is first wrong with the values that were found for the command with this name.
-fn bad_values(name: &str, options: &ArgMatches) -> Option<BadValues>
-    ensures bad { IfSome result (HasBadValues name.now (rows_of (found_of options.now))) }
-    ensures sound { IfNone result
-        (((bad : BadValues) × HasBadValues name.now (rows_of (found_of options.now)) bad) → ⊥) }
-{
-    let has_secret = is_given(options, "master-secret");
-    let has_secret_file = is_given(options, "master-secret-file");
-    let has_passphrase = is_given(options, "passphrase");
-    let has_passphrase_file = is_given(options, "passphrase-file");
-    let has_expected = is_given(options, "expect");
-    let has_fingerprint = asks_for_fingerprints(options);
-    if name == "create" && !has_secret && !has_secret_file {
-        return Some(BadValues::NoSecret);
-    }
-    if has_secret && has_secret_file {
-        return Some(BadValues::TwoSecrets);
-    }
-    if has_passphrase && has_passphrase_file {
-        return Some(BadValues::TwoPassphrases);
-    }
-    if name == "drill" && has_expected && has_fingerprint {
-        return Some(BadValues::TwoForms);
-    }
-    None
 }
 
 /// The job `create`, from what was found for its arguments.
@@ -287,6 +254,19 @@ fn reissue_job<'a>(options: &ArgMatches<'a>) -> Job<'a>
     }
 }
 
+/// The job `resplit`, from what was found for its arguments.
+#[tactic(auto, unfolding(crate::specs::Command::shamir_app))]
+fn resplit_job<'a>(options: &ArgMatches<'a>) -> Job<'a>
+    requires { EntersOne commands (Some (codes "resplit", rows_of (found_of options.now))) }
+    ensures gives { Gives (codes "resplit") (rows_of (found_of options.now)) result }
+    ensures range { IsInRange result }
+{
+    Job::Resplit {
+        plan: options.get_str("plan").unwrap(),
+        random_file: options.get_str("random-file").unwrap(),
+    }
+}
+
 /// The job of the command with this name, from what was found for its arguments.
 #[tactic(auto, unfolding(crate::specs::Command::shamir_app))]
 fn job_of<'a>(name: &str, options: &ArgMatches<'a>) -> Job<'a>
@@ -302,6 +282,7 @@ fn job_of<'a>(name: &str, options: &ArgMatches<'a>) -> Job<'a>
         "status" => Job::Status,
         "reissue" => reissue_job(options),
         "repair" => Job::Repair,
+        "resplit" => resplit_job(options),
         _ => unreachable!(),
     }
 }

@@ -4,8 +4,8 @@ ghost use Rattle.clap.specs.Words.{app_of, new_app, rule_of, with_rule, with_sub
 ghost use Rattle.clap.specs.declared.builder.Command.TheViews.{out-Command};
 ghost use Rattle.s39_command.specs.Command.{flag_rule, option_rule, plan_rule, secret_rule, secret_file_rule, exponent_rule, extendable_rule};
 ghost use Rattle.s39_command.specs.Command.{passphrase_rule, passphrase_file_rule};
-ghost use Rattle.s39_command.specs.Command.{after_rule, expect_rule, fingerprint_rule, limit_rule, names_rule};
-ghost use Rattle.s39_command.specs.Command.{show_app, create_app, recover_app, drill_app, status_app, reissue_app, repair_app, shamir_top, shamir_app};
+ghost use Rattle.s39_command.specs.Command.{after_rule, expect_rule, fingerprint_rule, limit_rule, names_rule, random_file_rule};
+ghost use Rattle.s39_command.specs.Command.{show_app, create_app, recover_app, drill_app, status_app, reissue_app, repair_app, resplit_app, shamir_top, shamir_app};
 
 use clap::builder::ValueParser;
 use clap::{Arg, ArgAction, Command};
@@ -313,6 +313,30 @@ Example: shamir repair < damaged.txt",
         )
 }
 
+fn random_file<'a>(alloc: Global) -> Arg<'a>
+    ensures rule { rule_of result ≡ random_file_rule }
+    ensures local { result.global ≡ false }
+{
+    option(alloc, "random-file", "FILE").required(true).help(
+        "Read the random bytes from FILE: exactly as many as create takes for this plan and secret",
+    )
+}
+
+fn resplit<'a>(alloc: Global) -> Result<Command<'a>, AllocError>
+    ensures app { IfOk result (λ command. app_of command ≡ resplit_app) }
+    ensures local { IfOk result (λ command. (out-Command command).has_globals ≡ false) }
+{
+    Command::new(alloc, "resplit")
+        .about("Create another backup of the same secret from mnemonics of an extendable one")
+        .after_help(
+            "Standard input has one mnemonic in each line. At a terminal, end with Ctrl-D on an empty line.
+
+Example: shamir resplit 2of3 --random-file random.bin < mnemonics.txt",
+        )
+        .arg(plan(alloc))?
+        .arg(random_file(alloc))
+}
+
 /// The program without its commands.
 fn top<'a>(alloc: Global) -> Command<'a>
     ensures app { app_of result ≡ record { top = shamir_top; subs = [] } }
@@ -339,16 +363,27 @@ fn with_recovery<'a>(alloc: Global, command: Command<'a>) -> Result<Command<'a>,
         .subcommand(drill(alloc)?)
 }
 
-/// The command with `status`, `reissue` and `repair`.
+/// The command with `status` and `reissue`.
 fn with_missing<'a>(alloc: Global, command: Command<'a>) -> Result<Command<'a>, AllocError>
     requires { (out-Command command).has_globals ≡ false }
-    ensures { IfOk result (λ whole. app_of whole ≡ with_subcommand (with_subcommand
-        (with_subcommand (app_of command.entry) status_app.top) reissue_app.top) repair_app.top) }
+    ensures app { IfOk result (λ whole. app_of whole ≡ with_subcommand
+        (with_subcommand (app_of command.entry) status_app.top) reissue_app.top) }
+    ensures local { IfOk result (λ whole. (out-Command whole).has_globals ≡ false) }
 {
     command
         .subcommand(status(alloc))?
-        .subcommand(reissue(alloc)?)?
-        .subcommand(repair(alloc))
+        .subcommand(reissue(alloc)?)
+}
+
+/// The command with `repair` and `resplit`.
+fn with_others<'a>(alloc: Global, command: Command<'a>) -> Result<Command<'a>, AllocError>
+    requires { (out-Command command).has_globals ≡ false }
+    ensures { IfOk result (λ whole. app_of whole ≡ with_subcommand
+        (with_subcommand (app_of command.entry) repair_app.top) resplit_app.top) }
+{
+    command
+        .subcommand(repair(alloc))?
+        .subcommand(resplit(alloc)?)
 }
 
 /// The program with its commands.
@@ -360,5 +395,6 @@ pub(crate) fn shamir<'a>(alloc: Global) -> Result<Command<'a>, AllocError>
         .subcommand(show(alloc))?
         .subcommand(create(alloc)?)?;
     let command = with_recovery(alloc, command)?;
-    with_missing(alloc, command)
+    let command = with_missing(alloc, command)?;
+    with_others(alloc, command)
 }

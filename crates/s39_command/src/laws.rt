@@ -4,13 +4,13 @@ ghost use Rattle.std.specs.Borrow.{Bor};
 ghost use Rattle.clap.specs.Words.{Text, takes};
 ghost use Rattle.s39_kdf.specs.declared.secret_form.SecretForm.TheVariants.{Digits, Fingerprint};
 ghost use Rattle.s39_command.specs.Words.{ApartDrill, AreCreateWords, AreDrillWords, AreExpectingDrillWords, AreExpectingRecoverWords, AreRecoverWords};
-ghost use Rattle.s39_command.specs.FewerWords.{AreFewCreateWords, AreFewDrillWords, AreFewRecoverWords, AreReissueWords, IsExponent};
+ghost use Rattle.s39_command.specs.FewerWords.{AreFewCreateWords, AreFewDrillWords, AreFewRecoverWords, AreReissueWords, AreResplitWords, IsExponent};
 ghost use Rattle.s39_command.specs.FewerWords.{CreateWordsAreFew, DrillWordsAreFew, FewCreateWordsAreTaken, FewDrillWordsAreTaken};
-ghost use Rattle.s39_command.specs.FewerWords.{FewRecoverWordsAreTaken, RecoverWordsAreFew, ReissueWordsAreTaken};
+ghost use Rattle.s39_command.specs.FewerWords.{FewRecoverWordsAreTaken, RecoverWordsAreFew, ReissueWordsAreTaken, ResplitWordsAreTaken};
 ghost use Rattle.s39_command.specs.declared.command.Job.TheVariants.{Create, Recover};
 ghost use Rattle.s39_command.specs.Command.{shamir_app};
 ghost use Rattle.s39_command.specs.Faults.{FirstFault, OneFault, SomeFault};
-ghost use Rattle.s39_command.specs.Jobs.{ExpectingDrillWordsGive, ExpectingRecoverWordsGive, FewCreateWordsGive, FewDrillWordsGive, FewRecoverWordsGive, GivesJobWith, ReissueWordsGive, flag_last, plan_first};
+ghost use Rattle.s39_command.specs.Jobs.{ExpectingDrillWordsGive, ExpectingRecoverWordsGive, FewCreateWordsGive, FewDrillWordsGive, FewRecoverWordsGive, GivesJobWith, ReissueWordsGive, ResplitWordsGive, flag_last, plan_first};
 ghost use Rattle.s39_command.specs.Words.{IsLimit, JoinedDrill, drill_apart, limit_of};
 ghost use Rattle.s39_command.specs.Words.{CreateWordsAreTaken, DrillWordsAreTaken, ExpectingDrillWordsAreTaken, ExpectingRecoverWordsAreTaken, OneCall, RecoverWordsAreTaken};
 
@@ -61,16 +61,17 @@ pub fn there_are_such_limits()
 {}
 
 /// The definition takes the words of a drill, of a recovery and of a creation with each option there or not, whatever their
-/// texts are, if a limit and an exponent are numbers in their ranges. It takes the words of a reissue. A plan and names don't begin with
-/// a dash.
+/// texts are, if a limit and an exponent are numbers in their ranges. It takes the words of a reissue and of a split anew. A plan and
+/// names don't begin with a dash.
 pub fn fewer_words_are_taken()
     ensures drill { FewDrillWordsAreTaken }
     ensures recover { FewRecoverWordsAreTaken }
     ensures create { FewCreateWordsAreTaken }
     ensures reissue { ReissueWordsAreTaken }
+    ensures resplit { ResplitWordsAreTaken }
 {}
 
-/// Words with every option are among these. There are words with none, and words of a reissue.
+/// Words with every option are among these. There are words with none, and words of a reissue and of a split anew.
 pub fn there_are_fewer_words()
     ensures every_option_of_a_drill { DrillWordsAreFew }
     ensures every_option_of_a_recovery { RecoverWordsAreFew }
@@ -84,13 +85,15 @@ pub fn there_are_fewer_words()
         ∷ codes "--exponent" ∷ codes "1" ∷ codes "2of3" ∷ []) }
     ensures reissue { AreReissueWords (codes "2of3") (codes "0.2")
         (codes "shamir" ∷ codes "reissue" ∷ codes "2of3" ∷ codes "0.2" ∷ []) }
+    ensures resplit { AreResplitWords (codes "2of3") (codes "random.bin") (codes "shamir" ∷ codes "resplit"
+        ∷ codes "2of3" ∷ codes "--random-file" ∷ codes "random.bin" ∷ []) }
     ensures limit { IsLimit (codes "1000") }
     ensures least_exponent { IsExponent (codes "0") }
     ensures greatest_exponent { IsExponent (codes "15") }
 {}
 
 /// The words of each of these commands give its job, with the values that stand in them, and without files. A limit that isn't
-/// given is 1000, and an exponent 0.
+/// given is 1000, and an exponent 0. A file of random bytes isn't named `-`.
 pub fn words_give_jobs()
     ensures drill { FewDrillWordsGive }
     ensures expecting_drill { ExpectingDrillWordsGive }
@@ -98,6 +101,7 @@ pub fn words_give_jobs()
     ensures expecting_recover { ExpectingRecoverWordsGive }
     ensures create { FewCreateWordsGive }
     ensures reissue { ReissueWordsGive }
+    ensures resplit { ResplitWordsGive }
 {}
 
 /// Words in another order and with other options give jobs too: a creation with its plan first and the extendable flag, and a
@@ -115,8 +119,8 @@ pub fn one_call()
     ensures { OneCall }
 {}
 
-/// Of the faults of values the first is told: that of the secret, then that of the passphrase, then that of the form. Values with
-/// a fault have one that is told. Words with such values give no call, so none of their other texts is looked at.
+/// Of the faults of values the first is told: that of the secret, then that of the passphrase, then that of the form, then that of
+/// random bytes. Values with a fault have one that is told. Words with such values give no call, so none of their other texts is looked at.
 pub fn first_fault()
     ensures first { FirstFault }
     ensures some { SomeFault }

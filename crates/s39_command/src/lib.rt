@@ -4,5 +4,6 @@
 mod command;
 mod definition;
 pub mod laws;
+mod values;
 
 pub use command::{BadValues, Call, Job, NoJob, Texts, read_words};

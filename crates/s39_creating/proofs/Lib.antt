@@ -1,3 +1,4 @@
 pub mod Runs
 pub mod Reissues
+pub mod Resplits
 pub mod Lengths

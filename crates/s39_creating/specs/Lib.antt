@@ -1,3 +1,4 @@
 pub mod Writing
 pub mod Reissue
+pub mod Resplit
 pub mod Lengths

@@ -1,5 +1,6 @@
-//! The commands of the program `shamir` that write mnemonics, over readers and writers: `run_create` and
-//! `run_reissue`. `create_lines` and `reissue_lines` do the same for bytes and lines in memory.
+//! The commands of the program `shamir` that write mnemonics, over readers and writers: `run_create`,
+//! `run_reissue` and `run_resplit`. `create_lines`, `reissue_lines` and `resplit_lines` do the same for bytes and lines in
+//! memory.
 //!
 //! The examples use `Counting` of `s39_input`, `Options` and `Plan` of `s39_backup`, and `parse_names` of `s39_set` too.
 //! In them `rt` is the runtime, or a reference to it.
@@ -10,7 +11,10 @@ pub mod laws;
 mod length_laws;
 mod reissue_laws;
 mod reissuing;
+mod resplit_laws;
+mod resplitting;
 mod round_trips;
 
 pub use creating::{create_lines, run_create};
 pub use reissuing::{reissue_lines, run_reissue};
+pub use resplitting::{resplit_lines, run_resplit};

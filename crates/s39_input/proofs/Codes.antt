@@ -83,6 +83,8 @@ refusal_free refusal.NotAQuorum same = omega (arith, same)
 refusal_free (refusal.NotInPlan group member) same = omega (arith, same)
 refusal_free refusal.OtherPlan same = omega (arith, same)
 refusal_free (refusal.Undetermined few) same = omega (arith, same)
+refusal_free refusal.NotExtendable same = omega (arith, same)
+refusal_free refusal.SameIdentifier same = omega (arith, same)
 refusal_free (refusal.Device error) same = device_free error same
 
 pub plan_free : (error : PlanError) → (plan_cause_of error).code ≢ 16

@@ -8,7 +8,7 @@ use Rattle.s39_input.specs.declared.fault.DeviceFailure.{DeviceFailure}
 use Rattle.s39_input.specs.declared.fault.DeviceFailure.TheVariants.{Read, Write}
 use Rattle.s39_input.specs.declared.fault.Refusal.{Refusal}
 use Rattle.s39_input.specs.declared.fault.Refusal.TheVariants.{Line, Passphrase, SecretLength, RandomLength, Lack, DigestMismatch, OtherSecret, NotAQuorum, Device}
-use Rattle.s39_input.specs.declared.fault.Refusal.TheVariants.{NotInPlan, OtherPlan, Undetermined}
+use Rattle.s39_input.specs.declared.fault.Refusal.TheVariants.{NotInPlan, OtherPlan, Undetermined, NotExtendable, SameIdentifier}
 use Rattle.s39_input.specs.declared.fault.Fault.{Fault}
 use Rattle.s39_refusal.specs.declared.cause.Cause.{Cause}
 use Rattle.s39_refusal.specs.Causes.{cause}
@@ -20,6 +20,8 @@ use Rattle.s39_set.specs.Lack.{cause_of as lack_cause_of}
 use Rattle.s39_set.specs.Causes.{no_quorum_cause}
 use Rattle.s39_backup.specs.declared.reissue_error.ReissueError.{ReissueError}
 use Rattle.s39_backup.specs.declared.reissue_error.ReissueError.TheVariants.{Undetermined as TooFewError, DigestMismatch as MismatchError}
+use Rattle.s39_backup.specs.declared.resplit_error.ResplitError.{ResplitError}
+use Rattle.s39_backup.specs.declared.resplit_error.ResplitError.TheVariants as unsplit
 use Rattle.s39_backup.specs.declared.create_error.CreateError.TheVariants.{BadRandomLength}
 use Rattle.s39_backup.specs.Created.{create_cause_of}
 use Rattle.s39_backup.specs.RecoverError.{mismatch_cause_of}
@@ -50,6 +52,8 @@ cause_of NotAQuorum = no_quorum_cause
 cause_of (NotInPlan group member) = cause 64 group member
 cause_of OtherPlan = cause 65 0 0
 cause_of (Undetermined few) = too_few_cause few
+cause_of NotExtendable = cause 67 0 0
+cause_of SameIdentifier = cause 68 0 0
 cause_of (Device failure) = device_cause_of failure
 
 -- a line is refused: for what it says, for its length, or because its share can't join those before it
@@ -74,6 +78,14 @@ fault_of_stop ReadFailed = fault_of (Device Read)
 abbrev pub fault_of_reissue : ReissueError → Fault
 fault_of_reissue (TooFewError few) = fault_of (Undetermined few)
 fault_of_reissue (MismatchError mismatch) = fault_of (DigestMismatch mismatch)
+
+-- the fault of an encrypted secret that isn't split anew
+abbrev pub fault_of_resplit : ResplitError → Fault
+fault_of_resplit (unsplit.Lack lack) = fault_of (Lack lack)
+fault_of_resplit (unsplit.DigestMismatch mismatch) = fault_of (DigestMismatch mismatch)
+fault_of_resplit unsplit.NotExtendable = fault_of NotExtendable
+fault_of_resplit (unsplit.BadRandomLength needed) = fault_of (RandomLength needed)
+fault_of_resplit unsplit.SameIdentifier = fault_of SameIdentifier
 
 -- the answer of a run over the lines of an input: this if all are taken, and otherwise the fault
 abbrev pub answer_of : {T : Type 0} → T → Result (Unit {0}) (Stop LineRefusal) → Result T Fault

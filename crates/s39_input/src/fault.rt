@@ -1,7 +1,7 @@
 //! Why a run stopped.
 ghost use Rattle.std.specs.Prelude.{◌≡◌};
 
-use s39_backup::{CreateError, Mismatch, ReissueError, TooFew};
+use s39_backup::{CreateError, Mismatch, ReissueError, ResplitError, TooFew};
 use s39_kdf::{BadPassphrase, BadSecretLength};
 use s39_refusal::{Cause, code};
 use s39_repair::RepairError;
@@ -113,6 +113,10 @@ pub enum Refusal {
     OtherPlan,
     /// The shares don't determine one of the requested shares.
     Undetermined(TooFew),
+    /// The backup isn't extendable, so its encrypted secret can't be split anew.
+    NotExtendable,
+    /// The first two random bytes give the identifier that the backup has.
+    SameIdentifier,
     /// A device failed.
     Device(DeviceFailure),
 }
@@ -120,7 +124,7 @@ pub enum Refusal {
 impl Refusal {
     ghost use Rattle.s39_input.specs.Fault.{cause_of, has_line};
 
-    /// Returns the number of the refusal, 11 to 15, 17 to 19, 21 to 30, 41 to 43, 51, 52, 62, 64 to 66, or 71 to 73, and the
+    /// Returns the number of the refusal, 11 to 15, 17 to 19, 21 to 30, 41 to 43, 51, 52, 62, 64 to 68, or 71 to 73, and the
     /// details of the cause.
     pub fn cause(&self) -> Cause
         ensures { result ≡ cause_of self.now }
@@ -141,6 +145,8 @@ impl Refusal {
             }
             Refusal::OtherPlan => Cause::of(code::OTHER_PLAN),
             Refusal::Undetermined(few) => few.cause(),
+            Refusal::NotExtendable => Cause::of(code::NOT_EXTENDABLE),
+            Refusal::SameIdentifier => Cause::of(code::SAME_IDENTIFIER),
             Refusal::Device(failure) => failure.cause(),
         }
     }
@@ -247,6 +253,24 @@ impl From<ReissueError> for Fault {
         match error {
             ReissueError::Undetermined(few) => Fault::from(Refusal::Undetermined(few)),
             ReissueError::DigestMismatch(mismatch) => Fault::from(mismatch),
+        }
+    }
+}
+
+impl From<ResplitError> for Fault {
+    ghost use Rattle.s39_input.specs.Fault.{fault_of_resplit};
+
+    ghost from_gives = { λ error fault. fault ≡ fault_of_resplit error };
+
+    fn from(error: ResplitError) -> Fault {
+        match error {
+            ResplitError::Lack(lack) => Fault::from(lack),
+            ResplitError::DigestMismatch(mismatch) => Fault::from(mismatch),
+            ResplitError::NotExtendable => Fault::from(Refusal::NotExtendable),
+            ResplitError::BadRandomLength { needed } => Fault::from(Refusal::RandomLength {
+                needed,
+            }),
+            ResplitError::SameIdentifier => Fault::from(Refusal::SameIdentifier),
         }
     }
 }

@@ -18,8 +18,8 @@ pub const GROUP_THRESHOLD: u8 = 15;
 /// No mnemonic fits what can be read of its words.
 pub const NO_MNEMONIC: u8 = 17;
 
-/// The checksum of a mnemonic is wrong, and if just one word is wrong, it is one of these. The details are the
-/// positions of these words, counted from 1. The second detail is 0 if there is one.
+/// The checksum of a mnemonic is wrong, and if just one word is wrong, it is this one. The first detail is its
+/// position, counted from 1.
 pub const WRONG_WORD: u8 = 18;
 
 /// More places of a line are open than a checksum determines. The first detail is their number.
@@ -110,6 +110,12 @@ pub const OTHER_PLAN: u8 = 65;
 /// The second detail holds four numbers, one a byte, the highest byte first: the members of the group that are given,
 /// its member threshold, the other groups that are complete, and the group threshold.
 pub const UNDETERMINED: u8 = 66;
+
+/// A backup isn't extendable, so that its encrypted secret can't be split anew.
+pub const NOT_EXTENDABLE: u8 = 67;
+
+/// A new backup has the identifier of the one from which it is split anew.
+pub const SAME_IDENTIFIER: u8 = 68;
 
 /// A line has more than 1,024 bytes.
 pub const LINE_TOO_LONG: u8 = 71;

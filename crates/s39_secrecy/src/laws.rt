@@ -1,5 +1,5 @@
 //! Theorems about secrecy. Each is the contract of a function that does nothing.
-ghost use Rattle.std.specs.Prelude.{◌≡◌, ℕ, ◌+◌, ◌<◌, ◌≤◌, List, [], ◌∷◌, None, length, map, replicate, All};
+ghost use Rattle.std.specs.Prelude.{◌≡◌, ℕ, ◌+◌, ◌<◌, ◌≤◌, List, [], ◌∷◌, None, Ok, length, map, replicate, All};
 ghost use Rattle.s39_kdf.specs.Bytes.{AreBytes};
 ghost use Rattle.s39_kdf.specs.Limits.{IsSecretLength};
 ghost use Rattle.s39_kdf.specs.Cipher.{IsEncryption};
@@ -9,10 +9,12 @@ ghost use Rattle.s39_split.specs.Sharing.{most_shares, secret_place, digest_leng
 ghost use Rattle.s39_split.specs.Recovery.{Combines, AreSharesOf};
 ghost use Rattle.s39_words.specs.declared.share.ShareFields.{ShareFields};
 ghost use Rattle.s39_set.specs.Names.{Names, IsAscending};
-ghost use Rattle.s39_set.specs.ShareSet.{name_of};
+ghost use Rattle.s39_set.specs.ShareSet.{IsShareSet, name_of};
+ghost use Rattle.s39_set.specs.Quorums.{IsLeastQuorum};
 ghost use Rattle.s39_backup.specs.Plan.{IsPlan};
 ghost use Rattle.s39_backup.specs.Created.{Asked, asked_for, needed_by, IsCreatedFrom};
-ghost use Rattle.s39_backup.specs.Outcome.{AreParams};
+ghost use Rattle.s39_backup.specs.Outcome.{AreParams, IsOutcome};
+ghost use Rattle.s39_backup.specs.Resplit.{IsResplit};
 ghost use Rattle.s39_backup.specs.declared.options.Options.{Options};
 ghost use Rattle.s39_backup.specs.declared.plan.Members.{Members};
 ghost use Rattle.s39_backup.specs.TwoShort.{IsTwoShort};
@@ -20,6 +22,8 @@ ghost use Rattle.s39_split.specs.Fitting.{Fits};
 ghost use Rattle.s39_backup.specs.Correspondence.{Correspond};
 ghost use Rattle.s39_secrecy.specs.Secrecy.{CanBeAsked, AreTwoShort, AreRandomBytes, for_secret, HaveTheShare, TellNothing, Give, CorrespondOneToOne, AreDifferent, AreAll, member_points};
 ghost use Rattle.s39_secrecy.specs.Rows.{group_of, one_group, home_and_two, family_and_two, four_groups};
+
+use s39_backup::resplit_laws::resplits_are_created_backups;
 
 /// Shares of one level that are two fewer than its threshold fit every secret of their length. For each secret and each
 /// key of its digest, exactly one list of random bytes that begins with this key gives these shares.
@@ -82,6 +86,28 @@ pub fn two_short_fit_every_secret()
         × ((others : List ShareFields) × IsCreatedFrom (for_secret other asked) fitted others
         × All (HaveTheShare shares others) names) }
 {}
+
+/// If an encrypted secret is split anew, shares of the new backup that are two short of the new plan fit every secret that
+/// is as long as the one that the old shares recover: each has a backup with these very shares, by the same plan and
+/// passphrase.
+pub fn two_short_of_a_resplit_fit_every_secret()
+    ensures { (set : List ShareFields) (group_threshold : ℕ) (groups : List Members)
+        (random : List ℕ) (shares : List ShareFields)
+        (least names : Names) (passphrase secret other : List ℕ)
+        → IsShareSet set → IsPlan group_threshold groups → AreBytes random
+        → IsResplit set group_threshold groups random (Ok shares)
+        → IsLeastQuorum set least → IsOutcome set least passphrase (Ok secret)
+        → length other ≡ length secret → AreBytes other
+        → IsAscending names → IsTwoShort group_threshold groups names
+        → (options : Options) × ((fitted : List ℕ)
+        × AreRandomBytes (asked_for other passphrase group_threshold groups options) fitted
+        × ((others : List ShareFields)
+        × IsCreatedFrom (asked_for other passphrase group_threshold groups options) fitted others
+        × All (HaveTheShare shares others) names)) }
+{
+    resplits_are_created_backups();
+    two_short_fit_every_secret();
+}
 
 /// Shares that are two short tell nothing of which secret the backup has: the random bytes for one secret correspond one
 /// to one to those for any other of its length, and with random bytes that correspond, both backups have these shares.

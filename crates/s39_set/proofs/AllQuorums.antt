@@ -30,7 +30,7 @@ use Rattle.s39_set.proofs.SetQuorums.{just_from_quorum, quorum_from_just}
 -- ---- the parts of a list
 
 -- those with elements; the empty one comes before them
-abbrev parts_of : Names → List Names
+abbrev pub parts_of : Names → List Names
 parts_of [] = []
 parts_of (x ∷ xs) = map (λ ys. x ∷ ys) ([] ∷ parts_of xs) ++ parts_of xs
 
@@ -124,8 +124,13 @@ module _ (set : List ShareFields) where
 -- ---- all quorums
 
 module _ (set : List ShareFields) (is : IsShareSet set) (given : Option Names) where
-  abbrev passes : Names → Bool
+  abbrev pub passes : Names → Bool
   passes names = (groups_test set names && list_all (member_test set names) names) && after_test given names
+
+  -- the test is passed by those
+  pub passes-decides : (names : Names) → Decides (passes names) (HasJustTheMembers set names × ComesAfter given names)
+  passes-decides names =
+      Decides-and (groups_test set names && list_all (member_test set names) names) (after_test given names) (has_just set names) (comes_after given names)
 
   -- all quorums that come after a given list
   abbrev pub all_quorums : List Names
@@ -135,15 +140,12 @@ module _ (set : List ShareFields) (is : IsShareSet set) (given : Option Names) w
   all_quorums-listed =
       let N = map name_of set in
       let parts = [] ∷ parts_of N in
-      let decided : (names : Names) → Decides (passes names) (HasJustTheMembers set names × ComesAfter given names) =
-      λ names. Decides-and (groups_test set names && list_all (member_test set names) names) (after_test given names)
-      (has_just set names) (comes_after given names) in
       record {
         ascending = AllPairs-filter ComesFirst passes parts (parts-ascending N is.ascending);
         each = λ names. (
           λ among.
               let (inside, passed) = of_filter passes parts names among in
-              let (just, after) = (decided names).0 passed in
+              let (just, after) = (passes-decides names).0 passed in
               let part : IsSublist names N = All-contains (λ part. IsSublist part N) parts names (parts-sublists N) inside in
               let quorum = quorum_from_just set is names (record {
                 at_hand = record { ascending = AllPairs-sublist Precedes part is.ascending; at_hand = Contains-sublist part };
@@ -153,7 +155,7 @@ module _ (set : List ShareFields) (is : IsShareSet set) (given : Option Names) w
           λ (quorum, after).
               let has = just_from_quorum set is names quorum in
               let part = names-sublist N names is.ascending has.at_hand.ascending has.at_hand.at_hand in
-              Contains-filter passes parts names (Contains-parts part) ((decided names).1 (has.just, after)),
+              Contains-filter passes parts names (Contains-parts part) ((passes-decides names).1 (has.just, after)),
         );
       }
 

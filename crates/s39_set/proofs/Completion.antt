@@ -24,7 +24,7 @@ use Rattle.s39_set.proofs.Just.{exact_at, exact_group, one_complete, complete_at
 
 -- ---- lists joined end to end
 
-one_of_flat_map : (f : ℕ → Names) (gs : List ℕ) (n : Name) → Contains (flat_map f gs) n → (g : ℕ) × Contains gs g × Contains (f g) n
+pub one_of_flat_map : (f : ℕ → Names) (gs : List ℕ) (n : Name) → Contains (flat_map f gs) n → (g : ℕ) × Contains gs g × Contains (f g) n
 one_of_flat_map f [] n among = absurd (Contains-nil n among)
 one_of_flat_map f (g ∷ gs) n among =
     elim (Contains-append_cases (f g) (flat_map f gs) n among) [
@@ -32,7 +32,7 @@ one_of_flat_map f (g ∷ gs) n among =
       | inr later ↦ (let (h, in_gs, in_f) = one_of_flat_map f gs n later in (h, Contains-cons g gs h in_gs, in_f))
     ]
 
-Contains-flat_map : (f : ℕ → Names) (gs : List ℕ) (g : ℕ) (n : Name) → Contains gs g → Contains (f g) n → Contains (flat_map f gs) n
+pub Contains-flat_map : (f : ℕ → Names) (gs : List ℕ) (g : ℕ) (n : Name) → Contains gs g → Contains (f g) n → Contains (flat_map f gs) n
 Contains-flat_map f [] g n in_gs in_f = absurd (Contains-nil g in_gs)
 Contains-flat_map f (h ∷ gs) g n in_gs in_f =
     ⊎_elim
@@ -41,7 +41,7 @@ Contains-flat_map f (h ∷ gs) g n in_gs in_f =
     (Contains-cases h gs g in_gs)
 
 -- names of each of ascending groups ascend
-flat_map-ascending : (f : ℕ → Names) (gs : List ℕ) → AllPairs (λ g h. g < h) gs
+pub flat_map-ascending : (f : ℕ → Names) (gs : List ℕ) → AllPairs (λ g h. g < h) gs
     → ((g : ℕ) → Contains gs g → IsAscending (f g) × ((n : Name) → Contains (f g) n → n.0 ≡ g)) → IsAscending (flat_map f gs)
 flat_map-ascending f [] order parts = AllPairs-nil Precedes
 flat_map-ascending f (g ∷ gs) order parts =

@@ -16,6 +16,9 @@ pub mod WrittenNames
 pub mod NamesOrder
 pub mod Listings
 pub mod AllQuorums
+pub mod Ways
+pub mod Passing
+pub mod Counted
 pub mod RangesFrom
 pub mod Inserted
 pub mod Pushed

@@ -87,6 +87,33 @@ module _ (set : List ShareFields) (is : IsShareSet set) where
           let some : 1 ≤ share.group_threshold = valid.group_threshold in
           omega arith
 
+  -- no threshold is above most_members
+  pub member_threshold-most : (g t : ℕ) → member_threshold_of set g ≡ Some t → t ≤ most_members
+  member_threshold-most g t e = by (find (is_in_group g) set) refl e
+    where
+      by : (found : Option ShareFields) → find (is_in_group g) set ≡ found → option_map (λ share. share.member_threshold) found ≡ Some t → t ≤ most_members
+      by None here h = absurd (let none : None ≡ Some t = h in cc)
+      by (Some share) here h =
+          let valid : IsShare share = All-contains IsShare set share is.each (Contains-find (is_in_group g) set share here) in
+          let same : Some share.member_threshold ≡ Some t = h in
+          let threshold : share.member_threshold ≡ t = cc in
+          let few : share.member_threshold ≤ most_members = valid.member_threshold_in_range in
+          omega arith
+
+  -- and the group threshold is not above most_groups
+  pub group_threshold-most : (required : ℕ) → group_threshold_of set ≡ Some required → required ≤ most_groups
+  group_threshold-most required e = by set refl e
+    where
+      by : (shares : List ShareFields) → set ≡ shares → group_threshold_of shares ≡ Some required → required ≤ most_groups
+      by [] same h = absurd (let none : None ≡ Some required = h in cc)
+      by (share ∷ shares) same h =
+          let valid : IsShare share = All-contains IsShare set share is.each (subst (λ ss. Contains ss share) (sym same) (Contains-head share shares)) in
+          let both : Some share.group_threshold ≡ Some required = h in
+          let threshold : share.group_threshold ≡ required = cc in
+          let count : share.group_threshold ≤ share.group_count = valid.threshold_in_count in
+          let few : share.group_count ≤ most_groups = valid.group_count in
+          omega arith
+
   -- its groups are below most_groups
   pub groups-below : All (λ name. name.0 < most_groups) (map name_of set)
   groups-below =

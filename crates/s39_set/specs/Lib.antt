@@ -8,6 +8,7 @@ pub mod Looks
 pub mod Written
 pub mod Lack
 pub mod Status
+pub mod Counting
 pub mod Steps
 pub mod Slots
 pub mod SetFacts

@@ -1,5 +1,5 @@
 //! Facts about the definitions, each the contract of a function that does nothing.
-ghost use Rattle.std.specs.Prelude.{◌≡◌, ◌↔◌, ◌⊎◌, ◌+◌, ◌++◌, ◌∷◌, [], ℕ, suc, List, Option, Some, None, IsTrue};
+ghost use Rattle.std.specs.Prelude.{◌≡◌, ◌↔◌, ◌⊎◌, ◌+◌, ◌++◌, ◌∷◌, [], ℕ, suc, List, length, Option, Some, None, IsTrue};
 ghost use Rattle.s39_words.specs.declared.share.ShareFields.{ShareFields};
 ghost use Rattle.s39_set.specs.SetFacts.{SameSharesRefuseTheSame, OneMoreIsAdded, SetsAreTheirShares, SetsHaveOneLack, SetsWithQuorumsHaveNone};
 ghost use Rattle.s39_set.specs.ShareSet.{IsShareSet, SharesThatAgreeJoin, SetsTakeShares};
@@ -7,6 +7,7 @@ ghost use Rattle.s39_set.specs.Names.{Names, most_groups, most_members, most_nam
 ghost use Rattle.s39_set.specs.Looks.{most_test_looks, most_step_looks};
 ghost use Rattle.s39_set.specs.Quorums.{IsQuorum, IsFirstQuorumAfter, HasNoQuorumAfter, HasJustTheGroups};
 ghost use Rattle.s39_set.specs.Listing.{AreAllQuorumsAfter, IsListing, IsWalk};
+ghost use Rattle.s39_set.specs.Counting.{quorum_count};
 ghost use Rattle.s39_set.specs.Written.{quorum_text, IsWrittenForm};
 ghost use Rattle.s39_set.specs.Lack.{IsLack};
 ghost use Rattle.s39_set.specs.Status.{has_enough};
@@ -69,6 +70,13 @@ pub fn one_listing()
     ensures once { (set : List ShareFields) (given : Option Names) (limit : ℕ)
         (listed others : List Names)
         → IsListing set given limit listed → IsListing set given limit others → listed ≡ others }
+{}
+
+/// A set has as many quorums as there are ways to choose groups, and members of each.
+pub fn quorums_are_counted()
+    ensures { (set : List ShareFields) (quorums : List Names)
+        → IsShareSet set → AreAllQuorumsAfter set None quorums
+        → length quorums ≡ quorum_count set }
 {}
 
 /// A listing is the first quorum and the listing after it; it is empty if no quorum comes after. A listing and the one

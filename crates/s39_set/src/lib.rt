@@ -1,6 +1,7 @@
 //! Share sets: the shares of one backup that are at hand, and the quorums among them.
 #![tactic(auto)]
 
+mod counting;
 mod cursor;
 mod first_quorum;
 pub mod laws;
@@ -15,6 +16,7 @@ mod share_set;
 mod status;
 mod texts;
 
+pub use counting::quorum_count_of;
 pub use cursor::{BadCursor, BadNames, parse_names, parse_quorum};
 pub use first_quorum::first;
 pub use limits::{GROUPS, MAX_GROUPS, MAX_MEMBERS, MAX_NAMES, MAX_STEP_LOOKS, MAX_TEST_LOOKS};

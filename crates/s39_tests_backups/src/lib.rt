@@ -1,5 +1,5 @@
 //! Tests of what backups are made to and what comes of them: creation, recovery, drills, what is missing and is written again,
-//! words that can't be read, and the published vectors.
+//! words that can't be read, splits anew, and the published vectors.
 #![tactic(auto)]
 
 #[cfg(test)]
@@ -16,3 +16,5 @@ mod recover;
 mod reissue;
 #[cfg(test)]
 mod repair;
+#[cfg(test)]
+mod resplit;

@@ -23,6 +23,7 @@ Commands:
   status   Show which members of each group are on standard input, and whether enough groups are complete
   reissue  Recompute lost mnemonics from others of the same backup on standard input
   repair   Find the mnemonics that fit each line on standard input, in which up to three words can't be read
+  resplit  Create another backup of the same secret from mnemonics of an extendable one
 
 Options:
   -h, --help     Print help
@@ -115,6 +116,23 @@ Standard input has one mnemonic in each line. For a word that can't be read, typ
 Example: shamir repair < damaged.txt
 ";
 
+const HELP_OF_RESPLIT: &str =
+    "Create another backup of the same secret from mnemonics of an extendable one
+
+Usage: shamir resplit --random-file <FILE> <PLAN>
+
+Arguments:
+  <PLAN>  The plan of the backup: TofN for one group, GT/T1ofN1,T2ofN2,.. for several
+
+Options:
+      --random-file <FILE>  Read the random bytes from FILE: exactly as many as create takes for this plan and secret
+  -h, --help                Print help
+
+Standard input has one mnemonic in each line. At a terminal, end with Ctrl-D on an empty line.
+
+Example: shamir resplit 2of3 --random-file random.bin < mnemonics.txt
+";
+
 const HELP_OF_SHOW: &str = "Show the fields of each mnemonic on standard input
 
 Usage: shamir show
@@ -143,7 +161,7 @@ Example: shamir status < mnemonics.txt
 #[test]
 fn answers_help_and_the_version(rt: HostRuntime) -> Result<(), Fail> {
     let alloc = rt.alloc();
-    let cases: [(&[&str], &str); 14] = [
+    let cases: [(&[&str], &str); 15] = [
         (&["shamir", "create", "--help"], HELP_OF_CREATE),
         (&["shamir", "drill", "--help"], HELP_OF_DRILL),
         (&["shamir", "--help"], HELP),
@@ -154,6 +172,7 @@ fn answers_help_and_the_version(rt: HostRuntime) -> Result<(), Fail> {
         (&["shamir", "recover", "--help"], HELP_OF_RECOVER),
         (&["shamir", "reissue", "--help"], HELP_OF_REISSUE),
         (&["shamir", "repair", "--help"], HELP_OF_REPAIR),
+        (&["shamir", "resplit", "--help"], HELP_OF_RESPLIT),
         (&["shamir", "show", "--help"], HELP_OF_SHOW),
         (&["shamir", "status", "--help"], HELP_OF_STATUS),
         (&["shamir", "--version"], "shamir 1.0.0\n"),
@@ -184,10 +203,18 @@ fn says_why_words_are_refused(rt: HostRuntime) -> Result<(), Fail> {
         "error: --expect <FINGERPRINT> and --fingerprint can't be given together\n\nFor more information, try '--help'.\n";
     let two_passphrases =
         "error: --passphrase <TEXT> and --passphrase-file <FILE> can't be given together\n\nFor more information, try '--help'.\n";
-    let cases: [(&[&str], &str); 11] = [
+    let cases: [(&[&str], &str); 13] = [
         (
             &["shamir", "drill", "--expect=", "--fingerprint"],
             two_forms,
+        ),
+        (
+            &["shamir", "resplit", "2of3", "--random-file=-"],
+            "error: --random-file <FILE> can't be -: standard input has the mnemonics\n\nFor more information, try '--help'.\n",
+        ),
+        (
+            &["shamir", "resplit", "2of3"],
+            "error: the following required arguments were not provided:\n  --random-file <FILE>\n\nUsage: shamir resplit --random-file <FILE> <PLAN>\n\nFor more information, try '--help'.\n",
         ),
         // Two passphrases come before two forms.
         (

@@ -29,7 +29,7 @@ fn fault_of(alloc: Global, words: &[&str]) -> Option<BadValues> {
 }
 
 /// Each of the command lines is refused for this fault of its values, and nothing is written.
-fn expect_bad_values(rt: &impl Abort, alloc: Global, cases: &[(&[&str], BadValues)]) {
+pub(crate) fn expect_bad_values(rt: &impl Abort, alloc: Global, cases: &[(&[&str], BadValues)]) {
     for (words, bad) in cases {
         assert_eq!(rt; fault_of(alloc, words), Some(*bad));
         let run = run_on(alloc, words, ONE_OF_ONE.as_bytes());

@@ -40,7 +40,10 @@ pub const WRITE_FAILED: Told = (
 #[derive(Clone, Copy, Debug)]
 pub enum Command {
     Show,
+    /// The backup of five mnemonics.
     Create,
+    /// The backup of one mnemonic.
+    CreateOne,
     Recover,
     Drill,
     Repair,
@@ -55,8 +58,9 @@ pub struct Outcome<R, W> {
     pub output: W,
 }
 
-/// Creates the backup of the five mnemonics.
-fn create_five<R: Read, W: Write>(
+/// Creates a backup by a plan, with the passphrase `TREZOR`.
+fn create_by<R: Read, W: Write>(
+    plan: &str,
     input: &mut Counting<R>,
     output: &mut Counting<W>,
 ) -> Result<(), Fault>
@@ -64,7 +68,7 @@ fn create_five<R: Read, W: Write>(
     requires writable { output.old.failures < u64.MAX }
 {
     let (Ok(plan), Ok(secret)) = (
-        Plan::parse("2/2of3,1of1,1of1"),
+        Plan::parse(plan),
         check_secret(b"\xbb\x54\xaa\xc4\xb8\x9d\xc8\x68\xba\x37\xd9\xcc\x21\xb2\xce\xce"),
     ) else {
         return Err(Fault::from(Refusal::NotAQuorum));
@@ -89,7 +93,8 @@ pub fn outcome_of<R: Read + Drop, W: Write + Drop>(
     let mut output = Counting::new(output);
     let answer = match command {
         Command::Show => run_show(&mut input, &mut output).map(|()| 0),
-        Command::Create => create_five(&mut input, &mut output).map(|()| 0),
+        Command::Create => create_by("2/2of3,1of1,1of1", &mut input, &mut output).map(|()| 0),
+        Command::CreateOne => create_by("1of1", &mut input, &mut output).map(|()| 0),
         Command::Recover => run_recover(
             SecretForm::Digits,
             None,
@@ -131,6 +136,10 @@ pub fn example_of(alloc: Global, command: Command) -> Result<Example, AllocError
             String::from_str(alloc, SHOWN)?,
         ),
         Command::Create => (Vec::from_slice(alloc, &RANDOM)?, lines(alloc, &FIVE)?),
+        Command::CreateOne => (
+            Vec::from_slice(alloc, b"\x1f\x09")?,
+            lines(alloc, &[ONE_OF_ONE])?,
+        ),
         Command::Recover => (
             Vec::from_slice(alloc, ONE_OF_ONE.as_bytes())?,
             String::from_str(alloc, ONE_OF_ONE_SECRET)?,
@@ -148,9 +157,10 @@ pub fn example_of(alloc: Global, command: Command) -> Result<Example, AllocError
     })
 }
 
-pub const COMMANDS: [Command; 5] = [
+pub const COMMANDS: [Command; 6] = [
     Command::Show,
     Command::Create,
+    Command::CreateOne,
     Command::Recover,
     Command::Drill,
     Command::Repair,

@@ -39,6 +39,7 @@ fn answers_the_lines_before_a_failed_read(rt: HostRuntime) -> Result<(), Fail> {
             let outcome = outcome_of(command, device, Vec::new(alloc));
             assert_eq!(rt; outcome.answer, Err(READ_FAILED));
             assert_eq!(rt; outcome.failures, (1, 0));
+            assert_eq!(rt; outcome.input.calls, text.len() + 1);
             assert_eq!(rt; outcome.output.as_slice(), output.as_bytes());
         }
     }
@@ -87,6 +88,7 @@ fn shows_beginnings_of_a_mnemonic(rt: HostRuntime) -> Result<(), Fail> {
         let failed = outcome_of(Command::Show, Source::cut(begun), Vec::new(alloc));
         assert_eq!(rt; failed.answer, Err(READ_FAILED), "failed after {end} bytes");
         assert_eq!(rt; failed.failures, (1, 0));
+        assert_eq!(rt; failed.input.calls, begun.len() + 1);
         assert!(rt; failed.output.is_empty());
     }
     Ok(())
@@ -125,6 +127,7 @@ fn shows_lines_of_any_bytes(rt: HostRuntime) -> Result<(), Fail> {
     for bytes in [comment.as_slice(), letters.as_slice()] {
         let outcome = outcome_of(Command::Show, Source::cut(bytes), Vec::new(alloc));
         assert_eq!(rt; outcome.answer, Err(READ_FAILED));
+        assert_eq!(rt; outcome.input.calls, bytes.len() + 1);
         assert!(rt; outcome.output.is_empty());
     }
     comment.push(b'x')?;
@@ -132,6 +135,7 @@ fn shows_lines_of_any_bytes(rt: HostRuntime) -> Result<(), Fail> {
     let outcome = outcome_of(Command::Show, Source::cut(bytes), Vec::new(alloc));
     assert_eq!(rt; outcome.answer, at_line_1(LineRefusal::TooLong));
     assert_eq!(rt; outcome.failures, (0, 0));
+    assert_eq!(rt; outcome.input.calls, bytes.len());
     assert!(rt; outcome.output.is_empty());
     Ok(())
 }

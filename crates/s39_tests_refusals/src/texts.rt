@@ -133,6 +133,8 @@ fn names_refusals_of_sets(rt: HostRuntime) -> Result<(), Fail> {
             "51 digest mismatch of groups",
         ),
         (Refusal::OtherSecret, "52 other secret"),
+        (Refusal::NotExtendable, "67 backup isn't extendable"),
+        (Refusal::SameIdentifier, "68 same identifier"),
     ];
     for (refusal, text) in cases {
         expect_text(&rt, rt.alloc(), refusal, text)?;
@@ -184,7 +186,7 @@ fn no_refusal_has_a_number_of_none(rt: HostRuntime) -> Result<(), Fail> {
         let is_told = RefusalText::of(Cause::of(number)).is_some();
         // An earlier version gave 16 to another refusal than those of today.
         let is_refusal = match number {
-            11..=15 | 17..=19 | 21..=34 | 41..=44 | 51 | 52 | 61..=66 | 71..=73 => true,
+            11..=15 | 17..=19 | 21..=34 | 41..=44 | 51 | 52 | 61..=68 | 71..=73 => true,
             _ => false,
         };
         assert_eq!(rt; (number, is_told), (number, is_refusal));

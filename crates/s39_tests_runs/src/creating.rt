@@ -1,7 +1,9 @@
 //! The examples of the doc comments of `s39_creating`, line for line. The values come from published vectors, or from a plain reading of
 //! the standard in Python.
 use s39_backup::{Options, Plan};
-use s39_creating::{create_lines, reissue_lines, run_create, run_reissue};
+use s39_creating::{
+    create_lines, reissue_lines, resplit_lines, run_create, run_reissue, run_resplit,
+};
 use s39_input::Counting;
 use s39_set::parse_names;
 use std::alloc::AllocGlobal;
@@ -11,7 +13,8 @@ use std::test::Fail;
 #[test]
 fn examples(rt: HostRuntime) -> Result<(), Fail> {
     creations(&rt)?;
-    reissues(&rt)
+    reissues(&rt)?;
+    splits(&rt)
 }
 
 fn creations(rt: &(impl Abort + AllocGlobal)) -> Result<(), Fail> {
@@ -58,5 +61,35 @@ fn reissues(rt: &(impl Abort + AllocGlobal)) -> Result<(), Fail> {
     let put = reissue_lines(&plan, &names, lines, &mut text)?;
     assert_eq!(rt; (put.written, put.lines), (145, 1));
     assert!(rt; text.starts_with(b"shadow pistol academic agency acid license obtain "));
+    Ok(())
+}
+
+fn splits(rt: &(impl Abort + AllocGlobal)) -> Result<(), Fail> {
+    let plan = Plan::parse("1of1")?;
+    let mut input = Counting::new(
+        b"enemy favorite academic acid cowboy phrase havoc level response walnut budget painting \
+        inside trash adjust froth kitchen learn tidy punish\n\
+        enemy favorite academic always academic sniff script carpet romp kind promise scatter \
+        center unfair training emphasis evening belong fake enforce\n"
+            .as_slice(),
+    );
+    let mut text = Vec::new(rt.alloc());
+    run_resplit(
+        &plan,
+        b"\x12\x34",
+        &mut input,
+        &mut Counting::new(&mut text),
+    )?;
+    assert!(rt; text.starts_with(b"cleanup pecan academic academic broken "));
+
+    let lines =
+        b"enemy favorite academic acid cowboy phrase havoc level response walnut budget painting \
+        inside trash adjust froth kitchen learn tidy punish\n\
+        enemy favorite academic always academic sniff script carpet romp kind promise scatter \
+        center unfair training emphasis evening belong fake enforce\n";
+    let mut text = [0; 200];
+    let put = resplit_lines(&plan, lines, b"\x12\x34", &mut text)?;
+    assert_eq!(rt; put.lines, 1);
+    assert!(rt; text.starts_with(b"cleanup pecan academic academic broken "));
     Ok(())
 }

@@ -9,3 +9,5 @@ mod drilling;
 mod input;
 #[cfg(test)]
 mod reading;
+#[cfg(test)]
+mod resplit;

@@ -5,9 +5,13 @@
 #[cfg(test)]
 mod backup;
 #[cfg(test)]
+mod counting;
+#[cfg(test)]
 mod refitting;
 #[cfg(test)]
 mod reissue;
+#[cfg(test)]
+mod resplit;
 #[cfg(test)]
 mod secrecy;
 #[cfg(test)]

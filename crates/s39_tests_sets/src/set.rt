@@ -2,7 +2,7 @@
 use s39_kdf::check_secret;
 use s39_set::{
     Added, BadCursor, BadNames, Looks, SetError, SetLack, ShareSet, Status, first, group_status_of,
-    has, is_quorum, next_after, parse_names, parse_quorum, share_at, status_of,
+    has, is_quorum, next_after, parse_names, parse_quorum, quorum_count_of, share_at, status_of,
 };
 use s39_words::{Share, ShareFields, parse};
 use std::test::Fail;
@@ -125,6 +125,7 @@ fn examples(rt: HostRuntime) -> Result<(), Fail> {
         Some(2)
     );
     assert!(rt; group_status_of(&set, 1).is_none());
+    assert_eq!(rt; quorum_count_of(&set), 1);
     Ok(())
 }
 

@@ -79,6 +79,10 @@ pub enum RefusalText {
     OtherPlan,
     #[error("cannot tell {0}.{1}: {2} of {3} members, {4} of {5} other groups")]
     Undetermined(u8, u8, u8, u8, u8, u8),
+    #[error("backup isn't extendable")]
+    NotExtendable,
+    #[error("same identifier")]
+    SameIdentifier,
     #[error("line too long")]
     LineTooLong,
     #[error("read failed")]
@@ -140,6 +144,8 @@ impl RefusalText {
             code::NOT_IN_PLAN => RefusalText::NotInPlan(group?, second?),
             code::OTHER_PLAN => RefusalText::OtherPlan,
             code::UNDETERMINED => undetermined(cause)?,
+            code::NOT_EXTENDABLE => RefusalText::NotExtendable,
+            code::SAME_IDENTIFIER => RefusalText::SameIdentifier,
             code::LINE_TOO_LONG => RefusalText::LineTooLong,
             code::READ_FAILED => RefusalText::ReadFailed,
             code::WRITE_FAILED => RefusalText::WriteFailed,

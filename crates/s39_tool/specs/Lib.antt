@@ -7,8 +7,10 @@ pub use Rattle.s39_backup.specs.Outcome
 pub use Rattle.s39_backup.specs.Plan
 pub use Rattle.s39_backup.specs.PlanText
 pub use Rattle.s39_backup.specs.Reissue
+pub use Rattle.s39_backup.specs.Resplit
 pub use Rattle.s39_backup.specs.TwoShort
 pub use Rattle.s39_creating.specs.Reissue as ReissueOutput
+pub use Rattle.s39_creating.specs.Resplit as ResplitOutput
 pub use Rattle.s39_drilling.specs.Drill
 pub use Rattle.s39_input.specs.Create
 pub use Rattle.s39_input.specs.Device

@@ -3,10 +3,10 @@
 #![tactic(auto)]
 
 pub use s39_backup::{
-    CreateError, Created, Members, Memo, Mismatch, Options, Plan, PlanError, RecoverError, create,
-    recover_by, refit,
+    CreateError, Created, Members, Memo, Mismatch, Options, Plan, PlanError, RecoverError,
+    ResplitError, create, recover_by, refit, resplit,
 };
-pub use s39_creating::{run_create, run_reissue};
+pub use s39_creating::{run_create, run_reissue, run_resplit};
 pub use s39_drilling::{Done, run_drill};
 pub use s39_input::{Counting, DeviceFailure, Fault, Refusal, SecretForm, run_repair, run_show};
 pub use s39_reading::{run_recover, run_status};

@@ -3,8 +3,8 @@ use Rattle.std.proofs.Common.{◌≡◌, ℕ, ◌<◌, List, [], ◌∷◌, leng
 use Rattle.std.proofs.lemmas.Bool.{cases_lt}
 use Rattle.std.proofs.lemmas.List.{get_or_past}
 use Rattle.hex.specs.declared.error.FromHexError.{FromHexError}
-use Rattle.hex.specs.Hex.{lower_digits, encode_lower, decode_of, IsBytes}
-use Rattle.hex.proofs.HexLemmas.{length-encode_with, decode_of-encode_lower}
+use Rattle.hex.specs.Hex.{encode_lower, decode_of, IsBytes}
+use Rattle.hex.proofs.HexLemmas.{decode_of-encode_lower}
 use Rattle.s39_kdf.specs.Bytes.{AreBytes}
 use Rattle.s39_backup.proofs.Creations.{same_front}
 use Rattle.s39_kdf.specs.declared.secret_form.SecretForm.TheVariants.{Digits}
@@ -33,9 +33,3 @@ same_secret s t bytes others same =
     sym (decode_of-encode_lower s (are_bytes s bytes)) ∙ ap decode_of (same_digits s t same)
     ∙ decode_of-encode_lower t (are_bytes t others) in
     cc
-
--- nor of one of another length
-pub same_size : (s t : List ℕ) → secret_line Digits s ≡ secret_line Digits t → length s ≡ length t
-same_size s t same =
-    let sizes = ap length (same_digits s t same) in
-    omega (arith, sizes, length-encode_with lower_digits s, length-encode_with lower_digits t)

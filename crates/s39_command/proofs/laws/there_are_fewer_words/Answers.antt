@@ -75,6 +75,15 @@ returns-clause-reissue c = record {
   words_are = refl;
 }
 
+pub returns-clause-resplit : goal.returns-clause-resplit
+returns-clause-resplit c = record {
+  program = codes "shamir";
+  file_words = codes "--random-file" ∷ codes "random.bin" ∷ [];
+  plan_given = no_dash (codes "2of3") refl;
+  file_given = inr (no_dash (codes "random.bin") refl, refl);
+  words_are = refl;
+}
+
 pub returns-clause-limit : goal.returns-clause-limit
 returns-clause-limit c = accepts-Accepts false (vp.Signed (pos 1) (pos 4294967295)) (codes "1000") refl
 

@@ -9,4 +9,5 @@ returns c = record {
   expecting_recover = given.expecting_recover_words_give;
   create = given.few_create_words_give;
   reissue = given.reissue_words_give;
+  resplit = given.resplit_words_give;
 }

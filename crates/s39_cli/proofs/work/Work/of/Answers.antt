@@ -42,3 +42,6 @@ returns-in_ok-noted-in-Drill-clause-work c = rw c.in-Drill.is (
 
 pub returns-in_ok-of-in-Reissue-clause-work : goal.returns-in_ok-of-in-Reissue-clause-work
 returns-in_ok-of-in-Reissue-clause-work c = rw c.in-Reissue.is (_, refl, c.in_ok-of-in-Reissue.ensures.reissue)
+
+pub returns-in_ok-parse-in-Resplit-clause-work : goal.returns-in_ok-parse-in-Resplit-clause-work
+returns-in_ok-parse-in-Resplit-clause-work c = rw c.in-Resplit.is (_, refl, record { plan_is = c.in_ok-parse-in-Resplit.ensures.reading; random_is = refl })

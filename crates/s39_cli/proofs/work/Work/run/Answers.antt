@@ -9,6 +9,7 @@ use Rattle.s39_cli.specs.declared.work.Work.{Work}
 use Rattle.s39_cli.specs.declared.work.Work.TheVariants as work
 use Rattle.s39_set.specs.Status.{is_enough}
 use Rattle.s39_creating.specs.Reissue.{IsReissueOutput}
+use Rattle.s39_creating.specs.Resplit.{IsResplitOutput}
 use Rattle.s39_reading.specs.Status.{IsStatusOutput}
 use Rattle.s39_cli.specs.Outcome.{where_done, without_mismatches}
 use Rattle.s39_cli.specs.Work.{IsWorkOutput}
@@ -90,3 +91,13 @@ returns-in-Reissue-clause-runs g c =
     (IsReissueOutput reissue.plan.group_threshold reissue.plan.groups.items reissue.names) (IsWorkOutput (work.Reissue reissue)) c.args.input.now
     c.run_reissue.new.input c.args.output.now c.run_reissue.new.output c.run_reissue.result c.where_done-in-Reissue.result
     c.run_reissue.ensures.runs c.where_done-in-Reissue.ensures (λ input text full output. (full, output, refl)))
+
+pub returns-in-Resplit-clause-runs : goal.returns-in-Resplit-clause-runs
+returns-in-Resplit-clause-runs g c =
+    let resplit = c.in-Resplit.resplit in
+    subst (λ (w : Work). Runs g.R.Read.remaining g.W.Write.contents (IsWorkOutput w) c.args.input.now c.run_resplit.new.input c.args.output.now
+    c.run_resplit.new.output c.where_done-in-Resplit.result) (sym c.in-Resplit.is)
+    (Runs-judged g.R.Read.remaining g.W.Write.contents where_done
+    (IsResplitOutput resplit.plan.group_threshold resplit.plan.groups.items resplit.random.now) (IsWorkOutput (work.Resplit resplit)) c.args.input.now
+    c.run_resplit.new.input c.args.output.now c.run_resplit.new.output c.run_resplit.result c.where_done-in-Resplit.result
+    c.run_resplit.ensures.runs c.where_done-in-Resplit.ensures (λ input text full output. (full, output, refl)))

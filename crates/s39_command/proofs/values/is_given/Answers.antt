@@ -1,7 +1,7 @@
 use Rattle.std.proofs.Common.{sym, ◌∙◌}
 use Rattle.clap.specs.Words.{found_of}
 use Rattle.s39_command.proofs.Jobs.{given_of_rows, missing_of_rows}
-use Rattle.s39_command.proofs.command.is_given.Goals as goal
+use Rattle.s39_command.proofs.values.is_given.Goals as goal
 
 pub returns-clause-given : goal.returns-clause-given
 returns-clause-given c given =

@@ -1,0 +1,3 @@
+-- The command `resplit`.
+pub mod Outputs
+pub mod OfBackups

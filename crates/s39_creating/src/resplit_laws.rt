@@ -1,0 +1,104 @@
+//! What `resplit` writes: facts about the definitions. Each is the contract of a function that does nothing.
+ghost use Rattle.std.specs.Prelude.{◌≡◌, ◌≤◌, ℕ, List, All, Result, Ok, length};
+ghost use Rattle.s39_kdf.specs.Bytes.{AreBytes};
+ghost use Rattle.s39_kdf.specs.Limits.{IsPrintable};
+ghost use Rattle.s39_words.specs.declared.ShareFields.{ShareFields};
+ghost use Rattle.s39_set.specs.Names.{Names};
+ghost use Rattle.s39_set.specs.Quorums.{IsLeastQuorum};
+ghost use Rattle.s39_backup.specs.declared.plan.Members.{Members};
+ghost use Rattle.s39_backup.specs.declared.options.Options.{Options};
+ghost use Rattle.s39_backup.specs.Plan.{IsPlan};
+ghost use Rattle.s39_backup.specs.Created.{asked_for};
+ghost use Rattle.s39_backup.specs.Outcome.{IsOutcome};
+ghost use Rattle.s39_input.specs.declared.fault.Fault.{Fault};
+ghost use Rattle.s39_input.specs.Input.{Input, whole};
+ghost use Rattle.s39_input.specs.Accepted.{IsReadAs};
+ghost use Rattle.s39_input.specs.Create.{IsCreateOutput};
+ghost use Rattle.s39_creating.specs.Lengths.{longest_backup};
+ghost use Rattle.s39_creating.specs.Resplit.{IsResplitOutput, ResplitsCreated};
+
+use crate::length_laws::backups_are_short;
+use s39_backup::laws::{
+    created_shares_are_shares, every_quorum_has_an_outcome, every_quorum_recovers,
+};
+use s39_backup::resplit_laws::{one_resplit, resplits_are_created_backups};
+use s39_input::laws::{
+    accepted_inputs_are_share_sets, every_input_is_read, mnemonics_are_read_as_their_shares,
+    one_set,
+};
+use s39_kdf::laws::encryption_keeps_length_and_bytes;
+use s39_set::laws::quorums_are_exact;
+use s39_words::laws::{every_share_has_a_printed_form, one_printed_form};
+
+/// An input has exactly one output of `resplit` for a plan and random bytes: one text, and one answer.
+pub fn one_resplit_output()
+    ensures once { (group_threshold : ℕ) (groups : List Members) (random : List ℕ)
+        (input : Input) (text other : List ℕ) (answer another : Result (Unit {0}) Fault)
+        → IsResplitOutput group_threshold groups random input text answer
+        → IsResplitOutput group_threshold groups random input other another
+        → (text ≡ other) × (answer ≡ another) }
+    ensures exists { (group_threshold : ℕ) (groups : List Members) (random : List ℕ)
+        (input : Input) → IsPlan group_threshold groups → AreBytes random
+        → (text : List ℕ) × (answer : Result (Unit {0}) Fault)
+        × IsResplitOutput group_threshold groups random input text answer }
+{
+    one_set();
+    every_input_is_read();
+    accepted_inputs_are_share_sets();
+    one_resplit();
+    resplits_are_created_backups();
+    quorums_are_exact();
+    every_quorum_has_an_outcome();
+    encryption_keeps_length_and_bytes();
+    created_shares_are_shares();
+    one_printed_form();
+    every_share_has_a_printed_form();
+}
+
+/// With whatever passphrase, `resplit` writes what `create` writes by this plan, for these random bytes, from the secret that
+/// the least quorum of the lines recovers with it, with the exponent and the flag of their shares.
+pub fn resplit_writes_what_create_writes()
+    ensures { (group_threshold : ℕ) (groups : List Members) (random : List ℕ) (input : Input)
+        (text : List ℕ) (set : List ShareFields) (names : Names) (passphrase secret : List ℕ)
+        → IsResplitOutput group_threshold groups random input text (Ok tt)
+        → IsReadAs input (Ok set) → IsLeastQuorum set names
+        → All IsPrintable passphrase → IsOutcome set names passphrase (Ok secret)
+        → (options : Options)
+        × All (λ share. (share.extendable ≡ options.extendable)
+        × (share.exponent ≡ options.exponent)) set
+        × IsCreateOutput (asked_for secret passphrase group_threshold groups options)
+        (whole random) text (Ok tt) }
+{
+    one_set();
+    accepted_inputs_are_share_sets();
+    resplits_are_created_backups();
+}
+
+/// For mnemonics of a created backup, an output of `resplit` is what `create` writes by the plan, for the random bytes, from
+/// the secret of that backup, with its passphrase and options. Otherwise it says that the mnemonics have no quorum, that the
+/// backup isn't extendable, how many random bytes are needed, or that these give the identifier of that backup.
+pub fn created_backups_are_split_anew()
+    ensures { (group_threshold : ℕ) (groups : List Members) (random : List ℕ)
+        (input : Input) (text : List ℕ) (answer : Result (Unit {0}) Fault)
+        → IsResplitOutput group_threshold groups random input text answer
+        → ResplitsCreated group_threshold groups random input text answer }
+{
+    one_set();
+    accepted_inputs_are_share_sets();
+    mnemonics_are_read_as_their_shares();
+    every_quorum_recovers();
+    encryption_keeps_length_and_bytes();
+    resplits_are_created_backups();
+}
+
+/// The mnemonics that `resplit` writes take at most 253,440 bytes, including the line feeds.
+pub fn resplits_are_short()
+    ensures { (group_threshold : ℕ) (groups : List Members) (random : List ℕ) (input : Input)
+        (text : List ℕ) → IsResplitOutput group_threshold groups random input text (Ok tt)
+        → length text ≤ longest_backup }
+{
+    accepted_inputs_are_share_sets();
+    every_quorum_has_an_outcome();
+    resplits_are_created_backups();
+    backups_are_short();
+}
