@@ -1,15 +1,13 @@
-// The task 'Print blank forms': sheets to write papers on. Nothing else of the page can be printed.
-import { choice, element, paragraph, tick } from "./dom.js";
+// The task 'Print blank forms': sheets to write papers on.
+import { choice, paragraph, tick } from "./dom.js";
+import { clearForms, printForms } from "./forms.js";
 import { USUAL_WORDS } from "./paper_entry.js";
-import { planNames, saidPlan, saidTakes } from "./plan.js";
+import { planNames } from "./plan.js";
 import { PlanChoice, planFault } from "./plan_choice.js";
 import { say } from "./say.js";
 import { ask } from "./screen.js";
 
 /** @typedef {import("./client.js").Desk} Desk */
-/** @typedef {import("./plan.js").Plan} Plan */
-
-const sheet = /** @type {HTMLElement} */ (document.getElementById("sheet"));
 
 /**
  * Prints blank forms.
@@ -30,35 +28,10 @@ export async function blankForms(desk) {
       { key: "print", label: say("blank.print"), kind: "primary" },
       { key: "end", label: say("end") },
     ]);
-    sheet.replaceChildren();
+    clearForms();
     if (answer === "end") return;
     fault = await planFault(desk, plan.plan);
     if (fault !== "") continue;
-    const names = named.field.checked ? planNames(plan.plan) : [""];
-    sheet.append(...names.map((name) => form(plan.plan, name, count)));
-    window.print();
+    printForms(plan.plan, named.field.checked ? planNames(plan.plan) : [""], count);
   }
-}
-
-/**
- * Makes the form of one paper. An empty name leaves room for it.
- *
- * @param {Plan} plan
- * @param {string} name
- * @param {number} count
- */
-function form(plan, name, count) {
-  const lines = Array.from({ length: count }, () => element("li"));
-  const [takes, whole] = name ? [saidTakes(plan, name), saidPlan(plan)] : [say("blank.takes"), say("blank.plan")];
-  return element(
-    "section",
-    { class: "form" },
-    element("h2", {}, say("blank.heading"), element("span", { class: "name" }, name ? say("blank.name", { name }) : say("blank.unnamed"))),
-    paragraph(takes),
-    whole === takes ? null : paragraph(whole),
-    element("ol", {}, ...lines),
-    paragraph(say("blank.date"), "line"),
-    paragraph(say("blank.where"), "line"),
-    paragraph(say("blank.keep"), "small"),
-  );
 }

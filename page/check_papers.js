@@ -1,10 +1,11 @@
 // The task 'Check papers': papers are typed, and every quorum among them is tried.
 import { askForMore, askWhatNext, collectPapers } from "./collect.js";
 import { element, paragraph } from "./dom.js";
-import { askToDrill, runDrill } from "./drill.js";
+import { askToDrill, runDrill, toldVerdict } from "./drill.js";
 import { askPassphrase } from "./passphrase.js";
 import { saidRefusal } from "./refusals.js";
 import { counted, say } from "./say.js";
+import { setStep, setSteps } from "./screen.js";
 
 /** @typedef {import("./client.js").Desk} Desk */
 /** @typedef {import("./desk.js").Status} Status */
@@ -17,28 +18,32 @@ import { counted, say } from "./say.js";
  * @param {Desk} desk
  */
 export async function checkPapers(desk) {
+  setSteps(3);
   const saidFew = (/** @type {Kind[]} */ kinds) => {
     const sound = say("check.sound", { papers: counted(kinds.length, "paper"), names: kinds.map((it) => it.name).join(", ") });
     return [paragraph(sound, "note"), paragraph(say("check.too_few"))];
   };
-  await collectAndCheck(desk, { title: say("check.title"), intro: say("check.intro"), drill: say("check.drill") }, saidFew);
+  await collectAndCheck(desk, { title: say("check.title"), intro: say("check.intro"), drill: say("check.drill"), steps: [1, 2, 3] }, saidFew);
 }
 
 /**
  * Lets the owner type papers, and drills, until the owner is content.
  *
  * @param {Desk} desk
- * @param {{title: string, intro: string, drill: string, repaired?: string}} what `drill` is the title of the drill, and `repaired` is the
- *   name of a paper of which words were found and not read
+ * @param {{title: string, intro: string, drill: string, steps: number[], repaired?: string}} what `drill` is the title of the drill, and
+ *   `repaired` is the name of a paper of which words were found and not read. `steps` are those of the papers, of what was noted, and of
+ *   the drill
  * @param {(kinds: Kind[]) => HTMLElement[]} saidFew says what too few papers show
  */
 export async function collectAndCheck(desk, what, saidFew) {
+  const [papers, ...steps] = what.steps;
   for (;;) {
+    setStep(papers);
     const found = await collectPapers(desk, what);
     if (found === null) return;
     const { status, kinds } = found;
     const tooFew = async () => askForMore(say("check.done.few"), [...saidFew(kinds), await saidLeftOut(desk)], status, kinds);
-    const answer = status.enough ? await drillWithPassphrase(desk, status, kinds[0], what.drill, what.repaired) : await tooFew();
+    const answer = status.enough ? await drillWithPassphrase(desk, status, kinds[0], { ...what, title: what.drill, steps }) : await tooFew();
     if (answer === "end") return;
   }
 }
@@ -59,19 +64,21 @@ export async function saidLeftOut(desk) {
  * @param {Desk} desk
  * @param {Status} status
  * @param {Kind} kind
- * @param {string} title
- * @param {string} [repaired] the name of a paper of which words were found and not read
+ * @param {{title: string, steps: number[], repaired?: string}} what `steps` are those of what was noted and of the drill, and `repaired` is
+ *   the name of a paper of which words were found and not read
  * @returns {Promise<"papers" | "end">}
  */
-export async function drillWithPassphrase(desk, status, kind, title, repaired = "") {
+export async function drillWithPassphrase(desk, status, kind, { title, steps, repaired = "" }) {
   let fault = "";
   /** @type {string | null} */
   let noted = null;
   for (;;) {
+    setStep(steps[0]);
     /** @type {string | null} */
     const given = await askPassphrase(desk, { title, fault, noted });
     if (given === null) return "papers";
     noted = given;
+    setStep(steps[1]);
     if (!(await askToDrill(desk, status, kind, { title, hasBack: true }))) {
       fault = "";
       continue;
@@ -95,19 +102,21 @@ export async function drillWithPassphrase(desk, status, kind, title, repaired = 
  * @param {{tried: HTMLElement | null, untried: HTMLElement | null, left: HTMLElement | null, repaired: HTMLElement[]}} papers what is said
  *   of the papers that were tried, of those that no quorum has, of those that were left out, and of a repaired one
  */
-function tellVerdict({ result, fingerprint, sentences, hasPassphrase }, noted, { tried, untried, left, repaired }) {
+function tellVerdict(verdict, noted, { tried, untried, left, repaired }) {
+  const { result, fingerprint, hasPassphrase, table } = verdict;
   const isGood = result === "good";
   // Without a noted fingerprint, no result is known to be good.
   const isNoted = noted !== "";
   const again = ["other", "none"].includes(result) ? `${say(hasPassphrase ? "check.again" : "check.again.none")} ` : "";
   const told = [
-    ...sentences.map((text) => paragraph(text, !isGood ? "bad" : isNoted ? "good" : "note")),
+    toldVerdict(verdict),
     tried,
     untried,
     left,
     ...repaired,
     isGood ? null : paragraph(again + say(`check.${result}`)),
     ...(isGood && !isNoted && fingerprint ? [paragraph(say("noted.first")), element("p", { class: "fingerprint" }, fingerprint)] : []),
+    table,
     paragraph(say("close")),
   ];
   const next = { good: "end", stopped: "again", other: "again", none: "again", some: "papers", several: "papers" }[result];

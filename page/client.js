@@ -190,7 +190,7 @@ export class Desk {
  * @param {Held} held
  */
 function arraysOf(held) {
-  return [...held.papers, ...held.left, ...held.shown, held.passphrase, held.secret].filter((bytes) => bytes.length > 0);
+  return [...held.papers, ...held.old, ...held.dropped, ...held.left, ...held.shown, held.passphrase, held.secret].filter((bytes) => bytes.length > 0);
 }
 
 /** @param {Held} held */

@@ -69,6 +69,8 @@ class Collection {
   #task;
   #onEnd;
   #found = element("div", { class: "found" });
+  // The way back after a paper was taken out.
+  #undo = element("div", { class: "buttons undo" });
   #fault = element("p", { class: "fault", role: "alert" });
   // What is asked if words were typed and not read.
   #question = element("div", { class: "buttons" });
@@ -95,8 +97,10 @@ class Collection {
    * @param {string} intro
    */
   show(title, intro) {
+    // A paper is read by itself after its last word.
+    this.#entry.isLeading = false;
     const ended = button(say("collect.end"), () => this.#end(), "primary");
-    show(title, paragraph(intro), this.#entry.element, this.#found, this.#fault, this.#question, element("div", { class: "buttons" }, ended, this.#back));
+    show(title, paragraph(intro), this.#undo, this.#entry.element, this.#found, this.#fault, this.#question, element("div", { class: "buttons" }, ended, this.#back));
     this.#draw();
     this.#entry.focus();
   }
@@ -124,12 +128,23 @@ class Collection {
     this.#status = await this.#desk.ask("drop", { name });
     this.#kinds = this.#kinds.filter((it) => it.name !== name);
     this.#draw();
+    this.#undo.replaceChildren(button(say("collect.undo", { name }), () => this.#putBack(), "small"));
     this.#entry.say(say("collect.dropped", { name }));
+    this.#entry.focus();
+  }
+
+  async #putBack() {
+    const { kind, status } = await this.#desk.ask("putBack");
+    this.#kinds.push(kind);
+    this.#status = status;
+    this.#draw();
+    this.#entry.say(say("collect.undone", { name: kind.name }));
     this.#entry.focus();
   }
 
   #draw() {
     this.#say("");
+    this.#undo.replaceChildren();
     this.#back.classList.toggle("hide", this.#kinds.length > 0);
     const rows = this.#kinds.map(({ name, words }) =>
       element("li", {}, say(name === this.#repaired ? "collect.row.repaired" : "collect.row", { name, words }), button(say("collect.drop", { name }), () => this.#drop(name), "small")),

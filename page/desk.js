@@ -1,7 +1,11 @@
 // The worker. It holds what a task has of papers, secrets and passphrases, and asks the engine. The page sends it byte arrays,
 // which it takes over, and gets names, counts, fingerprints and refusals. It gets words or digits only to show them.
 import { Code, EXPONENT_MAX, load, Refusal } from "../bindings/js/shamir.js";
-import { digitValue, faultOf, hex, unhex, zero } from "./bytes.js";
+import { fingerprintOf, renewed } from "./anew.js";
+import { hex, unhex, zero } from "./bytes.js";
+import { mix } from "./dice.js";
+import { judge } from "./judge.js";
+import { isSame, kindOf, wordsIn } from "./kind.js";
 import { isBegun, resembles } from "./left_out.js";
 import { selfTest } from "./self_test.js";
 
@@ -9,8 +13,8 @@ import { selfTest } from "./self_test.js";
 /** @typedef {{group: number, threshold: number, names: string[]}} GroupStatus */
 /** @typedef {{complete: number, required: number, enough: boolean, groups: GroupStatus[]}} Status */
 /** @typedef {{names: string[], fingerprint: string | null, expected: boolean | null, mismatch: number | null}} Tried */
-/** @typedef {{name: string, words: number, secretBytes: number, exponent: number, extendable: boolean, groupCount: number, groupThreshold: number, memberThreshold: number, isPossible: boolean}} Kind */
-/** @typedef {{papers: Uint8Array[], left: Uint8Array[], shown: Uint8Array[], passphrase: Uint8Array, secret: Uint8Array, fingerprint: string}} Held */
+/** @typedef {{name: string, words: number, id: number, secretBytes: number, exponent: number, extendable: boolean, groupCount: number, groupThreshold: number, memberThreshold: number, isPossible: boolean}} Kind */
+/** @typedef {{papers: Uint8Array[], old: Uint8Array[], dropped: Uint8Array[], left: Uint8Array[], shown: Uint8Array[], passphrase: Uint8Array, secret: Uint8Array, fingerprint: string}} Held */
 /** @typedef {{code: number, details: number[], text: string}} Refused */
 
 /** @type {Engine} */
@@ -20,71 +24,12 @@ let held = nothing();
 
 /** @returns {Held} */
 function nothing() {
-  return { papers: [], left: [], shown: [], passphrase: new Uint8Array(), secret: new Uint8Array(), fingerprint: "" };
+  return { papers: [], old: [], dropped: [], left: [], shown: [], passphrase: new Uint8Array(), secret: new Uint8Array(), fingerprint: "" };
 }
 
 function clear() {
-  zero(...held.papers, ...held.left, ...held.shown, held.passphrase, held.secret);
+  zero(...held.papers, ...held.old, ...held.dropped, ...held.left, ...held.shown, held.passphrase, held.secret);
   held = nothing();
-}
-
-/**
- * Reads a paper. If its checksum is wrong, the refusal is the one by which the engine says where to look.
- *
- * @param {Uint8Array} line
- */
-function parsed(line) {
-  try {
-    return engine.parse(line);
-  } catch (error) {
-    if (error instanceof Refusal && error.code === Code.BAD_CHECKSUM) zero(...engine.repairBytes(line));
-    throw error;
-  }
-}
-
-/**
- * Returns how many words a line has.
- *
- * @param {Uint8Array} line
- */
-function wordsIn(line) {
-  return line.reduce((sum, byte, at) => sum + (byte > 32 && (at === 0 || line[at - 1] <= 32) ? 1 : 0), 0);
-}
-
-/**
- * Returns what a paper is, without its value. No backup can have it if its group isn't one of the groups that it says there are.
- *
- * @param {Uint8Array} line
- * @returns {Kind}
- */
-function kindOf(line) {
-  const share = parsed(line);
-  zero(share.value);
-  return {
-    name: `${share.groupIndex}.${share.memberIndex}`,
-    words: wordsIn(line),
-    secretBytes: share.value.length,
-    exponent: share.exponent,
-    extendable: share.extendable,
-    groupCount: share.groupCount,
-    groupThreshold: share.groupThreshold,
-    memberThreshold: share.memberThreshold,
-    isPossible: share.groupIndex < share.groupCount,
-  };
-}
-
-/**
- * Whether two lines spell the same share.
- *
- * @param {Uint8Array} one
- * @param {Uint8Array} other
- */
-function isSame(one, other) {
-  const [a, b] = [engine.parse(one), engine.parse(other)];
-  const fields = /** @type {(keyof typeof a)[]} */ (Object.keys(a)).filter((field) => field !== "value");
-  const same = fields.every((field) => a[field] === b[field]) && a.value.length === b.value.length && a.value.every((byte, at) => byte === b.value[at]);
-  zero(a.value, b.value);
-  return same;
 }
 
 /**
@@ -103,7 +48,7 @@ function statusOf(lines) {
  */
 function describe({ line }) {
   try {
-    return kindOf(line);
+    return kindOf(engine, line);
   } finally {
     zero(line);
   }
@@ -117,9 +62,9 @@ function describe({ line }) {
 function add({ line }) {
   return wipedUnlessTaken(line, () => {
     try {
-      const kind = kindOf(line);
+      const kind = kindOf(engine, line);
       const status = statusOf([...held.papers, line]);
-      const isNew = !held.papers.some((paper) => isSame(paper, line));
+      const isNew = !held.papers.some((paper) => isSame(engine, paper, line));
       if (isNew) held.papers.push(line);
       return { kind, isNew, status };
     } catch (error) {
@@ -161,15 +106,24 @@ function wipedUnlessTaken(line, use) {
 }
 
 /**
- * Puts a paper away again.
+ * Puts a paper away. It can be put back until another one is put away.
  *
  * @param {{name: string}} given
  */
 function drop({ name }) {
-  const dropped = held.papers.filter((paper) => kindOf(paper).name === name);
-  held.papers = held.papers.filter((paper) => !dropped.includes(paper));
-  zero(...dropped);
+  zero(...held.dropped);
+  held.dropped = held.papers.filter((paper) => kindOf(engine, paper).name === name);
+  held.papers = held.papers.filter((paper) => !held.dropped.includes(paper));
   return held.papers.length ? statusOf(held.papers) : null;
+}
+
+/** Takes the paper again that was put away last. */
+function putBack() {
+  const [paper] = held.dropped;
+  const status = statusOf([...held.papers, paper]);
+  held.papers.push(paper);
+  held.dropped = [];
+  return { kind: kindOf(engine, paper), status };
 }
 
 /** @param {{passphrase: Uint8Array}} given */
@@ -194,32 +148,67 @@ function tryPassphrase({ passphrase }) {
 }
 
 /**
- * Makes a backup of a new secret of `bytes` bytes, or of the secret with these digits. Returns what is wrong with the digits, or an
+ * Makes a backup of a new secret of `bytes` bytes, into which throws of a die are mixed, or of the secret with these digits. Returns what is wrong with the digits, or an
  * empty text: they have another fingerprint than the one that was noted ("other"), or stand for no bytes. `noted` may be empty. `place`
  * says which digit is none, and `words` how many words each paper has.
  *
- * @param {{plan: string, bytes: number, digits: Uint8Array | null, noted?: string, exponent: number, extendable: boolean}} given
+ * @param {{plan: string, bytes: number, dice?: Uint8Array, digits: Uint8Array | null, noted?: string, exponent: number, extendable: boolean}} given
  * @returns {{fault: "not_hex" | "odd" | "other" | "", fingerprint: string, place?: number, words?: number}}
  */
-function make({ plan, bytes, digits, noted = "", exponent, extendable }) {
-  const fault = digits ? faultOf(digits) : "";
-  const place = digits ? digits.findIndex((digit) => digitValue(digit) < 0) + 1 : 0;
+function make({ plan, bytes, dice = new Uint8Array(), digits, noted = "", exponent, extendable }) {
+  if (digits) {
+    const judged = judge(engine, { plan, digits: digits.slice(), noted });
+    if (judged.fault !== "") {
+      zero(digits);
+      return judged;
+    }
+  }
   const secret = digits ? unhex(digits) : crypto.getRandomValues(new Uint8Array(bytes));
   if (digits) zero(digits);
+  else mix(secret, dice);
+  zero(dice);
   try {
-    if (fault !== "") return { fault, fingerprint: "", place };
-    // The engine refuses a secret that no backup can have before it is compared.
-    engine.randomNeeded(plan, secret.length);
     const fingerprint = engine.fingerprint(secret);
-    if (noted !== "" && noted !== fingerprint) return { fault: "other", fingerprint };
     const shown = engine.createBytes(plan, secret, { passphrase: held.passphrase, exponent, extendable });
     zero(...held.shown);
     held.shown = shown;
     held.fingerprint = fingerprint;
-    return { fault, fingerprint, words: wordsIn(shown[0]) };
+    return { fault: "", fingerprint, words: wordsIn(shown[0]) };
   } finally {
     zero(secret);
   }
+}
+
+/**
+ * Puts the papers aside as the old ones, and keeps new ones to be shown. What is typed from now on is of these. Returns how many words
+ * each has.
+ *
+ * @param {Uint8Array[]} made
+ */
+function putAside(made) {
+  zero(...held.old, ...held.shown);
+  [held.old, held.papers, held.shown] = [held.papers, [], made];
+  return wordsIn(made[0]);
+}
+
+/**
+ * Makes papers of the same encrypted secret by another plan, and returns how many words each has. The backup must be extendable.
+ *
+ * @param {{plan: string}} given
+ */
+function resplit({ plan }) {
+  return putAside(engine.resplitBytes(plan, held.papers));
+}
+
+/**
+ * Makes papers of the secret that the papers give. Returns its fingerprint, and how many words each paper has, or none if another
+ * fingerprint was noted.
+ *
+ * @param {{plan: string, noted: string, extendable: boolean}} given
+ */
+function renew(given) {
+  const { fingerprint, made } = renewed(engine, held.papers, held.passphrase, given);
+  return { fingerprint, words: made.length ? putAside(made) : 0 };
 }
 
 /**
@@ -242,7 +231,7 @@ function repair({ line }) {
   held.shown = [];
   try {
     held.shown = engine.repairBytes(line);
-    return held.shown.map(kindOf);
+    return held.shown.map((line) => kindOf(engine, line));
   } finally {
     zero(line);
   }
@@ -255,8 +244,8 @@ function repair({ line }) {
  */
 function typedBack({ index, line }) {
   return wipedUnlessTaken(line, () => {
-    const kind = kindOf(line);
-    const same = isSame(line, held.shown[index]);
+    const kind = kindOf(engine, line);
+    const same = isSame(engine, line, held.shown[index]);
     if (same) held.papers.push(line);
     return { kind, isSame: same };
   });
@@ -305,7 +294,7 @@ function drill({ limit, expect }, tell) {
  * @returns {Tried[]}
  */
 function tryOne({ names, expect }) {
-  return [...outcomes(held.papers.filter((paper) => names.includes(kindOf(paper).name)), expect)];
+  return [...outcomes(held.papers.filter((paper) => names.includes(kindOf(engine, paper).name)), expect)];
 }
 
 /**
@@ -347,9 +336,13 @@ const CALLS = {
   leaveOut,
   leftOut,
   drop,
+  putBack,
   passphrase,
   tryPassphrase,
   make,
+  resplit,
+  renew,
+  judge: (given) => judge(engine, given),
   reissue,
   repair,
   typedBack,
@@ -361,8 +354,9 @@ const CALLS = {
   plan: ({ plan, bytes }) => engine.randomNeeded(plan, bytes),
   paper: ({ index }) => held.shown[index].slice(),
   status: () => statusOf(held.papers),
-  kinds: () => held.papers.map(kindOf),
+  kinds: () => held.papers.map((line) => kindOf(engine, line)),
   fingerprint: () => held.fingerprint,
+  oldFingerprint: () => fingerprintOf(engine, held.old, held.passphrase),
   hasPassphrase: () => held.passphrase.length > 0,
   keep: () => held,
   clear,

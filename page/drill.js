@@ -14,9 +14,10 @@ import { announce, ask, show } from "./screen.js";
 /**
  * What a drill found: no fault, or that it was stopped, or that all quorums give another secret than the expected one, that none
  * gives it, that some don't, or that they give several secrets. With it the sentences that say so, the papers that were tried, those of
- * them that are in a right quorum, and whether a passphrase was typed.
+ * them that are in a right quorum, whether a passphrase was typed, whether the secret was compared with what the owner noted, and the
+ * table of quorums.
  *
- * @typedef {{result: "good" | "stopped" | "other" | "none" | "some" | "several", fingerprint: string | null, sentences: string[], names: string[], right: string[], hasPassphrase: boolean}} Verdict
+ * @typedef {{result: "good" | "stopped" | "other" | "none" | "some" | "several", fingerprint: string | null, sentences: string[], names: string[], right: string[], hasPassphrase: boolean, isEqual: boolean, table: HTMLElement | null}} Verdict
  */
 
 /** @typedef {{noted: string, isOwn: boolean, hasPassphrase: boolean}} Asked the fingerprint that is expected, and what else a verdict depends on */
@@ -59,7 +60,7 @@ export async function askToDrill(desk, status, kind, { title, hasBack }) {
 }
 
 /**
- * Runs a drill over the papers that the worker holds, shows the verdict, and returns it, or the engine's refusal of the passphrase.
+ * Runs a drill over the papers that the worker holds, and returns the verdict, or the engine's refusal of the passphrase.
  *
  * @param {Desk} desk
  * @param {Status} status
@@ -127,8 +128,6 @@ class Table {
   #bar = element("progress", { "aria-label": say("drill.progress") });
   // How far the first quorum is.
   #first;
-  #verdict = element("div", { class: "verdict" });
-  #buttons = element("div", { class: "buttons" });
 
   /**
    * @param {string} title
@@ -142,12 +141,11 @@ class Table {
     this.#noted = noted;
     this.#bar.max = Number(total <= TRIED_WHOLE ? total : BigInt(TRIED_FIRST));
     this.#bar.value = 0;
-    this.#buttons.append(button(say("stop"), onStop));
     const head = element("tr", {}, element("th", { scope: "col" }, say("drill.quorum")), element("th", { scope: "col" }, say("drill.gave")));
-    const table = element("table", {}, element("caption", {}, say("drill.caption")), element("thead", {}, head), this.#body);
-    this.#scroll.append(table);
+    this.#scroll.append(element("table", {}, element("thead", {}, head), this.#body));
     this.#first = estimated(seconds);
-    show(title, this.#progress, this.#bar, this.#first, this.#verdict, this.#buttons, this.#scroll, this.#more);
+    const stop = element("div", { class: "buttons" }, button(say("stop"), onStop));
+    show(title, this.#progress, this.#bar, this.#first, stop, this.#scroll, this.#more);
     this.#say();
   }
 
@@ -191,38 +189,44 @@ class Table {
   }
 
   /**
-   * Shows the verdict, and waits until it is read.
+   * Returns the verdict.
    *
    * @param {boolean} isStopped
    * @param {boolean} isOwn
    * @param {boolean} hasPassphrase
-   * @returns {Promise<Verdict>}
+   * @returns {Verdict}
    */
   end(isStopped, isOwn, hasPassphrase) {
-    this.#bar.remove();
-    this.#first?.remove();
     const noted = this.#noted;
     const { result, right, sentences } = verdictOf(this.tried, this.#total, { noted, isOwn, hasPassphrase });
-    if (this.tried.length === 0) {
-      sentences.length = 0;
-      this.#scroll.remove();
-    }
+    if (this.tried.length === 0) sentences.length = 0;
     const isWhole = !isStopped && BigInt(this.tried.length) === this.#total;
     if (!isWhole) sentences.unshift(say("drill.part", { tried: said(this.tried.length), total: said(this.#total) }));
-    /** @type {Verdict} */
-    const verdict = { result: isStopped ? "stopped" : result, fingerprint: fingerprints(this.tried)[0]?.[0] ?? null, sentences, names: namesOf(this.tried), right, hasPassphrase };
+    const fingerprint = fingerprints(this.tried)[0]?.[0] ?? null;
     // Green says that something was compared with what the owner noted, and is equal.
-    const isEqual = noted !== "" && !isOwn;
-    this.#verdict.append(...sentences.map((text) => paragraph(text, verdict.result !== "good" ? "bad" : isEqual ? "good" : "note")));
-    this.#progress.textContent = "";
-    announce(sentences.join(" "));
-    return new Promise((resolve) => {
-      const next = button(say("continue"), () => resolve(verdict), "primary");
-      this.#buttons.replaceChildren(next);
-      next.focus();
-      document.querySelector("h1")?.replaceChildren(say("drill.done"));
-    });
+    const isEqual = result === "good" && !isStopped && noted !== "" && !isOwn;
+    const table = this.tried.length ? this.#shown(isStopped || result !== "good") : null;
+    return { result: isStopped ? "stopped" : result, fingerprint, sentences, names: namesOf(this.tried), right, hasPassphrase, isEqual, table };
   }
+
+  /**
+   * Returns the table, to be opened on the screen that tells the verdict.
+   *
+   * @param {boolean} isOpen
+   */
+  #shown(isOpen) {
+    return element("details", { open: isOpen }, element("summary", {}, say("drill.caption")), this.#scroll, this.#more);
+  }
+}
+
+/**
+ * Returns what says what a drill found.
+ *
+ * @param {Verdict} verdict
+ */
+export function toldVerdict({ result, sentences, isEqual }) {
+  const kind = result !== "good" ? "bad" : isEqual ? "good" : "note";
+  return element("div", { class: "verdict" }, ...sentences.map((text) => paragraph(text, kind)));
 }
 
 /**

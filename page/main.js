@@ -1,5 +1,6 @@
 // The start of the page: what it needs, the first screen, and what holds on every screen.
 import { blankForms } from "./blank_forms.js";
+import { changePlan } from "./change_plan.js";
 import { checkPapers } from "./check_papers.js";
 import { Desk } from "./client.js";
 import { button, element, large, paragraph } from "./dom.js";
@@ -9,11 +10,11 @@ import { readDamaged } from "./read_damaged.js";
 import { recoverSecret } from "./recover.js";
 import { replacePaper } from "./replace.js";
 import { say } from "./say.js";
-import { announce, ask, askAbove, conceal, isTouched, setTouched, setUnfinished, show, unfinishedKey } from "./screen.js";
+import { announce, ask, askAbove, conceal, isTouched, setSteps, setTouched, setUnfinished, show, unfinishedKey } from "./screen.js";
 import { tellPaper } from "./tell_paper.js";
 import { forgetTyping } from "./word_field.js";
 
-/** @typedef {{key: "make" | "check" | "recover" | "replace" | "damaged" | "what" | "blank", run: (desk: Desk) => Promise<void>, isSecret: boolean}} Task */
+/** @typedef {{key: "make" | "check" | "recover" | "replace" | "change" | "damaged" | "what" | "blank", run: (desk: Desk) => Promise<void>, isSecret: boolean}} Task */
 
 /**
  * The tasks of the first screen.
@@ -25,6 +26,7 @@ const TASKS = [
   { key: "check", run: checkPapers, isSecret: true },
   { key: "recover", run: recoverSecret, isSecret: true },
   { key: "replace", run: replacePaper, isSecret: true },
+  { key: "change", run: changePlan, isSecret: true },
   { key: "damaged", run: readDamaged, isSecret: true },
   { key: "what", run: tellPaper, isSecret: true },
   { key: "blank", run: blankForms, isSecret: false },
@@ -49,6 +51,7 @@ const network = element("p", { role: "status" });
  * @param {string[]} [news] what is said before the choices
  */
 function home(tried, news = []) {
+  setSteps(0);
   const choices = TASKS.map((task) => large(say(`home.${task.key}`), say(`home.${task.key}.hint`), () => begin(task, tried), { class: "task" }));
   show(
     say("home.title"),

@@ -1,16 +1,17 @@
 // The task 'Make a backup': a plan, a wallet, a secret, a passphrase, the papers one by one, typed back, the fingerprint, and the drill.
 import { bytesOf, typedDigits, zero } from "./bytes.js";
 import { Declined, Stopped } from "./client.js";
+import { THROWS_LEAST } from "./dice.js";
 import { choice, element, hidden, labelled, paragraph } from "./dom.js";
-import { LONG_EXPONENT } from "./drill.js";
+import { LONG_EXPONENT, toldVerdict } from "./drill.js";
 import { noteAndDrill } from "./note_and_drill.js";
 import { notedFields, passphraseFields } from "./passphrase.js";
-import { planNames, planText, saidDangers, saidPlan, saidTakes } from "./plan.js";
-import { PlanChoice, planFault } from "./plan_choice.js";
+import { planNames, planText, saidPlan } from "./plan.js";
+import { askPlan, PlanChoice } from "./plan_choice.js";
 import { saidError } from "./refusals.js";
 import { say, saidTime } from "./say.js";
-import { ask, setTouched, setUnfinished, showWork, tellNext } from "./screen.js";
-import { showPaper, typeBack } from "./show_paper.js";
+import { ask, setStep, setSteps, setTouched, setUnfinished, showWork, tellNext } from "./screen.js";
+import { writeAll } from "./show_paper.js";
 import { askWallet } from "./wallet.js";
 
 /** @typedef {import("./client.js").Desk} Desk */
@@ -18,6 +19,7 @@ import { askWallet } from "./wallet.js";
 /** @typedef {import("./desk.js").Kind} Kind */
 /** @typedef {"new16" | "new32" | "own"} Source */
 /** @typedef {{bytes: number, digits: Uint8Array | null, noted: string}} Secret */
+/** @typedef {{secret: Secret, dice: Uint8Array, passphrase: Uint8Array}} Typed */
 /** @typedef {import("./wallet.js").Wallet} Wallet */
 /** @typedef {{source: Source, noted: string | null, exponent: number, wallet: Wallet | null}} Chosen what was chosen and isn't secret */
 
@@ -35,18 +37,11 @@ const USUAL = { source: "new16", noted: null, exponent: 1, wallet: null };
  * @param {Desk} desk
  */
 export async function makeBackup(desk) {
+  setSteps(7);
   const made = await planAndCreate(desk);
   if (made === null) return;
   const { plan, isOwn, words } = made;
-  const names = planNames(plan);
-  const papers = names.map((name, index) => ({ index, name, takes: saidTakes(plan, name) }));
-  const place = (/** @type {number} */ index) => say("paper.place", { number: index + 1, count: names.length });
-  setUnfinished("clear.unfinished");
-  for (const paper of papers) await showPaper(desk, paper, place(paper.index));
-  await ask(say("back.begin.title"), [paragraph(say("back.begin"))], [{ key: "go", label: say("continue"), kind: "primary" }]);
-  for (const paper of papers) {
-    while (!(await typeBack(desk, paper, place(paper.index), words))) await showPaper(desk, paper, place(paper.index));
-  }
+  await writeAll(desk, plan, words, { title: say("make.forms"), unfinished: "clear.unfinished", steps: [4, 5] });
   await noteAndEnd(desk, plan, isOwn);
 }
 
@@ -57,50 +52,13 @@ export async function makeBackup(desk) {
  */
 async function planAndCreate(desk) {
   const [planned, chosen] = [new PlanChoice(), { ...USUAL }];
-  while (await askPlan(desk, planned)) {
-    while (await askWallet(chosen)) {
+  while (await askPlan(desk, planned, { title: say("make.plan"), step: 1 })) {
+    while (await askWallet(chosen, say("make.wallet"))) {
       const words = await create(desk, planned.plan, chosen);
       if (words !== null) return { plan: planned.plan, isOwn: chosen.source === "own", words };
     }
   }
   return null;
-}
-
-/**
- * Asks for a plan that the engine takes, and about its dangers. Returns whether one is chosen; if not, the owner goes back.
- *
- * @param {Desk} desk
- * @param {PlanChoice} chosen
- */
-async function askPlan(desk, chosen) {
-  let fault = "";
-  for (;;) {
-    const hints = ["plan.short", "names.sentence"].map((key) => paragraph(say(key), "hint"));
-    const children = [fault ? paragraph(fault, "fault") : null, paragraph(say("plan.what")), chosen.element, ...hints];
-    const answer = await ask(say("make.plan"), children, [
-      { key: "go", label: say("continue"), kind: "primary" },
-      { key: "back", label: say("back") },
-    ]);
-    if (answer === "back") return false;
-    fault = await planFault(desk, chosen.plan);
-    if (fault === "" && (await isMeant(chosen.plan))) return true;
-  }
-}
-
-/**
- * Whether a plan is meant, although one paper of it may be the whole secret, or its loss may be the loss of the secret.
- *
- * @param {Plan} plan
- */
-async function isMeant(plan) {
-  const dangers = saidDangers(plan);
-  if (dangers === "") return true;
-  const told = [paragraph(saidPlan(plan), "sentence"), paragraph(dangers, "bad"), paragraph(say("plan.sure"))];
-  const answer = await ask(say("plan.sure.title"), told, [
-    { key: "back", label: say("plan.sure.back"), kind: "primary" },
-    { key: "yes", label: say("plan.sure.yes") },
-  ]);
-  return answer === "yes";
 }
 
 /**
@@ -138,6 +96,23 @@ class SecretFields {
     return this.#noted.missing() === null ? this.#noted.read() : null;
   }
 
+  /**
+   * Returns what is wrong with the owner's digits, or null. What was typed stays in its fields.
+   *
+   * @param {Desk} desk
+   * @param {Plan} plan
+   */
+  async refusal(desk, plan) {
+    const { digits, noted } = this.read();
+    if (digits === null) return null;
+    const count = digits.length;
+    try {
+      return saidJudged(await desk.ask("judge", { plan: planText(plan), digits, noted }, [digits.buffer]), count, noted) || null;
+    } catch (error) {
+      return saidError(error);
+    }
+  }
+
   /** How many bytes the secret has. */
   get secretBytes() {
     return BYTES[this.source] || typedDigits(this.#digits.field.value).length / 2;
@@ -150,10 +125,23 @@ class SecretFields {
   }
 }
 
+/**
+ * Says what is wrong with digits, or nothing.
+ *
+ * @param {{fault: string, fingerprint: string, place?: number}} judged
+ * @param {number} digits how many were typed
+ * @param {string} noted
+ */
+function saidJudged({ fault, fingerprint, place = 0 }, digits, noted) {
+  return fault === "" ? "" : say(`secret.${fault}`, { digits, fingerprint, place, noted });
+}
+
 /** The fields under 'More'. */
 class MoreFields {
   #exponent;
   #most;
+  #secret;
+  #dice = labelled(say("more.dice"), "text", { hint: say("more.dice.hint"), attributes: { inputmode: "numeric" } });
 
   /**
    * @param {Desk} desk
@@ -162,30 +150,47 @@ class MoreFields {
    */
   constructor(desk, { exponent }, secret) {
     this.#most = desk.begun.exponentMax;
+    this.#secret = secret;
     const time = element("p", { class: "hint" });
-    const tell = () => (time.textContent = say("more.time", { time: saidTime(desk.secondsFor({ exponent: this.exponent, secretBytes: secret.secretBytes })) }));
+    const tell = () => {
+      time.textContent = say("more.time", { time: saidTime(desk.secondsFor({ exponent: this.exponent, secretBytes: secret.secretBytes })) });
+      this.#dice.box.hidden = secret.source === "own";
+    };
     this.#exponent = labelled(say("more.exponent"), "number", {
       hint: say("more.exponent.hint"),
       attributes: { min: "0", max: String(this.#most), value: String(exponent), class: "count", input: tell },
     });
     tell();
     for (const change of ["input", "click"]) secret.element.addEventListener(change, tell);
-    this.element = element("details", { open: exponent !== USUAL.exponent }, element("summary", {}, say("more.title")), this.#exponent.box, time);
+    this.element = element("details", { open: exponent !== USUAL.exponent }, element("summary", {}, say("more.title")), this.#exponent.box, time, this.#dice.box);
   }
 
   get exponent() {
     return Number(this.#exponent.field.value);
   }
 
+  /** The throws that were typed for a new secret. */
+  get #throws() {
+    return this.#secret.source === "own" ? "" : typedDigits(this.#dice.field.value);
+  }
+
   missing() {
     const { value } = this.#exponent.field;
-    return /^\d+$/.test(value) && Number(value) <= this.#most ? null : say("more.exponent.wrong");
+    if (!/^\d+$/.test(value) || Number(value) > this.#most) return say("more.exponent.wrong");
+    const [throws, least] = [this.#throws, THROWS_LEAST.get(this.#secret.secretBytes) ?? 0];
+    if (/[^1-6]/.test(throws)) return say("more.dice.wrong");
+    return throws === "" || throws.length >= least ? null : say("more.dice.few", { count: throws.length, least });
+  }
+
+  /** Returns the throws. */
+  read() {
+    return bytesOf(this.#throws);
   }
 }
 
 /**
  * Asks for the secret and the passphrase, and makes the backup. Returns how many words each paper has, or null if the owner goes back.
- * What was chosen stays then, and after a refusal. What is secret is typed again.
+ * What was chosen stays then. If the owner stops it, what is secret is typed again.
  *
  * @param {Desk} desk
  * @param {Plan} plan
@@ -193,10 +198,11 @@ class MoreFields {
  */
 async function create(desk, plan, chosen) {
   let fault = "";
+  setStep(3);
   for (;;) {
     const secret = new SecretFields(chosen);
     const [more, passphrase] = [new MoreFields(desk, chosen, secret), passphraseFields(desk, true)];
-    /** @type {{secret: Secret, passphrase: Uint8Array} | null} */
+    /** @type {Typed | null} */
     let typed = null;
     const keep = () => {
       chosen.source = secret.source;
@@ -204,9 +210,9 @@ async function create(desk, plan, chosen) {
       if (more.missing() === null) chosen.exponent = more.exponent;
       return null;
     };
-    const take = () => {
-      const lacks = secret.missing() ?? passphrase.missing() ?? more.missing();
-      if (lacks === null) typed = { secret: secret.read(), passphrase: passphrase.read() };
+    const take = async () => {
+      const lacks = secret.missing() ?? passphrase.missing() ?? more.missing() ?? (await secret.refusal(desk, plan));
+      if (lacks === null) typed = { secret: secret.read(), dice: more.read(), passphrase: passphrase.read() };
       return lacks ?? keep();
     };
     const refused = fault ? [paragraph(fault, "fault"), paragraph(say("passphrase.emptied"), "fault")] : [];
@@ -227,10 +233,10 @@ async function create(desk, plan, chosen) {
  *
  * @param {Desk} desk
  * @param {Plan} plan
- * @param {{secret: Secret, passphrase: Uint8Array}} typed
+ * @param {Typed} typed
  * @param {Chosen} chosen
  */
-async function created(desk, plan, { secret, passphrase }, { exponent, wallet }) {
+async function created(desk, plan, { secret, dice, passphrase }, { exponent, wallet }) {
   setTouched(true);
   const digits = secret.digits?.length ?? 0;
   const seconds = desk.secondsFor({ exponent, secretBytes: secret.bytes || digits / 2 });
@@ -238,14 +244,16 @@ async function created(desk, plan, { secret, passphrase }, { exponent, wallet })
   try {
     await desk.ask("passphrase", { passphrase }, [passphrase.buffer]);
     showWork(say("make.work"), isLong ? say("time.about", { time: saidTime(seconds) }) : say("time.moment"), seconds, isLong ? () => desk.stop() : null);
-    const { fault, fingerprint, place = 0, words = 0 } = await desk.askLong("make", { plan: planText(plan), exponent, extendable: wallet === "flag", ...secret });
+    const { fault, fingerprint, place = 0, words = 0 } = await desk.askLong("make", { plan: planText(plan), exponent, extendable: wallet === "flag", dice, ...secret });
     if (fault === "" && secret.noted !== "") tellNext(say("secret.same"), "good");
-    return { fault: fault === "" ? "" : say(`secret.${fault}`, { digits, fingerprint, place, noted: secret.noted }), words };
+    if (dice.length) tellNext(say("more.dice.mixed"));
+    return { fault: saidJudged({ fault, fingerprint, place }, digits, secret.noted), words };
   } catch (error) {
     if (error instanceof Stopped) return { fault: say("make.stopped"), words: 0 };
     if (!(error instanceof Declined)) throw error;
     return { fault: saidError(error), words: 0 };
   } finally {
+    zero(dice);
     if (secret.digits) zero(secret.digits);
   }
 }
@@ -259,16 +267,19 @@ async function created(desk, plan, { secret, passphrase }, { exponent, wallet })
  */
 async function noteAndEnd(desk, plan, isOwn) {
   const [fingerprint, hasPassphrase] = [await desk.ask("fingerprint"), await desk.ask("hasPassphrase")];
-  if (!(await noteAndDrill(desk, { fingerprint, isOwn, hasPassphrase }))) return;
+  const verdict = await noteAndDrill(desk, { fingerprint, isOwn, hasPassphrase });
+  if (verdict === null) return;
   setUnfinished("");
   const keep = `${say(planNames(plan).length === 1 ? "make.keep.one" : "make.keep")} ${say(hasPassphrase ? "make.with" : "make.without")}`;
   const old = isOwn ? paragraph(say("make.own")) : null;
   const done = [
+    toldVerdict(verdict),
     paragraph(saidPlan(plan), "sentence"),
     paragraph(say("make.restore"), "note"),
     paragraph(keep),
     old,
     paragraph(say("make.note", { plan: planText(plan) })),
+    verdict.table,
     paragraph(say("close")),
   ];
   await ask(say("make.done"), done, [{ key: "end", label: say("end"), kind: "primary" }]);

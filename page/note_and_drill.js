@@ -4,15 +4,15 @@ import { askToDrill, runDrill } from "./drill.js";
 import { askPassphrase } from "./passphrase.js";
 import { saidRefusal } from "./refusals.js";
 import { say } from "./say.js";
-import { ask } from "./screen.js";
+import { ask, setStep } from "./screen.js";
 
 /** @typedef {import("./client.js").Desk} Desk */
 /** @typedef {import("./drill.js").Verdict} Verdict */
 /** @typedef {{fingerprint: string, isOwn: boolean, hasPassphrase: boolean}} Made the fingerprint of the backup's secret, and whether the owner had it before */
 
 /**
- * Lets the owner note the fingerprint, asks for what was noted, and drills with it, until every quorum gives the secret. Returns whether
- * it does; if not, the backup isn't made.
+ * Lets the owner note the fingerprint, asks for what was noted, and drills with it, until every quorum gives the secret. Returns the
+ * verdict that says so, or null: then the backup isn't made.
  *
  * @param {Desk} desk
  * @param {Made} made
@@ -24,12 +24,10 @@ export async function noteAndDrill(desk, made) {
     fault = "";
     if (given === null) {
       noted = await letNote(made);
-    } else if (given !== "" && given !== made.fingerprint) {
-      [fault, noted] = [say("proof.other"), given];
     } else {
       noted = given;
       const { answer, refused } = await drillWith(desk, made, noted);
-      if (answer !== "again") return answer === "good";
+      if (answer !== "again") return answer;
       fault = refused;
     }
   }
@@ -42,6 +40,7 @@ export async function noteAndDrill(desk, made) {
  * @returns {Promise<string | null>}
  */
 async function letNote({ fingerprint, isOwn, hasPassphrase }) {
+  setStep(6);
   const apart = hasPassphrase ? paragraph(say("noted.apart")) : null;
   const shown = element("p", { class: "fingerprint" }, fingerprint);
   const noting = [paragraph(say("noted.new")), shown, paragraph(say(isOwn ? "noted.own" : "noted.drawn")), apart, paragraph(say("proof.next"), "hint")];
@@ -59,25 +58,28 @@ async function letNote({ fingerprint, isOwn, hasPassphrase }) {
  * @param {string} fault
  * @param {string | null} noted
  */
-function askNotes(desk, { isOwn }, fault, noted) {
-  return askPassphrase(desk, { title: say("proof.title"), why: say("proof.why"), back: say("proof.show"), mayLack: isOwn, fault, noted });
+function askNotes(desk, { fingerprint, isOwn }, fault, noted) {
+  setStep(7);
+  const refuse = (/** @type {string} */ given) => (given !== "" && given !== fingerprint ? say("proof.other") : null);
+  return askPassphrase(desk, { title: say("proof.title"), why: say("proof.why"), back: say("proof.show"), mayLack: isOwn, fault, noted, refuse });
 }
 
 /**
- * Drills with the passphrase that the worker holds. Returns whether all is good, or whether to ask for the notes again, with what the
- * engine refused, or to end.
+ * Drills with the passphrase that the worker holds. Returns the verdict if all is good, or that the notes are to be asked for again, with
+ * what the engine refused, or null to end.
  *
  * @param {Desk} desk
  * @param {Made} made
  * @param {string} noted
- * @returns {Promise<{answer: "good" | "again" | "end", refused: string}>}
+ * @returns {Promise<{answer: Verdict | "again" | null, refused: string}>}
  */
 async function drillWith(desk, made, noted) {
   const [status, kinds, title] = [await desk.ask("status"), await desk.ask("kinds"), say("make.drill")];
   if (!(await askToDrill(desk, status, kinds[0], { title, hasBack: true }))) return { answer: "again", refused: "" };
   const verdict = await runDrill(desk, status, { title, noted: noted || made.fingerprint, isOwn: noted === "" });
   if ("refused" in verdict) return { answer: "again", refused: saidRefusal(verdict.refused) };
-  return { answer: verdict.result === "good" ? "good" : await tellFailed(verdict, made), refused: "" };
+  if (verdict.result === "good") return { answer: verdict, refused: "" };
+  return { answer: (await tellFailed(verdict, made)) === "again" ? "again" : null, refused: "" };
 }
 
 /**
@@ -88,7 +90,7 @@ async function drillWith(desk, made, noted) {
  * @param {Made} made
  * @returns {Promise<"again" | "end">}
  */
-function tellFailed({ result, sentences, hasPassphrase }, made) {
+function tellFailed({ result, sentences, hasPassphrase, table }, made) {
   const which = !made.hasPassphrase ? "proof.passphrase.without" : hasPassphrase ? "proof.passphrase" : "proof.passphrase.none";
   const then = made.hasPassphrase ? "proof.passphrase.then" : "proof.passphrase.without.then";
   const [why, next, again] =
@@ -96,6 +98,6 @@ function tellFailed({ result, sentences, hasPassphrase }, made) {
       ? [[say(which)], say(then), say("proof.again")]
       : [sentences, say(result === "stopped" ? "make.unproved" : "make.failed"), result === "stopped" ? say("make.again") : ""];
   const ways = again ? [{ key: /** @type {const} */ ("again"), label: again, kind: "primary" }] : [];
-  const told = [...why.map((text) => paragraph(text, "bad")), paragraph(next)];
+  const told = [...why.map((text) => paragraph(text, "bad")), paragraph(next), table];
   return ask(say("make.failed.title"), told, [...ways, { key: /** @type {const} */ ("end"), label: say("end") }]);
 }

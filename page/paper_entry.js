@@ -26,11 +26,16 @@ export class PaperEntry {
   // The field whose word was completed last.
   #completedAt = 0;
   #grid = element("div", { class: "words" });
+  #reading = button(say("entry.read"), () => this.#read(), "primary read");
   #answer = element("p", { class: "answer" });
   #count = labelled(say("entry.count"), "number", {
     attributes: { min: "1", max: String(COUNT_MAX), class: "count", change: () => this.#counted() },
   });
   #isAsked = false;
+  #restoring = button(say("entry.undo"), () => this.#restored(), "hide");
+  // The words that were emptied last, until something else is typed.
+  /** @type {string[]} */
+  #last = [];
   // Whether the answer says only what is missing, so that it ends with the next change.
   #isMissing = false;
 
@@ -53,11 +58,16 @@ export class PaperEntry {
       element("div", { class: "counts" }, this.#count.box, ...quick),
       this.#answer,
       this.#grid,
-      element("div", { class: "buttons" }, button(say("entry.read"), () => this.#read(), "primary"), button(say("entry.empty"), () => this.#emptied())),
+      element("div", { class: "buttons" }, this.#reading, button(say("entry.empty"), () => this.#emptied()), this.#restoring),
     );
     // Before the field itself hears of it, since the field may ask for a new answer.
     this.element.addEventListener("input", () => this.#changed(), true);
     this.setCount(count);
+  }
+
+  /** Whether the button that reads the paper is the one to press next. On each screen, at most one button looks so. */
+  set isLeading(/** @type {boolean} */ is) {
+    this.#reading.classList.toggle("primary", is);
   }
 
   get count() {
@@ -80,6 +90,7 @@ export class PaperEntry {
 
   /** Takes the answer away that an earlier state of the fields got. What the engine refused stays until the next answer. */
   #changed() {
+    this.#remember([]);
     if (this.#isMissing || this.#onChange) this.say("");
     this.#onChange?.();
   }
@@ -99,6 +110,7 @@ export class PaperEntry {
       completed: (/** @type {number} */ at, /** @type {boolean} */ isBySpelling) => this.#completed(at, isBySpelling),
       back: (/** @type {number} */ at) => this.#fields[Math.max(0, at - 1)].focus(),
       spread: (/** @type {number} */ at, /** @type {string[]} */ words) => this.#spread(at, words),
+      guessed: (/** @type {number} */ at) => this.#guessed(at),
       ended: () => this.#ended(),
       mistyped: () => this.#mistyped(),
     };
@@ -128,9 +140,25 @@ export class PaperEntry {
   }
 
   #emptied() {
+    const { words, isEmpty } = this;
     this.say("");
     this.#changed();
     this.clear();
+    this.#remember(isEmpty ? [] : words);
+    this.focus();
+  }
+
+  /** @param {string[]} words */
+  #remember(words) {
+    this.#last = words;
+    this.#restoring.classList.toggle("hide", words.length === 0);
+  }
+
+  /** Brings the words back that were emptied. */
+  #restored() {
+    const words = this.#last;
+    this.setCount(words.length);
+    words.forEach((word, at) => this.#fields[at].set(word));
     this.focus();
   }
 
@@ -191,6 +219,18 @@ export class PaperEntry {
     if (!field?.word) return;
     field.doubt();
     this.say(say("entry.mistyped", { number: this.#completedAt + 1 }), true);
+  }
+
+  /**
+   * A word was read as the owner types most words, and can be read in another way. The paper may have been taken meanwhile.
+   *
+   * @param {number} at
+   */
+  #guessed(at) {
+    const field = this.#fields[at];
+    if (!field.word) return;
+    field.doubt();
+    if (!this.#isFull) this.say(say("entry.guessed", { number: at + 1 }));
   }
 
   get #isFull() {

@@ -86,15 +86,15 @@ export function notedFields(noted, mayLack = true) {
  * none was noted, or null if the owner wants to go back.
  *
  * @param {Desk} desk
- * @param {{title: string, fault: string, noted: string | null, why?: string, back?: string, mayLack?: boolean}} what `noted` is the
- *   fingerprint that was given before, or null. `why` says what both are asked for, `back` is the answer that goes back, and `mayLack`
- *   says whether the owner may have noted no fingerprint
+ * @param {{title: string, fault: string, noted: string | null, why?: string, back?: string, mayLack?: boolean, refuse?: (noted: string) => string | null}} what `noted` is the
+ *   fingerprint that was given before, or null. `why` says what both are asked for, `back` is the answer that goes back, or an empty text if there is none, and `mayLack`
+ *   says whether the owner may have noted no fingerprint. `refuse` says what is wrong with a fingerprint, or null: then what was typed stays
  */
-export async function askPassphrase(desk, { title, fault, noted, why = say("passphrase.why"), back = say("collect.back"), mayLack = true }) {
+export async function askPassphrase(desk, { title, fault, noted, why = say("passphrase.why"), back = say("collect.back"), mayLack = true, refuse = () => null }) {
   const [passphrase, fingerprint] = [passphraseFields(desk, false), notedFields(noted, mayLack)];
   const typed = { passphrase: new Uint8Array(), fingerprint: "" };
   const take = () => {
-    const lacks = passphrase.missing() ?? fingerprint.missing();
+    const lacks = passphrase.missing() ?? fingerprint.missing() ?? refuse(fingerprint.read());
     if (lacks === null) Object.assign(typed, { passphrase: passphrase.read(), fingerprint: fingerprint.read() });
     return lacks;
   };
@@ -102,7 +102,7 @@ export async function askPassphrase(desk, { title, fault, noted, why = say("pass
   const children = [...refused, paragraph(why), passphrase.box, fingerprint.box];
   const answer = await ask(title, children, [
     { key: "go", label: say("continue"), kind: "primary", take },
-    { key: "back", label: back },
+    ...(back ? [{ key: "back", label: back }] : []),
   ]);
   if (answer === "back") return null;
   await desk.ask("passphrase", { passphrase: typed.passphrase }, [typed.passphrase.buffer]);

@@ -18,14 +18,14 @@ function saidGroup({ threshold, names }, isOnly) {
 }
 
 /**
- * Draws one box for each member that the group needs, and more if more are here.
+ * Draws a card for each paper that the group needs, and for each one more that is here.
  *
  * @param {GroupStatus} group
  */
 function boxes({ threshold, names }) {
   const count = Math.max(threshold, names.length);
-  const drawn = Array.from({ length: count }, (_, at) => element("span", { class: at < names.length ? "box full" : "box" }, names[at] ?? ""));
-  return element("div", { class: "boxes", "aria-hidden": "true" }, ...drawn);
+  const drawn = Array.from({ length: count }, (_, at) => element("span", { class: at < names.length ? "card here" : "card missing" }, names[at] ?? say("card.missing")));
+  return element("div", { class: "cards", "aria-hidden": "true" }, element("span", { class: "pile" }, ...drawn), names.length < threshold ? null : element("span", { class: "enough" }, say("card.enough")));
 }
 
 /**

@@ -1,9 +1,10 @@
-// The choice of a plan: proposals in plain words, or groups and members by buttons.
+// The choice of a plan: proposals in plain words, or groups and members by buttons; and the screen that asks for it.
 import { choice, element, paragraph } from "./dom.js";
 import { GROUPS_MAX, MEMBERS_MAX, planText, saidDangers, saidPlan, saidSingles } from "./plan.js";
+import { planPicture } from "./plan_picture.js";
 import { saidError } from "./refusals.js";
 import { say } from "./say.js";
-import { announce } from "./screen.js";
+import { announce, ask, setStep } from "./screen.js";
 
 /** @typedef {import("./client.js").Desk} Desk */
 /** @typedef {import("./plan.js").Plan} Plan */
@@ -23,6 +24,7 @@ export class PlanChoice {
   #own = element("div", { class: "groups" });
   #sentence = element("p", { class: "sentence" });
   #dangers = element("p", { class: "bad" });
+  #picture = element("div");
 
   constructor() {
     const options = /** @type {const} */ (["two", "three", "home", "own"]).map((key) => ({
@@ -37,6 +39,7 @@ export class PlanChoice {
       this.#own,
       this.#sentence,
       this.#dangers,
+      this.#picture,
     );
     this.#tell();
   }
@@ -56,6 +59,7 @@ export class PlanChoice {
     this.#sentence.textContent = text;
     this.#dangers.textContent = dangers;
     this.#dangers.hidden = dangers === "";
+    this.#picture.replaceChildren(planPicture(this.plan));
   }
 
   /** Draws the groups again, and puts the focus back on the button that was pressed, or beside it if it can't be pressed again. */
@@ -116,6 +120,45 @@ export async function planFault(desk, plan) {
   } catch (error) {
     return saidError(error);
   }
+}
+
+/**
+ * Asks for a plan that the engine takes, and about its dangers. Returns whether one is chosen; if not, the owner goes back.
+ *
+ * @param {Desk} desk
+ * @param {PlanChoice} chosen
+ * @param {{title: string, step: number}} what
+ */
+export async function askPlan(desk, chosen, { title, step }) {
+  setStep(step);
+  let fault = "";
+  for (;;) {
+    const hints = ["plan.short", "names.sentence"].map((key) => paragraph(say(key), "hint"));
+    const children = [fault ? paragraph(fault, "fault") : null, paragraph(say("plan.what")), chosen.element, ...hints];
+    const answer = await ask(title, children, [
+      { key: "go", label: say("continue"), kind: "primary" },
+      { key: "back", label: say("back") },
+    ]);
+    if (answer === "back") return false;
+    fault = await planFault(desk, chosen.plan);
+    if (fault === "" && (await isMeant(chosen.plan))) return true;
+  }
+}
+
+/**
+ * Whether a plan is meant, although one paper of it may be the whole secret, or its loss may be the loss of the secret.
+ *
+ * @param {Plan} plan
+ */
+async function isMeant(plan) {
+  const dangers = saidDangers(plan);
+  if (dangers === "") return true;
+  const told = [paragraph(saidPlan(plan), "sentence"), paragraph(dangers, "bad"), paragraph(say("plan.sure"))];
+  const answer = await ask(say("plan.sure.title"), told, [
+    { key: "back", label: say("plan.sure.back"), kind: "primary" },
+    { key: "yes", label: say("plan.sure.yes") },
+  ]);
+  return answer === "yes";
 }
 
 /** @param {Element | null} it */

@@ -6,7 +6,7 @@ import { leaveEntry, PaperEntry, USUAL_WORDS } from "./paper_entry.js";
 import { saidTakesAlone } from "./plan.js";
 import { saidError, wordsToLookAt } from "./refusals.js";
 import { counted, say } from "./say.js";
-import { setTouched, show } from "./screen.js";
+import { setStep, setSteps, setTouched, show } from "./screen.js";
 import { shownWords, writeAndTypeBack } from "./show_paper.js";
 import { isOpen } from "./spelling.js";
 
@@ -21,11 +21,13 @@ import { isOpen } from "./spelling.js";
  * @param {Desk} desk
  */
 export async function readDamaged(desk) {
+  setSteps(4);
   const fit = await askWhatIsRead(desk);
   if (fit === null) return;
+  setStep(2);
   const { index, kind } = fit;
   await writeAndTypeBack(desk, { index, name: kind.name, takes: saidTakesAlone(kind) }, kind.words);
-  const what = { title: say("damaged.check.title"), intro: say("damaged.check.intro"), drill: say("damaged.drill"), repaired: kind.name };
+  const what = { title: say("damaged.check.title"), intro: say("damaged.check.intro"), drill: say("damaged.drill"), steps: [3, 4, 4], repaired: kind.name };
   await collectAndCheck(desk, what, () => [paragraph(say("damaged.too_few"), "note")]);
 }
 
@@ -85,6 +87,8 @@ class Damaged {
 
   #changed() {
     this.#changes += 1;
+    // The entry itself tells of its first fields before it is here.
+    if (this.#entry) this.#entry.isLeading = true;
     this.#found.replaceChildren();
   }
 
@@ -129,6 +133,7 @@ class Damaged {
       ...(fits.length ? [paragraph(say("damaged.next"))] : []),
       element("div", { class: "buttons" }, ...fits.map(({ write }) => write)),
     );
+    this.#entry.isLeading = fits.length !== 1;
     await Promise.all(fits.map(({ fill }) => fill()));
     heading.focus();
   }

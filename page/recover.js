@@ -9,7 +9,7 @@ import { warnedTime } from "./drill.js";
 import { askPassphrase } from "./passphrase.js";
 import { saidError } from "./refusals.js";
 import { say } from "./say.js";
-import { setTouched, showWork } from "./screen.js";
+import { setStep, setSteps, setTouched, showWork } from "./screen.js";
 
 /** @typedef {import("./client.js").Desk} Desk */
 /** @typedef {import("./desk.js").Kind} Kind */
@@ -20,7 +20,9 @@ import { setTouched, showWork } from "./screen.js";
  * @param {Desk} desk
  */
 export async function recoverSecret(desk) {
+  setSteps(3);
   for (;;) {
+    setStep(1);
     const found = await collectPapers(desk, { title: say("recover.title"), intro: say("recover.intro") });
     if (found === null) return;
     const { status, kinds } = found;
@@ -42,10 +44,12 @@ async function recoverFrom(desk, kind) {
   /** @type {string | null} */
   let noted = null;
   for (;;) {
+    setStep(2);
     /** @type {string | null} */
     const given = await askPassphrase(desk, { title: say("recover.passphrase"), fault, noted });
     if (given === null) return "papers";
     noted = given;
+    setStep(3);
     const { fingerprint, refused, text } = await recovered(desk, kind, noted);
     fault = refused === Code.PASSPHRASE ? text : "";
     if (fault !== "") continue;

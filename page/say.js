@@ -11,13 +11,18 @@ export function hasText(key) {
 }
 
 /**
- * Returns the text of a key, with the values in their places.
+ * Returns the text of a key, with the values in their places. All numbers have one format.
  *
  * @param {string} key
  * @param {Record<string, string | number>} [values]
  */
 export function say(key, values = {}) {
-  return TEXTS[key].replace(/\{(\w+)\}/g, (_, name) => String(values[name]));
+  return TEXTS[key].replace(/\{(\w+)\}/g, (_, name) => written(values[name]));
+}
+
+/** @param {string | number} value */
+function written(value) {
+  return typeof value === "number" ? value.toLocaleString("en") : value;
 }
 
 /**
@@ -27,7 +32,7 @@ export function say(key, values = {}) {
  * @param {"paper" | "group" | "whole" | "quorum" | "secret" | "left" | "second" | "minute" | "hour"} noun
  */
 export function counted(n, noun) {
-  return say(`${noun}.${n === 1 ? "one" : "many"}`, { n: n.toLocaleString("en") });
+  return say(`${noun}.${n === 1 ? "one" : "many"}`, { n });
 }
 
 /**

@@ -4,13 +4,16 @@ import { estimated } from "./estimate.js";
 import { say } from "./say.js";
 
 /** @typedef {import("./dom.js").Child} Child */
+/** @typedef {"" | "clear.unfinished" | "clear.replaced" | "clear.changed"} Unfinished the key of what is said before half written papers are cleared */
 
 const main = /** @type {HTMLElement} */ (document.getElementById("main"));
 const live = /** @type {HTMLElement} */ (document.getElementById("live"));
 
 let touched = false;
-// The key of what is said before half written papers are cleared.
+/** @type {Unfinished} */
 let unfinished = "";
+// Which step of a task the screen is, and how many steps the task has.
+let step = { at: 0, count: 0 };
 // What the next screen says first.
 let news = { text: "", kind: "note" };
 
@@ -40,9 +43,27 @@ export function unfinishedKey() {
   return unfinished;
 }
 
-/** @param {"" | "clear.unfinished" | "clear.replaced"} key */
+/** @param {Unfinished} key */
 export function setUnfinished(key) {
   unfinished = key;
+}
+
+/**
+ * Begins a task of so many steps. Without a task there are none.
+ *
+ * @param {number} count
+ */
+export function setSteps(count) {
+  step = { at: 1, count };
+}
+
+/**
+ * Goes to a step of the task, also back to one.
+ *
+ * @param {number} at
+ */
+export function setStep(at) {
+  step.at = at;
 }
 
 /**
@@ -77,6 +98,7 @@ export function show(title, ...children) {
   leave();
   const heading = element("h1", { tabindex: "-1" }, title);
   main.append(heading);
+  if (step.count) main.append(paragraph(say("step", step), "step"));
   if (news.text !== "") {
     main.append(paragraph(news.text, news.kind));
     announce(news.text);
@@ -94,7 +116,7 @@ export function show(title, ...children) {
  * @template {string} K
  * @param {string} title
  * @param {Child[]} children
- * @param {{key: K, label: string, kind?: string, take?: () => string | null}[]} answers
+ * @param {{key: K, label: string, kind?: string, take?: () => string | null | Promise<string | null>}[]} answers
  * @returns {Promise<K>}
  */
 export function ask(title, children, answers) {
@@ -104,11 +126,12 @@ export function ask(title, children, answers) {
     const buttons = answers.map(({ key, label, kind = "", take = () => null }) =>
       button(
         label,
-        () => {
+        async () => {
           if (isAnswered) return;
+          isAnswered = true;
           // What an earlier try was refused for doesn't stay beside what this one lacks.
           for (const it of main.querySelectorAll(":scope > .fault")) if (it !== fault) it.remove();
-          fault.textContent = take() ?? "";
+          fault.textContent = (await take()) ?? "";
           isAnswered = fault.textContent === "";
           if (isAnswered) resolve(key);
         },

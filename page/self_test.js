@@ -35,6 +35,12 @@ const CREATED = [
 ];
 const CREATED_FINGERPRINT = "2282bae5";
 
+// Those that it gives if these are split anew for 2of2, with the random bytes 30 to 43.
+const SPLIT_ANEW = [
+  "dramatic wisdom academic acid drug stilt legs detect tactics news equip actress obesity member grasp grumpy emphasis prospect rival capacity",
+  "dramatic wisdom academic agency away violence duration ugly favorite custody garbage lunar corner lily tackle liberty exact check exact penalty",
+];
+
 /** @param {Uint8Array} bytes */
 function digitsOf(bytes) {
   return shownText(hex(bytes));
@@ -88,6 +94,7 @@ function firstFailed(engine) {
   if (refusalOf(() => engine.repair(SOUND.replace("agency", "zero"))) !== 18) return "refuse 18";
   const made = engine.create("2of3", ascending(0, 16), { passphrase: PASSPHRASE, exponent: 0, extendable: true, random: ascending(16, 14) });
   if (made.join("\n") !== CREATED.join("\n")) return "create";
+  if (engine.resplit("2of2", made.slice(1), { random: ascending(30, 14) }).join("\n") !== SPLIT_ANEW.join("\n")) return "split anew";
   for (const outcome of engine.drill(made, { passphrase: PASSPHRASE, fingerprints: true })) {
     if (outcome.fingerprint !== CREATED_FINGERPRINT) return "drill";
   }

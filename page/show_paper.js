@@ -1,13 +1,17 @@
 // A paper on the screen, to be written down, and typed back from what was written.
 import { shownText, zero } from "./bytes.js";
 import { button, concealLater, element, paragraph } from "./dom.js";
+import { named, offerForms } from "./forms.js";
 import { PaperEntry } from "./paper_entry.js";
+import { planNames, saidTakes } from "./plan.js";
 import { saidError, wordsToLookAt } from "./refusals.js";
 import { say } from "./say.js";
-import { ask, setTouched, setUnfinished, show, tellNext } from "./screen.js";
+import { ask, setStep, setTouched, setUnfinished, show, tellNext } from "./screen.js";
 
 /** @typedef {import("./client.js").Desk} Desk */
-/** @typedef {{index: number, name: string, takes: string}} Shown the number of a paper that the worker keeps to be shown */
+/** @typedef {import("./plan.js").Plan} Plan */
+/** @typedef {import("./screen.js").Unfinished} Unfinished */
+/** @typedef {{index: number, name: string, takes: string, shown?: string}} Shown the number of a paper that the worker keeps to be shown, and `shown` is its name with what the owner calls its place */
 
 /**
  * Shows words of a paper in a list, until the tab is hidden or the screen changes. Returns what fills the list, and the button that
@@ -49,12 +53,12 @@ export function shownWords(desk, index, list, rows) {
  * @param {Shown} paper
  * @param {string} place
  */
-export async function showPaper(desk, { index, name, takes }, place) {
+export async function showPaper(desk, { index, name, takes, shown = name }, place) {
   const list = element("ol", { class: "paper", translate: "no" });
   const { fill, again } = shownWords(desk, index, list, (words) => words.map((word) => element("li", {}, word)));
   setTouched(true);
   const children = [paragraph(place, "place"), paragraph(takes), paragraph(say("paper.how"), "hint"), list, again];
-  const written = ask(say("paper.title", { name }), children, [{ key: "written", label: say("paper.written"), kind: "primary" }]);
+  const written = ask(say("paper.title", { name: shown }), children, [{ key: "written", label: say("paper.written"), kind: "primary" }]);
   await fill();
   await written;
 }
@@ -68,23 +72,23 @@ export async function showPaper(desk, { index, name, takes }, place) {
  * @param {number} words
  * @returns {Promise<boolean>}
  */
-export function typeBack(desk, { index, name }, place, words) {
+export function typeBack(desk, { index, name, shown = name }, place, words) {
   return new Promise((resolve) => {
     const entry = new PaperEntry(desk.begun.words, words, async (line) => {
       try {
         const { kind, isSame } = await desk.ask("typedBack", { index, line }, [line.buffer]);
         if (isSame) {
-          tellNext(say("back.same", { name }));
+          tellNext(say("back.same", { name: shown }));
           resolve(true);
         }
         // Nothing of another paper can stay. The right one is told on the next screen.
-        return { isTaken: true, isFault: true, text: isSame ? "" : say(kind.name === name ? "back.foreign" : "back.other", { name, typed: kind.name }) };
+        return { isTaken: true, isFault: true, text: isSame ? "" : say(kind.name === name ? "back.foreign" : "back.other", { name: shown, typed: kind.name }) };
       } catch (error) {
         return { isTaken: false, text: saidError(error, "back"), words: wordsToLookAt(error) };
       }
     });
-    const again = button(say("back.again", { name }), () => resolve(false));
-    show(say("back.title", { name }), paragraph(place, "place"), paragraph(say("back.how")), entry.element, element("div", { class: "buttons" }, again));
+    const again = button(say("back.again", { name: shown }), () => resolve(false));
+    show(say("back.title", { name: shown }), paragraph(place, "place"), paragraph(say("back.how")), entry.element, element("div", { class: "buttons" }, again));
     entry.focus();
   });
 }
@@ -101,4 +105,28 @@ export async function writeAndTypeBack(desk, paper, words) {
   await showPaper(desk, paper, "");
   while (!(await typeBack(desk, paper, "", words))) await showPaper(desk, paper, "");
   setUnfinished("");
+}
+
+/**
+ * Shows each paper of a new backup, and then lets the owner type each back until it is right.
+ *
+ * @param {Desk} desk
+ * @param {Plan} plan
+ * @param {number} words how many words each paper has
+ * @param {{title: string, unfinished: Unfinished, steps: number[]}} what `title` is that of the screen before the first paper, `unfinished`
+ *   is said before clearing meanwhile, and `steps` are those of writing and of typing back
+ */
+export async function writeAll(desk, plan, words, { title, unfinished, steps: [writing, back] }) {
+  setStep(writing);
+  const labelOf = await offerForms(plan, words, title);
+  const names = planNames(plan);
+  const papers = names.map((name, index) => ({ index, name, shown: named(name, labelOf(name)), takes: saidTakes(plan, name) }));
+  const place = (/** @type {number} */ index) => say("paper.place", { number: index + 1, count: names.length });
+  setUnfinished(unfinished);
+  for (const paper of papers) await showPaper(desk, paper, place(paper.index));
+  setStep(back);
+  await ask(say("back.begin.title"), [paragraph(say("back.begin"))], [{ key: "go", label: say("continue"), kind: "primary" }]);
+  for (const paper of papers) {
+    while (!(await typeBack(desk, paper, place(paper.index), words))) await showPaper(desk, paper, place(paper.index));
+  }
 }

@@ -15,10 +15,12 @@ import { beginning, endsBefore, habitOf, isMark, isMistypedRest, isRestWhole, ma
  * @property {(at: number) => void} back Backspace in an empty field
  * @property {(at: number, words: string[]) => void} spread several words came
  * @property {() => void} ended Enter
+ * @property {(at: number) => void} guessed the letters of the word can be read in another way too, and only the habit of the typist decided
  * @property {() => void} mistyped what was typed here is the rest of the word before, mistyped, and is left out
  */
 
 const OFFERED = 8;
+const SUGGESTED_FROM = 2;
 // After one of these keys, no letter comes that belongs to the word before.
 const MOVES = ["Tab", "Enter", "Escape", "Backspace", "Delete", "Home", "End", "PageUp", "PageDown", "ArrowLeft", "ArrowRight", "ArrowUp", "ArrowDown"];
 
@@ -53,6 +55,8 @@ export class WordField {
   #isDamaged;
   #events;
   #offers = element("div", { class: "offers" });
+  // Words that begin with the letters so far, for whoever goes by touch. At the keyboard, the next letter is nearer.
+  #ahead = element("div", { class: "ahead", "aria-hidden": "true" });
   // What stood here when the word was completed or the focus came. Letters after it may belong to the last completed word.
   #whole = "";
   // The word that is marked and for which words are offered, or nothing.
@@ -77,7 +81,7 @@ export class WordField {
       paste: (/** @type {ClipboardEvent} */ event) => this.#pasted(event),
       blur: () => this.#left(),
     });
-    this.box = element("div", { class: "word" }, element("span", { "aria-hidden": "true", class: "number" }, String(at + 1)), this.field, this.#offers);
+    this.box = element("div", { class: "word" }, element("span", { "aria-hidden": "true", class: "number" }, String(at + 1)), this.field, this.#ahead, this.#offers);
   }
 
   /** The word or the mark, in small letters. */
@@ -97,6 +101,7 @@ export class WordField {
    */
   set(word) {
     this.#trust();
+    this.#suggest("");
     this.field.value = word;
     this.#whole = this.isRight ? word : "";
     this.#mark(word !== "" && !this.isRight);
@@ -204,8 +209,10 @@ export class WordField {
     const count = more.trim().length;
     rest = { letters: rest.letters.slice(count), toFour: Math.max(0, rest.toFour - count) };
     if (more.trim() !== "") return true;
-    if (arrived === this) this.#moved();
-    else if (this.isRight) this.#events.completed(this.#at, false);
+    // A space ends the last word, so nothing more of it comes, not even on the next screen.
+    const isBefore = arrived === this;
+    this.#moved();
+    if (!isBefore && this.isRight) this.#events.completed(this.#at, false);
     return true;
   }
 
@@ -214,6 +221,7 @@ export class WordField {
    * @param {boolean} isAdded
    */
   #grown(letters, isAdded) {
+    this.#suggest(letters);
     if (this.#isDamaged) {
       this.#mark(!this.isRight && beginning(this.#list, letters).length === 0);
       return;
@@ -224,7 +232,28 @@ export class WordField {
     }
     const found = readings(this.#list, letters, rest, habitOf(seen));
     this.#mark(found.length === 0 || (found.length > 1 && letters.length > 4));
-    if (found.length === 1 && isAdded) this.#complete(found[0], letters, true);
+    if (found.length !== 1 || !isAdded) return;
+    const isGuessed = readings(this.#list, letters, rest).length > 1;
+    this.#complete(found[0], letters, true);
+    if (isGuessed) this.#events.guessed(this.#at);
+  }
+
+  /**
+   * Shows the words that letters may become, if these are few.
+   *
+   * @param {string} letters
+   */
+  #suggest(letters) {
+    const found = letters.length < SUGGESTED_FROM ? [] : readings(this.#list, letters, rest);
+    const few = found.length > 1 && found.length <= OFFERED ? found : [];
+    const made = few.map((word) => {
+      const it = button(word, () => this.#complete(word, word, false), "small offer");
+      it.tabIndex = -1;
+      // The field keeps the focus, so that the words stay until one of them is pressed.
+      it.addEventListener("pointerdown", (event) => event.preventDefault());
+      return it;
+    });
+    this.#ahead.replaceChildren(...made);
   }
 
   /**
@@ -254,6 +283,7 @@ export class WordField {
   }
 
   #left() {
+    this.#suggest("");
     if (isRestWhole(this.#list, this.word, rest, true)) this.set("");
     if (arrived === this) this.#moved();
     if (this.word === "" || this.isRight) return;
@@ -268,6 +298,7 @@ export class WordField {
    * @param {boolean} isWrong
    */
   #mark(isWrong) {
+    if (isWrong) this.#suggest("");
     // The focus may be on its way to one of the offers, so these stay as they are.
     if (isWrong && this.#marked === this.word) return;
     const isNew = isWrong && this.#marked === "";
@@ -283,7 +314,7 @@ export class WordField {
     const offered = found.length ? found.slice(0, OFFERED) : this.#nearest();
     const key = found.length ? "entry.several" : this.word.includes("?") && this.#isDamaged ? "damaged.mark" : "entry.unknown";
     const told = say(key, { number: this.#at + 1 });
-    if (isNew) announce(told);
+    if (isNew) announce(`${told} ${offered.join(", ")}`);
     this.#offers.append(
       element("p", {}, told),
       ...offered.map((word) => button(word, () => this.#complete(word, word, false), "small offer")),

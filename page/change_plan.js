@@ -1,0 +1,240 @@
+// The task 'Change the plan': enough old papers, a plan, new papers that are written and typed back, and a drill of them beside the old ones.
+import { saidLeftOut } from "./check_papers.js";
+import { Declined, Stopped } from "./client.js";
+import { askForMore, askWhatNext, collectPapers } from "./collect.js";
+import { element, paragraph } from "./dom.js";
+import { askToDrill, runDrill, toldVerdict, warnedTime } from "./drill.js";
+import { askPassphrase } from "./passphrase.js";
+import { planText, saidPlan } from "./plan.js";
+import { askPlan, PlanChoice } from "./plan_choice.js";
+import { saidError } from "./refusals.js";
+import { say } from "./say.js";
+import { ask, setStep, setSteps, setUnfinished, showWork } from "./screen.js";
+import { writeAll } from "./show_paper.js";
+import { askWallet } from "./wallet.js";
+
+/** @typedef {import("./client.js").Desk} Desk */
+/** @typedef {import("./desk.js").Kind} Kind */
+/** @typedef {import("./drill.js").Verdict} Verdict */
+/** @typedef {import("./plan.js").Plan} Plan */
+/** @typedef {{planned: PlanChoice, wallet: import("./wallet.js").Wallet | null}} Chosen what was chosen, also on the way back */
+/** @typedef {{plan: Plan, kind: Kind, words: number}} Made the plan of the new papers, what the old papers are, and how many words each new one has */
+
+/**
+ * Changes the plan.
+ *
+ * @param {Desk} desk
+ */
+export async function changePlan(desk) {
+  setSteps(6);
+  const made = await makeAnew(desk);
+  if (made === null) return;
+  await writeAll(desk, made.plan, made.words, { title: say("change.forms"), unfinished: "clear.changed", steps: [3, 4] });
+  await drillAndEnd(desk, made);
+}
+
+/**
+ * Asks for the old papers and the plan until the new papers are made. Returns null if the owner ends the task, or goes back.
+ *
+ * @param {Desk} desk
+ * @returns {Promise<Made | null>}
+ */
+async function makeAnew(desk) {
+  /** @type {Chosen} */
+  const chosen = { planned: new PlanChoice(), wallet: null };
+  for (;;) {
+    setStep(1);
+    const found = await collectPapers(desk, { title: say("change.title"), intro: say("change.intro") });
+    if (found === null) return null;
+    const { status, kinds } = found;
+    const tooFew = async () => askForMore(say("recover.few"), [paragraph(say("recover.too_few"), "bad"), await saidLeftOut(desk)], status, kinds);
+    const make = () => (kinds[0].extendable ? split(desk, chosen) : renew(desk, chosen, kinds[0]));
+    const answer = status.enough ? await make() : await tooFew();
+    if (answer === "end") return null;
+    if (answer !== "papers") return { plan: chosen.planned.plan, kind: kinds[0], words: answer };
+  }
+}
+
+/**
+ * Asks for the plan, and splits an extendable backup by it. Returns how many words each paper has, or where the owner goes.
+ *
+ * @param {Desk} desk
+ * @param {Chosen} chosen
+ * @returns {Promise<number | "papers" | "end">}
+ */
+async function split(desk, { planned }) {
+  if (!(await askPlan(desk, planned, { title: say("change.plan"), step: 2 }))) return "papers";
+  try {
+    return await desk.ask("resplit", { plan: planText(planned.plan) });
+  } catch (error) {
+    const told = [paragraph(saidError(error), "bad"), paragraph(say("close"))];
+    return /** @type {"papers" | "end"} */ (await askWhatNext(say("change.failed"), told, "papers", true));
+  }
+}
+
+/**
+ * Asks for the plan, the wallet and what was noted, and makes papers of the secret. Returns how many words each has, or that the owner
+ * goes back.
+ *
+ * @param {Desk} desk
+ * @param {Chosen} chosen
+ * @param {Kind} kind
+ * @returns {Promise<number | "papers">}
+ */
+async function renew(desk, chosen, kind) {
+  const { planned } = chosen;
+  while (await askPlan(desk, planned, { title: say("change.plan"), step: 2 })) {
+    while (await askWallet(chosen, say("change.wallet"))) {
+      const words = await renewWith(desk, { plan: planText(planned.plan), extendable: chosen.wallet === "flag" }, kind);
+      if (words) return words;
+    }
+  }
+  return "papers";
+}
+
+/**
+ * Asks for what was noted of the old papers, and makes papers of the secret. Returns how many words each has, or none if the owner goes
+ * back.
+ *
+ * @param {Desk} desk
+ * @param {{plan: string, extendable: boolean}} made
+ * @param {Kind} kind
+ * @returns {Promise<number>}
+ */
+async function renewWith(desk, made, kind) {
+  let fault = "";
+  /** @type {string | null} */
+  let noted = null;
+  for (;;) {
+    /** @type {string | null} */
+    const given = await askPassphrase(desk, { title: say("change.passphrase"), why: say("change.passphrase.why"), back: say("back"), fault, noted });
+    if (given === null) return 0;
+    noted = given;
+    const found = await worked(desk, say("make.work"), kind, "renew", { ...made, noted });
+    if (found.value?.words) return found.value.words;
+    fault = found.value ? await saidOther(desk, noted, found.value.fingerprint) : found.fault;
+  }
+}
+
+/**
+ * Asks the worker for something that takes as long as one recovery, or as two, and shows that it works. Returns its answer, or what is
+ * wrong.
+ *
+ * @param {Desk} desk
+ * @param {string} title
+ * @param {Kind} kind
+ * @param {"renew" | "oldFingerprint"} call
+ * @param {Record<string, any>} given
+ * @returns {Promise<{value: any, fault: string}>}
+ */
+async function worked(desk, title, kind, call, given) {
+  // Papers are made of a secret that is recovered first.
+  const seconds = desk.secondsFor(kind) * (call === "renew" ? 2 : 1);
+  showWork(title, warnedTime(desk, kind) ?? say("time.moment"), seconds, () => desk.stop());
+  try {
+    return { value: await desk.askLong(call, given), fault: "" };
+  } catch (error) {
+    if (error instanceof Stopped) return { value: null, fault: say("change.stopped") };
+    if (!(error instanceof Declined)) throw error;
+    return { value: null, fault: saidError(error) };
+  }
+}
+
+/**
+ * Says that the old papers give another fingerprint than the noted one.
+ *
+ * @param {Desk} desk
+ * @param {string} noted
+ * @param {string} fingerprint
+ */
+async function saidOther(desk, noted, fingerprint) {
+  return `${say((await desk.ask("hasPassphrase")) ? "recover.other" : "recover.other.none", { noted })} ${fingerprint}`;
+}
+
+/**
+ * Asks for what was noted, and tries the new papers beside the old ones until they agree, or until the owner ends the task. An extendable
+ * backup needs no passphrase for that: if old and new agree with one, they agree with each.
+ *
+ * @param {Desk} desk
+ * @param {Made} made
+ */
+async function drillAndEnd(desk, made) {
+  const { extendable } = made.kind;
+  const what = { title: say("change.noted"), why: say(extendable ? "change.noted.why" : "change.again.why"), back: extendable ? say("change.bare") : "" };
+  let fault = "";
+  /** @type {string | null} */
+  let noted = null;
+  for (;;) {
+    setStep(5);
+    /** @type {string | null} */
+    const given = await askPassphrase(desk, { ...what, fault, noted });
+    if (given === null) await desk.ask("passphrase", { passphrase: new Uint8Array() });
+    noted = given ?? "";
+    setStep(6);
+    const { answer, told } = await drillBeside(desk, made, given);
+    if (answer === "end") return;
+    fault = told;
+  }
+}
+
+/**
+ * Drills with the new papers. What the old ones give is expected. Returns whether the owner ends the task, or what to say before asking
+ * again for what was noted.
+ *
+ * @param {Desk} desk
+ * @param {Made} made
+ * @param {string | null} given the noted fingerprint, or an empty text if there is none, or null if the passphrase isn't here either
+ * @returns {Promise<{answer: "end" | "again", told: string}>}
+ */
+async function drillBeside(desk, made, given) {
+  const [status, title, noted] = [await desk.ask("status"), say("change.drill"), given ?? ""];
+  if (!(await askToDrill(desk, status, made.kind, { title, hasBack: true }))) return { answer: "again", told: "" };
+  const old = await worked(desk, say("change.work"), made.kind, "oldFingerprint", {});
+  if (old.value === null) return { answer: "again", told: old.fault };
+  if (noted !== "" && noted !== old.value) return { answer: "again", told: await saidOther(desk, noted, old.value) };
+  const verdict = await runDrill(desk, status, { title, noted: old.value, isOwn: noted === "" });
+  if ("refused" in verdict) return { answer: "again", told: say("fault.other") };
+  const answer = verdict.result === "good" ? await tellDone(verdict, made, given) : await tellFailed(verdict, made.kind);
+  return { answer, told: "" };
+}
+
+/**
+ * Says that old and new papers agree, and what becomes of the old ones.
+ *
+ * @param {Verdict} verdict
+ * @param {Made} made
+ * @param {string | null} given
+ */
+function tellDone(verdict, { plan, kind: { extendable } }, given) {
+  setUnfinished("");
+  const told = [
+    toldVerdict(verdict),
+    paragraph(say("change.same"), "note"),
+    !given && extendable ? paragraph(say(given === null ? "change.bare.noted" : "noted.first")) : null,
+    paragraph(saidPlan(plan), "sentence"),
+    element("h2", {}, say("change.old.title")),
+    paragraph(say(extendable ? "change.old" : "change.old.renewed")),
+    !given && !extendable ? paragraph(say("change.unnoted")) : null,
+    paragraph(say("change.mixed")),
+    paragraph(say("change.thief")),
+    paragraph(say("make.note", { plan: planText(plan) })),
+    verdict.table,
+    paragraph(say("close")),
+  ];
+  return ask(say("change.done"), told, [{ key: "end", label: say("end"), kind: "primary" }]);
+}
+
+/**
+ * Says that old and new papers don't agree, or that this isn't known. An extendable backup gives another secret only if the engine failed.
+ *
+ * @param {Verdict} verdict
+ * @param {Kind} kind
+ */
+function tellFailed({ result, sentences, table }, { extendable }) {
+  const mayRetry = result === "stopped" || (result === "other" && !extendable);
+  const why = mayRetry && result === "other" ? [say("change.other")] : sentences;
+  const next = result === "stopped" ? say("make.unproved") : mayRetry ? say("change.other.then") : say("change.broken");
+  const again = { key: /** @type {const} */ ("again"), label: say(result === "stopped" ? "make.again" : "proof.again"), kind: "primary" };
+  const told = [...why.map((text) => paragraph(text, "bad")), paragraph(next), table];
+  return ask(say("change.unproved"), told, [...(mayRetry ? [again] : []), { key: /** @type {const} */ ("end"), label: say("end") }]);
+}
