@@ -19,6 +19,8 @@ refuse() {
 }
 
 [ $# = 1 ] || refuse 'Give the name of one file'
+folder=$(dirname -- "$1")
+[ -d "$folder" ] && [ -w "$folder" ] || refuse "There is no folder $folder in which you may write"
 umask 077
 rm -f -- "$1"
 if [ -t 0 ]; then

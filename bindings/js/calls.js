@@ -8,8 +8,8 @@
 import { copied } from "./copies.js";
 
 // tools/wasm links the module with this size of stack. After each call all of it is cleared, as no call tells how much it used. That
-// takes 0.03 ms.
-const STACK_BYTES = 1048576;
+// takes less than 0.03 ms.
+const STACK_BYTES = 524288;
 const PAGE_BYTES = 65536;
 export const ANSWER_BYTES = 40;
 
@@ -36,7 +36,7 @@ export class Struct {
 
 /**
  * What a call answers, and what it wrote to its output. The fields are those of `shamir_answer`.
- * @typedef {{ code: number, line: number, first: number, second: number, output: Uint8Array }} Answer
+ * @typedef {{ code: number, line: number, first: number, second: number, whole: bigint, output: Uint8Array }} Answer
  */
 
 /**
@@ -106,10 +106,10 @@ function answered(memory, { slots, base }) {
     if (part instanceof Room) output = copied(memory.subarray(at, at + written));
     if (part instanceof Struct) part.bytes.set(memory.subarray(at, at + part.bytes.length));
   }
-  return { code: view.getUint32(0, true), line, first, second, output };
+  return { code: view.getUint32(0, true), line, first, second, whole: view.getBigUint64(16, true), output };
 }
 
-const CALLS = ["create", "drill", "fingerprint", "parse", "random_needed", "recover", "reissue", "repair", "status", "text", "version", "words"];
+const CALLS = ["create", "drill", "fingerprint", "parse", "quorums", "random_needed", "recover", "reissue", "repair", "resplit", "status", "text", "version", "words"];
 const EXPORTS = ["memory", "__heap_base", ...CALLS.map((name) => `shamir_${name}`)];
 
 /** A compiled module, and an instance of it. */

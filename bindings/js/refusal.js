@@ -50,6 +50,8 @@ export const Code = Object.freeze({
   NOT_IN_PLAN: 64,
   OTHER_PLAN: 65,
   UNDETERMINED: 66,
+  NOT_EXTENDABLE: 67,
+  SAME_IDENTIFIER: 68,
   LINE_TOO_LONG: 71,
 });
 

@@ -122,6 +122,19 @@ export class Engine {
      */
     status(lines: Lines): Status;
     /**
+     * Returns how many quorums mnemonics have, or 2^64 - 1 if they have more.
+     *
+     *     shamir.quorums(mnemonics); // 3n
+     *
+     * `lines` is as for `recover`. A repeated mnemonic counts once. The call needs no passphrase, and decrypts nothing. The number
+     * is that of the outcomes of `drill` without `after`. If the mnemonics have no quorum, it is 0.
+     *
+     * Throws a `Refusal` with one of the codes 11 to 29 or 71.
+     * @param {Lines} lines
+     * @returns {bigint}
+     */
+    quorums(lines: Lines): bigint;
+    /**
      * Computes lost mnemonics of a backup from other mnemonics of it, and returns them in the order of `names`.
      *
      *     const [lost] = shamir.reissue("2of3", "0.0", mnemonics.slice(1)); // mnemonics[0]
@@ -148,6 +161,37 @@ export class Engine {
      * @returns {Uint8Array[]}
      */
     reissueBytes(plan: Text, names: Text, lines: Lines): Uint8Array[];
+    /**
+     * Splits the encrypted secret of an extendable backup anew, by another plan, and returns the mnemonics of this new backup.
+     *
+     *     const other = shamir.resplit("3of5", mnemonics.slice(1));
+     *     const same = shamir.recover(other.slice(2), { passphrase: "TREZOR" }); // the bytes of the secret
+     *
+     * `plan` is the plan of the new backup, as for `create`. `lines` are mnemonics of the old backup that are enough, as for
+     * `recover`. The call needs no passphrase, and decrypts nothing. The new backup has the extendable flag and the exponent of the
+     * old one. With each passphrase, it gives the secret that the old one gives with it.
+     *
+     * If random bytes are left out, the call draws them, and draws others if they give the identifier of the old backup. If they are
+     * given, this is refused (68).
+     *
+     * The old mnemonics go on giving the secret until they are destroyed. If somebody may have a quorum of them, use a new secret
+     * too.
+     *
+     * Throws a `Refusal` with one of the codes 11 to 34, 43, 51, 67, 68 or 71.
+     * @param {Text} plan
+     * @param {Lines} lines
+     * @param {ResplitOptions} [options]
+     * @returns {string[]}
+     */
+    resplit(plan: Text, lines: Lines, options?: import("./types.js").ResplitOptions | undefined): string[];
+    /**
+     * Splits a backup anew as `resplit` does, and returns the bytes of each mnemonic. The caller can clear them.
+     * @param {Text} plan
+     * @param {Lines} lines
+     * @param {ResplitOptions} [options]
+     * @returns {Uint8Array[]}
+     */
+    resplitBytes(plan: Text, lines: Lines, options?: import("./types.js").ResplitOptions | undefined): Uint8Array[];
     /**
      * Returns the mnemonics that fit a line of which some words can't be read, in ascending order of their words' indices.
      *
@@ -214,6 +258,7 @@ export type GroupStatus = import("./types.js").GroupStatus;
 export type Lines = import("./types.js").Lines;
 export type Outcome = import("./types.js").Outcome;
 export type RecoverOptions = import("./types.js").RecoverOptions;
+export type ResplitOptions = import("./types.js").ResplitOptions;
 export type Share = import("./types.js").Share;
 export type Status = import("./types.js").Status;
 export type Text = import("./types.js").Text;

@@ -20,12 +20,12 @@
  * is encoded as UTF-8, or a Uint8Array. A secret and random bytes are a Uint8Array. Another type, an option that the call
  * doesn't know, two options that can't stand together, and an array whose buffer was transferred throw a TypeError. A number out
  * of range, a string that UTF-8 can't encode, and a line feed inside a line of a list throw a RangeError. If random bytes are left
- * out and the host has no `crypto`, `create` throws an Error.
+ * out and the host has no `crypto`, `create` and `resplit` throw an Error.
  *
  * Arguments are copied into the memory of the module. After each call, also after a refusal, everything that the call may have
  * written there is cleared, and so are the copies of the arguments. If a call traps, the whole memory is cleared, and the next
  * call uses a new instance of the module. JavaScript can't clear strings. So if no secret may stay in memory, pass texts as
- * Uint8Array, use `createBytes`, `reissueBytes` and `repairBytes`, and clear these arrays after use.
+ * Uint8Array, use `createBytes`, `reissueBytes`, `resplitBytes` and `repairBytes`, and clear these arrays after use.
  */
 import { ANSWER_BYTES, Calls, Room, Struct } from "./calls.js";
 import { Copies, copied, flag, known, wholeNumber, withCopies } from "./copies.js";
@@ -43,6 +43,7 @@ export const EXPONENT_MAX = 15;
 /** @typedef {import("./types.js").Lines} Lines */
 /** @typedef {import("./types.js").Outcome} Outcome */
 /** @typedef {import("./types.js").RecoverOptions} RecoverOptions */
+/** @typedef {import("./types.js").ResplitOptions} ResplitOptions */
 /** @typedef {import("./types.js").Share} Share */
 /** @typedef {import("./types.js").Status} Status */
 /** @typedef {import("./types.js").Text} Text */
@@ -61,6 +62,8 @@ const FORM_EXPECTED = 2;
 
 const SHARE_BYTES = 10;
 const NUMBER_MAX = 2 ** 32 - 1;
+// `resplit` draws random bytes so often at most. One draw in 32,768 gives the identifier of the old backup.
+const DRAWS = 10;
 const MORE = "more after ";
 // Each version that begins so has the calls of this package.
 const VERSION = "1.";
@@ -163,7 +166,7 @@ export class Engine {
     const numbers = [wholeNumber(exponent, "the exponent", NUMBER_MAX), Number(flag(extendable, "extendable"))];
     return withCopies((own) => {
       const given = [own.text(plan, "the plan"), own.data(secret, "the secret"), own.text(passphrase, "the passphrase")];
-      const bytes = random === undefined ? this.#drawn(own, given[0], given[1].length) : own.data(random, "random");
+      const bytes = random === undefined ? this.#drawnFor(own, given[0], given[1].length) : own.data(random, "random");
       return this.#lines("shamir_create", [...given, ...numbers, bytes], MNEMONICS_BYTES_MAX);
     });
   }
@@ -257,6 +260,22 @@ export class Engine {
   }
 
   /**
+   * Returns how many quorums mnemonics have, or 2^64 - 1 if they have more.
+   *
+   *     shamir.quorums(mnemonics); // 3n
+   *
+   * `lines` is as for `recover`. A repeated mnemonic counts once. The call needs no passphrase, and decrypts nothing. The number
+   * is that of the outcomes of `drill` without `after`. If the mnemonics have no quorum, it is 0.
+   *
+   * Throws a `Refusal` with one of the codes 11 to 29 or 71.
+   * @param {Lines} lines
+   * @returns {bigint}
+   */
+  quorums(lines) {
+    return withCopies((own) => this.#checked("shamir_quorums", [own.lines(lines)]).whole);
+  }
+
+  /**
    * Computes lost mnemonics of a backup from other mnemonics of it, and returns them in the order of `names`.
    *
    *     const [lost] = shamir.reissue("2of3", "0.0", mnemonics.slice(1)); // mnemonics[0]
@@ -289,6 +308,48 @@ export class Engine {
     return withCopies((own) => {
       const given = [own.text(plan, "the plan"), own.text(names, "the names"), own.lines(lines)];
       return this.#lines("shamir_reissue", given, MNEMONICS_BYTES_MAX);
+    });
+  }
+
+  /**
+   * Splits the encrypted secret of an extendable backup anew, by another plan, and returns the mnemonics of this new backup.
+   *
+   *     const other = shamir.resplit("3of5", mnemonics.slice(1));
+   *     const same = shamir.recover(other.slice(2), { passphrase: "TREZOR" }); // the bytes of the secret
+   *
+   * `plan` is the plan of the new backup, as for `create`. `lines` are mnemonics of the old backup that are enough, as for
+   * `recover`. The call needs no passphrase, and decrypts nothing. The new backup has the extendable flag and the exponent of the
+   * old one. With each passphrase, it gives the secret that the old one gives with it.
+   *
+   * If random bytes are left out, the call draws them, and draws others if they give the identifier of the old backup. If they are
+   * given, this is refused (68).
+   *
+   * The old mnemonics go on giving the secret until they are destroyed. If somebody may have a quorum of them, use a new secret
+   * too.
+   *
+   * Throws a `Refusal` with one of the codes 11 to 34, 43, 51, 67, 68 or 71.
+   * @param {Text} plan
+   * @param {Lines} lines
+   * @param {ResplitOptions} [options]
+   * @returns {string[]}
+   */
+  resplit(plan, lines, options = {}) {
+    return this.resplitBytes(plan, lines, options).map(taken);
+  }
+
+  /**
+   * Splits a backup anew as `resplit` does, and returns the bytes of each mnemonic. The caller can clear them.
+   * @param {Text} plan
+   * @param {Lines} lines
+   * @param {ResplitOptions} [options]
+   * @returns {Uint8Array[]}
+   */
+  resplitBytes(plan, lines, options = {}) {
+    const { random } = known(options, ["random"]);
+    return withCopies((own) => {
+      const given = [own.text(plan, "the plan"), own.lines(lines)];
+      if (random === undefined) return this.#drawnSplit(own, given);
+      return this.#lines("shamir_resplit", [...given, own.data(random, "random")], MNEMONICS_BYTES_MAX);
     });
   }
 
@@ -373,10 +434,36 @@ export class Engine {
    * @param {Uint8Array} plan
    * @param {number} secretBytes
    */
-  #drawn(own, plan, secretBytes) {
+  #drawnFor(own, plan, secretBytes) {
     const { code, first } = this.#calls.run("shamir_random_needed", [plan, BigInt(secretBytes)]);
+    return this.#drawn(own, code === Code.DONE ? first : 0);
+  }
+
+  /**
+   * Splits a backup anew with drawn bytes. If it gets none, the engine says how many it takes, unless it refuses something else.
+   * @param {Copies} own
+   * @param {Uint8Array[]} given
+   * @returns {Uint8Array[]}
+   */
+  #drawnSplit(own, given) {
+    const { code, first } = this.#calls.run("shamir_resplit", [...given, new Uint8Array(), new Room(0)]);
+    for (let drawn = 1; ; drawn++) {
+      const random = this.#drawn(own, code === Code.RANDOM_LENGTH ? first : 0);
+      try {
+        return this.#lines("shamir_resplit", [...given, random], MNEMONICS_BYTES_MAX);
+      } catch (error) {
+        if (!(error instanceof Refusal) || error.code !== Code.SAME_IDENTIFIER || drawn === DRAWS) throw error;
+      }
+    }
+  }
+
+  /**
+   * @param {Copies} own
+   * @param {number} count
+   */
+  #drawn(own, count) {
     if (!globalThis.crypto?.getRandomValues) throw new Error("crypto.getRandomValues isn't there, so the random bytes must be given");
-    return crypto.getRandomValues(own.keep(new Uint8Array(new ArrayBuffer(code === Code.DONE ? first : 0))));
+    return crypto.getRandomValues(own.keep(new Uint8Array(new ArrayBuffer(count))));
   }
 
   /**

@@ -84,6 +84,10 @@ export interface Codes {
   OTHER_PLAN: 65;
   /** A mnemonic isn't determined; first: 256 * group + member, second: its bytes are the members at hand, the member threshold, the other complete groups and the group threshold. */
   UNDETERMINED: 66;
+  /** The mnemonics don't have the extendable flag, so they can't be split anew. */
+  NOT_EXTENDABLE: 67;
+  /** The random bytes give the identifier that the mnemonics have. */
+  SAME_IDENTIFIER: 68;
   /** A line has more than 1,024 bytes. */
   LINE_TOO_LONG: 71;
 }
@@ -199,6 +203,14 @@ export interface RecoverOptions {
   maxExponent?: number | undefined;
   /** The fingerprint that the secret should have: eight hexadecimal digits. If it is left out, nothing is compared. */
   expect?: Text | undefined;
+}
+
+export interface ResplitOptions {
+  /**
+   * The random bytes, exactly as many as `create` takes for the plan and a secret as long as the value of a mnemonic. They must be
+   * unpredictable, and no other backup may use them. If they are left out, `crypto.getRandomValues` gives them.
+   */
+  random?: Uint8Array | undefined;
 }
 
 export interface DrillOptions extends RecoverOptions {

@@ -34,6 +34,12 @@ export class InWorker {
      */
     status(lines: Lines, signal?: AbortSignal | undefined): Promise<Status>;
     /**
+     * @param {Lines} lines
+     * @param {AbortSignal} [signal]
+     * @returns {Promise<bigint>}
+     */
+    quorums(lines: Lines, signal?: AbortSignal | undefined): Promise<bigint>;
+    /**
      * @param {Text} plan
      * @param {Text} names
      * @param {Lines} lines
@@ -41,6 +47,14 @@ export class InWorker {
      * @returns {Promise<string[]>}
      */
     reissue(plan: Text, names: Text, lines: Lines, signal?: AbortSignal | undefined): Promise<string[]>;
+    /**
+     * @param {Text} plan
+     * @param {Lines} lines
+     * @param {ResplitOptions} [options]
+     * @param {AbortSignal} [signal]
+     * @returns {Promise<string[]>}
+     */
+    resplit(plan: Text, lines: Lines, options?: import("./types.js").ResplitOptions | undefined, signal?: AbortSignal | undefined): Promise<string[]>;
     /**
      * @param {Text} line
      * @param {AbortSignal} [signal]
@@ -72,6 +86,7 @@ export type DrillOptions = import("./types.js").DrillOptions;
 export type Lines = import("./types.js").Lines;
 export type Outcome = import("./types.js").Outcome;
 export type RecoverOptions = import("./types.js").RecoverOptions;
+export type ResplitOptions = import("./types.js").ResplitOptions;
 export type Share = import("./types.js").Share;
 export type Status = import("./types.js").Status;
 export type Text = import("./types.js").Text;

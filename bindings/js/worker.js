@@ -16,6 +16,7 @@ import { refusalOf } from "./clones.js";
 /** @typedef {import("./types.js").Lines} Lines */
 /** @typedef {import("./types.js").Outcome} Outcome */
 /** @typedef {import("./types.js").RecoverOptions} RecoverOptions */
+/** @typedef {import("./types.js").ResplitOptions} ResplitOptions */
 /** @typedef {import("./types.js").Share} Share */
 /** @typedef {import("./types.js").Status} Status */
 /** @typedef {import("./types.js").Text} Text */
@@ -124,6 +125,15 @@ export class InWorker {
   }
 
   /**
+   * @param {Lines} lines
+   * @param {AbortSignal} [signal]
+   * @returns {Promise<bigint>}
+   */
+  quorums(lines, signal) {
+    return this.#call("quorums", [copyable(lines)], signal);
+  }
+
+  /**
    * @param {Text} plan
    * @param {Text} names
    * @param {Lines} lines
@@ -132,6 +142,17 @@ export class InWorker {
    */
   reissue(plan, names, lines, signal) {
     return this.#call("reissue", [plan, names, copyable(lines)], signal);
+  }
+
+  /**
+   * @param {Text} plan
+   * @param {Lines} lines
+   * @param {ResplitOptions} [options]
+   * @param {AbortSignal} [signal]
+   * @returns {Promise<string[]>}
+   */
+  resplit(plan, lines, options = {}, signal) {
+    return this.#call("resplit", [plan, copyable(lines), options], signal);
   }
 
   /**

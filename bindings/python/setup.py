@@ -1,24 +1,47 @@
-"""The wheel contains the shared library, so its tag names the platform. It contains no Python extension, so it is for Python 3.8 and every later Python 3."""
+"""The package holds its library. If libshamir.so stands beside the modules, as for `make wheel`, that one is taken, and otherwise the library as plain C is
+compiled. No Python extension is built, so a wheel is for Python 3.8 and every later Python 3, and its tag names the platform.
+"""
+import os
 import pathlib
+import re
+import shutil
 import sys
-from typing import TYPE_CHECKING, Dict, Tuple, Type
+from typing import TYPE_CHECKING, List, Mapping, Tuple, Type
 
 if TYPE_CHECKING:
     # Not every version of setuptools has types. So a type checker takes these declarations.
     class build_py:
+        build_lib: str
+
         def run(self) -> None: ...
+
+    class Extension:
+        export_symbols: List[str]
+
+        def __init__(self, name: str, sources: List[str], *, extra_compile_args: List[str], export_symbols: List[str]) -> None: ...
+
+    class build_ext:
+        def build_extension(self, ext: Extension) -> None: ...
+
+    class sdist:
+        def make_release_tree(self, base_dir: str, files: List[str]) -> None: ...
 
     class bdist_wheel:
         def get_tag(self) -> Tuple[str, str, str]: ...
 
     class Distribution: ...
 
-    def setup(*, distclass: Type[Distribution], cmdclass: Dict[str, type]) -> None: ...
+    class CCompilerError(Exception): ...
+
+    def setup(*, distclass: Type[Distribution], cmdclass: Mapping[str, type], ext_modules: List[Extension]) -> None: ...
 
 else:
-    from setuptools import setup
+    from setuptools import Extension, setup
+    from setuptools.command.build_ext import build_ext
     from setuptools.command.build_py import build_py
+    from setuptools.command.sdist import sdist
     from setuptools.dist import Distribution
+    from setuptools.errors import CCompilerError
 
     try:
         from setuptools.command.bdist_wheel import bdist_wheel
@@ -29,19 +52,79 @@ else:
             sys.exit("shamir: a wheel needs the package wheel, or setuptools 70.1 or later (Debian: python3-setuptools and python3-wheel)")
 
 HERE = pathlib.Path(__file__).resolve().parent
-NEEDED = {
-    "shamir/libshamir.so": "the package is nothing without its library: `make lib` at the top of the repository puts it there",
-    "shamir/papers/texts.js": "shamir-papers says what stands in it: copy it from page/ at the top of the repository",
-    "NOTICE": "it goes with every copy of the library: copy it from the top of the repository",
+# An archive of the sources (sdist) has these files under the first name, and the repository has them under the second.
+CARRIED = {
+    "c/shamir.c": "dist/c/shamir.c",
+    "c/shamir.h": "dist/c/shamir.h",
+    "shamir/papers/texts.js": "page/texts.js",
+    "LICENSE": "LICENSE",
+    "NOTICE": "NOTICE",
 }
+TERMS = ["LICENSE", "NOTICE"]
+NATIVE, COMPILED = "libshamir.so", "portable.so"
+IS_ARCHIVE = (HERE / "PKG-INFO").is_file()
 
 
-class WithLibrary(build_py):
+def found(name: str) -> pathlib.Path:
+    """Returns where a file is that the package has from elsewhere in the repository."""
+    place = HERE / name if IS_ARCHIVE else HERE.parents[1] / CARRIED[name]
+    if not place.is_file():
+        sys.exit(f"shamir: {place} isn't here, and the package is made with it (a pip before 21.3 copies bindings/python alone)")
+    return place
+
+
+def copied(name: str, folder: pathlib.Path) -> None:
+    there = folder / name
+    there.parent.mkdir(parents=True, exist_ok=True)
+    if not (there.exists() and there.samefile(found(name))):
+        there.unlink(missing_ok=True)
+        shutil.copyfile(found(name), there)
+
+
+def libraries() -> List[Extension]:
+    """Returns what has to be compiled, which is nothing if the native library is here."""
+    if (HERE / "shamir" / NATIVE).is_file():
+        return []
+    calls = re.findall(r"^(?:shamir_answer|void) (shamir_\w+)\(", found("c/shamir.h").read_text(), re.MULTILINE)
+    # Only Microsoft's compiler doesn't know these options. By default, it optimizes as much.
+    options = [] if sys.platform == "win32" else ["-O2", "-g0"]
+    return [Extension("shamir.portable", [str(found("c/shamir.c"))], extra_compile_args=options, export_symbols=calls)]
+
+
+class WithTexts(build_py):
     def run(self) -> None:
-        for name, why in NEEDED.items():
-            if not (HERE / name).is_file():
-                sys.exit(f"shamir: {HERE / name} isn't here, and {why}")
+        built = pathlib.Path(self.build_lib)
+        # An earlier build may have left the other library there.
+        for name in [NATIVE, COMPILED]:
+            (built / "shamir" / name).unlink(missing_ok=True)
         super().run()
+        copied("shamir/papers/texts.js", built)
+
+
+class OfPlainC(build_ext):
+    """Compiles a library that is loaded by its name, in place of a Python extension."""
+
+    def build_extension(self, ext: Extension) -> None:
+        try:
+            super().build_extension(ext)
+        except CCompilerError as error:
+            sys.exit(f"shamir: the library as plain C isn't compiled, which needs a C compiler (CC names one): {error}")
+
+    def get_ext_filename(self, fullname: str) -> str:
+        return os.path.join(*fullname.split(".")[:-1], COMPILED)
+
+    def get_export_symbols(self, ext: Extension) -> List[str]:
+        return ext.export_symbols
+
+    def get_source_files(self) -> List[str]:
+        return []
+
+
+class WithSources(sdist):
+    def make_release_tree(self, base_dir: str, files: List[str]) -> None:
+        super().make_release_tree(base_dir, files)
+        for name in CARRIED:
+            copied(name, pathlib.Path(base_dir))
 
 
 class OfPlatform(bdist_wheel):
@@ -54,4 +137,7 @@ class NotPure(Distribution):
         return True
 
 
-setup(distclass=NotPure, cmdclass={"build_py": WithLibrary, "bdist_wheel": OfPlatform})
+for terms in TERMS:
+    copied(terms, HERE)
+commands = {"build_py": WithTexts, "build_ext": OfPlainC, "sdist": WithSources, "bdist_wheel": OfPlatform}
+setup(distclass=NotPure, cmdclass=commands, ext_modules=libraries())

@@ -1,18 +1,31 @@
-//! Links `libshamir.a`. The folder is the one that `SHAMIR_LIB_DIR` names, or else that of the repository, or else the one that
-//! `pkg-config` tells.
+//! Links the library. `SHAMIR_LIB_DIR` names the folder of a `libshamir.a`, and `SHAMIR_USE_PKG_CONFIG` asks for the one that
+//! `pkg-config` tells. Without these, the archive of the repository is linked if it is built there, and else the library is compiled
+//! from `shamir.c`, the library as plain C.
 use std::env;
+use std::ffi::OsString;
 use std::path::{Path, PathBuf};
 use std::process::Command;
 
 const ARCHIVE: &str = "libshamir.a";
+/// What the crate takes from elsewhere: where its archive has this, and where the repository.
+const PLAIN_C: [&str; 2] = ["c/shamir.c", "../../dist/c/shamir.c"];
+const HEADER: [&str; 2] = ["c/shamir.h", "../../include/shamir.h"];
+const VECTORS: [&str; 2] = ["tests/given/published_vectors", "../../crates/s39_tests_backups/src/published.rt"];
 /// The crate declares the calls of these versions.
 const VERSIONS: &[&str] = &["shamir >= 1", "shamir < 2"];
 
 fn main() {
-    println!("cargo::rerun-if-env-changed=SHAMIR_LIB_DIR");
-    println!("cargo::rerun-if-env-changed=PKG_CONFIG_PATH");
-    println!("cargo::rerun-if-env-changed=PKG_CONFIG_LIBDIR");
-    match runs_here().and_then(|()| folder()) {
+    let target = variable("TARGET").replace('-', "_");
+    for name in ["SHAMIR_LIB_DIR", "SHAMIR_USE_PKG_CONFIG", "PKG_CONFIG_PATH", "PKG_CONFIG_LIBDIR", "CC", "AR", "CFLAGS"] {
+        println!("cargo::rerun-if-env-changed={name}");
+    }
+    println!("cargo::rerun-if-env-changed=CC_{target}");
+    println!("cargo::rerun-if-env-changed=AR_{target}");
+    // The tests read these.
+    for (name, places) in [("SHAMIR_HEADER", HEADER), ("SHAMIR_VECTORS", VECTORS)] {
+        println!("cargo::rustc-env={name}={}", carried(places).display());
+    }
+    match named().or_else(asked).or_else(built).unwrap_or_else(|| compiled(&target)) {
         Ok(folder) => {
             println!("cargo::rerun-if-changed={}", folder.join(ARCHIVE).display());
             println!("cargo::rustc-link-search=native={}", folder.display());
@@ -22,30 +35,54 @@ fn main() {
     }
 }
 
-/// Says in one line if the target isn't one that the library runs on.
-fn runs_here() -> Result<(), String> {
-    let target = |what| env::var(what).unwrap_or_default();
-    if (target("CARGO_CFG_TARGET_OS"), target("CARGO_CFG_TARGET_ARCH")) == ("linux".into(), "x86_64".into()) {
-        return Ok(());
-    }
-    Err(format!("the library runs on Linux on x86-64, and the target is {}", target("TARGET")))
+/// Gives a variable that Cargo sets, or an empty text.
+fn variable(name: &str) -> String {
+    env::var(name).unwrap_or_default()
 }
 
-/// Gives the folder of the library, or says in one line what to do.
-fn folder() -> Result<PathBuf, String> {
-    if let Some(named) = env::var_os("SHAMIR_LIB_DIR") {
-        let named = PathBuf::from(named);
-        return with_archive(&named).ok_or_else(|| {
-            format!(
-                "SHAMIR_LIB_DIR is {}, and no {ARCHIVE} is there: set it to the absolute path of the folder that has {ARCHIVE}",
-                named.display()
-            )
-        });
+/// Gives the folder of the crate.
+fn here() -> PathBuf {
+    PathBuf::from(env::var_os("CARGO_MANIFEST_DIR").unwrap_or_default())
+}
+
+/// Gives the place where one of these files is.
+fn carried(places: [&str; 2]) -> PathBuf {
+    let found = places.map(|place| here().join(place)).into_iter().find(|place| place.is_file());
+    let place = found.unwrap_or_else(|| here().join(places[0]));
+    println!("cargo::rerun-if-changed={}", place.display());
+    place
+}
+
+/// Gives the folder that `SHAMIR_LIB_DIR` names, if it is set.
+fn named() -> Option<Result<PathBuf, String>> {
+    let folder = PathBuf::from(env::var_os("SHAMIR_LIB_DIR")?);
+    let missing = || {
+        format!(
+            "SHAMIR_LIB_DIR is {}, and no {ARCHIVE} is there: set it to the absolute path of the folder that has {ARCHIVE}",
+            folder.display()
+        )
+    };
+    Some(with_archive(&folder).ok_or_else(missing))
+}
+
+/// Gives the folder that `pkg-config` tells, if `SHAMIR_USE_PKG_CONFIG` asks for it.
+fn asked() -> Option<Result<PathBuf, String>> {
+    env::var_os("SHAMIR_USE_PKG_CONFIG").filter(|asks| asks != "0" && !asks.is_empty())?;
+    let missing = || {
+        format!(
+            "SHAMIR_USE_PKG_CONFIG is set, and pkg-config tells of no {ARCHIVE} of a version that fits ({})",
+            VERSIONS.join(", ")
+        )
+    };
+    Some(installed().and_then(|folder| with_archive(&folder)).ok_or_else(missing))
+}
+
+/// Gives the folder of the repository, if the native library is built there, and runs on the target.
+fn built() -> Option<Result<PathBuf, String>> {
+    if (variable("CARGO_CFG_TARGET_OS").as_str(), variable("CARGO_CFG_TARGET_ARCH").as_str()) != ("linux", "x86_64") {
+        return None;
     }
-    let repository = PathBuf::from(env::var_os("CARGO_MANIFEST_DIR").unwrap_or_default()).join("../..");
-    with_archive(&repository)
-        .or_else(|| with_archive(&installed()?))
-        .ok_or_else(|| format!("{ARCHIVE} isn't found: run `make lib` at the top of the repository, or set SHAMIR_LIB_DIR to the absolute path of the folder that has {ARCHIVE}"))
+    with_archive(&here().join("../..")).map(Ok)
 }
 
 /// Gives the folder as an absolute path if the library is there.
@@ -69,4 +106,58 @@ fn told(words: &[&str]) -> Option<String> {
         return None;
     }
     String::from_utf8(ended.stdout).ok()
+}
+
+/// Compiles the library as plain C, and gives the folder of its archive.
+fn compiled(target: &str) -> Result<PathBuf, String> {
+    let folder = PathBuf::from(env::var_os("OUT_DIR").unwrap_or_default());
+    let (object, archive) = (folder.join("shamir.o"), folder.join(ARCHIVE));
+    let mut compiler = program("CC", "cc", target)?;
+    compiler.args(["-O2", "-c", "-o"]).arg(&object).arg(carried(PLAIN_C));
+    if variable("CARGO_CFG_TARGET_OS") != "windows" {
+        compiler.arg("-fPIC");
+    }
+    compiler.args(variable("CFLAGS").split_whitespace());
+    run(compiler, "CC")?;
+    // `ar` adds to an archive that is there.
+    let _ = std::fs::remove_file(&archive);
+    let mut archiver = program("AR", "ar", target)?;
+    archiver.arg("crs").arg(&archive).arg(&object);
+    run(archiver, "AR")?;
+    Ok(folder)
+}
+
+/// Gives the program that a variable names, for this target or for all, or else the usual one, which builds for this machine alone.
+fn program(name: &str, usual: &str, target: &str) -> Result<Command, String> {
+    let given = env::var(format!("{name}_{target}")).or_else(|_| env::var(name)).unwrap_or_default();
+    let mut words = given.split_whitespace().map(OsString::from);
+    let Some(first) = words.next() else {
+        if variable("HOST") == variable("TARGET") {
+            return Ok(Command::new(usual));
+        }
+        return Err(format!(
+            "the library as plain C is compiled for {}: set {name}_{target} to a program for this target",
+            variable("TARGET")
+        ));
+    };
+    let mut command = Command::new(first);
+    command.args(words);
+    Ok(command)
+}
+
+/// Runs a compiler, or says in one line which variable names another.
+fn run(mut command: Command, name: &str) -> Result<(), String> {
+    let program = command.get_program().to_string_lossy().into_owned();
+    let why = match command.output() {
+        Ok(done) if done.status.success() => return Ok(()),
+        Ok(done) => String::from_utf8_lossy(&done.stderr)
+            .lines()
+            .find(|line| line.contains("error"))
+            .unwrap_or("it says nothing")
+            .to_string(),
+        Err(error) => error.to_string(),
+    };
+    Err(format!(
+        "{program} doesn't make the library as plain C: {why} ({name} names another program; SHAMIR_LIB_DIR names the folder of a built {ARCHIVE})"
+    ))
 }

@@ -262,6 +262,17 @@ shamir_answer shamir_status(const char *lines, size_t lines_bytes, char *text, s
     RETURN_ANSWER(&c, text);
 }
 
+shamir_answer shamir_quorums(const char *lines, size_t lines_bytes)
+{
+    call c = new_call();
+    u32 from = given(&c, lines, lines_bytes);
+
+    if (!begin(&c))
+        return no_memory();
+    module_quorums(&c.m, ANSWER, from, lines_bytes);
+    RETURN_ANSWER(&c, NULL);
+}
+
 shamir_answer shamir_reissue(
     const char *plan, size_t plan_bytes, const char *names, size_t names_bytes, const char *lines, size_t lines_bytes, char *mnemonics,
     size_t mnemonics_bytes)
@@ -274,6 +285,21 @@ shamir_answer shamir_reissue(
     if (!begin(&c))
         return no_memory();
     module_reissue(&c.m, ANSWER, of, plan_bytes, wanted, names_bytes, from, lines_bytes, c.room, room_bytes);
+    RETURN_ANSWER(&c, mnemonics);
+}
+
+shamir_answer shamir_resplit(
+    const char *plan, size_t plan_bytes, const char *lines, size_t lines_bytes, const uint8_t *random, size_t random_bytes, char *mnemonics,
+    size_t mnemonics_bytes)
+{
+    call c = new_call();
+    u32 by = given(&c, plan, plan_bytes), from = given(&c, lines, lines_bytes), chance = given(&c, random, random_bytes);
+    size_t room_bytes = at_most(mnemonics_bytes, SHAMIR_MNEMONICS_BYTES_MAX);
+
+    c.room = place(&c, room_bytes);
+    if (!begin(&c))
+        return no_memory();
+    module_resplit(&c.m, ANSWER, by, plan_bytes, from, lines_bytes, chance, random_bytes, c.room, room_bytes);
     RETURN_ANSWER(&c, mnemonics);
 }
 

@@ -5,7 +5,7 @@ import test from "node:test";
 import { load, OF_GROUPS } from "../shamir.js";
 import * as given from "./given.js";
 import { FIVE, FIVE_QUORUMS, MISMATCHED, MISMATCHED_GROUPS, ONE, PLAN, SECRET, TWO, TWO_SECRET } from "./given.js";
-import { bytesOf, counting, file, ofHex, shamir } from "./given.js";
+import { EXTENDABLE, SPLIT_ANEW, bytesOf, counting, file, ofHex, shamir } from "./given.js";
 
 const KEY = { passphrase: "TREZOR" };
 
@@ -134,6 +134,12 @@ test("status", () => {
   assert.deepEqual(shamir.status(TWO.slice(0, 1)), few);
 });
 
+test("quorums", () => {
+  assert.deepEqual([ONE, TWO, TWO.slice(0, 1), FIVE, [...FIVE, FIVE[0]], FIVE.slice(0, 3)].map((lines) => shamir.quorums(lines)), [1n, 1n, 0n, 7n, 7n, 0n]);
+  assert.equal(shamir.quorums(shamir.create("8of16", SECRET)), 12870n);
+  assert.equal(shamir.quorums(shamir.create(`16/${Array(16).fill("8of16").join(",")}`, SECRET)), 2n ** 64n - 1n);
+});
+
 test("reissue", () => {
   const five = (...indices) => indices.map((index) => FIVE[index]);
   for (const [held, names, wanted] of [
@@ -147,6 +153,46 @@ test("reissue", () => {
     assert.deepEqual(shamir.reissueBytes(bytesOf(PLAN), bytesOf(names), held), wanted.map(bytesOf));
   }
   assert.deepEqual(shamir.reissue("2/2of4,1of1,1of1", "0.3", FIVE.slice(0, 2)), [given.FOURTH]);
+});
+
+test("resplit", () => {
+  const random = counting(26);
+  for (const lines of [EXTENDABLE, bytesOf(EXTENDABLE.join("\n")), ["# a note", ...EXTENDABLE].reverse()]) {
+    assert.deepEqual(shamir.resplit(PLAN, lines, { random }), SPLIT_ANEW);
+    assert.deepEqual(shamir.resplitBytes(bytesOf(PLAN), lines, { random }), SPLIT_ANEW.map(bytesOf));
+  }
+  const alone = "cleanup pecan academic academic broken exact editor public best party forecast darkness burning yelp window mama warmth market laundry response";
+  assert.deepEqual(shamir.resplit("1of1", EXTENDABLE, { random: ofHex("1234") }), [alone]);
+  for (const passphrase of ["TREZOR", "", "other"]) {
+    const old = shamir.recover(EXTENDABLE, { passphrase });
+    assert.equal(Buffer.from(old).toString("hex") === "48b1a4b80b8c209ad42c33672bdaa428", passphrase === "TREZOR");
+    for (const { secret } of shamir.drill(SPLIT_ANEW, { passphrase })) assert.deepEqual(secret, old);
+  }
+});
+
+test("resplit draws random bytes anew, and others for those that give the old identifier", () => {
+  const made = [1, 2, 3].map(() => shamir.resplit("2of3", EXTENDABLE).join("\n"));
+  assert.equal(new Set(made).size, 3);
+  const { getRandomValues } = crypto;
+  const same = Uint8Array.of(0x23, 0x6a, ...new Uint8Array(24));
+  let draws = [];
+  crypto.getRandomValues = (bytes) => {
+    assert.equal(bytes.length, 26);
+    bytes.set(draws.shift());
+    return bytes;
+  };
+  try {
+    for (const times of [0, 1, 9]) {
+      draws = [...Array(times).fill(same), counting(26)];
+      assert.deepEqual(shamir.resplit(PLAN, EXTENDABLE), SPLIT_ANEW);
+      assert.equal(draws.length, 0);
+    }
+    draws = Array(11).fill(same);
+    assert.throws(() => shamir.resplit(PLAN, EXTENDABLE), { code: 68, line: null, details: [0, 0], text: "same identifier" });
+    assert.equal(draws.length, 1);
+  } finally {
+    crypto.getRandomValues = getRandomValues;
+  }
 });
 
 test("fingerprint", () => {

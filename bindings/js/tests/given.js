@@ -38,6 +38,22 @@ export const MISMATCHED_GROUPS = [
 export const FOURTH =
   "academic aluminum acrobat marathon crisis luxury step activity teammate unfair fumes endorse always ranked alto problem mailman ounce teacher bumpy";
 
+// EXTENDABLE is a published vector. With the random bytes 0 to 25, SPLIT_ANEW is the backup by PLAN into which it is split anew. The second
+// member has another first byte of its value in EXTENDABLE_FORGED. Another program made these two.
+export const EXTENDABLE = [
+  "enemy favorite academic acid cowboy phrase havoc level response walnut budget painting inside trash adjust froth kitchen learn tidy punish",
+  "enemy favorite academic always academic sniff script carpet romp kind promise scatter center unfair training emphasis evening belong fake enforce",
+];
+export const SPLIT_ANEW = [
+  "academic apart acrobat leaf diploma profile wireless fluff owner greatest romp tricycle window alarm disease mason argue junior briefing squeeze",
+  "academic apart acrobat lily campus welcome capture military elegant fiction beaver duration manual remember decision umbrella true evidence huge sharp",
+  "academic apart acrobat lungs clay airport debut stilt together alpha glance element fangs glimpse crowd exclude lunar axle spend diagnose",
+  "academic apart beard leader crowd envelope aquatic reject sister loyalty sunlight replace health frequent level crazy bundle document ticket birthday",
+  "academic apart ceramic leader alien hamster grasp strike jacket install artwork sidewalk sack fridge venture security method hairy ruin universe",
+];
+export const EXTENDABLE_FORGED =
+  "enemy favorite academic always acid sniff script carpet romp kind promise scatter center unfair training emphasis evening crisis gasoline making";
+
 /** The file of a path below the top of the repository. */
 export function file(path) {
   return readFileSync(new URL(path, ROOT));

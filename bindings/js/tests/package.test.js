@@ -3,7 +3,7 @@ import assert from "node:assert/strict";
 import test from "node:test";
 import { Code, open, Refusal, refusalOf } from "../index.js";
 import { InWorker } from "../worker.js";
-import { FIVE, FIVE_QUORUMS, ONE, PLAN, SECRET, TWO, TWO_SECRET, counting, refused } from "./given.js";
+import { EXTENDABLE, FIVE, FIVE_QUORUMS, ONE, PLAN, SECRET, SPLIT_ANEW, TWO, TWO_SECRET, counting, refused } from "./given.js";
 
 const MODULE = new URL(`../../../${process.env.SHAMIR_MODULE ?? "shamir32.wasm"}`, import.meta.url);
 const KEY = { passphrase: "TREZOR" };
@@ -39,6 +39,7 @@ test("each call in a worker", async () => {
   assert.deepEqual(names, FIVE_QUORUMS.slice(1));
   assert.equal((await shamir.status(FIVE)).enough, true);
   assert.deepEqual(await shamir.reissue(PLAN, "0.1", [FIVE[0], ...FIVE.slice(2)]), [FIVE[1]]);
+  assert.deepEqual(await shamir.resplit(PLAN, new Set(EXTENDABLE), { random: counting(26) }), SPLIT_ANEW);
   assert.deepEqual(await shamir.repair(FIVE[0].replace("leaf", "?")), [FIVE[0]]);
   assert.equal((await shamir.parse(TWO[0])).memberIndex, 2);
   assert.equal(await shamir.fingerprint(SECRET), "df41d8fe");

@@ -3,7 +3,7 @@ import assert from "node:assert/strict";
 import test from "node:test";
 import { Code, EXPONENT_MAX, OF_GROUPS, Refusal } from "../shamir.js";
 import { FIVE, MISMATCHED, MISMATCHED_GROUPS, ONE, PLAN, SECRET, TWO } from "./given.js";
-import { counting, file, refused, shamir } from "./given.js";
+import { EXTENDABLE, EXTENDABLE_FORGED, counting, file, refused, shamir } from "./given.js";
 
 // Another program made these mnemonics. They are ONE with a group count of 16, and with the changes that the words of the table
 // name.
@@ -46,6 +46,7 @@ const REFUSALS = [
   ...CHANGED.map(([code, details, text, line]) => [code, 2, details, text, () => shamir.recover([SIXTEEN, line])]),
   [29, null, [0, 0], "no shares", () => shamir.recover("")],
   [29, null, [0, 0], "no shares", () => shamir.status([])],
+  [29, null, [0, 0], "no shares", () => shamir.quorums([])],
   [29, null, [0, 0], "no shares", () => shamir.reissue(PLAN, "0.0", "# a note")],
   [30, null, [0, 1], "incomplete: 0 of 1 groups", () => shamir.recover(TWO.slice(0, 1))],
   [30, null, [1, 2], "incomplete: 1 of 2 groups", () => drill(FIVE.slice(3, 4))],
@@ -83,6 +84,17 @@ const REFUSALS = [
   [65, null, [0, 0], "other plan", () => shamir.reissue("2/3of3,1of1,1of1", "0.2", FIVE)],
   [66, null, [1, 0x00020202], "cannot tell 0.1: 0 of 2 members, 2 of 2 other groups", () => shamir.reissue(PLAN, "0.1", FIVE.slice(3))],
   [66, null, [512, 0x00010102], "cannot tell 2.0: 0 of 1 members, 1 of 2 other groups", () => shamir.reissue(PLAN, "2.0", FIVE.slice(0, 2))],
+  [31, null, [0, 0], "bad plan", () => shamir.resplit("1", "x", none)],
+  [11, 1, [1, 0], "unknown word 1", () => shamir.resplit(PLAN, "x", none)],
+  [29, null, [0, 0], "no shares", () => shamir.resplit(PLAN, "")],
+  [30, null, [0, 1], "incomplete: 0 of 1 groups", () => shamir.resplit(PLAN, EXTENDABLE[0], none)],
+  [51, null, [0, 0], "digest mismatch in group 0", () => shamir.resplit(PLAN, [EXTENDABLE[0], EXTENDABLE_FORGED])],
+  [67, null, [0, 0], "backup isn't extendable", () => shamir.resplit(PLAN, TWO)],
+  [67, null, [0, 0], "backup isn't extendable", () => shamir.resplit(PLAN, TWO, none)],
+  [43, null, [26, 0], "random bytes: 26 needed", () => shamir.resplit(PLAN, EXTENDABLE, none)],
+  [43, null, [2, 0], "random bytes: 2 needed", () => shamir.resplit("1of1", EXTENDABLE, { random: Uint8Array.of(0x23, 0x6a, 0) })],
+  [68, null, [0, 0], "same identifier", () => shamir.resplit("1of1", EXTENDABLE, { random: Uint8Array.of(0x23, 0x6a) })],
+  [68, null, [0, 0], "same identifier", () => shamir.resplit("1of1", EXTENDABLE, { random: Uint8Array.of(0xa3, 0x6a) })],
   [71, 1, [0, 0], "line too long", () => shamir.recover("#".repeat(1025))],
 ];
 

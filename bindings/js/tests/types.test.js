@@ -59,6 +59,10 @@ test("wrong types are TypeErrors", () => {
     () => shamir.create(PLAN, SECRET, { extendable: 1 }),
     () => shamir.create(PLAN, SECRET, { extendable: null }),
     () => shamir.create(PLAN, SECRET, { extendable: "no" }),
+    () => shamir.resplit(PLAN, FIVE, { random: 26 }),
+    () => shamir.resplit(PLAN, FIVE, { random: null }),
+    () => shamir.resplit(PLAN, 6),
+    () => shamir.resplit(undefined, FIVE),
     () => shamir.create(undefined, SECRET),
     () => shamir.randomNeeded(PLAN, "16"),
     () => shamir.randomNeeded(PLAN),
@@ -94,6 +98,7 @@ test("options are named, and each name is known", () => {
     () => shamir.recover(FIVE, ["TREZOR"]),
     () => shamir.create(PLAN, SECRET, { max_exponent: 1 }),
     () => shamir.drill(FIVE, { limit: 1 }),
+    () => shamir.resplit(PLAN, FIVE, { passphrase: "TREZOR" }),
   ]) {
     assert.throws(call, (error) => error instanceof TypeError && !/TREZOR|passphase/.test(error.message), call.toString());
   }

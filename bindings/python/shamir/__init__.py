@@ -45,7 +45,8 @@ from dataclasses import dataclass, field
 from typing import Any, Callable, Generator, Iterable, List, Optional, Tuple, Union, cast
 
 __all__ = ["Code", "Data", "EXPONENT_MAX", "GroupStatus", "Lines", "OF_GROUPS", "Outcome", "Refusal", "Share", "Status", "Text"]
-__all__ += ["create", "drill", "fingerprint", "library_version", "parse", "random_needed", "recover", "reissue", "repair", "status", "words"]
+__all__ += ["create", "drill", "fingerprint", "library_version", "parse", "quorums", "random_needed", "recover"]
+__all__ += ["reissue", "repair", "resplit", "status", "words"]
 
 __version__ = "1.0.0"
 
@@ -77,6 +78,8 @@ FORM_DIGITS = 0
 FORM_FINGERPRINTS = 1
 FORM_EXPECTED = 2
 
+# `resplit` draws random bytes so often at most. One draw in 32,768 gives the identifier of the old backup.
+DRAWS = 10
 DRILL_ROOM = 1 << 16
 LIMIT_MAX = (1 << 32) - 1
 MORE = b"more after "
@@ -128,6 +131,8 @@ class Code(enum.IntEnum):
     OTHER_PLAN (65): a mnemonic can't belong to a backup of this plan
     UNDETERMINED (66): a mnemonic isn't determined; first: 256 * group + member, second: its four bytes are the
         members at hand, the member threshold, the other complete groups, and the group threshold
+    NOT_EXTENDABLE (67): the mnemonics don't have the extendable flag, so they can't be split anew
+    SAME_IDENTIFIER (68): the random bytes give the identifier that the mnemonics have
     LINE_TOO_LONG (71): a line has more than 1,024 bytes
     """
 
@@ -170,6 +175,8 @@ class Code(enum.IntEnum):
     NOT_IN_PLAN = 64
     OTHER_PLAN = 65
     UNDETERMINED = 66
+    NOT_EXTENDABLE = 67
+    SAME_IDENTIFIER = 68
     LINE_TOO_LONG = 71
 
 
@@ -236,7 +243,9 @@ def _declared(library: ctypes.CDLL) -> ctypes.CDLL:
         ("shamir_recover", _SLICE * 2 + [ctypes.c_uint32] + _SLICE + _ROOM),
         ("shamir_drill", _SLICE * 2 + [ctypes.c_uint32] + _SLICE + [ctypes.c_uint32] * 2 + _SLICE + _ROOM),
         ("shamir_status", _SLICE + _ROOM),
+        ("shamir_quorums", _SLICE),
         ("shamir_reissue", _SLICE * 3 + _ROOM),
+        ("shamir_resplit", _SLICE * 3 + _ROOM),
         ("shamir_repair", _SLICE + _ROOM),
         ("shamir_fingerprint", _SLICE + _ROOM),
         ("shamir_words", _SLICE + _ROOM),
@@ -640,6 +649,20 @@ def _group_status(line: str) -> GroupStatus:
     return GroupStatus(int(group), int(threshold), tuple(names.split("+")))
 
 
+def quorums(lines: Lines) -> int:
+    """Return how many quorums mnemonics have, or 2**64 - 1 if they have more.
+
+    >>> shamir.quorums(mnemonics)
+    3
+
+    `lines` is as for `recover`. A repeated mnemonic counts once. The call needs no passphrase, and decrypts nothing. The
+    number is that of the outcomes of `drill` without `after`. If the mnemonics have no quorum, it is 0.
+
+    Raises `Refusal` with one of the codes 11 to 29 or 71.
+    """
+    return _checked(_library.shamir_quorums(*_slice(_joined(lines)))).first
+
+
 def reissue(plan: Text, names: Text, lines: Lines) -> List[str]:
     """Compute lost mnemonics of a backup from other mnemonics of it, and return them in the order of `names`.
 
@@ -658,6 +681,48 @@ def reissue(plan: Text, names: Text, lines: Lines) -> List[str]:
     """
     given = _slice(_bytes(plan)) + _slice(_bytes(names)) + _slice(_joined(lines))
     return _filled(lambda out, room: _library.shamir_reissue(*given, out, room), MNEMONICS_BYTES_MAX).decode().splitlines()
+
+
+def resplit(plan: Text, lines: Lines, *, random: Optional[Data] = None) -> List[str]:
+    """Split the encrypted secret of an extendable backup anew, by another plan, and return the mnemonics of this new backup.
+
+    >>> new = shamir.resplit("3of5", mnemonics[1:])
+    >>> shamir.recover(new[2:], passphrase="TREZOR") == secret
+    True
+
+    `plan` is the plan of the new backup, as for `create`. `lines` are mnemonics of the old backup that are enough, as for
+    `recover`. The call needs no passphrase, and decrypts nothing. The new backup has the extendable flag and the exponent of the
+    old one. With each passphrase, it gives the secret that the old one gives with it.
+
+    `random` has exactly as many bytes as `create` takes for this plan and a secret as long as the value of a mnemonic. They must
+    be unpredictable, and no other backup may use them. The first two give the new identifier, which mustn't be the old one (68).
+    If `random` is None, they come from `os.urandom`, and others are drawn if they give the old identifier.
+
+    The old mnemonics go on giving the secret until they are destroyed. If somebody may have a quorum of them, use a new secret
+    too.
+
+    Raises `Refusal` with one of the codes 11 to 34, 43, 51, 67, 68 or 71.
+    """
+    given = _slice(_bytes(plan)) + _slice(_joined(lines))
+    return _split_anew(given, _data(random)) if random is not None else _drawn_split(given)
+
+
+def _split_anew(given: Tuple[Any, ...], random: bytes) -> List[str]:
+    arguments = given + _slice(random)
+    return _filled(lambda out, room: _library.shamir_resplit(*arguments, out, room), MNEMONICS_BYTES_MAX).decode().splitlines()
+
+
+def _drawn_split(given: Tuple[Any, ...]) -> List[str]:
+    """Split a backup anew with drawn bytes. The library says how many it takes if it gets none, unless it refuses something else."""
+    needed = _library.shamir_resplit(*given, None, 0, None, 0)
+    count = needed.first if needed.code == Code.RANDOM_LENGTH else 0
+    for _ in range(DRAWS - 1):
+        try:
+            return _split_anew(given, os.urandom(count))
+        except Refusal as refusal:
+            if refusal.code != Code.SAME_IDENTIFIER:
+                raise
+    return _split_anew(given, os.urandom(count))
 
 
 def repair(line: Text) -> List[str]:

@@ -6,6 +6,7 @@ import random
 import re
 import sys
 import unittest
+import unittest.mock
 
 sys.path.insert(0, str(pathlib.Path(__file__).resolve().parent.parent))
 sys.path.insert(0, str(pathlib.Path(__file__).resolve().parent))
@@ -21,7 +22,8 @@ from shamir.papers.desk import Desk, paper_of  # noqa: E402
 from shamir.papers.drill import verdict_of  # noqa: E402
 from shamir.papers.entry import Entry, said_count  # noqa: E402
 from shamir.papers.found import ask_paper  # noqa: E402
-from shamir.papers.plan import plan_of, said_plan, said_risks, said_takes  # noqa: E402
+from shamir.papers.paste import papers_in  # noqa: E402
+from shamir.papers.plan import plan_of, said_dangers, said_plan, said_singles, said_takes  # noqa: E402
 from shamir.papers.quorums import Tried, count, quorum_with, suspects  # noqa: E402
 from shamir.papers.spelling import Misplaced, continued, has_idle_number, nearest, numbers_of, parts_of, placed, said_empty, seems_bip39  # noqa: E402
 from shamir.papers.texts import OWN, TABLE, TASKS, _page, say  # noqa: E402
@@ -38,12 +40,13 @@ class Scripted:
     """A screen whose questions have answers."""
 
     def __init__(self, *answers):
-        self.answers, self.told, self.asked, self.begun = list(answers), [], [], []
+        self.answers, self.told, self.asked, self.begun, self.last = list(answers), [], [], [], None
 
     def ask(self, prompt, complete=None, has_back=False, begun=""):
         self.asked.append(prompt)
         self.begun.append(begun)
-        return self.answers.pop(0)
+        self.last = self.answers.pop(0)
+        return self.last
 
     def agree(self, prompt):
         self.asked.append(prompt)
@@ -55,6 +58,8 @@ class Scripted:
 
     def tell(self, text, style=""):
         self.told.append(text)
+
+    tell_seen = tell
 
     def item(self, text, mark="- "):
         self.told.append(text)
@@ -70,7 +75,11 @@ class Scripted:
 
     def is_pasted(self, seconds):
         # What follows an empty line of a script is pasted.
-        return seconds > 0 and bool(self.answers)
+        return seconds > 0 and self.last == "" and bool(self.answers)
+
+    def pasted(self, most):
+        text, self.answers = "\n".join([*self.answers, ""]), []
+        return text, False
 
 
 def by_rows(line, height):
@@ -164,12 +173,14 @@ class EntryTests(unittest.TestCase):
         self.assertEqual(screen.told, [say("entry.typed"), " ".join(words[:19]), say("entry.compare", sign="-")])
 
     def test_unknown_word(self):
-        found, screen = self.read(TWO[0].replace("always", "alwys"), "zzz", "again always", "always")
+        found, screen = self.read(TWO[0].replace("always", "alwys"), "zzz", "again always", "again always acid", "always")
         self.assertEqual(found, TWO[0])
         self.assertTrue(screen.told[0].startswith("Word 4, alwys, isn't in the word list (always"), screen.told)
         self.assertIn(say("entry.one", number=4), screen.told)
         self.assertEqual(screen.asked[1], say("entry.word", number=4, sign="-"))
-        self.assertEqual(screen.begun, ["", "", "", "again always "])
+        # What is short is typed again, and what is long stays in the line, with a hint.
+        self.assertEqual(screen.begun, ["", "", "", "", "again always acid "])
+        self.assertIn(f"{say('entry.one', number=4)} {say('entry.stays')}", screen.told)
 
     def test_words_after_an_unknown_one(self):
         words = TWO[0].split()
@@ -179,7 +190,7 @@ class EntryTests(unittest.TestCase):
         self.assertEqual(self.read(TWO[0].replace("always", "alwys"), TWO[0])[0], TWO[0])
         self.assertEqual(self.read(first, f"9. {words[8]}", rest)[0], TWO[0])
         found, screen = self.read(TWO[0].replace("always", "alwys"), f"9. {words[3]}", f"4. {words[3]}")
-        self.assertEqual((found, screen.begun[-1]), (TWO[0], f"9. {words[3]} "))
+        self.assertEqual((found, screen.begun[-1]), (TWO[0], ""))
 
     def test_ambiguous_beginning(self):
         found, screen = self.read(TWO[0].replace("always", "al"), "ALWA")
@@ -210,7 +221,7 @@ class EntryTests(unittest.TestCase):
         found, screen = self.read(" ".join(words), "30 acid", f"5 {words[5]} 6. {words[4]}")
         self.assertEqual(found, TWO[0])
         self.assertIn(say("entry.numbers", count=20), screen.told)
-        self.assertEqual(screen.begun[-1], "30 acid ")
+        self.assertEqual(screen.begun[-1], "")
         self.assertNotIn(say("entry.left_out", sign="-"), screen.told)
 
     def test_left_out(self):
@@ -306,16 +317,16 @@ class EntryTests(unittest.TestCase):
         words[5] = "piece"
         screen = Scripted(" ".join(words), "-", "")
         self.assertEqual(Entry(screen, None).read("Paper 1:"), [])
-        self.assertTrue(any("13" in text or "17" in text for text in screen.told), screen.told)
+        self.assertEqual(screen.told[-1], say("refused.17"))
 
     def test_letters_that_follow(self):
         """After a whole paper, a letter that answers another question is no word of it, and a number needs its word."""
         words = ONE.split()
         words[3], words[6] = words[6], words[3]
-        for typed, behind in [("e", "e "), ("4", "4 "), ("4 acid 7", "4 acid 7 ")]:
+        for typed, behind in [("e", ""), ("4", ""), ("4 acid 7", "4 acid 7 ")]:
             screen = Scripted(" ".join(words), typed, f"4 {words[6]} 7 {words[3]}")
             self.assertEqual(Entry(screen, None).read("Paper 1:"), ONE.split())
-            self.assertIn(say("entry.numbers", count=20), screen.told)
+            self.assertTrue(any(text.startswith(say("entry.numbers", count=20)) for text in screen.told), screen.told)
             self.assertEqual(screen.begun[-1], behind)
 
     def test_drop_sign(self):
@@ -323,6 +334,37 @@ class EntryTests(unittest.TestCase):
         found, screen = self.read("-", "12.", "")
         self.assertEqual((found, screen.told), ("", [say("entry.wordless")] * 2))
         self.assertEqual(self.read("\n".join(["- " + word for word in ONE.split()]).replace("\n", " "))[0], ONE)
+
+
+class PasteTests(unittest.TestCase):
+    """Which lines of a paste are of which paper."""
+
+    def found(self, text, wanted=None):
+        return [" ".join(word for _, word in parts_of(it)) for it in papers_in(text, wanted)]
+
+    def test_generated_pastes(self):
+        chance = random.Random(53)
+        for round in range(300):
+            papers = chance.choice([TWO, FIVE, [LONG]])
+            with self.subTest(round=round):
+                lines = [it for line in papers for it in [*typed_by(chance, line), *[""] * chance.randint(0, 2)]]
+                pasted = papers_in("\n".join(lines), None)
+                self.assertEqual([Entry(Scripted(it), None).read("Paper 1:") for it in pasted], [line.split() for line in papers])
+
+    def test_a_paper_that_is_not_sound(self):
+        """A paper that isn't sound ends before the next one that is, or that its first line announces, or at as many words as papers have."""
+        wrong = TWO[0].replace("always", "alwys")
+        rows = [" ".join(wrong.split()[at : at + 5]) for at in range(0, 20, 5)]
+        self.assertEqual(self.found(f"{wrong}\n{TWO[1]}\n"), [wrong, TWO[1]])
+        self.assertEqual(self.found("\n".join([*rows, TWO[1]])), [wrong, TWO[1]])
+        self.assertEqual(self.found("\n".join([*rows, "", *rows])), [wrong, wrong])
+        self.assertEqual(self.found("\n".join([*rows, "Paper 0.1", *rows])), [wrong, wrong])
+        self.assertEqual(self.found(f"{wrong}\nacid acid", 20), [wrong, "acid acid"])
+        self.assertEqual(self.found("\n".join(by_rows(wrong, 5) + by_rows(wrong, 5)))[0].count("alwys"), 1)
+
+    def test_nothing(self):
+        for text in ("", "\n\n", "- \n 12."):
+            self.assertEqual(self.found(text), [])
 
 
 class DeskTests(unittest.TestCase):
@@ -341,6 +383,15 @@ class DeskTests(unittest.TestCase):
         desk.clear()
         self.assertEqual(desk.left_out, 0)
 
+    def test_new_papers_have_another_identifier(self):
+        """Papers in place of others would be taken for one backup with these if the random bytes gave the old identifier."""
+        drawn = [bytes(14), bytes(14), b"\x80" + bytes(13), b"\x00\x01" + bytes(12)]
+        with unittest.mock.patch.object(shamir, "_random_for", lambda plan, count: drawn.pop(0)):
+            desk = Desk()
+            for line in shamir.create("2of3", bytes(16)):
+                desk.add(paper_of(line))
+            papers, _ = desk.make("2of3", bytearray(16), 0, False)
+        self.assertEqual((shamir.parse(desk.lines[0]).id, shamir.parse(papers[0].line).id, drawn), (0, 1, []))
 
     def test_read_in_full(self):
         """A paper that is read in full takes the place of the same one of which words were found, unless that one was written anew."""
@@ -440,7 +491,7 @@ class PlanTests(unittest.TestCase):
             ("3/1of1,1of1,2of2", "If one of the papers 0.0, 1.0 is lost, the secret is lost. If one paper of group 2 is lost, the secret is lost. In each of the groups 0, 1, one paper is enough: whoever finds it has the whole group."),
         ]:
             with self.subTest(plan=plan):
-                self.assertEqual(said_risks(plan_of(plan)), wanted)
+                self.assertEqual(f"{said_dangers(plan_of(plan))} {said_singles(plan_of(plan))}".strip(), wanted)
 
 
 def outcome(names, fingerprint):

@@ -23,13 +23,16 @@ from test_papers_keys import KeysAside  # noqa: E402
 
 SESSIONS = 200
 WORDS = shamir.words("")
-BACKUPS = [[ONE], TWO, FIVE, *(shamir.create(plan, bytes(16), random=bytes(shamir.random_needed(plan, 16))) for plan in ("2of3", "3of5", "1/1of1,2of3"))]
+PLANS = [("2of3", False), ("2of3", True), ("3of5", True), ("1/1of1,2of3", False)]
+BACKUPS = [[ONE], TWO, FIVE, *(shamir.create(plan, bytes(16), extendable=flag, random=bytes(shamir.random_needed(plan, 16))) for plan, flag in PLANS)]
 # What is no paper, and what answers no question well.
 NO_PAPERS = ["0 acid", "111 acid", "1 acid 1 acne", "-", "-0.0", "?", *(" ".join(map(str, range(1, count + 1))) for count in (20, 21))]
 SLIPS = [*NO_PAPERS, "b", "7 ?", "7", "y", "e", "p", "c", "1", "16", "0.1", "\x04", "\x1b[A", "\t", "é", "x" * 2001]
 # The ends of questions, and answers.
 ANSWERS = [
     (r"\(y/n", ["y", "y", "y", "n"]),
+    (r"1, 2 or 3 \(b: back\):", ["1", "2", "3", ""]),
+    (r"u: use this plan", ["u", "u", "u", "b"]),
     (r"1 or 2 \(b", ["1", "1", "2"]),
     (r"or a plan \(b", ["1", "2of2", "1of1", "2/2of2,1of1", "3of2"]),
     (r"\(Enter alone: 1\)", ["", "1", "2", "3", "m"]),
@@ -37,10 +40,11 @@ ANSWERS = [
     (r"(Passphrase|same again) ?", ["", "", "TREZOR", "b", " x"]),
     (r"The (same )?digits", ["00" * 16, "11" * 16, "1"]),
     (r"1 to 16; b", ["0", "1", "2", "3", "5", "16"]),
-    (r"Groups, such as", ["", "0", "1", "0.1"]),
-    (r"Which of these \(b", ["0.0", "0.1", "0.2", "1.0", "d", "p"]),
+    (r"The missing paper, such as", ["0.0", "0.1", "0.2", "1.0", "2", "d", "b"]),
+    (r"d: try the papers together\. b", ["d", "b"]),
+    (r"c: change the plan now", ["c", "c", "e", "b"]),
     (r"(Word \d+|Number and word|are missing)", ["?", "acid", "7 acid", "-", "", "", "12"]),
-    (r"", ["", "", "e", "p", "t", "c", "w", "1", "check", "replace"]),
+    (r"", ["", "", "e", "p", "t", "c", "w", "1", "check", "replace", "change"]),
 ]
 
 
@@ -51,7 +55,8 @@ class Guessed(KeysAside):
     def __init__(self, chance, count):
         super().__init__([])
         self.chance, self.count, self.is_careful = chance, count, chance.random() < 0.7
-        self.papers, self.written = [*chance.choice(BACKUPS)], {}
+        self.papers, self.written, self.noted = [*chance.choice(BACKUPS)], {}, ""
+        self.passphrase = ""
         self.columns = chance.choice([20, 40, 80])
 
     @property
@@ -62,7 +67,13 @@ class Guessed(KeysAside):
         self.shown = ""
 
     def drop_typed(self):
+        is_more, self.keys = bool(bytes(self.keys).strip()), []
+        return is_more
+
+    def pasted(self, into, most):
+        into += bytes(self.keys)
         self.keys = []
+        return False
 
     def heed_interrupt(self):
         pass
@@ -85,6 +96,16 @@ class Guessed(KeysAside):
             words = {int(number): word for number, word in re.findall(r"(\d+)\. ([a-z]+)", shown)}
             self.written[name[-1]] = " ".join(words[number] for number in sorted(words))
             return ""
+        if "I have noted it" in shown[-80:]:
+            self.noted = re.findall(r"fingerprint: ([0-9a-f]{8})", shown)[-1]
+            return ""
+        if re.search(r"fingerprint that you noted .{1,24}show it again", shown[-160:]):
+            return self.chance.choice([self.noted, self.noted, "df41d8fe", ""])
+        if "same again" in shown[-40:] or ("Type what you noted" in shown and "Passphrase (" in shown[-80:]):
+            return self.passphrase
+        if "Make a backup: the passphrase" in shown and "Passphrase (" in shown[-80:]:
+            self.passphrase = self.chance.choice(["", "TREZOR"])
+            return self.passphrase
         if re.search(r"(Paper \S+|damaged paper) \(", shown[-100:]) and self.chance.random() < 0.1:
             return self.chance.choice(NO_PAPERS)
         if re.search(r"Paper \S+ \(Enter alone: show", shown[-100:]):
@@ -113,12 +134,12 @@ class GeneratedTests(unittest.TestCase):
             desk, terminal = Desk(), Guessed(chance, chance.choice([10, 30, 100]))
             with self.subTest(session=number):
                 try:
-                    run(Screen(terminal), desk, chance.choice([None, "new", "replace", *RUN]), None)
+                    run(Screen(terminal), desk, chance.choice([None, "new", "replace", "change", *RUN]), None)
                 except Ended:
                     pass
             written.add(desk.written)
         # Papers were written in each task that writes some.
-        self.assertLessEqual({"made", "replaced", "repaired"}, written)
+        self.assertLessEqual({"made", "replaced", "changing", "repaired"}, written)
 
 
 if __name__ == "__main__":

@@ -54,6 +54,20 @@ FORGED = [
 ]
 # This would be member 3 of group 0 of the backup of FIVE, if PLAN gave that group four members. Another program made it.
 FOURTH = "academic aluminum acrobat marathon crisis luxury step activity teammate unfair fumes endorse always ranked alto problem mailman ounce teacher bumpy"
+# EXTENDABLE is a published vector. With the random bytes 0 to 25, SPLIT_ANEW is the backup by PLAN into which it is split anew. Its first
+# member has another first byte of its value in EXTENDABLE_FORGED. Another program made these two.
+EXTENDABLE = [
+    "enemy favorite academic acid cowboy phrase havoc level response walnut budget painting inside trash adjust froth kitchen learn tidy punish",
+    "enemy favorite academic always academic sniff script carpet romp kind promise scatter center unfair training emphasis evening belong fake enforce",
+]
+SPLIT_ANEW = [
+    "academic apart acrobat leaf diploma profile wireless fluff owner greatest romp tricycle window alarm disease mason argue junior briefing squeeze",
+    "academic apart acrobat lily campus welcome capture military elegant fiction beaver duration manual remember decision umbrella true evidence huge sharp",
+    "academic apart acrobat lungs clay airport debut stilt together alpha glance element fangs glimpse crowd exclude lunar axle spend diagnose",
+    "academic apart beard leader crowd envelope aquatic reject sister loyalty sunlight replace health frequent level crazy bundle document ticket birthday",
+    "academic apart ceramic leader alien hamster grasp strike jacket install artwork sidewalk sack fridge venture security method hairy ruin universe",
+]
+EXTENDABLE_FORGED = "enemy favorite academic always acid sniff script carpet romp kind promise scatter center unfair training emphasis evening crisis gasoline making"
 # With these random bytes, 2of3 gives the two mnemonics of TWO in reverse order, and one between them.
 TWO_RANDOM = bytes.fromhex("64359164e7a006aadd75179d6d5c")
 ROOT = pathlib.Path(__file__).resolve().parents[3]
@@ -314,6 +328,46 @@ class WorkedExamples(unittest.TestCase):
         with self.assertRaisesRegex(shamir.Refusal, "^66 cannot tell 0.1: 1 of 2 members, 1 of 2 other groups$"):
             shamir.reissue(PLAN, "0.1", [FIVE[0], FIVE[3]])
 
+    def test_resplit(self):
+        counting = bytes(range(26))
+        for lines in (EXTENDABLE, "\n".join(EXTENDABLE).encode(), [EXTENDABLE[1] + "\n", "# a note", *EXTENDABLE]):
+            self.assertEqual(shamir.resplit(PLAN, lines, random=counting), SPLIT_ANEW)
+        alone = "cleanup pecan academic academic broken exact editor public best party forecast darkness burning yelp window mama warmth market laundry response"
+        self.assertEqual(shamir.resplit(b"1of1", EXTENDABLE, random=bytearray(b"\x12\x34")), [alone])
+        secret = bytes.fromhex("48b1a4b80b8c209ad42c33672bdaa428")
+        for passphrase in ("TREZOR", "", "other"):
+            old = shamir.recover(EXTENDABLE, passphrase=passphrase)
+            self.assertEqual(old == secret, passphrase == "TREZOR")
+            self.assertEqual({it.secret for it in shamir.drill(SPLIT_ANEW, passphrase=passphrase)}, {old})
+        self.refused(31, None, (0, 0), shamir.resplit, "", "x")
+        self.refused(11, 1, (1, 0), shamir.resplit, PLAN, "x")
+        self.refused(29, None, (0, 0), shamir.resplit, PLAN, "", random=b"")
+        self.refused(30, None, (0, 1), shamir.resplit, PLAN, EXTENDABLE[:1], random=b"")
+        self.refused(51, None, (0, 0), shamir.resplit, PLAN, [EXTENDABLE[0], EXTENDABLE_FORGED])
+        self.refused(51, None, (0, 0), shamir.resplit, PLAN, MISMATCHED)
+        self.refused(67, None, (0, 0), shamir.resplit, PLAN, TWO)
+        self.refused(67, None, (0, 0), shamir.resplit, PLAN, TWO, random=b"")
+        for count in (0, 25, 27):
+            self.refused(43, None, (26, 0), shamir.resplit, PLAN, EXTENDABLE, random=bytes(count))
+        for first in (b"\x23\x6a", b"\xa3\x6a"):
+            self.refused(68, None, (0, 0), shamir.resplit, PLAN, EXTENDABLE, random=first + bytes(24))
+        with self.assertRaisesRegex(shamir.Refusal, "^67 backup isn't extendable$"):
+            shamir.resplit(PLAN, TWO)
+        with self.assertRaisesRegex(shamir.Refusal, "^68 same identifier$"):
+            shamir.resplit(PLAN, EXTENDABLE, random=b"\x23\x6a" + bytes(24))
+
+    def test_resplit_draws(self):
+        """Random bytes are drawn anew for each backup, and others if they give the identifier of the old one."""
+        self.assertEqual(len({tuple(shamir.resplit("2of3", EXTENDABLE)) for _ in range(3)}), 3)
+        same, counting = b"\x23\x6a" + bytes(24), bytes(range(26))
+        for draws in ([counting], [same, counting], [same] * 9 + [counting]):
+            with mock.patch.object(os, "urandom", side_effect=draws) as drawn:
+                self.assertEqual(shamir.resplit(PLAN, EXTENDABLE), SPLIT_ANEW)
+            self.assertEqual(drawn.mock_calls, [mock.call(26)] * len(draws))
+        with mock.patch.object(os, "urandom", return_value=same) as drawn:
+            self.refused(68, None, (0, 0), shamir.resplit, PLAN, EXTENDABLE)
+        self.assertEqual(drawn.call_count, 10)
+
     def test_status(self):
         found = shamir.status([FIVE[4], FIVE[2], FIVE[0], FIVE[2]])
         group = shamir.GroupStatus(0, 2, ("0.0", "0.2"))
@@ -323,6 +377,15 @@ class WorkedExamples(unittest.TestCase):
         self.assertFalse(shamir.status(TWO[:1]).enough)
         self.refused(29, None, (0, 0), shamir.status, "# a note")
         self.refused(21, 2, (0, 0), shamir.status, [ONE, TWO[0]])
+
+    def test_quorums(self):
+        self.assertEqual([shamir.quorums(lines) for lines in (ONE, TWO, TWO[:1], FIVE, [*FIVE, FIVE[0]], FIVE[:3])], [1, 1, 0, 7, 7, 0])
+        self.assertEqual(shamir.quorums(shamir.create("8of16", bytes(16), random=bytes(shamir.random_needed("8of16", 16)))), 12870)
+        most = "16/" + ",".join(["8of16"] * 16)
+        made = shamir.create(most, bytes(16), random=bytes(shamir.random_needed(most, 16)))
+        self.assertEqual(shamir.quorums(made), 2**64 - 1)
+        self.refused(29, None, (0, 0), shamir.quorums, "# a note")
+        self.refused(21, 2, (0, 0), shamir.quorums, [ONE, TWO[0]])
 
     def test_fingerprint(self):
         self.assertEqual(shamir.fingerprint(SECRET), "df41d8fe")
@@ -366,13 +429,14 @@ class WorkedExamples(unittest.TestCase):
     def test_short_slices(self):
         """A buffer that is one byte too short is refused with the length needed, and nothing is written."""
         library, key = shamir._library, (b"TREZOR", 6)
-        text, one = "\n".join(FIVE).encode(), ONE.encode()
+        text, one, extendable = "\n".join(FIVE).encode(), ONE.encode(), "\n".join(EXTENDABLE).encode()
         calls = [
             (16, lambda *room: library.shamir_parse(one, len(one), shamir._Share(), *room)),
             (715, lambda *room: library.shamir_create(PLAN.encode(), 16, SECRET, 16, *key, 0, 0, bytes(range(26)), 26, *room)),
             (16, lambda *room: library.shamir_recover(text, len(text), *key, 0, b"df41d8fe", 8, *room)),
             (41, lambda *room: library.shamir_status(one, len(one), *room)),
             (144, lambda *room: library.shamir_reissue(PLAN.encode(), 16, b"0.1", 3, text, len(text), *room)),
+            (144, lambda *room: library.shamir_resplit(b"1of1", 4, extendable, len(extendable), b"\x12\x34", 2, *room)),
             (len(one) + 1, lambda *room: library.shamir_repair(one, len(one), *room)),
             (8, lambda *room: library.shamir_fingerprint(SECRET, 16, *room)),
             (68, lambda *room: library.shamir_drill(text, len(text), *key, 0, None, 0, 1, 0, None, 0, *room)),
@@ -487,6 +551,8 @@ class WorkedExamples(unittest.TestCase):
                 lambda: shamir.reissue(bad, "0.0", FIVE),
                 lambda: shamir.reissue(PLAN, bad, FIVE),
                 lambda: shamir.reissue(PLAN, "0.0", [bad]),
+                lambda: shamir.resplit(bad, FIVE),
+                lambda: shamir.resplit(PLAN, [bad]),
             ]:
                 with self.assertRaises(ValueError) as raised:
                     call()
@@ -670,6 +736,8 @@ class WorkedExamples(unittest.TestCase):
         self.assertEqual(library.shamir_status(None, 0, None, 0).code, 29)
         self.assertEqual(library.shamir_reissue(None, 0, None, 0, None, 0, None, 0).code, 31)
         self.assertEqual(library.shamir_reissue(b"2of2", 4, None, 0, None, 0, None, 0).code, 63)
+        self.assertEqual(library.shamir_resplit(None, 0, None, 0, None, 0, None, 0).code, 31)
+        self.assertEqual(library.shamir_resplit(b"2of2", 4, None, 0, None, 0, None, 0).code, 29)
         self.assertEqual(library.shamir_fingerprint(None, 0, None, 0).code, 42)
         self.assertEqual(library.shamir_text(shamir._Answer(), None, 0).first, 4)
         answer = library.shamir_create(b"1of1", 4, SECRET, 16, None, 0, 0, 0, b"\x1f\x09", 2, None, 0)

@@ -4,7 +4,7 @@
 //! output has what the command writes to standard output and to standard error, both in this form.
 use shamir::{
     CreateOptions, Drill, Error, Found, Plan, RecoverOptions, Secret, Share, Status, create, create_with, fingerprint, parse,
-    recover, reissue, repair, status, words,
+    recover, reissue, repair, resplit, status, words,
 };
 use std::fmt::Write;
 use std::io::{self, BufRead};
@@ -129,6 +129,7 @@ fn answer(command: &str, values: &[Value]) -> Result<String, Error> {
         }
         ("status", [lines]) => Ok(statuses(&status(lines)?)),
         ("reissue", [plan, names, lines]) => Ok(reissue(&text(plan).parse()?, names, lines)?.as_str().into()),
+        ("resplit", [plan, random, lines]) => Ok(resplit(&text(plan).parse()?, lines, random)?.as_str().into()),
         ("repair", [line]) => Ok(repair(line)?.as_str().into()),
         _ => panic!("{command} has other values"),
     }

@@ -35,7 +35,11 @@ macro_rules! refusals {
         #[derive(Clone, Copy, Debug, PartialEq, Eq, Hash)]
         #[non_exhaustive]
         pub enum Error {
-            $($(#[$says])* $name $({ $($(#[$detail])* $field: $type),* })?,)*
+            $(
+                $(#[$says])*
+                #[doc = concat!("\n\nIts code is ", $code, ".")]
+                $name $({ $($(#[$detail])* $field: $type),* })?,
+            )*
             /// The library is a later one, and this version of the crate doesn't know its refusal.
             Other {
                 /// The code of the refusal.
@@ -240,6 +244,10 @@ refusals! {
         /// How many mnemonics are at hand for it.
         counts: Counts = second
     };
+    /// The mnemonics don't have the extendable flag, so they can't be split anew.
+    NotExtendable = 67;
+    /// The random bytes give the identifier that the mnemonics have.
+    SameIdentifier = 68;
     /// A line has more than 1,024 bytes.
     LineTooLong = 71 {
         /// The refused line, counted from 1.

@@ -61,6 +61,7 @@ unsafe extern "C" {
         secret_bytes: usize,
     ) -> Answer;
     fn shamir_status(lines: *const c_char, lines_bytes: usize, text: *mut c_char, text_bytes: usize) -> Answer;
+    fn shamir_quorums(lines: *const c_char, lines_bytes: usize) -> Answer;
     fn shamir_reissue(
         plan: *const c_char,
         plan_bytes: usize,
@@ -68,6 +69,16 @@ unsafe extern "C" {
         names_bytes: usize,
         lines: *const c_char,
         lines_bytes: usize,
+        mnemonics: *mut c_char,
+        mnemonics_bytes: usize,
+    ) -> Answer;
+    fn shamir_resplit(
+        plan: *const c_char,
+        plan_bytes: usize,
+        lines: *const c_char,
+        lines_bytes: usize,
+        random: *const u8,
+        random_bytes: usize,
         mnemonics: *mut c_char,
         mnemonics_bytes: usize,
     ) -> Answer;
@@ -209,11 +220,23 @@ pub(crate) fn status(lines: &[u8], room: &mut [u8]) -> Answer {
     unsafe { shamir_status(lines, lines_bytes, room, room_bytes) }
 }
 
+pub(crate) fn quorums(lines: &[u8]) -> Answer {
+    let (lines, lines_bytes) = of(lines);
+    // SAFETY: "A buffer is a pointer and a length in bytes."
+    unsafe { shamir_quorums(lines, lines_bytes) }
+}
+
 pub(crate) fn reissue(plan: &[u8], names: &[u8], lines: &[u8], room: &mut [u8]) -> Answer {
     let ((plan, plan_bytes), (names, names_bytes)) = (of(plan), of(names));
     let ((lines, lines_bytes), (room, room_bytes)) = (of(lines), room_of(room));
     // SAFETY: "An output buffer or an output struct must not overlap any other argument."
     unsafe { shamir_reissue(plan, plan_bytes, names, names_bytes, lines, lines_bytes, room, room_bytes) }
+}
+
+pub(crate) fn resplit(plan: &[u8], lines: &[u8], random: &[u8], room: &mut [u8]) -> Answer {
+    let ((plan, plan_bytes), (lines, lines_bytes), (room, room_bytes)) = (of(plan), of(lines), room_of(room));
+    // SAFETY: "An output buffer or an output struct must not overlap any other argument."
+    unsafe { shamir_resplit(plan, plan_bytes, lines, lines_bytes, random.as_ptr(), random.len(), room, room_bytes) }
 }
 
 pub(crate) fn repair(line: &[u8], room: &mut [u8]) -> Answer {

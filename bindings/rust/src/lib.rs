@@ -40,8 +40,14 @@
 //! # Without an allocator
 //!
 //! The crate uses neither `std` nor another crate. Without the feature `alloc`, which is on by default, it uses no allocator
-//! either. Then there are [`parse`], [`recover()`], [`status()`], [`fingerprint`], [`version()`], and the calls that write into the
-//! caller's room: [`create_into`], [`reissue_into`], [`repair_into`] and [`words_into`].
+//! of Rust either. Then there are [`parse`], [`recover()`], [`status()`], [`quorums()`], [`fingerprint`], [`version()`], and the calls that write into the
+//! caller's room: [`create_into`], [`reissue_into`], [`resplit_into`], [`repair_into`] and [`words_into`].
+//!
+//! # The library
+//!
+//! `build.rs` compiles the library as plain C, or links a `libshamir.a`: README.md says how to choose. As plain
+//! C, the library is proved up to the module for WebAssembly from which it is made, and each call takes a block of memory from
+//! `malloc` ([`Error::NoMemory`]).
 //!
 //! # Secrets in memory
 //!
@@ -67,9 +73,11 @@ mod ffi;
 mod mnemonics;
 mod name;
 mod plan;
+mod quorums;
 mod recover;
 mod reissue;
 mod repair;
+mod resplit;
 #[cfg(feature = "alloc")]
 mod room;
 mod secret;
@@ -97,6 +105,7 @@ pub use name::Name;
 pub use plan::Plan;
 #[cfg(feature = "alloc")]
 pub use plan::PlanBuilder;
+pub use quorums::quorums;
 pub use recover::{RecoverOptions, recover};
 #[cfg(feature = "alloc")]
 pub use reissue::reissue;
@@ -104,6 +113,9 @@ pub use reissue::reissue_into;
 #[cfg(feature = "alloc")]
 pub use repair::repair;
 pub use repair::{REPAIRED_BYTES_MAX, repair_into};
+pub use resplit::resplit_into;
+#[cfg(feature = "alloc")]
+pub use resplit::{resplit, resplit_with};
 pub use secret::{Fingerprint, SECRET_BYTES_MAX, SECRET_BYTES_MIN, Secret, fingerprint};
 pub use share::{Share, parse};
 pub use status::{GroupStatus, Status, status};

@@ -3,12 +3,13 @@
 mod given;
 
 use given::{
-    FIVE, FIVE_QUORUMS, FOURTH, MISMATCHED, MISMATCHED_GROUPS, MISMATCHED_SECOND, ONE, ONE_SECRET, PLAN, TWO, TWO_RANDOM,
-    TWO_SECRET, bytes, digits,
+    EXTENDABLE, FIVE, FIVE_QUORUMS, FOURTH, MISMATCHED, MISMATCHED_GROUPS, MISMATCHED_SECOND, ONE, ONE_SECRET, PLAN, SPLIT_ANEW,
+    TWO, TWO_RANDOM, TWO_SECRET, bytes, digits,
 };
 use shamir::{CreateOptions, Drill, Error, Found, Mismatch, Mnemonics, Name, Outcome, Plan, RecoverOptions, Secret};
 use shamir::{
-    create, create_into, create_with, fingerprint, parse, recover, reissue, reissue_into, repair, repair_into, status, words,
+    create, create_into, create_with, fingerprint, parse, quorums, recover, reissue, reissue_into, repair, repair_into, resplit,
+    resplit_with, status, words,
 };
 
 /// The fingerprint of the secret of `ONE`. It is the HMAC-SHA256 by another program.
@@ -258,6 +259,48 @@ fn lost_mnemonics_are_reissued() {
 }
 
 #[test]
+fn an_extendable_backup_is_split_anew() {
+    let (lines, random) = (EXTENDABLE.join("\n"), std::array::from_fn::<u8, 26, _>(|place| place as u8));
+    let made = resplit(&plan(PLAN), &lines, &random).unwrap();
+    assert!(made.iter().eq(SPLIT_ANEW));
+    for passphrase in ["TREZOR", "", "other"] {
+        let options = RecoverOptions::new().passphrase(passphrase);
+        let old = recover(&lines, &options).unwrap();
+        assert_eq!(old == secret("48b1a4b80b8c209ad42c33672bdaa428"), passphrase == "TREZOR");
+        assert!(outcomes(Drill::new(&made, &options)).iter().all(|outcome| outcome.found == Found::Secret(old.clone())));
+    }
+}
+
+/// The closure draws others for bytes that give the old identifier, but not without end.
+#[test]
+fn random_bytes_of_a_split_are_drawn_again() {
+    let (lines, random) = (EXTENDABLE.join("\n"), std::array::from_fn::<u8, 26, _>(|place| place as u8));
+    let split = |same| {
+        let mut drawn = 0;
+        let made = resplit_with::<Error>(&plan(PLAN), &lines, |room| {
+            drawn += 1;
+            room.copy_from_slice(&random);
+            if drawn <= same {
+                room[..2].copy_from_slice(&[0x23, 0x6a]);
+            }
+            Ok(())
+        });
+        (drawn, made)
+    };
+    for same in [0, 1, 9] {
+        let (drawn, made) = split(same);
+        assert_eq!(drawn, same + 1);
+        assert!(made.unwrap().iter().eq(SPLIT_ANEW));
+    }
+    let (drawn, made) = split(99);
+    assert_eq!((drawn, made.unwrap_err()), (10, Error::SameIdentifier));
+    let failed = resplit_with(&plan(PLAN), &lines, |_| Err(Error::NoMemory));
+    assert_eq!(failed.unwrap_err(), Error::NoMemory);
+    let refused = resplit_with::<Error>(&plan(PLAN), ONE, |_| panic!("nothing is drawn"));
+    assert_eq!(refused.unwrap_err(), Error::NotExtendable);
+}
+
+#[test]
 fn a_status_tells_the_members() {
     let found = status([FIVE[2], FIVE[0], FIVE[2], FIVE[3]].join("\n")).unwrap();
     assert_eq!((found.complete, found.required, found.is_enough()), (2, 2, true));
@@ -266,6 +309,12 @@ fn a_status_tells_the_members() {
     let names: Vec<String> = found.groups()[0].names().map(|name| name.to_string()).collect();
     assert_eq!(names, ["0.0", "0.2"]);
     assert!(format!("{found:?}").contains("GroupStatus { group: 0, threshold: 2, members: [0, 2] }"));
+}
+
+#[test]
+fn quorums_are_counted() {
+    assert_eq!([&FIVE[..], &FIVE[..3], &FIVE[2..]].map(|lines| quorums(lines.join("\n")).unwrap()), [7, 0, 1]);
+    assert_eq!(quorums("# a note").unwrap_err().code(), 29);
 }
 
 #[test]

@@ -93,6 +93,7 @@ mod in_heap {
     use given::{FIVE, ONE, TWO_RANDOM, bytes};
     use shamir::{
         CreateOptions, Drill, Error, Mnemonics, RecoverOptions, Secret, create, create_with, parse, recover, reissue, repair,
+        resplit_with,
     };
 
     fn trezor() -> RecoverOptions<'static> {
@@ -133,6 +134,8 @@ mod in_heap {
             Ok::<(), Error>(())
         };
         assert_eq!(left_by(|| create_with(&plan, &secret, &CreateOptions::new(), draw).unwrap()), 0);
+        let lines = create(&plan, &secret, &CreateOptions::new().extendable(true), &bytes(TWO_RANDOM)).unwrap();
+        assert_eq!(left_by(|| resplit_with(&plan, &lines, draw).unwrap()), 0);
         let failing = |room: &mut [u8]| draw(room).and(Err(Error::NoShares));
         assert_eq!(left_by(|| create_with(&plan, &secret, &CreateOptions::new(), failing).unwrap_err()), 0);
         let failing = |room: &mut [u8]| {

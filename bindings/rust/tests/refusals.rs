@@ -2,7 +2,9 @@
 #![cfg(feature = "alloc")]
 mod given;
 
-use given::{FIVE, MISMATCHED, MISMATCHED_GROUPS, MISMATCHED_SECOND, ONE, ONE_SECRET, PLAN, TWO, bytes};
+use given::{
+    EXTENDABLE as EXTENDABLE_TWO, FIVE, MISMATCHED, MISMATCHED_GROUPS, MISMATCHED_SECOND, ONE, ONE_SECRET, PLAN, TWO, bytes,
+};
 use shamir::{Counts, CreateOptions, Drill, Error, Mismatch, Name, Plan, RecoverOptions, Secret};
 use std::collections::BTreeSet;
 
@@ -60,6 +62,10 @@ fn drill_expecting(lines: &[&str], fingerprint: &str) -> Error {
 
 fn reissue(plan: &str, names: &str, lines: &[&str]) -> Error {
     shamir::reissue(&plan.parse().unwrap(), names, lines.join("\n")).unwrap_err()
+}
+
+fn resplit(plan: &str, lines: &[&str], random: &[u8]) -> Error {
+    shamir::resplit(&plan.parse().unwrap(), lines.join("\n"), random).unwrap_err()
 }
 
 /// Gives the refusals: what a call gives, what is right, the code, and the text after the code.
@@ -170,6 +176,19 @@ fn refusals() -> Vec<(Error, Error, u32, &'static str)> {
             66,
             "cannot tell 2.0: 0 of 1 members, 1 of 2 other groups",
         ),
+        (resplit(PLAN, &["x"], &[]), Error::UnknownWord { line: Some(1), position: 1 }, 11, "unknown word 1"),
+        (resplit(PLAN, &[], &[]), Error::NoShares, 29, "no shares"),
+        (resplit(PLAN, &FIVE[3..4], &[]), Error::Incomplete { complete: 1, required: 2 }, 30, "incomplete: 1 of 2 groups"),
+        (
+            resplit(PLAN, &MISMATCHED, &[]),
+            Error::DigestMismatch { mismatch: Mismatch::InGroup { group: 0 } },
+            51,
+            "digest mismatch in group 0",
+        ),
+        (resplit(PLAN, &FIVE, &[]), Error::NotExtendable, 67, "backup isn't extendable"),
+        (resplit(PLAN, &EXTENDABLE_TWO, &[0x23, 0x6a]), Error::RandomLength { needed: 26 }, 43, "random bytes: 26 needed"),
+        (resplit("1of1", &EXTENDABLE_TWO, &[0x23, 0x6a]), Error::SameIdentifier, 68, "same identifier"),
+        (resplit("1of1", &EXTENDABLE_TWO, &[0xa3, 0x6a]), Error::SameIdentifier, 68, "same identifier"),
         (recover(&[&"#".repeat(1025)]), Error::LineTooLong { line: Some(1) }, 71, "line too long"),
     ]
 }
@@ -186,7 +205,7 @@ fn each_refusal_has_its_details_and_its_text() {
 /// The header has the codes in lines such as `    SHAMIR_E_TOO_SHORT = 1,`.
 #[test]
 fn each_code_of_the_header_is_caused_above() {
-    let header = include_str!("../../../include/shamir.h");
+    let header = include_str!(env!("SHAMIR_HEADER"));
     let codes = header
         .lines()
         .filter_map(|line| line.strip_prefix("    SHAMIR_E_")?.split_once(" = ")?.1.split([',', ' ']).next()?.parse().ok());

@@ -7,7 +7,7 @@ use shamir::{Drill, Error, Found, Mnemonics, RecoverOptions, recover};
 
 /// The table has the vectors after empty lines. A vector is what comes of its mnemonics, and the mnemonics, one a line. What comes
 /// of them is their quorum and the secret, or a refusal; where their order tells, a second for the other order.
-const TABLE: &str = include_str!("../../../crates/s39_tests_backups/src/published.rt");
+const TABLE: &str = include_str!(env!("SHAMIR_VECTORS"));
 
 fn vectors() -> Vec<&'static str> {
     let (_, rest) = TABLE.split_once("const PUBLISHED: &str = \"").unwrap();

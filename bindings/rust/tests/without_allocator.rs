@@ -1,9 +1,9 @@
 //! The calls that need no allocator. These tests run without the feature `alloc` too.
 mod given;
 
-use given::{FIVE, FOURTH, ONE, ONE_SECRET, TWO, TWO_RANDOM, TWO_SECRET, bytes};
+use given::{EXTENDABLE, FIVE, FOURTH, ONE, ONE_SECRET, SPLIT_ANEW, TWO, TWO_RANDOM, TWO_SECRET, bytes};
 use shamir::{CreateOptions, Error, Plan, RecoverOptions, Secret, Share, fingerprint, parse, recover, status};
-use shamir::{REPAIRED_BYTES_MAX, create_into, reissue_into, repair_into, words_into};
+use shamir::{REPAIRED_BYTES_MAX, create_into, reissue_into, repair_into, resplit_into, words_into};
 
 fn plan(text: &str) -> Plan {
     text.parse().unwrap()
@@ -38,6 +38,22 @@ fn lost_and_unreadable_mnemonics_are_written() {
     assert_eq!(repair_into(ONE.replace("duckling", "d?"), &mut room), Ok(format!("{ONE}\n").as_str()));
     assert_eq!(words_into("Emp", &mut room), Ok("emperor\nemphasis\nemployer\nempty\n"));
     assert_eq!(words_into("q!", &mut room), Ok(""));
+}
+
+#[test]
+fn an_extendable_backup_is_split_anew() {
+    let (plan, lines) = (plan("2/2of3,1of1,1of1"), EXTENDABLE.join("\n"));
+    let random: [u8; 26] = std::array::from_fn(|place| place as u8);
+    let mut room = [7; 1000];
+    let written = resplit_into(&plan, &lines, &random, &mut room).map(|text| {
+        assert!(text.lines().eq(SPLIT_ANEW));
+        text.len()
+    });
+    let written = written.unwrap();
+    assert!(room[written..].iter().all(|&byte| byte == 7));
+    let mut short = vec![7; written - 1];
+    assert_eq!(resplit_into(&plan, &lines, &random, &mut short), Err(Error::TooShort { needed: written as u64 }));
+    assert!(short.iter().all(|&byte| byte == 7));
 }
 
 #[test]

@@ -129,17 +129,22 @@ def read_values(secret: Optional[str], passphrase: Optional[str], data: Input) -
 def in_file(name: Optional[str]) -> Optional[bytes]:
     if name is None or name == INPUT:
         return None
+    return value_of(name, first_bytes(name, VALUE_ROOM))
+
+
+def first_bytes(name: str, most: int) -> bytes:
+    """Return the bytes of the file of this name, at most so many."""
     try:
         with open(os.fsencode(name), "rb", buffering=0) as file:
-            return value_of(name, whole(file.fileno()))
+            return whole(file.fileno(), most)
     except OSError as error:
         raise ValueFailed(name, reason_of(error), 3) from None
 
 
-def whole(descriptor: int) -> bytes:
+def whole(descriptor: int, most: int) -> bytes:
     data = b""
-    while len(data) < VALUE_ROOM:
-        more = os.read(descriptor, VALUE_ROOM - len(data))
+    while len(data) < most:
+        more = os.read(descriptor, most - len(data))
         if not more:
             break
         data += more

@@ -20,7 +20,9 @@ def of_program() -> str:
 
 def of_command(command: Command) -> str:
     """Return the text of `--help` of a command."""
-    words = ["shamir", command.name, *["[OPTIONS]"] * bool(command.options), *(f"<{it.name}>" for it in command.positionals)]
+    others = ["[OPTIONS]"] * any(not option.required for option in command.options)
+    required = [in_words(option) for option in command.options if option.required]
+    words = ["shamir", command.name, *others, *required, *(f"<{it.name}>" for it in command.positionals)]
     sections = [("Options", rows([in_help(option) for option in (*command.options, HELP)]))]
     if command.positionals:
         sections.insert(0, ("Arguments", rows([(f"<{it.name}>", it.text) for it in command.positionals])))
@@ -30,6 +32,11 @@ def of_command(command: Command) -> str:
 def page(about: str, usage: str, sections: Sequence[Tuple[str, str]], after: str) -> str:
     parts = [about, f"Usage: {usage}", *(f"{title}:\n{lines}" for title, lines in sections), after]
     return "\n\n".join(parts) + "\n"
+
+
+def in_words(option: Option) -> str:
+    """Return how texts call an option with a value."""
+    return f"--{option.name} <{option.value}>"
 
 
 def in_help(option: Option) -> Tuple[str, str]:

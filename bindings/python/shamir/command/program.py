@@ -7,7 +7,7 @@ from typing import Callable, Dict, List, Tuple
 import shamir
 from shamir.command import devices, help_texts
 from shamir.command.devices import DeviceFailed, Input, ValueFailed, Values, say
-from shamir.command.runs import NoHex, Job, run_create, run_drill, run_recover, run_reissue, run_repair, run_show, run_status
+from shamir.command.runs import NoHex, Job, run_create, run_drill, run_recover, run_reissue, run_repair, run_resplit, run_show, run_status
 from shamir.command.table import EXPECT_OF_DRILL, MASTER_SECRET, MASTER_SECRET_FILE, PASSPHRASE, PASSPHRASE_FILE
 from shamir.command.words import BadWords, Call, NoWords, Told, read_words
 
@@ -21,6 +21,7 @@ RUNS: Dict[str, Callable[[Job], bool]] = {
     "status": run_status,
     "reissue": run_reissue,
     "repair": run_repair,
+    "resplit": run_resplit,
 }
 
 TYPED = "shamir: random bytes aren't typed: pass them in, as with head -c N /dev/urandom | shamir create ..\n"

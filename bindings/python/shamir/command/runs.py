@@ -9,7 +9,7 @@ import shamir
 from shamir import Code, Refusal
 from shamir.command import devices
 from shamir.command.devices import Input
-from shamir.command.table import AFTER, EXPECT_OF_DRILL, EXPECT_OF_RECOVER, EXPONENT, EXTENDABLE, FINGERPRINT, LIMIT
+from shamir.command.table import AFTER, EXPECT_OF_DRILL, EXPECT_OF_RECOVER, EXPONENT, EXTENDABLE, FINGERPRINT, LIMIT, RANDOM_FILE
 from shamir.command.words import Call
 
 T = TypeVar("T")
@@ -18,6 +18,8 @@ TYPING = "shamir: type a mnemonic on each line, then press Ctrl-D on an empty li
 HEX = re.compile(rb"(?:[0-9A-Fa-f]{2})*")
 # The first part of a drill has so many quorums, and each part twice as many as the one before.
 FIRST_PART = 8
+# The most random bytes that a backup takes.
+RANDOM_BYTES_MAX = 32574
 
 
 class NoHex(Exception):
@@ -118,6 +120,19 @@ def run_reissue(job: Job) -> bool:
         return shamir.reissue(plan, names, lines)
 
     write_lines(reissued(job.lines(reissued)))
+    return True
+
+
+def run_resplit(job: Job) -> bool:
+    plan, name = job.call.positionals[0], job.call.values[RANDOM_FILE.name]
+    # The library refuses a plan that is none, before the file is read.
+    shamir.random_needed(plan, 16)
+    random = devices.first_bytes(name, RANDOM_BYTES_MAX + 1)
+
+    def split(lines: bytes) -> List[str]:
+        return shamir.resplit(plan, lines, random=random)
+
+    write_lines(split(job.lines(split)))
     return True
 
 

@@ -18,7 +18,7 @@ class Positional:
 
 @dataclass(frozen=True)
 class Option:
-    """An option. Without a name for its value, it is a flag. A number has a range and a default."""
+    """An option. Without a name for its value, it is a flag. A number has a range and a default. An option can be required."""
 
     name: str
     value: Optional[str]
@@ -27,6 +27,7 @@ class Option:
     least: int = 0
     most: Optional[int] = None
     letter: Optional[str] = None
+    required: bool = False
 
 
 @dataclass(frozen=True)
@@ -86,6 +87,12 @@ EXPECT_OF_RECOVER = Option(
 EXPECT_OF_DRILL = Option(
     "expect", "FINGERPRINT", "Print whether each secret has this fingerprint instead of the secret (other users can see it)"
 )
+RANDOM_FILE = Option(
+    "random-file",
+    "FILE",
+    "Read the random bytes from FILE: exactly as many as create takes for this plan and secret",
+    required=True,
+)
 HELP = Option("help", None, "Print help", letter="h")
 VERSION = Option("version", None, "Print version", letter="V")
 
@@ -127,5 +134,12 @@ COMMANDS = (
         "repair",
         "Find the mnemonics that fit each line on standard input, in which up to three words can't be read",
         MARKS + "Example: shamir repair < damaged.txt",
+    ),
+    Command(
+        "resplit",
+        "Create another backup of the same secret from mnemonics of an extendable one",
+        LINES + "Example: shamir resplit 2of3 --random-file random.bin < mnemonics.txt",
+        (PLAN,),
+        (RANDOM_FILE,),
     ),
 )

@@ -9,7 +9,8 @@ from dataclasses import dataclass, field
 from typing import Dict, List, Optional, Sequence, Set, Union
 
 from shamir.command import help_texts
-from shamir.command.table import COMMANDS, HELP, VERSION, Command, Option
+from shamir.command.devices import INPUT
+from shamir.command.table import COMMANDS, HELP, RANDOM_FILE, VERSION, Command, Option
 
 NUMBER = re.compile(r"([+-]?)0*([0-9]{1,19})")
 TRY_HELP = "\n\nFor more information, try '--help'.\n"
@@ -179,9 +180,10 @@ def number_of(text: str) -> Optional[int]:
 
 def check(call: Call) -> None:
     """Refuse a call that lacks a word, or has options that exclude one another."""
-    missing = call.command.positionals[len(call.positionals) :]
+    missing = [help_texts.in_words(it) for it in call.command.options if it.required and it.name not in call.values]
+    missing += [f"<{it.name}>" for it in call.command.positionals[len(call.positionals) :]]
     if missing:
-        raise BadWords("the following required arguments were not provided: " + " ".join(f"<{it.name}>" for it in missing))
+        raise BadWords("the following required arguments were not provided: " + " ".join(missing))
     given = {*call.values, *call.flags}
     secrets = "--master-secret <HEX> and --master-secret-file <FILE>"
     if call.command.name == "create" and not given & {"master-secret", "master-secret-file"}:
@@ -192,3 +194,5 @@ def check(call: Call) -> None:
         raise BadWords("--passphrase <TEXT> and --passphrase-file <FILE> can't be given together")
     if call.command.name == "drill" and {"expect", "fingerprint"} <= given:
         raise BadWords("--expect <FINGERPRINT> and --fingerprint can't be given together")
+    if call.value(RANDOM_FILE) == INPUT:
+        raise BadWords("--random-file <FILE> can't be -: standard input has the mnemonics")

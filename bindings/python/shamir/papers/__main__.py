@@ -8,8 +8,10 @@ import sys
 from typing import Callable, Dict, List, NoReturn, Optional
 
 from shamir.papers import safety
+from shamir.papers.change import change_plan
 from shamir.papers.check import check_papers
 from shamir.papers.desk import Desk
+from shamir.papers.help import show_help
 from shamir.papers.new import make_backup
 from shamir.papers.recover import recover_secret
 from shamir.papers.repair import read_damaged
@@ -17,6 +19,7 @@ from shamir.papers.replace import replace_paper
 from shamir.papers.screen import Back, Screen, wrapped
 from shamir.papers.terminal import Ended, Terminal
 from shamir.papers.texts import TASKS, say
+from shamir.papers.what import tell_paper
 
 import shamir
 
@@ -26,14 +29,19 @@ COMMANDS = {
     "check": "shamir drill --fingerprint",
     "recover": "shamir recover",
     "replace": "shamir reissue",
+    "change": "shamir resplit",
     "repair": "shamir repair",
+    "what": "shamir show",
 }
 RUN: Dict[str, Callable[[Screen, Desk], None]] = {
     "check": check_papers,
     "recover": recover_secret,
     "replace": replace_paper,
+    "change": change_plan,
     "repair": read_damaged,
+    "what": tell_paper,
 }
+HELP = "help"
 DESCRIPTION = "Makes paper backups of a wallet's secret (SLIP-0039), checks them, recovers from them, and replaces papers. It asks step by step."
 
 
@@ -49,7 +57,7 @@ def words_of_command() -> argparse.ArgumentParser:
     for name, key in TASKS.items():
         task = tasks.add_parser(name, help=say(f"{key}.hint"), description=say(f"{key}.hint"), allow_abbrev=False)
         if name == "new":
-            task.add_argument("plan", metavar="PLAN", nargs="?", type=readable, help="which papers are enough, such as 2of3, or 2/3of5,1of1 with groups")
+            task.add_argument("plan", metavar="PLAN", nargs="*", type=readable, help="which papers are enough, such as 2of3, or 2/3of5,1of1 with groups")
     return parser
 
 
@@ -76,13 +84,17 @@ def prepare(screen: Screen, kind: str, forbidden: List[str]) -> None:
 
 
 def ask_task(screen: Screen) -> str:
-    screen.clear(say("home.title"))
-    for number, (name, key) in enumerate(TASKS.items(), 1):
-        screen.item(f"{say(key)} ({name}). {say(f'{key}.hint')}", f"{number}  ")
-    screen.gap()
-    screen.tell(say("names.sentence"))
     numbers = {str(number): name for number, name in enumerate(TASKS, 1)}
-    return screen.choose(say("home.choose"), {**numbers, **{name: name for name in TASKS}})
+    while True:
+        screen.clear(say("home.title"))
+        for number, (name, key) in enumerate(TASKS.items(), 1):
+            screen.item(f"{say(key)} ({name}). {say(f'{key}.hint')}", f"{number}  ")
+        screen.gap()
+        screen.tell(say("names.sentence"))
+        chosen = screen.choose(say("home.choose"), {**numbers, **{name: name for name in TASKS}, "h": HELP})
+        if chosen != HELP:
+            return chosen
+        show_help(screen)
 
 
 def run(screen: Screen, desk: Desk, task: Optional[str], plan: Optional[str]) -> None:
@@ -111,9 +123,9 @@ def said_end(written: str) -> str:
 
 
 def said_close(written: str) -> str:
-    """Says that the task ended. New papers are no backup, and a damaged paper is to be kept, until a drill has shown that the words are
-    right."""
-    return say(f"closed.{written}" if written in ("repaired", "unfinished") else "closed")
+    """Says that the task ended. New papers are no backup, and a damaged paper or old ones are to be kept, until a drill has shown that the
+    words are right."""
+    return say(f"closed.{written}" if written in ("repaired", "changing", "unfinished") else "closed")
 
 
 def told(terminal: Terminal, text: str) -> None:
@@ -142,7 +154,8 @@ def main() -> None:
         terminal.open()
         screen = Screen(terminal)
         prepare(screen, kind, forbidden)
-        run(screen, desk, args.task, getattr(args, "plan", None))
+        # A plan may be typed with spaces, such as 2 of 3.
+        run(screen, desk, args.task, "".join(getattr(args, "plan", [])).replace(" ", "") or None)
     except Ended as by:
         ended = by.number
     except Exception:

@@ -118,6 +118,5 @@ def _tell_tried(screen: Screen, desk: Desk, verdict: Verdict) -> None:
 
 def ask_next(screen: Screen, likely: str) -> str:
     """Asks whether to end ('e'), to try again with the same papers ('t'), or to go back to the papers ('p'). A good result needs no
-    second try."""
-    answers = {"e": "e", "p": "p"} if likely == "good" else {"e": "e", "t": "t", "p": "p"}
-    return screen.choose(say(f"next.{likely}"), answers, {"again": "t", "papers": "p"}.get(likely, "e"))
+    second try. Enter alone is no answer, so that none that was pressed too often takes a result away."""
+    return screen.choose(say(f"next.{likely}"), {it: it for it in ("ep" if likely == "good" else "etp")})

@@ -1,14 +1,16 @@
 """The papers that are typed, one after the other, and what they are together."""
 from __future__ import annotations
 
-from typing import Iterator, Optional
+from typing import Iterator, List, Optional
 
 import shamir
 from shamir.papers.desk import Desk, Paper
 from shamir.papers.entry import Entry
+from shamir.papers.judged import begin, judge, tell_judged
+from shamir.papers.paste import Pasted, ask_whole
 from shamir.papers.refusals import said_foreign
 from shamir.papers.screen import Screen
-from shamir.papers.spelling import DROP, beginning, parts_of
+from shamir.papers.spelling import DROP, parts_of
 from shamir.papers.texts import counted, one_or_many, say
 
 
@@ -17,7 +19,7 @@ def collect(screen: Screen, desk: Desk, title: str, intro: str, task: str = "", 
     complete. `typed` is what the owner has typed of the next paper."""
     screen.clear(title)
     screen.tell(intro)
-    entry = Entry(screen, len(desk.papers[0].words) if desk.papers else None, leave=desk.leave_out)
+    entry = Entry(screen, _wanted(desk), leave=desk.leave_out, takes_several=True)
     if desk.papers:
         screen.tell(f"{say('collect.found')}:")
         for here in desk.papers:
@@ -26,21 +28,58 @@ def collect(screen: Screen, desk: Desk, title: str, intro: str, task: str = "", 
         show_status(screen, desk, task)
     else:
         screen.tell(say("entry.how"))
+    # Papers that were pasted and aren't taken yet.
+    left: List[str] = []
     while True:
-        number = len(desk.papers) + 1
-        prompt = say("entry.paper" if desk.papers else "entry.paper.first", number=number)
-        marks, typed = entry.read(prompt, typed, has_back=not desk.papers), ""
-        if marks and marks[0].startswith(DROP):
-            _drop(screen, desk, marks[0][len(DROP) :], task)
-        elif marks:
-            paper = entry.paper(marks)
-            if paper is not None:
-                _take(screen, desk, title, paper, task)
-        elif desk.papers:
+        if not typed and left:
+            typed = left.pop(0)
+            screen.clear(title)
+            screen.tell(say("paste.now", begin=begin(typed)))
+        try:
+            is_more = _collect_one(screen, desk, title, entry, task, typed)
+        except Pasted as pasted:
+            left += _take_pasted(screen, desk, title, entry, pasted.texts, task)
+            is_more = True
+        if not is_more and not left:
             return
-        else:
-            screen.tell(say("collect.none"), "bad")
-        entry.wanted = len(desk.papers[0].words) if desk.papers else None
+        typed, entry.wanted = "", _wanted(desk)
+
+
+def _wanted(desk: Desk) -> Optional[int]:
+    """Returns how many words each paper has, if one is here."""
+    return len(desk.papers[0].words) if desk.papers else None
+
+
+def _collect_one(screen: Screen, desk: Desk, title: str, entry: Entry, task: str, typed: str) -> bool:
+    """Lets the owner type a paper, or take one out. Returns whether the owner goes on with that."""
+    prompt = say("entry.paper" if desk.papers else "entry.paper.first", number=len(desk.papers) + 1)
+    marks = entry.read(prompt, typed, has_back=not desk.papers)
+    if marks and marks[0].startswith(DROP):
+        _drop(screen, desk, marks[0][len(DROP) :], task)
+    elif marks:
+        paper = entry.paper(marks)
+        if paper is not None:
+            _take(screen, desk, title, paper, task)
+    elif desk.papers:
+        return False
+    else:
+        screen.tell(say("collect.none"), "bad")
+    return True
+
+
+def _take_pasted(screen: Screen, desk: Desk, title: str, entry: Entry, texts: List[str], task: str) -> List[str]:
+    """Takes the papers of a paste that are right, and says what is taken and what isn't. Returns the texts of those that the owner can
+    mend."""
+    judged = judge(desk, entry, texts)
+    if desk.papers and not screen.is_held:
+        screen.hold(say("end.typed"))
+    screen.clear(title)
+    tell_judged(screen, judged)
+    if desk.papers:
+        show_status(screen, desk, task)
+    if judged.left:
+        screen.pause(say("paste.mend"))
+    return judged.left
 
 
 def _take(screen: Screen, desk: Desk, title: str, paper: Paper, task: str) -> None:
@@ -54,7 +93,7 @@ def _take(screen: Screen, desk: Desk, title: str, paper: Paper, task: str) -> No
         screen.hold(say("end.typed"))
     screen.clear(title)
     key = "collect.repeated" if not is_new else "collect.row.repaired" if paper.is_repaired else "collect.taken"
-    screen.tell(say(key, name=paper.name, words=len(paper.words)), "good" if key == "collect.taken" else "bad")
+    screen.tell(say(key, name=paper.name, words=len(paper.words)), "bad" if key == "collect.row.repaired" else "")
     show_status(screen, desk, task)
 
 
@@ -80,7 +119,7 @@ def show_status(screen: Screen, desk: Desk, task: str = "") -> None:
     status, count = desk.status(), desk.papers[0].group_count
     for row in _rows(status, count):
         screen.item(row)
-    screen.tell(said_whole(status, count, task), "good" if status.enough else "")
+    screen.tell(said_whole(status, count, task), "strong" if status.enough else "")
 
 
 def _rows(status: shamir.Status, count: int) -> Iterator[str]:
@@ -131,7 +170,7 @@ def ask_for_more(screen: Screen, desk: Desk, title: str, told: str, is_fault: bo
     screen.clear(title)
     sound = [paper.name for paper in desk.papers if not paper.is_repaired]
     if sound:
-        screen.tell(say("check.sound", papers=counted(len(sound), "paper"), names=", ".join(sound)), "good")
+        screen.tell(say("check.sound", papers=counted(len(sound), "paper"), names=", ".join(sound)))
     for paper in desk.papers:
         if paper.is_repaired:
             screen.tell(say("collect.row.repaired", name=paper.name, words=len(paper.words)), "bad")
@@ -143,10 +182,10 @@ def ask_for_more(screen: Screen, desk: Desk, title: str, told: str, is_fault: bo
 
 
 def _ask_more(screen: Screen) -> Optional[str]:
-    """Asks whether to end or to type more. A paper that is typed here is the next one."""
+    """Asks whether to end or to type more. Papers that are typed here are the next ones."""
     words = shamir.words("")
     while True:
-        typed = screen.ask(say("more.papers"), lambda letters: beginning(words, letters)).strip()
+        typed = ask_whole(screen, say("more.papers")).strip()
         if typed.lower() == "e":
             return None
         parts = parts_of(typed)

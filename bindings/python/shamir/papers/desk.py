@@ -28,6 +28,7 @@ class Paper:
     group_count: int
     group_threshold: int
     member_threshold: int
+    is_extendable: bool = False
     is_repaired: bool = False
     is_rewritten: bool = False
 
@@ -46,7 +47,7 @@ def paper_of(line: str) -> Paper:
     share = shamir.parse(line)
     name = f"{share.group_index}.{share.member_index}"
     counts = share.group_count, share.group_threshold, share.member_threshold
-    return Paper(line, name, share.group_index, share.exponent, len(share.value), *counts)
+    return Paper(line, name, share.group_index, share.exponent, len(share.value), *counts, is_extendable=share.extendable)
 
 
 def find_fault(line: str) -> None:
@@ -56,7 +57,7 @@ def find_fault(line: str) -> None:
 
 def is_same(one: Paper, other: Paper) -> bool:
     """Whether two papers spell the same share."""
-    return shamir.parse(one.line) == shamir.parse(other.line)
+    return one.name == other.name and shamir.parse(one.line) == shamir.parse(other.line)
 
 
 def resembles(one: Sequence[str], other: Sequence[str]) -> bool:
@@ -85,7 +86,8 @@ class Desk:
         self._left: List[List[str]] = []
         # The papers that were written anew. One that is taken out and typed once more is still such a paper.
         self._anew: List[Paper] = []
-        # What the papers are that were shown to be written: 'unfinished' (of a new backup), 'made', 'replaced' or 'repaired'.
+        # What the papers are that were shown to be written: 'unfinished' (of a new backup), 'changing' (in place of old ones),
+        # 'made', 'replaced' or 'repaired'.
         self.written = ""
 
     def clear(self) -> None:
@@ -148,9 +150,16 @@ class Desk:
         return shamir.status(self.lines)
 
     def make(self, plan: str, secret: bytearray, exponent: int, extendable: bool) -> Tuple[List[Paper], str]:
-        """Makes a backup. Returns its papers, and the fingerprint of the secret."""
-        lines = shamir.create(plan, secret, passphrase=self.passphrase, exponent=exponent, extendable=extendable)
-        return [paper_of(line) for line in lines], shamir.fingerprint(secret)
+        """Makes a backup. Returns its papers, and the fingerprint of the secret. If papers are here, the new ones have another identifier,
+        so that nobody takes both for one backup."""
+        while True:
+            lines = shamir.create(plan, secret, passphrase=self.passphrase, exponent=exponent, extendable=extendable)
+            if not self.papers or shamir.parse(lines[0]).id != shamir.parse(self.lines[0]).id:
+                return [paper_of(line) for line in lines], shamir.fingerprint(secret)
+
+    def resplit(self, plan: str) -> List[Paper]:
+        """Makes the papers of another plan for the same secrets, one for each passphrase. Their identifier is another one."""
+        return [paper_of(line) for line in shamir.resplit(plan, self.lines)]
 
     def reissue(self, plan: str, name: str) -> Paper:
         return paper_of(shamir.reissue(plan, name, self.lines)[0])

@@ -4,8 +4,8 @@ from __future__ import annotations
 import functools
 import threading
 import time
-from dataclasses import dataclass
-from typing import Iterable, List, Optional, Sequence, Tuple
+from dataclasses import dataclass, field
+from typing import Callable, Iterable, List, Optional, Sequence, Tuple
 
 import shamir
 from shamir.papers.desk import Desk, Paper, derivation_seconds
@@ -22,13 +22,17 @@ NAMED_MAX = 8
 class Verdict:
     """What a drill found: 'good', 'stopped', or that all quorums give another secret than the expected one ('other'), that none gives
     it ('none'), that some don't ('some'), or that they give several secrets ('several'). With it the sentences that say so, the names of
-    the papers that were tried, and of those that are in a right quorum, and whether a passphrase was typed."""
+    the papers that were tried, and of those that are in a right quorum, and whether a passphrase was typed. `is_own` says that the
+    secret wasn't compared with what the owner noted, but with the one that was just backed up. `fingerprint` is that of the right
+    secret, as far as it is known."""
 
     result: str
     sentences: List[str]
     names: Tuple[str, ...] = ()
     right: Tuple[str, ...] = ()
     has_passphrase: bool = True
+    is_own: bool = False
+    fingerprint: str = field(default="", repr=False)
 
 
 def measured() -> float:
@@ -38,10 +42,24 @@ def measured() -> float:
     return time.monotonic() - begun
 
 
-def warned_time(screen: Screen, paper: Paper) -> None:
-    """Says how long one recovery takes, if that is long."""
-    if paper.exponent >= LONG_EXPONENT:
-        screen.tell(say("time.long", exponent=paper.exponent, time=said_time(derivation_seconds(measured(), paper.exponent, paper.secret_bytes))))
+def remaining(seconds: float) -> Callable[[], str]:
+    """Returns a call that says how long a work still takes, if it takes so many seconds from now."""
+    end = time.monotonic() + seconds
+
+    def said() -> str:
+        left = end - time.monotonic()
+        return say("work.left", time=said_time(left)) if left > 0 else say("work.longer")
+
+    return said
+
+
+def warned_time(screen: Screen, paper: Paper) -> Callable[[], str]:
+    """Says how long one recovery takes, if that is long. Returns a call that says how much of one is left, if it begins now."""
+    if paper.exponent < LONG_EXPONENT:
+        return lambda: ""
+    seconds = derivation_seconds(measured(), paper.exponent, paper.secret_bytes)
+    screen.tell(say("time.long", exponent=paper.exponent, time=said_time(seconds)))
+    return remaining(seconds)
 
 
 def run_drill(screen: Screen, desk: Desk, noted: str, is_own: bool = False) -> Verdict:
@@ -92,8 +110,9 @@ def verdict_of(tried: Sequence[Tried], total: int, noted: str, is_own: bool, is_
         sentences = [say("verdict.other.none", quorums=counted(len(tried), "quorum"), noted=noted)]
     if is_stopped or len(tried) != total:
         sentences.insert(0, say("drill.part", tried=f"{len(tried):,}", total=f"{total:,}"))
-    right = _names(it for it in tried if gives(it, _wanted(noted, found)))
-    return Verdict("stopped" if is_stopped else result, sentences, _names(tried), right, has_passphrase)
+    wanted = _wanted(noted, found)
+    right = _names(it for it in tried if gives(it, wanted))
+    return Verdict("stopped" if is_stopped else result, sentences, _names(tried), right, has_passphrase, is_own, wanted)
 
 
 def _wanted(noted: str, found: List[Tuple[str, int]]) -> str:

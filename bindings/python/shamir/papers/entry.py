@@ -5,11 +5,12 @@ is typed, and what was typed stays: what has no place stands again behind the qu
 """
 from __future__ import annotations
 
-from typing import Callable, Dict, List, Optional, Sequence
+from typing import Callable, Dict, List, Optional, Sequence, Tuple
 
 import shamir
 from shamir.papers.desk import Paper, find_fault, paper_of
 from shamir.papers.found import ask_paper
+from shamir.papers.paste import Pasted, ask_whole, papers_in
 from shamir.papers.refusals import said_refusal, wrong_word
 from shamir.papers.screen import Screen
 from shamir.papers.spelling import DROP, Part, beginning, continued, has_idle_number, nearest, numbers_of, parts_of, placed, read, said_empty, seems_bip39, taken_out
@@ -21,8 +22,8 @@ FEW, MANY = 20, 33
 UNKNOWN_PART = 3
 # From so many words on, that can be told.
 TOLD_LEAST = 4
-# Within this time after a line, only a paste has another.
-PASTE_SECONDS = 0.05
+# So many words, such as a number and its word, are typed again sooner than they are changed.
+SHORT = 2
 
 
 class Begun(Exception):
@@ -32,7 +33,7 @@ class Begun(Exception):
 class Entry:
     """Reads papers. `wanted` is how many words each has, if that is known. `task` has its own words for some refusals. `show` shows the
     paper again that is typed back, if it is one: then no question mark may stand for letters. `leave` takes the words of a paper that the
-    owner begins again or leaves out."""
+    owner begins again or leaves out. `takes_several` says that several papers may be pasted at once."""
 
     def __init__(
         self,
@@ -41,7 +42,9 @@ class Entry:
         task: str = "",
         show: Optional[Callable[[], None]] = None,
         leave: Callable[[List[str]], None] = lambda words: None,
+        takes_several: bool = False,
     ):
+        self._takes_several = takes_several
         self._screen, self.wanted, self._task, self._show, self._leave = screen, wanted, task, show, leave
         # What was typed so far, and by their numbers the words that a question mark has taken the place of.
         self._marks: List[str] = []
@@ -57,18 +60,18 @@ class Entry:
         paste is no Enter.
 
         If a paper is to be taken out, returns the sign for that with its name. `typed` was typed before, as an answer to this question.
-        `has_back` says that the owner may go back instead.
+        `has_back` says that the owner may go back instead. Raises Pasted if several papers are pasted at once, and may be.
         """
         while True:
             is_pasted = self._screen.is_pasted(0)
-            text, typed = typed or self._ask(prompt, has_back=has_back), ""
+            text, typed = self._one_of(typed or ask_whole(self._screen, prompt, has_back)), ""
             name = taken_out(text)
             if name is not None:
                 return [DROP + name]
             parts, self._is_continued, self._is_told = parts_of(text), False, False
             self._marks, self.replaced = [], {}
             if not text.strip():
-                if is_pasted or self._screen.is_pasted(PASTE_SECONDS):
+                if is_pasted or "\n" in text:
                     continue
                 return []
             try:
@@ -107,30 +110,59 @@ class Entry:
             self._dropped()
             return []
 
+    def _one_of(self, text: str) -> str:
+        """Returns the only paper that was typed or pasted, or the first of several. Raises Pasted if several may be taken."""
+        texts = papers_in(text, self.wanted)
+        if len(texts) > 1:
+            if self._takes_several:
+                raise Pasted(texts)
+            self._screen.tell_seen(say("paste.only", papers=counted(len(texts), "paper")))
+        return texts[0] if texts else text
+
+    def judged(self, text: str) -> Tuple[Optional[Paper], str]:
+        """Returns the paper that a text is, or why it is none that is sound."""
+        marks, misplaced = placed([], parts_of(text))
+        words = [self._read(mark) or "" for mark in marks]
+        count = len(words)
+        if misplaced:
+            return None, say("paste.gap", number=misplaced[0].number)
+        for number, (mark, word) in enumerate(zip(marks, words), 1):
+            if not mark:
+                return None, say("paste.gap", number=number)
+            if not word:
+                return None, self._unknown(number, mark)
+        refusal = self._refused(words)
+        if refusal is not None:
+            is_count = refusal.code == shamir.Code.WORD_COUNT or self.wanted not in (None, count)
+            return None, said_count(count, self.wanted) if is_count else said_refusal(refusal, self._task)
+        return (None, say("paste.open")) if "?" in " ".join(words) else (paper_of(" ".join(words)), "")
+
     def _ask(self, prompt: str, begun: str = "", has_back: bool = False) -> str:
         return self._screen.ask(prompt, lambda letters: beginning(self._list, letters), has_back, begun)
 
     def _asked(self, prompt: str, begun: str = "") -> str:
         """Asks for a part of a paper. The owner may begin the paper again instead."""
         text = self._ask(prompt, begun)
-        if text.strip() == DROP:
+        # The sign may stand behind what was refused, and stands in the line again.
+        if text.strip() == DROP or (begun and text.split()[-1:] == [DROP]):
             raise Begun
         return text
 
     def _until_placed(self, prompt: str, change: Callable[[List[Part]], Optional[List[str]]], fault: str) -> List[str]:
-        """Asks until what is typed has a place. What has none stands again behind the question. A paper that is typed back may be shown
-        again."""
+        """Asks until what is typed has a place. What has none stands again behind the question if it is long. A paper that is typed back
+        may be shown again."""
         begun = ""
         while True:
             text = self._asked(prompt, begun)
-            begun = f"{text.rstrip()} " if text.strip() else ""
-            if not begun and self._show is not None:
+            if not text.strip() and self._show is not None:
                 self._show()
+                begun = ""
                 continue
             changed = None if has_idle_number(text) else change([(number, self._read(mark) or mark) for number, mark in parts_of(text)])
             if changed is not None:
                 return changed
-            self._fault(fault)
+            begun = f"{text.rstrip()} " if len(text.split()) > SHORT else ""
+            self._fault(f"{fault} {say('entry.stays')}" if begun else fault)
 
     def _prompt(self, number: Optional[int] = None) -> str:
         """Returns the question for the word with this number, or for words that the owner names by their numbers."""

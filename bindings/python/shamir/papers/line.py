@@ -7,7 +7,7 @@ from __future__ import annotations
 import signal
 from typing import Callable, List, Optional
 
-from shamir.papers.terminal import Ended, Terminal
+from shamir.papers.terminal import UNSHOWN, Ended, Terminal
 
 ENTER, ESCAPE, TAB, SPACE = (10, 13), 27, 9, 32
 END_OF_INPUT, BACKSPACE, ERASE_LINE, ERASE_WORD = 4, (8, 127), 21, 23
@@ -150,5 +150,5 @@ class Line:
 
 
 def _shown(data: bytes) -> str:
-    """Returns what a terminal shows of these bytes: one sign for each character, and ? for what isn't ASCII."""
-    return "".join(chr(byte) if SPACE <= byte < 127 else "?" for byte in data if byte & 0xC0 != 0x80)
+    """Returns what a terminal shows of these bytes: one sign for each character, and always the same for what isn't ASCII."""
+    return "".join(chr(byte) if SPACE <= byte < 127 else UNSHOWN for byte in data if byte & 0xC0 != 0x80)

@@ -66,9 +66,17 @@ def _groups(plan: Plan) -> Iterator[str]:
         yield "; ".join(said) + "."
 
 
-def said_risks(plan: Plan) -> str:
-    """Says which papers may not be lost, and which are enough alone. If there are none, says nothing."""
-    return " ".join([*_losses(plan), *_thefts(plan)])
+def said_dangers(plan: Plan) -> str:
+    """Says which papers may not be lost, and which are the whole secret. If there are none, says nothing."""
+    single = _singles(plan) if plan.needed == 1 else []
+    found = [say(f"plan.found.{one_or_many(single)}", names=", ".join(f"{at}.0" for at in single))] if single else []
+    return " ".join([*_losses(plan), *found])
+
+
+def said_singles(plan: Plan) -> str:
+    """Says of which groups one paper is enough, if that isn't the whole secret. If there are none, says nothing."""
+    single = _singles(plan)
+    return say(f"plan.found.group.{one_or_many(single)}", groups=", ".join(map(str, single))) if single and plan.needed > 1 else ""
 
 
 def _losses(plan: Plan) -> Iterator[str]:
@@ -83,15 +91,21 @@ def _losses(plan: Plan) -> Iterator[str]:
             yield say("plan.lost.any" if len(plan.groups) == 1 else "plan.lost.group", group=at)
 
 
-def _thefts(plan: Plan) -> Iterator[str]:
-    """Says where one paper is enough."""
-    groups = [at for at, (needed, _) in enumerate(plan.groups) if needed == 1]
-    if not groups:
-        return
-    if plan.needed == 1:
-        yield say(f"plan.found.{one_or_many(groups)}", names=", ".join(f"{at}.0" for at in groups))
-    else:
-        yield say(f"plan.found.group.{one_or_many(groups)}", groups=", ".join(map(str, groups)))
+def _singles(plan: Plan) -> List[int]:
+    """Returns the groups of which one paper is enough."""
+    return [at for at, (needed, _) in enumerate(plan.groups) if needed == 1]
+
+
+def said_survives(plan: Plan) -> str:
+    """Says how many papers may be lost or stolen, whichever they are, so that the others are enough, and a thief hasn't enough."""
+    lost = sum(sorted(members - needed + 1 for needed, members in plan.groups)[: len(plan.groups) - plan.needed + 1]) - 1
+    stolen = sum(sorted(needed for needed, _ in plan.groups)[: plan.needed]) - 1
+    return " ".join([*_survived("lost.safe", lost), *_survived("stolen.safe", stolen)])
+
+
+def _survived(key: str, count: int) -> Iterator[str]:
+    if count:
+        yield say(f"{key}.one" if count == 1 else f"{key}.many", n=count)
 
 
 def said_takes(plan: Plan, name: str) -> str:

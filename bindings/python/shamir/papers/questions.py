@@ -5,10 +5,13 @@ import re
 
 import shamir
 from shamir.papers.desk import Desk
-from shamir.papers.line import wipe
+from shamir.papers.line import LENGTH_MAX, wipe
 from shamir.papers.refusals import said_refusal
 from shamir.papers.screen import BACK, Back, Screen
 from shamir.papers.texts import say
+
+# `shamir --passphrase-file` reads no longer passphrase.
+PASSPHRASE_MAX = 1024
 
 
 def _fault_of(passphrase: bytearray) -> str:
@@ -21,11 +24,11 @@ def _fault_of(passphrase: bytearray) -> str:
     return ""
 
 
-def _ask_right(screen: Screen, prompt: str, has_back: bool) -> bytearray:
-    """Asks for a passphrase until the library takes it."""
+def ask_right(screen: Screen, prompt: str, has_back: bool, most: int = LENGTH_MAX) -> bytearray:
+    """Asks for a passphrase until the library takes it, and it has at most so many bytes."""
     while True:
         typed = screen.ask_hidden(prompt)
-        fault = _fault_of(typed)
+        fault = say("new.passphrase.long", most=f"{most:,}") if len(typed) > most else _fault_of(typed)
         if not fault and _is_meant(screen, typed, has_back):
             return typed
         wipe(typed)
@@ -50,7 +53,7 @@ def ask_passphrase(screen: Screen, desk: Desk) -> str:
     the papers."""
     screen.tell(say("passphrase.why"))
     while True:
-        desk.set_passphrase(_ask_right(screen, say("passphrase.ask"), True))
+        desk.set_passphrase(ask_right(screen, say("passphrase.ask"), True))
         try:
             noted = ask_noted(screen)
         except Back:
@@ -78,7 +81,7 @@ def ask_new_passphrase(screen: Screen, has_back: bool) -> bytearray:
     screen.tell(say("passphrase.new"))
     screen.tell(say("passphrase.hint"))
     while True:
-        first = _ask_right(screen, say("new.passphrase"), has_back)
+        first = ask_right(screen, say("new.passphrase"), has_back, PASSPHRASE_MAX)
         if not first:
             if screen.agree(say("new.passphrase.none"), has_back, is_hidden=True):
                 return first
@@ -89,16 +92,21 @@ def ask_new_passphrase(screen: Screen, has_back: bool) -> bytearray:
         screen.tell(say("passphrase.differ"), "bad")
 
 
-def ask_noted(screen: Screen) -> str:
-    """Asks for the fingerprint that was noted. Returns an empty text if there is none. The owner may go back."""
+def cleaned(typed: str) -> str:
+    """Returns a fingerprint as it was typed, without spaces and in small letters."""
+    return re.sub(r"\s", "", typed).lower()
+
+
+def ask_noted(screen: Screen, key: str = "noted.ask", may_lack: bool = True) -> str:
+    """Asks for the fingerprint that was noted. Returns an empty text if there is none, and may be none. The owner may go back."""
     while True:
-        typed = re.sub(r"\s", "", screen.ask(say("noted.ask"), has_back=True)).lower()
-        if not typed or _is_fingerprint(typed):
+        typed = cleaned(screen.ask(say(key), has_back=True))
+        if is_fingerprint(typed) or (not typed and may_lack):
             return typed
-        screen.tell(say("noted.wrong"), "bad")
+        screen.tell(say("noted.wrong" if may_lack else "noted.again.wrong"), "bad")
 
 
-def _is_fingerprint(typed: str) -> bool:
+def is_fingerprint(typed: str) -> bool:
     """Whether the library takes a fingerprint. Without papers it compares none."""
     try:
         shamir.recover([], expect=typed)

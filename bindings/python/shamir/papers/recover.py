@@ -36,26 +36,25 @@ def _recover(screen: Screen, desk: Desk) -> str:
             noted = ask_passphrase(screen, desk)
         except Back:
             return "p"
-        screen.gap()
-        warned_time(screen, desk.papers[0])
         has_passphrase = bool(desk.passphrase)
-        found = _recovered(screen, desk)
-        answer = _tell(screen, desk, found, noted, has_passphrase) if isinstance(found, bytearray) else _tell_failed(screen, found)
+        found = recovered(screen, desk)
+        desk.forget_passphrase()
+        answer = _tell(screen, desk, found, noted, has_passphrase) if isinstance(found, bytearray) else tell_failed(screen, found)
         if answer != "t":
             return answer
 
 
-def _recovered(screen: Screen, desk: Desk) -> Union[bytearray, Stopped, shamir.Refusal]:
-    """Returns the secret, or why there is none."""
+def recovered(screen: Screen, desk: Desk) -> Union[bytearray, Stopped, shamir.Refusal]:
+    """Returns the secret, or why there is none. Says how long that takes, if it is long."""
+    screen.gap()
+    left = warned_time(screen, desk.papers[0])
     try:
-        return screen.work(desk.recover, is_stoppable=True)
+        return screen.work(desk.recover, left, is_stoppable=True)
     except (Stopped, shamir.Refusal) as error:
         return error
-    finally:
-        desk.forget_passphrase()
 
 
-def _tell_failed(screen: Screen, error: Union[Stopped, shamir.Refusal]) -> str:
+def tell_failed(screen: Screen, error: Union[Stopped, shamir.Refusal]) -> str:
     """Says why nothing was recovered. Returns what the owner wants then."""
     screen.tell(say("recover.failed"), "strong")
     if isinstance(error, Stopped):

@@ -8,13 +8,12 @@ from shamir.papers.texts import counted, has_text, one_or_many, say
 
 
 def said_refusal(refusal: shamir.Refusal, task: str = "") -> str:
-    """Says a refusal in words, with the number that it has in the manual."""
+    """Says a refusal in words."""
     code, (first, second) = int(refusal.code), refusal.details
     name = f"refused.{code}{_form(refusal)}"
     key = next(key for key in (f"{task}.{name}", name, "refused.other") if has_text(key))
     is_undetermined = code == shamir.Code.UNDETERMINED
-    told = _undetermined(first, second, task) if is_undetermined else say(key, first=first, second=second, text=refusal.text)
-    return say("refused.number", told=told, code=code)
+    return _undetermined(first, second, task) if is_undetermined else say(key, first=first, second=second, text=refusal.text)
 
 
 def _form(refusal: shamir.Refusal) -> str:
@@ -27,8 +26,7 @@ def said_foreign(refusal: shamir.Refusal, repaired: Sequence[str], is_repaired: 
     wrong."""
     if not repaired and not is_repaired:
         return said_refusal(refusal)
-    told = say("refused.repaired.new") if is_repaired else say(f"refused.repaired.{one_or_many(repaired)}", names=", ".join(repaired))
-    return say("refused.number", told=told, code=int(refusal.code))
+    return say("refused.repaired.new") if is_repaired else say(f"refused.repaired.{one_or_many(repaired)}", names=", ".join(repaired))
 
 
 def _undetermined(first: int, second: int, task: str) -> str:

@@ -60,7 +60,7 @@ def _tell(screen: Screen, fits: List[Paper], marks: List[str], typed: Mapping[in
     is_two = len(fits) > 1
     if not fits:
         return screen.choose(say("damaged.menu.none"), {"c": "change", "t": "again", "e": "end"})
-    screen.tell(say("damaged.two") if is_two else say("damaged.one", name=fits[0].name), "good")
+    screen.tell(say("damaged.two") if is_two else say("damaged.one", name=fits[0].name), "strong")
     if is_two:
         screen.tell(say("damaged.two.why"))
         screen.tell(say("damaged.two.which"))

@@ -9,15 +9,17 @@ import signal
 import textwrap
 import threading
 import time
-from typing import Callable, Dict, Generic, Iterable, List, Optional, Sequence, TypeVar
+from typing import Callable, Dict, Generic, Iterable, List, Optional, Sequence, Tuple, TypeVar
 
-from shamir.papers.line import Completer, Line, first_key, wipe
-from shamir.papers.terminal import Ended, Terminal
+from shamir.papers.line import ENTER, Completer, Line, first_key, wipe
+from shamir.papers.terminal import Ended, Resized, Terminal
 from shamir.papers.texts import said_time, say
 
 T = TypeVar("T")
 
+# 'good' says that something was compared with what the owner noted, and is equal, and nothing else.
 STYLES = {"title": "1", "good": "32", "bad": "31", "strong": "1"}
+SIGNS = {"good": "[ok] ", "bad": "[!] "}
 WIDTH_MIN, WIDTH_MAX = 20, 76
 COLUMNS_MAX = 4
 STACK_BYTES = 1 << 20
@@ -45,7 +47,9 @@ class Screen:
         self._terminal = terminal
         self._is_coloured = not terminal.is_plain and not os.environ.get("NO_COLOR")
         self._rows = 0
-        self._notice = ""
+        self._notice = self._notice_style = ""
+        # What was told since the last question, and must be seen.
+        self._unseen: List[Tuple[str, str]] = []
         # What was typed where the screen was full: the begin of the next answer.
         self._begun = bytearray()
         # What would be lost if the owner ended now.
@@ -70,8 +74,10 @@ class Screen:
         self._terminal.clear()
         self._rows = 0
         self.tell(title, "title")
+        for told in self._unseen if title else []:
+            self.tell(*told)
         if title and self._notice:
-            self.tell(self._notice, "good")
+            self.tell(self._notice, self._notice_style)
             self._notice = ""
 
     def hold(self, text: str) -> None:
@@ -105,16 +111,23 @@ class Screen:
             except Ended as by:
                 self._stay(by)
 
-    def tell_next(self, text: str) -> None:
+    def tell_seen(self, text: str, style: str = "bad") -> None:
+        """Shows a paragraph, and shows it again on the next screens until the owner was asked something."""
+        self.tell(text, style)
+        self._unseen.append((text, style))
+
+    def tell_next(self, text: str, style: str = "") -> None:
         """Shows a paragraph on the next screen, after its title."""
-        self._notice = text
+        self._notice, self._notice_style = text, style
 
     def gap(self) -> None:
         self._line("", "")
 
     def tell(self, text: str, style: str = "") -> None:
-        """Shows a paragraph, and an empty line after it."""
-        self.rows(wrapped(text, self._width), style)
+        """Shows a paragraph, and an empty line after it. A sign tells the styles apart without their colours."""
+        sign = SIGNS.get(style, "")
+        rows = wrapped(text, self._width - len(sign))
+        self.rows([(sign if not at else " " * len(sign)) + row for at, row in enumerate(rows)], style)
         self.gap()
 
     def item(self, text: str, mark: str = "- ") -> None:
@@ -141,8 +154,7 @@ class Screen:
         height = -(-len(cells) // columns)
         if self._rows + height > self._terminal.size.lines - 4:
             # All words are to be seen at once.
-            self._more()
-            self._terminal.clear()
+            self._more(clears=True)
         self.rows("".join(cell.ljust(room) for cell in cells[row::height]).rstrip() for row in range(height))
         self.gap()
 
@@ -175,6 +187,7 @@ class Screen:
             line = Line(self._terminal, last + " ", complete, is_hidden, begun)
             typed = self._held_on(line.read)
             self._rows = 0
+            self._unseen.clear()
             if not line.is_cut:
                 return typed
             wipe(typed)
@@ -184,6 +197,14 @@ class Screen:
     def is_pasted(self, seconds: float) -> bool:
         """Whether more is typed within this time, as only a paste can be so soon."""
         return self._terminal.is_typed(seconds)
+
+    def pasted(self, most: int) -> Tuple[str, bool]:
+        """Returns the rest of a paste, up to so many bytes, and whether there was more. Keys that move or erase are left out."""
+        read = bytearray()
+        is_cut = self._terminal.pasted(read, most)
+        text = "".join(it for it in read.decode("utf-8", "replace") if it in "\n\t" or it.isprintable())
+        wipe(read)
+        return text, is_cut
 
     def choose(self, prompt: str, answers: Dict[str, T], default: Optional[str] = None, has_back: bool = False, is_hidden: bool = False) -> T:
         """Asks until one of the answers is given, or none if there is a default. A hidden answer doesn't show."""
@@ -199,47 +220,60 @@ class Screen:
         how = say("screen.yes.back" if has_back else "screen.yes")
         return self.choose(f"{prompt} {how}", {"y": True, "yes": True, "n": False, "no": False}, has_back=has_back, is_hidden=is_hidden)
 
-    def pause(self, prompt: str, tells_size: bool = False) -> bool:
-        """Waits for Enter, and returns whether it came alone. What was typed before doesn't count. With `tells_size`, raises Resized if
-        the terminal gets another size."""
+    def redrawn(self, draw: Callable[[], T]) -> T:
+        """Returns what a call gives that shows a screen. If the terminal gets another size before that, it is called again."""
+        while True:
+            self._terminal.tells_size = True
+            try:
+                return draw()
+            except Resized:
+                continue
+            finally:
+                self._terminal.tells_size = False
+
+    def pause(self, prompt: str) -> bool:
+        """Waits for Enter, and returns whether it came alone. What was typed before doesn't count."""
         self.drop_typed()
-        self._terminal.tells_size = tells_size
-        try:
-            typed = self._read(prompt, None, True)
-        finally:
-            self._terminal.tells_size = False
+        typed = self._read(prompt, None, True)
         is_alone = not typed.strip()
         wipe(typed)
         return is_alone
 
-    def _more(self) -> None:
-        """Waits until the owner has read what is shown, and takes the question for that away. A key other than Enter goes on too, and
-        is the first one of the answer to the question that follows."""
-        self._terminal.drop_typed()
+    def _more(self, clears: bool = False) -> None:
+        """Waits until the owner has read what is shown, and takes the question for that away, or the whole screen. A key other than Enter
+        goes on too, and is the first one of the answer to the question that follows."""
+        is_dropped = self._terminal.drop_typed()
         self._terminal.write(say("screen.more") + " ")
         self._begun += self._held_on(lambda: first_key(self._terminal))
         self._terminal.write("\n" if self._terminal.is_plain else "\r\x1b[J")
+        if clears:
+            self._terminal.clear()
         self._rows = 0
+        self._unseen.clear()
+        if is_dropped:
+            self.tell_seen(say("screen.dropped"))
 
     def drop_typed(self) -> None:
-        """Drops what was typed and not read, such as the rest of a paste that the owner doesn't see."""
+        """Drops what was typed and not read, such as the rest of a paste that the owner doesn't see, and says so."""
+        is_dropped = bool(self._begun.strip())
         wipe(self._begun)
         self._begun = bytearray()
-        self._terminal.drop_typed()
+        if self._terminal.drop_typed() or is_dropped:
+            self.tell_seen(say("screen.dropped"))
 
     def work(self, call: Callable[[], T], progress: Callable[[], str] = lambda: "", is_stoppable: bool = False) -> T:
         """Returns what a call of the library gives, or raises its error. Meanwhile the screen shows the time that has passed.
 
         The call runs beside the owner's keys and signals. If the owner stops it, its result is dropped when it comes.
         """
+        self.drop_typed()
         work: Work[T] = Work(call)
         begun, told = time.monotonic(), 0
-        self.drop_typed()
         while not work.ended.wait(0.05):
             self._held_on(self._terminal.heed_interrupt)
             passed = time.monotonic() - begun
-            if is_stoppable and self._terminal.is_typed(0) and self._terminal.key() in b"\r\n":
-                raise Stopped
+            if is_stoppable and self._terminal.is_typed(0):
+                self._heed_key(work)
             if passed >= SHOWN_AFTER and int(passed) > told:
                 told = int(passed)
                 stop = say("work.stop") if is_stoppable else ""
@@ -247,6 +281,17 @@ class Screen:
         if told:
             self._row("")
         return work.result()
+
+    def _heed_key(self, work: Work[T]) -> None:
+        """Raises Stopped if the key is Enter, and the owner means it. The work goes on meanwhile."""
+        if self._terminal.key() not in ENTER:
+            self.drop_typed()
+            self.tell(say("work.key"))
+            return
+        self._row("")
+        self.drop_typed()
+        if self.agree(say("work.sure")) and not work.ended.is_set():
+            raise Stopped
 
     def _row(self, text: str) -> None:
         """Shows a text in the last row, in place of what it showed before."""

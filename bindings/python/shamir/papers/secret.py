@@ -3,10 +3,11 @@ the fingerprint that the owner noted, since a backup of another secret looks lik
 from __future__ import annotations
 
 from dataclasses import dataclass
+from typing import List, Tuple
 
 import shamir
-from shamir.papers.desk import derivation_seconds, drawn
-from shamir.papers.drill import LONG_EXPONENT, measured
+from shamir.papers.desk import Desk, Paper, derivation_seconds, drawn
+from shamir.papers.drill import LONG_EXPONENT, measured, remaining
 from shamir.papers.line import wipe
 from shamir.papers.questions import ask_noted
 from shamir.papers.quorums import Tried, gives
@@ -26,7 +27,7 @@ class Choices:
     is_own: bool = False
     has_passphrase: bool = False
     exponent: int = EXPONENT
-    extendable: bool = True
+    extendable: bool = False
 
 
 def ask_secret(screen: Screen, choices: Choices) -> bytearray:
@@ -47,16 +48,32 @@ def ask_secret(screen: Screen, choices: Choices) -> bytearray:
             continue
 
 
+def ask_wallet(screen: Screen, title: str, choices: Choices) -> None:
+    """Asks which wallet will read the papers. The answer says whether they get the extendable flag. The owner may go back."""
+    screen.clear(title)
+    screen.tell(say("wallet.legend"))
+    for number, key in enumerate(["flag", "older", "unknown"], 1):
+        screen.item(f"{say(f'wallet.{key}')}. {say(f'wallet.{key}.hint')}", f"{number}  ")
+    screen.gap()
+    screen.tell(say("wallet.what"))
+    choices.extendable = screen.choose(say("new.wallet"), {"1": True, "2": False, "3": False}, has_back=True)
+
+
+def make_papers(screen: Screen, desk: Desk, plan: str, secret: bytearray, choices: Choices) -> Tuple[List[Paper], str]:
+    """Makes the papers of a backup, and returns them with the fingerprint of the secret. If that is long, the owner may stop it."""
+    if choices.exponent < LONG_EXPONENT:
+        return screen.work(lambda: desk.make(plan, secret, choices.exponent, choices.extendable))
+    seconds = derivation_seconds(measured(), choices.exponent, len(secret))
+    screen.tell(say("time.about", time=said_time(seconds)))
+    return screen.work(lambda: desk.make(plan, secret, choices.exponent, choices.extendable), remaining(seconds), is_stoppable=True)
+
+
 def _ask_more(screen: Screen, choices: Choices) -> None:
-    """Asks for the extendable flag and the iteration exponent."""
-    screen.tell(say("more.extendable.hint"))
-    extendable = screen.choose(say("new.flag"), {"y": True, "yes": True, "n": False, "no": False}, "y", has_back=True)
+    """Asks for the iteration exponent."""
     screen.tell(say("more.exponent.hint"))
     screen.tell(say("more.time", time=said_time(derivation_seconds(measured(), EXPONENT, 16))) + " " + say("new.exponent.each"))
     choices.exponent = _ask_exponent(screen)
-    choices.extendable = extendable
-    flag = say("new.flag.set" if choices.extendable else "new.flag.unset")
-    screen.tell(say("new.chosen", flag=flag, exponent=choices.exponent))
+    screen.tell(say("new.chosen", exponent=choices.exponent))
 
 
 def _ask_exponent(screen: Screen) -> int:
@@ -75,6 +92,7 @@ def _ask_exponent(screen: Screen) -> int:
 def _ask_own(screen: Screen) -> bytearray:
     """Returns the owner's secret, which has the fingerprint that was noted, if there is one. The owner may go back to the choice."""
     screen.tell(say("secret.digits.hint"))
+    screen.tell(say("plan.short"))
     while True:
         secret = _ask_twice(screen)
         screen.tell(say("new.secret.count", digits=2 * len(secret), bytes=len(secret)))
@@ -84,13 +102,21 @@ def _ask_own(screen: Screen) -> bytearray:
         except Back:
             wipe(secret)
             raise
-        fingerprint = shamir.fingerprint(secret)
-        if not noted or gives(Tried((), fingerprint, None), noted):
-            if noted:
-                screen.tell_next(say("secret.same"))
+        if not noted or _is_noted(screen, shamir.fingerprint(secret), noted):
             return secret
         wipe(secret)
+
+
+def _is_noted(screen: Screen, fingerprint: str, noted: str) -> bool:
+    """Whether digits have the noted fingerprint. If not, the owner types the fingerprint again, or goes back to the digits."""
+    while not gives(Tried((), fingerprint, None), noted):
         screen.tell(say("secret.other", fingerprint=fingerprint, noted=noted), "bad")
+        try:
+            noted = ask_noted(screen, "noted.again", may_lack=False)
+        except Back:
+            return False
+    screen.tell_next(say("secret.same"), "good")
+    return True
 
 
 def _ask_twice(screen: Screen) -> bytearray:

@@ -3,11 +3,12 @@ from __future__ import annotations
 
 import dataclasses
 from dataclasses import dataclass
+from typing import Sequence
 
 from shamir.papers.desk import Desk, Paper, is_same
 from shamir.papers.entry import Entry
+from shamir.papers.plan import Plan, said_takes
 from shamir.papers.screen import Screen
-from shamir.papers.terminal import Resized
 from shamir.papers.spelling import DROP
 from shamir.papers.texts import say
 
@@ -27,20 +28,19 @@ class Shown:
 def show_paper(screen: Screen, shown: Shown) -> None:
     """Shows a paper until the owner has written it down, and clears it. Words that are typed too early clear nothing."""
     fault = ""
-    while True:
+
+    def draw() -> bool:
         screen.clear(shown.title("paper.title"))
         if fault:
             screen.tell(fault, "bad")
         screen.tell(shown.takes)
         screen.tell(say("paper.how"))
         screen.words(shown.paper.words)
-        try:
-            if screen.pause(say("new.write.plain" if screen.is_plain else "new.write"), tells_size=True):
-                break
-            fault = say("new.write.alone")
-        except Resized:
-            # The words are laid out anew.
-            continue
+        return screen.pause(say("new.write.plain" if screen.is_plain else "new.write"))
+
+    # In a terminal of another size, the words are laid out anew.
+    while not screen.redrawn(draw):
+        fault = say("new.write.alone")
     screen.clear("")
 
 
@@ -88,3 +88,17 @@ def write_and_type_back(screen: Screen, desk: Desk, paper: Paper, takes: str) ->
     shown = Shown(paper, takes)
     show_paper(screen, shown)
     type_back(screen, desk, shown)
+
+
+def write_all(screen: Screen, desk: Desk, plan: Plan, papers: Sequence[Paper]) -> None:
+    """Shows the papers of a new backup one after the other, and then lets the owner type each back."""
+    count = len(papers)
+    shown = [Shown(paper, said_takes(plan, paper.name), say("paper.place", number=number, count=count)) for number, paper in enumerate(papers, 1)]
+    for it in shown:
+        show_paper(screen, it)
+    screen.clear(say("back.begin.title"))
+    screen.tell(say("back.begin"))
+    screen.pause(say("screen.next"))
+    for it in shown:
+        type_back(screen, desk, it)
+    shown.clear()

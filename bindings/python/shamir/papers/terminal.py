@@ -8,6 +8,7 @@ from __future__ import annotations
 import contextlib
 import errno
 import os
+import re
 import select
 import signal
 import termios
@@ -17,8 +18,14 @@ from typing import Any, Iterator, List, Optional
 ENDING = (signal.SIGINT, signal.SIGTERM, signal.SIGHUP, signal.SIGQUIT)
 SIZE_UNKNOWN = os.terminal_size((80, 24))
 
+# This stands for a character that isn't shown as it is.
+UNSHOWN = "*"
 # What no key sends.
 NO_KEY = 0
+# Within this time after what was typed, only a paste has more.
+PASTE_SECONDS = 0.05
+# What keys such as arrows send.
+SEQUENCE = re.compile(rb"\x1b(\[[0-9;]*.|O.|.?)", re.DOTALL)
 RETURN, LINE_FEED = 13, 10
 
 ENTER_SCREEN, LEAVE_SCREEN = "\x1b[?1049h", "\x1b[?1049l"
@@ -202,7 +209,8 @@ class Terminal:
             self._enter()
 
     def _put(self, text: str) -> None:
-        data = text.encode("ascii", "replace")
+        # A question mark has a meaning of its own, so it stands for no other character.
+        data = "".join(it if it.isascii() else UNSHOWN for it in text).encode()
         try:
             while data:
                 data = data[os.write(self._target, data) :]
@@ -259,7 +267,24 @@ class Terminal:
             self._kept = None if typed == LINE_FEED else typed
         return self._kept is not None or bool(select.select([self._source], [], [], seconds)[0])
 
-    def drop_typed(self) -> None:
-        """Drops what was typed and not read, such as the rest of a paste that the owner doesn't see."""
-        self._kept = None
-        termios.tcflush(self._source, termios.TCIFLUSH)
+    def drop_typed(self) -> bool:
+        """Drops what was typed and not read, such as the rest of a paste that the owner doesn't see, up to its end. Returns whether it
+        was more than Enter and keys that move."""
+        dropped = bytearray()
+        if self.is_typed(0):
+            self.pasted(dropped)
+        is_more = bool(SEQUENCE.sub(b"", dropped).strip(b" \t\r\n\0"))
+        dropped[:] = bytes(len(dropped))
+        return is_more
+
+    def pasted(self, into: bytearray, most: Optional[int] = None) -> bool:
+        """Reads what is typed until nothing comes for a while, and adds it to a buffer, as many bytes as that may have. Returns whether
+        there was more. The end of a line is a line feed."""
+        is_more = False
+        while self.is_typed(PASTE_SECONDS):
+            key = self.key()
+            if key != NO_KEY and (most is None or len(into) < most):
+                into.append(LINE_FEED if key == RETURN else key)
+            elif key != NO_KEY:
+                is_more = True
+        return is_more

@@ -1,0 +1,233 @@
+"""Drill on all cores of this machine.
+
+`python3 -m shamir.drill_all --expect FINGERPRINT --into FILE < mnemonics` writes to FILE what `shamir drill` with the same
+options lists for all quorums, in the same order. If it is interrupted, the same command goes on where FILE ends. Without
+`--into`, the lines go to standard output.
+
+If a person watches standard error, it says how many quorums were tried, and estimates how long the rest takes. Each core runs a
+thread, so the mnemonics and the passphrase are in this process alone.
+
+The exit status is 0 if all is as expected. It is 1 if a quorum has a digest mismatch or another secret, or if something is
+refused, 2 if the words of the command are wrong or FILE isn't the begin of this drill, 3 if the input, a value or FILE can't be
+read or written, and 130 after Ctrl-C. Standard error says why.
+"""
+import concurrent.futures
+import os
+import sys
+import threading
+import time
+from collections import deque
+from dataclasses import dataclass
+from typing import BinaryIO, Callable, Deque, Iterator, List, Optional, Tuple
+
+import shamir
+from shamir.command import devices
+from shamir.cuts import Parser, Quorums, opened, quorums, tell
+
+# A thread gets twice the stack that the library needs at most.
+STACK_BYTES = 1 << 20
+# A part takes about so many seconds, so that an interruption loses little.
+PART_SECONDS = 1.0
+PART_MAX = 4096
+END = b"end\n"
+OTHER = "the file isn't the begin of this drill"
+
+
+class Failed(Exception):
+    """The command ends with a status, and says why."""
+
+    def __init__(self, status: int, why: str):
+        super().__init__(why)
+        self.status, self.why = status, why
+
+
+@dataclass(frozen=True, repr=False)
+class Drill:
+    """A drill: the mnemonics, the passphrase, and what it lists of each secret."""
+
+    text: bytes
+    passphrase: bytes
+    expect: Optional[str]
+
+    @property
+    def form(self) -> int:
+        return shamir._form(self.expect is None, self.expect)
+
+    def listed(self, after: Optional[str], count: int) -> Tuple[bytes, int]:
+        """Return the lines of the quorums after one, as many as there are up to `count`, and how many of them list a mismatch or another
+        secret."""
+        found, wrong, cursor = b"", 0, shamir._bytes(after) if after is not None else None
+        while count:
+            listing = shamir._listed(self.text, self.passphrase, cursor, count, self.form, self.expect)
+            found, wrong, cursor = found + listing.outcomes, wrong + listing.mismatches, listing.cursor
+            count -= listing.quorums
+            if cursor is None:
+                break
+        return found, wrong
+
+    def is_well(self, line: bytes) -> bool:
+        """Return whether a line lists no mismatch and no other secret. Raises ValueError if it isn't a line of such a drill."""
+        outcome = shamir._outcome(line, self.form)
+        if outcome.mismatch is None and (outcome.fingerprint if self.expect is None else outcome.expected) is None:
+            raise ValueError
+        return outcome.mismatch is None and outcome.expected is not False
+
+
+def place_of(whole: Quorums, line: bytes) -> int:
+    """Return the position of the quorum of a line, or raise Failed. Names ascend with the positions."""
+    names = line.split(b" ")[0].decode()
+
+    def ordered(text: str) -> List[List[int]]:
+        return [[int(number) for number in name.split(".")] for name in text.split("+")]
+
+    low, high = 0, whole.count()
+    try:
+        while low < high:
+            middle = (low + high) // 2
+            low, high = (middle + 1, high) if ordered(whole.names(middle)) < ordered(names) else (low, middle)
+    except ValueError:
+        low = whole.count()
+    if low == whole.count() or whole.names(low) != names:
+        raise Failed(2, OTHER)
+    return low
+
+
+def earlier(path: str, drill: Drill, whole: Quorums) -> Tuple[int, bool, bool]:
+    """Return how many quorums a file lists already, whether all is well with them, and whether it has the end of the drill. A line that
+    was cut is taken off the file."""
+    if not os.path.exists(path):
+        return 0, True, False
+    with open(path, "r+b") as file:
+        data = file.read()
+        data = data[: data.rfind(b"\n") + 1]
+        file.truncate(len(data))
+    is_ended = data.endswith(END)
+    lines = data[: -len(END) if is_ended else None].splitlines()
+    try:
+        wells = [drill.is_well(line) for line in lines]
+    except (ValueError, IndexError):
+        raise Failed(2, OTHER) from None
+    # The first quorum is tried again, since with another passphrase or fingerprint the file is of another drill.
+    if lines and (place_of(whole, lines[-1]) != len(lines) - 1 or drill.listed(None, 1)[0].splitlines() != lines[:1]):
+        raise Failed(2, OTHER)
+    return len(lines), all(wells), is_ended
+
+
+class Progress:
+    """What standard error says to a person while the drill runs."""
+
+    def __init__(self, done: int, total: int):
+        self.first, self.total, self.begun, self.told = done, total, time.monotonic(), 0.0
+        self.is_shown = os.isatty(2)
+
+    def tell(self, done: int) -> None:
+        now = time.monotonic()
+        if not self.is_shown or now - self.told < 1 or done == self.first:
+            return
+        self.told = now
+        left = (now - self.begun) / (done - self.first) * (self.total - done)
+        devices.say(f"\r{done:,} of {self.total:,} quorums were tried; about {said_time(left)} left (an estimate)\x1b[K")
+
+    def end(self) -> None:
+        if self.told:
+            devices.say("\r\x1b[K")
+
+
+def said_time(seconds: float) -> str:
+    return f"{seconds:.0f} seconds" if seconds < 90 else f"{seconds / 60:.0f} minutes" if seconds < 5400 else f"{seconds / 3600:.1f} hours"
+
+
+def parts(begin: int, total: int, size: Callable[[], int]) -> Iterator[Tuple[int, int]]:
+    while begin < total:
+        count = min(size(), total - begin)
+        yield begin, count
+        begin += count
+
+
+def run(drill: Drill, whole: Quorums, begin: int, jobs: int, write: Callable[[bytes], None]) -> bool:
+    """Write the lines of the quorums from a position on, in order. Return whether all is well with them."""
+    total, sizes, wrongs = whole.count(), [1], 0
+    progress = Progress(begin, total)
+
+    def part(at: int, count: int) -> Tuple[bytes, int]:
+        started = time.monotonic()
+        found = drill.listed(whole.names(at - 1) if at else None, count)
+        sizes[0] = max(1, min(PART_MAX, int(PART_SECONDS * count / (time.monotonic() - started))))
+        return found
+
+    threading.stack_size(STACK_BYTES)
+    pool = concurrent.futures.ThreadPoolExecutor(jobs)
+    waiting: Deque["concurrent.futures.Future[Tuple[bytes, int]]"] = deque()
+    done = begin
+    ahead = parts(begin, total, lambda: sizes[0])
+    while True:
+        while len(waiting) < 2 * jobs:
+            found = next(ahead, None)
+            if found is None:
+                break
+            waiting.append(pool.submit(part, *found))
+        if not waiting:
+            break
+        lines, wrong = waiting.popleft().result()
+        write(lines)
+        done, wrongs = done + lines.count(b"\n"), wrongs + wrong
+        progress.tell(done)
+    progress.end()
+    write(END)
+    return not wrongs
+
+
+def drilled(drill: Drill, jobs: int, path: Optional[str]) -> bool:
+    """Drill, into a file if it is named. Return whether all is well."""
+    # The library says what it refuses, whatever the mnemonics are.
+    try:
+        shamir.recover([], passphrase=drill.passphrase, expect=drill.expect)
+    except shamir.Refusal as refusal:
+        if refusal.code != shamir.Code.NO_SHARES:
+            raise
+    whole = quorums(drill.text)
+    if path is None:
+        return run(drill, whole, 0, jobs, devices.write)
+    begin, is_well, is_ended = earlier(path, drill, whole)
+    if is_ended:
+        return is_well
+    with open(path, "ab", buffering=0) as file:
+        return run(drill, whole, begin, jobs, lambda data: write_to(file, data)) and is_well
+
+
+def write_to(file: BinaryIO, data: bytes) -> None:
+    if not devices.write_all(file.fileno(), data):
+        raise Failed(3, "the file can't be written")
+
+
+def main() -> None:
+    parser = Parser(prog="python3 -m shamir.drill_all", description="Drills on all cores: tries each quorum of the mnemonics on standard input.")
+    parser.add_argument("--expect", metavar="FINGERPRINT", help="list whether each secret has this fingerprint; without it, list each fingerprint")
+    parser.add_argument("--passphrase-file", metavar="FILE", help="read the passphrase from FILE")
+    parser.add_argument("--into", metavar="FILE", help="write the list to FILE, and go on where it ends")
+    parser.add_argument("--jobs", metavar="N", type=int, default=len(os.sched_getaffinity(0)), help="how many cores (all)")
+    args = parser.parse_args()
+    if args.jobs < 1:
+        parser.error("N is 1 or more")
+    try:
+        passphrase = devices.in_file(args.passphrase_file) or b""
+        drill = Drill(opened(sys.stdin).buffer.read(), passphrase, args.expect)
+        status, why = (0 if drilled(drill, args.jobs, args.into) else 1), ""
+    except shamir.Refusal as refused:
+        status, why = 1, str(refused)
+    except Failed as failed:
+        status, why = failed.status, failed.why
+    except devices.ValueFailed as value:
+        status, why = value.status, f"{value.name}: {value.reason}"
+    except (OSError, devices.DeviceFailed) as error:
+        status, why = 3, f"a file can't be read or written: {getattr(error, 'strerror', None) or error}"
+    except KeyboardInterrupt:
+        status, why = 130, "interrupted" + ("; the same command goes on" if args.into else "")
+    if why:
+        tell(f"shamir.drill_all: {why}\n")
+    # Threads may still wait for the library.
+    os._exit(status)
+
+
+if __name__ == "__main__":
+    main()

@@ -1,0 +1,58 @@
+"""The end of the task 'change': every quorum of the old papers and of the new ones is tried, with one passphrase."""
+from __future__ import annotations
+
+from typing import Optional
+
+from shamir.papers.desk import Desk
+from shamir.papers.drill import Verdict, run_drill
+from shamir.papers.questions import ask_passphrase
+from shamir.papers.screen import Back, Screen
+from shamir.papers.texts import say
+
+
+def agree(screen: Screen, old: Desk, new: Desk) -> Optional[Verdict]:
+    """Drills old and new papers with what the owner types, until all give one secret. Returns what the drill of the new ones found then,
+    or None if the owner ends before."""
+    is_extendable = old.papers[0].is_extendable
+    while True:
+        screen.clear(say("change.noted"))
+        screen.tell(f"{say('change.noted.why')} {say('change.bare.none')}" if is_extendable else say("change.again.why"))
+        try:
+            noted = ask_passphrase(screen, old)
+        except Back:
+            continue
+        screen.gap()
+        try:
+            verdict = _drilled(screen, old, new, noted)
+        finally:
+            old.forget_passphrase()
+            new.forget_passphrase()
+        if verdict.result == "good":
+            return verdict
+        if not _tries_again(screen, verdict):
+            return None
+
+
+def _drilled(screen: Screen, old: Desk, new: Desk, noted: str) -> Verdict:
+    """Drills the old papers, and then the new ones with the fingerprint that these gave. Returns what is wrong, or else that all agree."""
+    screen.tell(say("change.drill.old"), "strong")
+    first = run_drill(screen, old, noted)
+    if first.result != "good":
+        return first
+    new.set_passphrase(bytearray(old.passphrase))
+    screen.tell(say("change.drill.new"), "strong")
+    second = run_drill(screen, new, first.fingerprint, is_own=not noted)
+    if second.result == "good":
+        second.sentences = [" ".join([*second.sentences, say("change.same")])] if noted else [say("change.agree")]
+    elif second.result == "other":
+        second.sentences = [say("change.other")]
+    return second
+
+
+def _tries_again(screen: Screen, verdict: Verdict) -> bool:
+    """Says why nothing shows that old and new papers agree, and returns whether the owner tries again."""
+    screen.tell(say("change.unproved"), "strong")
+    for sentence in verdict.sentences:
+        screen.tell(sentence, "bad")
+    screen.tell(say("change.failed.then"))
+    return screen.choose(say("make.failed.again"), {"t": True, "e": False})
